@@ -1,0 +1,5 @@
+pub mod Splitting
+pub mod Coming
+pub mod Talking
+mod Examples
+pub mod Answering

@@ -1,0 +1,7 @@
+-- What is counted of a device of std.
+use Rattle.std.specs.Prelude.{ℕ}
+use Rattle.desk_front.specs.declared.device.Counted.{Counted}
+
+-- its faults so far
+abbrev pub faults_of : {T : Type 0} → Counted T → ℕ
+faults_of device = device.failures

@@ -1,0 +1,10 @@
+pub mod Device
+pub mod Counted
+pub mod Lines
+pub mod LineReader
+pub mod Talk
+pub mod Line
+pub mod LineView
+pub mod Shown
+pub mod Desk
+pub mod Fault

@@ -1,0 +1,85 @@
+-- What a line says.
+use Rattle.std.specs.Prelude.{◌≡◌, ◌≢◌, ◌⊎◌, ℕ, ◌^◌, ◌<◌, ◌≤◌, ◌==◌, ◌||◌, Bool, true, List, [], ◌∷◌, length, Some, None, codes}
+use Rattle.std.specs.List.{list_all}
+use Rattle.std.specs.Str.{IsUtf8}
+use Rattle.serde_json.specs.Data.{Data, string, number, unsigned, object, Members, member, no_members}
+use Rattle.serde_json.specs.Read.{read}
+use Rattle.desk_front.specs.Lines.{max_line}
+
+-- the lines of `replay`, by what they name
+pub data Line : Type 0 where
+  Model : (model : Data) → Line
+  Open : (name : List ℕ) → (capacity : ℕ) → Line
+  Submit : (name service : List ℕ) → (inputs : Members) → Line
+  Take : (name : List ℕ) → (ticket : ℕ) → Line
+  Answer : (name : List ℕ) → (ticket : ℕ) → Line
+  AnswerWith : (name : List ℕ) → (ticket : ℕ) → (service : List ℕ) → (inputs : Members) → Line
+  Release : (name : List ℕ) → Line
+  Close : (name : List ℕ) → Line
+  Resize : (name : List ℕ) → (capacity : ℕ) → Line
+
+-- an object of these members, which stand in the order of their keys
+abbrev pub with_name : List ℕ → List ℕ → Members → Members
+with_name key name rest = member key (string name) rest
+
+abbrev pub with_number : List ℕ → ℕ → Members → Members
+with_number key n rest = member key (number (unsigned n)) rest
+
+-- the object that a line is
+abbrev pub object_of : Line → Data
+object_of (Model model) = object (member (codes "model") model no_members)
+object_of (Open name capacity) = object (with_number (codes "capacity") capacity (with_name (codes "open") name no_members))
+object_of (Submit name service inputs) =
+    object (member (codes "inputs") (object inputs) (with_name (codes "service") service (with_name (codes "submit") name no_members)))
+object_of (Take name ticket) = object (with_name (codes "take") name (with_number (codes "ticket") ticket no_members))
+object_of (Answer name ticket) = object (with_name (codes "answer") name (with_number (codes "ticket") ticket no_members))
+object_of (AnswerWith name ticket service inputs) =
+    object (with_name (codes "answer") name (member (codes "inputs") (object inputs)
+        (with_name (codes "service") service (with_number (codes "ticket") ticket no_members))))
+object_of (Release name) = object (with_name (codes "release") name no_members)
+object_of (Close name) = object (with_name (codes "close") name no_members)
+object_of (Resize name capacity) = object (with_number (codes "capacity") capacity (with_name (codes "resize") name no_members))
+
+abbrev pub IsName : List ℕ → Type 0
+IsName name = (1 ≤ length name) × (length name ≤ 64)
+
+abbrev pub IsTicket : ℕ → Type 0
+IsTicket ticket = ticket < 2 ^ 63
+
+-- names have 1 to 64 bytes, capacities fit 32 bits, tickets 63
+abbrev pub IsLawful : Line → Type 0
+IsLawful (Model model) = Unit {0}
+IsLawful (Open name capacity) = IsName name × (capacity < 2 ^ 32)
+IsLawful (Submit name service inputs) = IsName name
+IsLawful (Take name ticket) = IsName name × IsTicket ticket
+IsLawful (Answer name ticket) = IsName name × IsTicket ticket
+IsLawful (AnswerWith name ticket service inputs) = IsName name × IsTicket ticket
+IsLawful (Release name) = IsName name
+IsLawful (Close name) = IsName name
+IsLawful (Resize name capacity) = IsName name × (capacity < 2 ^ 32)
+
+-- the value is this lawful line
+abbrev pub IsLine : Line → Data → Type 0
+IsLine line value = (object_of line ≡ value) × IsLawful line
+
+-- how a line of an input is read
+pub data Reading : Type 0 where
+  Blank : Reading
+  Long : Reading
+  Syntax : Reading
+  Shape : Reading
+  Says : (line : Line) → Reading
+
+abbrev pub is_blank : List ℕ → Bool
+is_blank text = list_all (λ b. (b == 32) || (b == 9) || (b == 13)) text
+
+-- the first that applies: too long, blank, no JSON text nested at most 127 deep, no line, a line
+abbrev pub Reads : List ℕ → Reading → Type 0
+Reads text Long = max_line < length text
+Reads text Blank = (length text ≤ max_line) × (is_blank text ≡ true)
+Reads text Syntax = (length text ≤ max_line) × (is_blank text ≢ true) × (¬ IsUtf8 text ⊎ (read text ≡ None))
+Reads text Shape =
+    (length text ≤ max_line) × (is_blank text ≢ true) × IsUtf8 text
+    × ((data₁ : Data) × (read text ≡ Some data₁) × ((line : Line) → IsLawful line → object_of line ≢ data₁))
+Reads text (Says line) =
+    (length text ≤ max_line) × (is_blank text ≢ true) × IsUtf8 text × (read text ≡ Some (object_of line)) × IsLawful line

@@ -1,0 +1,19 @@
+//! The front of the decision service: lines of JSON in, one report a line out.
+#![tactic(auto)]
+
+mod desk;
+mod device;
+mod fault;
+mod line;
+mod lines;
+mod report;
+mod session;
+mod talk;
+mod write;
+
+pub use device::{Counted, Sink, Source};
+pub use fault::FrontFault;
+pub use session::replay;
+
+#[cfg(test)]
+mod tests;

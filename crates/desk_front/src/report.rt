@@ -1,0 +1,144 @@
+//! Reports as JSON values, and their texts.
+ghost use Rattle.std.specs.Prelude.{◌≡◌, ◌++◌, ◌∷◌, [], codes, string_bytes, IfOk, false, true};
+ghost use Rattle.serde_json.specs.Data.{number, unsigned, string, boolean, object, member, no_members};
+ghost use Rattle.serde_json.specs.View.{view};
+ghost use Rattle.serde_json.specs.Written.{compact_text, has_float};
+ghost use Rattle.desk_front.specs.Line.{with_name, with_number};
+ghost use Rattle.desk_front.specs.Lines.{ended};
+ghost use Rattle.desk_front.specs.Shown.{number_or_null};
+
+use serde_json::{Value, json};
+use std::alloc::{AllocError, Global};
+
+/// `{"line":k,"refused":word}`
+pub fn refused_line(alloc: Global, line: u64, word: &str) -> Result<Value, AllocError>
+    ensures plain { IfOk result (λ v. has_float (view v) ≡ false) }
+    ensures value { IfOk result (λ v. view v ≡ object (with_number (codes "line") line (with_name (codes "refused") word.now no_members))) }
+{
+    json!(in alloc; {"line": line, "refused": word})
+}
+
+/// `{"client":name,"line":k,"refused":word}`
+pub fn refused(alloc: Global, name: &str, line: u64, word: &str) -> Result<Value, AllocError>
+    ensures plain { IfOk result (λ v. has_float (view v) ≡ false) }
+    ensures value { IfOk result (λ v. view v ≡ object (with_name (codes "client") name.now (with_number (codes "line") line (with_name (codes "refused") word.now no_members)))) }
+{
+    json!(in alloc; {"client": name, "line": line, "refused": word})
+}
+
+/// `{"line":k,"model":true}`
+pub fn loaded(alloc: Global, line: u64) -> Result<Value, AllocError>
+    ensures plain { IfOk result (λ v. has_float (view v) ≡ false) }
+    ensures value { IfOk result (λ v. view v ≡ object (with_number (codes "line") line (member (codes "model") (boolean true) no_members))) }
+{
+    json!(in alloc; {"line": line, "model": true})
+}
+
+/// `{"fault":word,"line":k,"refused":"model"}`
+pub fn faulty(alloc: Global, line: u64, word: &str) -> Result<Value, AllocError>
+    ensures plain { IfOk result (λ v. has_float (view v) ≡ false) }
+    ensures value { IfOk result (λ v. view v ≡ object (with_name (codes "fault") word.now (with_number (codes "line") line (with_name (codes "refused") (codes "model") no_members)))) }
+{
+    json!(in alloc; {"fault": word, "line": line, "refused": "model"})
+}
+
+/// `{"client":name,"line":k,"opened":n}`
+pub fn opened(alloc: Global, name: &str, line: u64, capacity: u32) -> Result<Value, AllocError>
+    ensures plain { IfOk result (λ v. has_float (view v) ≡ false) }
+    ensures value { IfOk result (λ v. view v ≡ object (with_name (codes "client") name.now (with_number (codes "line") line (with_number (codes "opened") capacity no_members)))) }
+{
+    json!(in alloc; {"client": name, "line": line, "opened": capacity})
+}
+
+/// `{"client":name,"line":k,"resized":n}`
+pub fn resized(alloc: Global, name: &str, line: u64, capacity: u32) -> Result<Value, AllocError>
+    ensures plain { IfOk result (λ v. has_float (view v) ≡ false) }
+    ensures value { IfOk result (λ v. view v ≡ object (with_name (codes "client") name.now (with_number (codes "line") line (with_number (codes "resized") capacity no_members)))) }
+{
+    json!(in alloc; {"client": name, "line": line, "resized": capacity})
+}
+
+/// `{"accepted":t,"client":name,"line":k}`
+pub fn accepted(alloc: Global, name: &str, line: u64, ticket: u64) -> Result<Value, AllocError>
+    ensures plain { IfOk result (λ v. has_float (view v) ≡ false) }
+    ensures value { IfOk result (λ v. view v ≡ object (with_number (codes "accepted") ticket (with_name (codes "client") name.now (with_number (codes "line") line no_members)))) }
+{
+    json!(in alloc; {"accepted": ticket, "client": name, "line": line})
+}
+
+/// `{"client":name,"line":k,"taken":t}`
+pub fn taken(alloc: Global, name: &str, line: u64, ticket: u64) -> Result<Value, AllocError>
+    ensures plain { IfOk result (λ v. has_float (view v) ≡ false) }
+    ensures value { IfOk result (λ v. view v ≡ object (with_name (codes "client") name.now (with_number (codes "line") line (with_number (codes "taken") ticket no_members)))) }
+{
+    json!(in alloc; {"client": name, "line": line, "taken": ticket})
+}
+
+/// `{"client":name,"kept":t,"line":k}`
+pub fn kept(alloc: Global, name: &str, line: u64, ticket: u64) -> Result<Value, AllocError>
+    ensures plain { IfOk result (λ v. has_float (view v) ≡ false) }
+    ensures value { IfOk result (λ v. view v ≡ object (with_name (codes "client") name.now (with_number (codes "kept") ticket (with_number (codes "line") line no_members)))) }
+{
+    json!(in alloc; {"client": name, "kept": ticket, "line": line})
+}
+
+/// `{"client":name,"line":k,"nothing":true}`
+pub fn nothing(alloc: Global, name: &str, line: u64) -> Result<Value, AllocError>
+    ensures plain { IfOk result (λ v. has_float (view v) ≡ false) }
+    ensures value { IfOk result (λ v. view v ≡ object (with_name (codes "client") name.now (with_number (codes "line") line (member (codes "nothing") (boolean true) no_members)))) }
+{
+    json!(in alloc; {"client": name, "line": line, "nothing": true})
+}
+
+/// `{"client":name,"closed":true,"line":k}`
+pub fn closed(alloc: Global, name: &str, line: u64) -> Result<Value, AllocError>
+    ensures plain { IfOk result (λ v. has_float (view v) ≡ false) }
+    ensures value { IfOk result (λ v. view v ≡ object (with_name (codes "client") name.now (member (codes "closed") (boolean true) (with_number (codes "line") line no_members)))) }
+{
+    json!(in alloc; {"client": name, "closed": true, "line": line})
+}
+
+/// `{"client":name,"result":n,"ticket":t}`
+fn handed_number(alloc: Global, name: &str, number: i64, ticket: u64) -> Result<Value, AllocError>
+    ensures plain { IfOk result (λ v. has_float (view v) ≡ false) }
+    ensures value { IfOk result (λ v. view v ≡ object (with_name (codes "client") name.now (member (codes "result") (number_or_null (Some number)) (with_number (codes "ticket") ticket no_members)))) }
+{
+    json!(in alloc; {"client": name, "result": number, "ticket": ticket})
+}
+
+/// `{"client":name,"result":null,"ticket":t}`
+fn handed_null(alloc: Global, name: &str, ticket: u64) -> Result<Value, AllocError>
+    ensures plain { IfOk result (λ v. has_float (view v) ≡ false) }
+    ensures value { IfOk result (λ v. view v ≡ object (with_name (codes "client") name.now (member (codes "result") (number_or_null None) (with_number (codes "ticket") ticket no_members)))) }
+{
+    json!(in alloc; {"client": name, "result": null, "ticket": ticket})
+}
+
+/// `{"client":name,"result":V,"ticket":t}`
+pub fn handed(alloc: Global, name: &str, outcome: Option<i64>, ticket: u64) -> Result<Value, AllocError>
+    ensures plain { IfOk result (λ v. has_float (view v) ≡ false) }
+    ensures value { IfOk result (λ v. view v ≡ object (with_name (codes "client") name.now (member (codes "result") (number_or_null outcome) (with_number (codes "ticket") ticket no_members)))) }
+{
+    match outcome {
+        Some(number) => handed_number(alloc, name, number, ticket),
+        None => handed_null(alloc, name, ticket),
+    }
+}
+
+/// The text of a report without floats.
+pub fn report_text(alloc: Global, report: &Value) -> Result<String, AllocError>
+    requires { has_float (view report.now) ≡ false }
+    ensures { IfOk result (λ s. string_bytes s ≡ compact_text (view report.now)) }
+{
+    report.to_string(alloc)
+}
+
+/// The line of a report without floats, with its newline.
+pub fn report_line(alloc: Global, report: &Value) -> Result<Vec<u8>, AllocError>
+    requires { has_float (view report.now) ≡ false }
+    ensures { IfOk result (λ text. text.items ≡ ended (compact_text (view report.now))) }
+{
+    let mut text = report_text(alloc, report)?.into_bytes();
+    text.push(b'\n')?;
+    Ok(text)
+}
