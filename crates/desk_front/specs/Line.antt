@@ -35,7 +35,7 @@ object_of (Take name ticket) = object (with_name (codes "take") name (with_numbe
 object_of (Answer name ticket) = object (with_name (codes "answer") name (with_number (codes "ticket") ticket no_members))
 object_of (AnswerWith name ticket service inputs) =
     object (with_name (codes "answer") name (member (codes "inputs") (object inputs)
-        (with_name (codes "service") service (with_number (codes "ticket") ticket no_members))))
+    (with_name (codes "service") service (with_number (codes "ticket") ticket no_members))))
 object_of (Release name) = object (with_name (codes "release") name no_members)
 object_of (Close name) = object (with_name (codes "close") name no_members)
 object_of (Resize name capacity) = object (with_number (codes "capacity") capacity (with_name (codes "resize") name no_members))

@@ -84,17 +84,27 @@ impl Desk {
     /// The client of a name, or the first number that is not given yet.
     fn client_of(&self, name: &str) -> u32 {
         let number = self.number_of(name).unwrap_or(self.names.len());
-        if number > CLIENTS { CLIENTS as u32 } else { number as u32 }
+        if number > CLIENTS {
+            CLIENTS as u32
+        } else {
+            number as u32
+        }
     }
 
     /// The work that was taken under a ticket.
     fn work_of(&self, client: u32, ticket: u64) -> Option<&Arc<Task>> {
-        let held = self.held.iter().find(|held| held.client == client && held.job.ticket() == ticket)?;
+        let held = self.held.iter().find(|held| held.client == client
+            && held.job.ticket() == ticket)?;
         Some(held.job.work())
     }
 
     /// A work under the model in force, or the word of its refusal.
-    fn task(&self, alloc: Global, service: &str, inputs: &Value) -> Result<Arc<Task>, &'static str> {
+    fn task(
+        &self,
+        alloc: Global,
+        service: &str,
+        inputs: &Value,
+    ) -> Result<Arc<Task>, &'static str> {
         let Some(plan) = &self.plan else {
             return Err("model");
         };
@@ -127,7 +137,13 @@ impl Desk {
         }
     }
 
-    fn open(&mut self, alloc: Global, line: u64, name: &str, capacity: u32) -> Result<Value, AllocError>
+    fn open(
+        &mut self,
+        alloc: Global,
+        line: u64,
+        name: &str,
+        capacity: u32,
+    ) -> Result<Value, AllocError>
         ensures plain { IfOk result (λ v. has_float (view v) ≡ false) }
     {
         if self.number_of(name).is_some() {
@@ -142,7 +158,14 @@ impl Desk {
         }
     }
 
-    fn submit(&mut self, alloc: Global, line: u64, name: &str, service: &str, inputs: &Value) -> Result<Value, AllocError>
+    fn submit(
+        &mut self,
+        alloc: Global,
+        line: u64,
+        name: &str,
+        service: &str,
+        inputs: &Value,
+    ) -> Result<Value, AllocError>
         ensures plain { IfOk result (λ v. has_float (view v) ≡ false) }
     {
         let work = match self.task(alloc, service, inputs) {
@@ -156,7 +179,13 @@ impl Desk {
         }
     }
 
-    fn take(&mut self, alloc: Global, line: u64, name: &str, ticket: u64) -> Result<Value, AllocError>
+    fn take(
+        &mut self,
+        alloc: Global,
+        line: u64,
+        name: &str,
+        ticket: u64,
+    ) -> Result<Value, AllocError>
         ensures plain { IfOk result (λ v. has_float (view v) ≡ false) }
     {
         let client = self.client_of(name);
@@ -170,7 +199,14 @@ impl Desk {
         }
     }
 
-    fn answer_by(&mut self, alloc: Global, line: u64, name: &str, ticket: u64, work: Arc<Task>) -> Result<Value, AllocError>
+    fn answer_by(
+        &mut self,
+        alloc: Global,
+        line: u64,
+        name: &str,
+        ticket: u64,
+        work: Arc<Task>,
+    ) -> Result<Value, AllocError>
         ensures plain { IfOk result (λ v. has_float (view v) ≡ false) }
     {
         let Ok(done) = Done::of(alloc, ticket, work) else {
@@ -185,7 +221,13 @@ impl Desk {
         }
     }
 
-    fn answer_taken(&mut self, alloc: Global, line: u64, name: &str, ticket: u64) -> Result<Value, AllocError>
+    fn answer_taken(
+        &mut self,
+        alloc: Global,
+        line: u64,
+        name: &str,
+        ticket: u64,
+    ) -> Result<Value, AllocError>
         ensures plain { IfOk result (λ v. has_float (view v) ≡ false) }
     {
         if self.number_of(name).is_none() {
@@ -201,7 +243,15 @@ impl Desk {
         self.answer_by(alloc, line, name, ticket, work)
     }
 
-    fn answer_with(&mut self, alloc: Global, line: u64, name: &str, ticket: u64, service: &str, inputs: &Value) -> Result<Value, AllocError>
+    fn answer_with(
+        &mut self,
+        alloc: Global,
+        line: u64,
+        name: &str,
+        ticket: u64,
+        service: &str,
+        inputs: &Value,
+    ) -> Result<Value, AllocError>
         ensures plain { IfOk result (λ v. has_float (view v) ≡ false) }
     {
         let work = match self.task(alloc, service, inputs) {
@@ -232,7 +282,13 @@ impl Desk {
         }
     }
 
-    fn resize(&mut self, alloc: Global, line: u64, name: &str, capacity: u32) -> Result<Value, AllocError>
+    fn resize(
+        &mut self,
+        alloc: Global,
+        line: u64,
+        name: &str,
+        capacity: u32,
+    ) -> Result<Value, AllocError>
         ensures plain { IfOk result (λ v. has_float (view v) ≡ false) }
     {
         let client = self.client_of(name);
@@ -249,7 +305,9 @@ impl Desk {
         match line {
             Line::Model(model) => self.model(alloc, number, model),
             Line::Open(name, capacity) => self.open(alloc, number, name, *capacity),
-            Line::Submit(name, service, inputs) => self.submit(alloc, number, name, service, inputs),
+            Line::Submit(name, service, inputs) => self.submit(
+                alloc, number, name, service, inputs,
+            ),
             Line::Take(name, ticket) => self.take(alloc, number, name, *ticket),
             Line::Answer(name, ticket) => self.answer_taken(alloc, number, name, *ticket),
             Line::AnswerWith(name, ticket, service, inputs) => {
@@ -277,7 +335,12 @@ impl Desk {
     }
 
     /// What is said to a line: nothing where it is blank.
-    pub fn say_to(&mut self, alloc: Global, number: u64, line: &LineText) -> Result<Vec<u8>, AllocError>
+    pub fn say_to(
+        &mut self,
+        alloc: Global,
+        number: u64,
+        line: &LineText,
+    ) -> Result<Vec<u8>, AllocError>
         ensures { IfOk result (λ text. (it : List ℕ) → line.now ≡ kept_line it →
             (more : List (List ℕ)) × Answers number it more × (text.items ≡ flat_map ended more)) }
     {

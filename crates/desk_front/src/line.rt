@@ -121,11 +121,18 @@ fn answer_with_line(value: &Value) -> Option<Line<'_>>
     ensures found { IfSome result (λ line. IsLine (line_view line) (view value.now)) }
     ensures other { IfNone result ((name : List ℕ) (t : ℕ) (service : List ℕ) (inputs : Members) → ¬ IsLine (said.AnswerWith name t service inputs) (view value.now)) }
 {
-    let (name, inputs, service, ticket) = four_fields(value, "answer", "inputs", "service", "ticket")?;
+    let (name, inputs, service, ticket) = four_fields(
+        value, "answer", "inputs", "service", "ticket",
+    )?;
     if !inputs.is_object() {
         return None;
     }
-    Some(Line::AnswerWith(name_in(name)?, ticket_in(ticket)?, service.as_str()?, inputs))
+    Some(Line::AnswerWith(
+        name_in(name)?,
+        ticket_in(ticket)?,
+        service.as_str()?,
+        inputs,
+    ))
 }
 
 fn release_line(value: &Value) -> Option<Line<'_>>
@@ -188,7 +195,8 @@ pub fn line_in(value: &Value) -> Option<Line<'_>>
 pub fn is_blank(text: &[u8]) -> bool
     ensures { result ≡ is_blank text.now }
 {
-    text.iter().all(|byte| *byte == b' ' || *byte == b'\t' || *byte == b'\r')
+    text.iter()
+        .all(|byte| *byte == b' ' || *byte == b'\t' || *byte == b'\r')
 }
 
 /// The JSON value of a text, if it has one.

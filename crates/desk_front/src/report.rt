@@ -115,7 +115,12 @@ fn handed_null(alloc: Global, name: &str, ticket: u64) -> Result<Value, AllocErr
 }
 
 /// `{"client":name,"result":V,"ticket":t}`
-pub fn handed(alloc: Global, name: &str, outcome: Option<i64>, ticket: u64) -> Result<Value, AllocError>
+pub fn handed(
+    alloc: Global,
+    name: &str,
+    outcome: Option<i64>,
+    ticket: u64,
+) -> Result<Value, AllocError>
     ensures plain { IfOk result (λ v. has_float (view v) ≡ false) }
     ensures value { IfOk result (λ v. view v ≡ object (with_name (codes "client") name.now (member (codes "result") (number_or_null outcome) (with_number (codes "ticket") ticket no_members)))) }
 {

@@ -8,15 +8,19 @@ use json_fields::{five_fields, three_fields};
 use serde_json::Value;
 use std::alloc::{AllocError, Global};
 use std::marker::Model;
+use thiserror::Error;
 
 /// Why a model is refused.
-#[derive(Clone, Copy, Debug, PartialEq, Eq)]
+#[derive(Clone, Copy, Debug, PartialEq, Eq, Error)]
 pub enum ModelFault {
     /// It is not of the form that is read.
+    #[error("the model is not of the form that is read")]
     Shape,
     /// The decision's text is neither a number nor a name.
+    #[error("the decision's text is neither a number nor a name")]
     Expression,
     /// There is no memory.
+    #[error("out of memory")]
     Memory,
 }
 
@@ -129,7 +133,9 @@ fn are_same_texts(left: &[Value], right: &[Value]) -> bool {
 /// Whether a text is a name other than those before it.
 fn is_new_name(value: &Value, before: &[Value], decision: &str) -> bool {
     match value.as_str() {
-        Some(name) => is_name(name) && name != decision && !before.iter().any(|other| is_text(other, name)),
+        Some(name) => is_name(name)
+            && name != decision
+            && !before.iter().any(|other| is_text(other, name)),
         None => false,
     }
 }
