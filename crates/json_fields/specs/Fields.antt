@@ -1,6 +1,6 @@
 -- Objects with exactly these members.
-use Rattle.std.specs.Prelude.{◌≡◌, ℕ, List, Option, Some, None}
-use Rattle.serde_json.specs.Data.{Data, object, Members, no_members, member}
+use Rattle.std.specs.Prelude.{ℕ, List}
+use Rattle.serde_json.specs.Data.{Data, object, no_members, member}
 
 abbrev pub object1 : List ℕ → Data → Data
 object1 k d = object (member k d no_members)

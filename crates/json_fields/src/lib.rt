@@ -16,7 +16,11 @@ fn next_field<'a>(members: &mut Iter<'a, String, Value>, key: &str) -> Option<&'
     ensures other { IfNone result ((d : Data) (rest : Members) → members_view members.old ≢ member key.now d rest) }
 {
     let (name, value) = members.next()?;
-    if name.as_str() == key { Some(value) } else { None }
+    if name.as_str() == key {
+        Some(value)
+    } else {
+        None
+    }
 }
 
 /// The value of an object with this key alone.
