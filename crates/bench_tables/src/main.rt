@@ -1,0 +1,130 @@
+//! How long a decision over 200 rules and 6 inputs takes, by the hit policy and by how many rules hit. Each line is the
+//! average of a thousand decisions.
+#![tactic(auto)]
+
+use anyhow::Error;
+use dmn_table::{Output, Rule, Table, decide};
+use feel_lang::{Env, Expr, Tests, read_expr, read_tests};
+use feel_value::{Feel, Outcome, Value};
+use std::alloc::{AllocError, Global};
+use std::time::{Clock, Instant};
+
+const ROUNDS: u32 = 1_000;
+
+const RULES: i64 = 200;
+
+const INPUTS: [&str; 6] = ["a", "b", "c", "d", "e", "f"];
+
+fn expression(alloc: Global, text: &str) -> Result<Expr, Error> {
+    read_expr(alloc, text).map_err(|_| Error::msg("no expression"))
+}
+
+fn number(alloc: Global, n: i64) -> Result<Expr, Error> {
+    let text = format!(in alloc; "{n}")?;
+    expression(alloc, text.as_str())
+}
+
+/// The tests `> n`.
+fn above(alloc: Global, n: i64) -> Result<Tests, Error> {
+    let text = format!(in alloc; "> {n}")?;
+    read_tests(alloc, text.as_str()).map_err(|_| Error::msg("no tests"))
+}
+
+/// A rule that hits where all inputs are above n. Its outputs are n, and one of ten listed values.
+fn rule(alloc: Global, n: i64) -> Result<Rule, Error> {
+    let mut tests = Vec::new(alloc);
+    for _ in INPUTS {
+        tests.push(above(alloc, n)?)?;
+    }
+    let mut gives = Vec::new(alloc);
+    gives.push(number(alloc, n % 10)?)?;
+    Ok(Rule { tests, gives })
+}
+
+/// One output column with ten listed values, the greatest first.
+fn outputs(alloc: Global) -> Result<Vec<Output>, AllocError> {
+    let mut values = Vec::new(alloc);
+    for n in (0..10).rev() {
+        if let Some(value) = Feel::of(Value::Number(n)) {
+            values.push(value)?;
+        }
+    }
+    let mut outputs = Vec::new(alloc);
+    outputs.push(Output {
+        name: String::from_str(alloc, "r")?,
+        values,
+        fallback: None,
+    })?;
+    Ok(outputs)
+}
+
+fn table(alloc: Global, hit: &str) -> Result<Table, Error> {
+    let mut inputs = Vec::new(alloc);
+    for name in INPUTS {
+        inputs.push(expression(alloc, name)?)?;
+    }
+    let mut rules = Vec::new(alloc);
+    for n in 0..RULES {
+        rules.push(rule(alloc, n)?)?;
+    }
+    Ok(Table::new(hit, inputs, outputs(alloc)?, rules)?)
+}
+
+/// The microseconds that making a table of so many output columns takes.
+fn making<R: Clock>(rt: &R, alloc: Global, columns: u32) -> Result<u128, Error> {
+    let mut outputs = Vec::new(alloc);
+    for i in 0..columns {
+        outputs.push(Output {
+            name: format!(in alloc; "column_{i:05}")?,
+            values: Vec::new(alloc),
+            fallback: None,
+        })?;
+    }
+    let start = Instant::now(rt)?;
+    let _table = Table::new("F", Vec::new(alloc), outputs, Vec::new(alloc))?;
+    Ok(start.elapsed(rt)?.as_micros())
+}
+
+/// An environment in which each input is this number.
+fn environment(alloc: Global, n: i64) -> Result<Env, AllocError> {
+    let mut env = Env::new(alloc);
+    for name in INPUTS {
+        if let Some(value) = Feel::of(Value::Number(n)) {
+            env.bind(name, value)?;
+        }
+    }
+    Ok(env)
+}
+
+fn decide_once(alloc: Global, table: &Table, env: &Env) -> Result<(), Error> {
+    match decide(alloc, table, env)? {
+        Outcome::Is(_) => Ok(()),
+        Outcome::Limit => Err(Error::msg("limit")),
+    }
+}
+
+/// The microseconds that a decision takes.
+fn average<R: Clock>(rt: &R, alloc: Global, table: &Table, env: &Env) -> Result<u128, Error> {
+    let start = Instant::now(rt)?;
+    for _ in 0..ROUNDS {
+        decide_once(alloc, table, env)?;
+    }
+    Ok(start.elapsed(rt)?.as_micros() / u128::from(ROUNDS))
+}
+
+fn main(rt: HostRuntime) -> Result<(), Error> {
+    let alloc = rt.alloc();
+    for hit in ["U", "F", "P", "O", "C", "C+"] {
+        let table = table(alloc, hit)?;
+        for hits in [0, 10, 200] {
+            let env = environment(alloc, hits)?;
+            let micros = average(&rt, alloc, &table, &env)?;
+            eprintln!(rt; "{hit}, {hits} hits: {micros} us")?;
+        }
+    }
+    for columns in [10, 100, 1_000, 10_000] {
+        let micros = making(&rt, alloc, columns)?;
+        eprintln!(rt; "a table of {columns} output columns: {micros} us")?;
+    }
+    Ok(())
+}

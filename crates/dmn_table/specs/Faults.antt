@@ -1,0 +1,57 @@
+-- Which texts and columns make a table.
+use Rattle.std.specs.Prelude.{ℕ, List, [], ◌∷◌, Bool, true, false, not, ◌&&◌, ◌||◌, if◌then◌else◌, nat_eq, nat_lt, length, map, Option, None, Some, bytes_eq, codes}
+use Rattle.std.specs.List.{list_any, list_all}
+use Rattle.dmn_table.specs.declared.hit_policy.HitPolicy.{HitPolicy}
+use Rattle.dmn_table.specs.declared.hit_policy.HitPolicy.TheVariants.{Unique, Any, Priority, First, OutputOrder, RuleOrder, Collect, Sum, Least, Greatest, Count}
+use Rattle.dmn_table.specs.declared.fault.TableFault.{TableFault}
+use Rattle.dmn_table.specs.declared.fault.TableFault.TheVariants.{Hit, Columns, Operator}
+
+-- the eleven hit policies, by their texts
+abbrev pub hit_policies : List (List ℕ × HitPolicy)
+hit_policies =
+    (codes "U", Unique) ∷ (codes "A", Any) ∷ (codes "P", Priority) ∷ (codes "F", First) ∷ (codes "R", RuleOrder)
+    ∷ (codes "O", OutputOrder) ∷ (codes "C", Collect) ∷ (codes "C+", Sum) ∷ (codes "C<", Least) ∷ (codes "C>", Greatest)
+    ∷ (codes "C#", Count) ∷ []
+
+abbrev pub policy_among : List (List ℕ × HitPolicy) → List ℕ → Option HitPolicy
+policy_among [] s = None
+policy_among (p ∷ ps) s = if bytes_eq p.0 s then Some p.1 else policy_among ps s
+
+abbrev pub policy_of : List ℕ → Option HitPolicy
+policy_of = policy_among hit_policies
+
+-- the policies that make one number of the outputs
+abbrev pub is_operator : HitPolicy → Bool
+is_operator Sum = true
+is_operator Least = true
+is_operator Greatest = true
+is_operator Count = true
+is_operator _ = false
+
+-- no name stands twice
+abbrev pub are_distinct : List (List ℕ) → Bool
+are_distinct [] = true
+are_distinct (n ∷ ns) = not (list_any (bytes_eq n) ns) && are_distinct ns
+
+-- a rule's entries are as many as the columns; e has the number of its tests and of its outputs
+abbrev pub fits_columns : ℕ → ℕ → (ℕ × ℕ) → Bool
+fits_columns inputs outputs e = nat_eq e.0 inputs && nat_eq e.1 outputs
+
+-- the columns are lawful: at least one output, each name once, and each rule fits
+abbrev pub columns_fit : ℕ → List (List ℕ) → List (ℕ × ℕ) → Bool
+columns_fit inputs names rules = nat_lt 0 (length names) && are_distinct names && list_all (fits_columns inputs (length names)) rules
+
+-- a policy that makes one number stands over one output
+abbrev pub operator_fits : HitPolicy → List (List ℕ) → Bool
+operator_fits p names = not (is_operator p && nat_lt 1 (length names))
+
+-- The first fault, in the order hit, columns, operator, of a table with this hit policy, if its text is one, this many input
+-- columns, output columns of these names, and rules of these numbers of entries.
+abbrev pub fault_under : Option HitPolicy → ℕ → List (List ℕ) → List (ℕ × ℕ) → Option TableFault
+fault_under None inputs names rules = Some Hit
+fault_under (Some p) inputs names rules =
+    if not (columns_fit inputs names rules) then Some Columns
+    else (if not (operator_fits p names) then Some Operator else None)
+
+abbrev pub table_fault : List ℕ → ℕ → List (List ℕ) → List (ℕ × ℕ) → Option TableFault
+table_fault hit inputs names rules = fault_under (policy_of hit) inputs names rules

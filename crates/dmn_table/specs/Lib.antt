@@ -1,0 +1,9 @@
+pub mod Table
+pub mod Faults
+pub mod Evaluated
+pub mod Hits
+pub mod Priority
+pub mod Result
+pub mod Parts
+pub mod View
+pub mod Code

@@ -1,0 +1,44 @@
+ghost use Rattle.std.specs.Prelude.{◌≡◌, IfOk, map};
+ghost use Rattle.dmn_table.specs.Result.{table_result, defaults as defaults_of};
+ghost use Rattle.dmn_table.specs.Parts.{column_view};
+
+use crate::hits::{answers, found_hits};
+use crate::output::{default_values, evaluated, has_no_default, one_or_context};
+use crate::policy::result_of;
+use crate::table::{Output, Table};
+use feel_lang::Env;
+use feel_value::{Outcome, Value};
+use std::alloc::{AllocError, Global};
+
+/// The outcome of a table under an environment. All input expressions and all input entries of all rules are evaluated,
+/// then the output entries of the rules that hit, or, where none hits, the defaults.
+pub fn decide(alloc: Global, table: &Table, env: &Env) -> Result<Outcome, AllocError>
+    ensures { IfOk result (λ o. o ≡ table_result table.now env.now) }
+{
+    let Some(values) = evaluated(alloc, &table.inputs, env)? else {
+        return Ok(Outcome::Limit);
+    };
+    let Some(answers) = answers(alloc, &table.rules, &values, env)? else {
+        return Ok(Outcome::Limit);
+    };
+    let Some(hits) = found_hits(alloc, &table.rules, &answers, &table.outputs, env)? else {
+        return Ok(Outcome::Limit);
+    };
+    if hits.is_empty() {
+        return defaults(alloc, &table.outputs, env);
+    }
+    result_of(alloc, table.policy, hits)
+}
+
+/// The result where no rule hits.
+fn defaults(alloc: Global, outputs: &[Output], env: &Env) -> Result<Outcome, AllocError>
+    ensures { IfOk result (λ o. o ≡ defaults_of (map column_view outputs.now) env.now) }
+{
+    if has_no_default(outputs) {
+        return Ok(Outcome::of(Value::Null));
+    }
+    match default_values(alloc, outputs, env)? {
+        Some(values) => one_or_context(alloc, outputs, values),
+        None => Ok(Outcome::Limit),
+    }
+}

@@ -1,0 +1,117 @@
+ghost use Rattle.std.specs.Prelude.{◌≡◌, IfOk, map, option_map};
+ghost use Rattle.dmn_table.specs.Evaluated.{each};
+ghost use Rattle.dmn_table.specs.Hits.{does_hit as does_hit_of, hit_of as hit_of_rule, kept};
+ghost use Rattle.dmn_table.specs.Priority.{place as place_of, places_of};
+ghost use Rattle.dmn_table.specs.Parts.{rule_view, column_view};
+ghost use Rattle.dmn_table.specs.View.{hit_view};
+
+use crate::output::{evaluated, one_or_context};
+use crate::priority::Hit;
+use crate::table::{Output, Rule};
+use feel_lang::{Env, Held, holds};
+use feel_value::{Feel, Outcome, Truth, equal};
+use std::alloc::{AllocError, Global};
+
+/// Whether the rule hits, for these values of the input expressions; None where an entry breaks a limit. All entries are
+/// evaluated, those after a miss too.
+fn does_hit(
+    alloc: Global,
+    rule: &Rule,
+    values: &[Feel],
+    env: &Env,
+) -> Result<Option<bool>, AllocError>
+    ensures { IfOk result (λ hit. hit ≡ does_hit_of env.now values.now (rule_view rule.now)) }
+{
+    let mut hit = true;
+    for (tests, value) in rule.tests.iter().zip(values) {
+        match holds(alloc, tests, value, env)? {
+            Held::Yes => {}
+            Held::No => hit = false,
+            Held::Limit => return Ok(None),
+        }
+    }
+    Ok(Some(hit))
+}
+
+/// Whether each rule hits; None where an entry breaks a limit.
+pub(crate) fn answers(
+    alloc: Global,
+    rules: &[Rule],
+    values: &[Feel],
+    env: &Env,
+) -> Result<Option<Vec<bool>>, AllocError>
+    ensures { IfOk result (λ found. option_map (λ v. v.items) found ≡ each (does_hit_of env.now values.now) (map rule_view rules.now)) }
+{
+    let mut answers = Vec::with_capacity(alloc, rules.len())?;
+    for rule in rules {
+        match does_hit(alloc, rule, values, env)? {
+            Some(hit) => answers.push(hit)?,
+            None => return Ok(None),
+        }
+    }
+    Ok(Some(answers))
+}
+
+/// The position of the first listed value that equals the value; the length of the list where none does.
+fn place(listed: &[Feel], value: &Feel) -> usize
+    ensures { result ≡ place_of listed.now value.now }
+{
+    for (i, other) in listed.iter().enumerate() {
+        if equal(other, value) == Truth::Yes {
+            return i;
+        }
+    }
+    listed.len()
+}
+
+/// The places of a rule's values in the columns' lists of output values.
+fn places(alloc: Global, outputs: &[Output], values: &[Feel]) -> Result<Vec<usize>, AllocError>
+    ensures { IfOk result (λ p. p.items ≡ places_of (map column_view outputs.now) values.now) }
+{
+    let mut places = Vec::with_capacity(alloc, outputs.len())?;
+    for (output, value) in outputs.iter().zip(values) {
+        places.push(place(&output.values, value))?;
+    }
+    Ok(places)
+}
+
+/// A rule that hit, with its output; None where a limit is broken.
+fn hit_of(
+    alloc: Global,
+    rule: &Rule,
+    outputs: &[Output],
+    env: &Env,
+) -> Result<Option<Hit>, AllocError>
+    ensures { IfOk result (λ hit. option_map hit_view hit ≡ hit_of_rule (map column_view outputs.now) env.now (rule_view rule.now)) }
+{
+    let Some(values) = evaluated(alloc, &rule.gives, env)? else {
+        return Ok(None);
+    };
+    let places = places(alloc, outputs, &values)?;
+    match one_or_context(alloc, outputs, values)? {
+        Outcome::Is(output) => Ok(Some(Hit { places, output })),
+        Outcome::Limit => Ok(None),
+    }
+}
+
+/// The rules with the answer true, with their outputs; None where a limit is broken.
+pub(crate) fn found_hits(
+    alloc: Global,
+    rules: &[Rule],
+    answers: &[bool],
+    outputs: &[Output],
+    env: &Env,
+) -> Result<Option<Vec<Hit>>, AllocError>
+    ensures { IfOk result (λ found. option_map (λ v. map hit_view v.items) found ≡ each (hit_of_rule (map column_view outputs.now) env.now) (kept (map rule_view rules.now) answers.now)) }
+{
+    let mut hits = Vec::new(alloc);
+    for (rule, hit) in rules.iter().zip(answers) {
+        if *hit {
+            match hit_of(alloc, rule, outputs, env)? {
+                Some(hit) => hits.push(hit)?,
+                None => return Ok(None),
+            }
+        }
+    }
+    Ok(Some(hits))
+}

@@ -1,0 +1,23 @@
+ghost use Rattle.std.specs.Prelude.{◌≡◌, IfOk, map, length};
+ghost use Rattle.std.specs.List.{AllPairs};
+ghost use Rattle.dmn_table.specs.Priority.{in_priority as in_priority_of};
+ghost use Rattle.dmn_table.specs.View.{hit_view};
+
+use feel_value::Feel;
+use std::alloc::AllocError;
+
+/// A rule that hit: the place of each of its values in its column's list of output values, and its output.
+#[derive(Drop)]
+pub(crate) struct Hit {
+    pub(crate) places: Vec<usize>,
+    pub(crate) output: Feel,
+}
+
+/// The hits in decreasing priority, ties in their order.
+pub(crate) fn in_priority(mut hits: Vec<Hit>) -> Result<Vec<Hit>, AllocError>
+    requires { AllPairs (λ hit other. length hit.places.items ≡ length other.places.items) hits.items }
+    ensures { IfOk result (λ sorted. map hit_view sorted.items ≡ in_priority_of (map hit_view hits.items)) }
+{
+    hits.sort_by(|hit, other| hit.places.cmp(&other.places))?;
+    Ok(hits)
+}

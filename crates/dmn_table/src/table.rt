@@ -1,0 +1,134 @@
+ghost use Rattle.std.specs.Prelude.{◌≡◌, IfOk, IfErr, string_bytes, bytes_eq, length};
+ghost use Rattle.std.specs.List.{list_all, list_any};
+ghost use Rattle.dmn_table.specs.Faults.{columns_fit as columns_fit_of, fits_columns, are_distinct};
+ghost use Rattle.dmn_table.specs.Parts.{names_of, entry_counts, fault_of_parts, MakesTable};
+
+use crate::fault::TableFault;
+use crate::hit_policy::HitPolicy;
+use feel_lang::{Expr, Tests};
+use feel_value::Feel;
+use std::marker::Model;
+
+/// An output column: its name, its list of output values (empty where it has none) and its default.
+#[derive(Drop)]
+pub struct Output {
+    pub name: String,
+    pub values: Vec<Feel>,
+    pub fallback: Option<Expr>,
+}
+
+/// A rule: unary tests for each input column, and an expression for each output column.
+#[derive(Drop)]
+pub struct Rule {
+    pub tests: Vec<Tests>,
+    pub gives: Vec<Expr>,
+}
+
+impl Output {
+    fn is_named(&self, name: &str) -> bool
+        ensures { result ≡ bytes_eq name.now (string_bytes self.now.name) }
+    {
+        name == self.name.as_str()
+    }
+}
+
+impl Rule {
+    /// Whether there is an entry for each of these numbers of columns.
+    fn fits(&self, inputs: usize, outputs: usize) -> bool
+        ensures { result ≡ fits_columns inputs outputs (length self.now.tests.items, length self.now.gives.items) }
+    {
+        self.tests.len() == inputs && self.gives.len() == outputs
+    }
+}
+
+/// A decision table. Each rule has an entry for each column, and a policy that makes one number has one output column.
+#[derive(Drop)]
+pub struct Table {
+    pub(crate) policy: HitPolicy,
+    pub(crate) inputs: Vec<Expr>,
+    pub(crate) outputs: Vec<Output>,
+    pub(crate) rules: Vec<Rule>,
+}
+
+impl Model for Table {
+    ghost use Rattle.std.specs.Prelude.{◌≡◌, true, length};
+    ghost use Rattle.dmn_table.specs.Table as specs;
+    ghost use Rattle.dmn_table.specs.Code.{table_code};
+
+    ghost Value = { specs.Table };
+
+    ghost coded = { table_code };
+
+    ghost use Rattle.dmn_table.specs.Faults.{columns_fit, operator_fits};
+    ghost use Rattle.dmn_table.specs.Parts.{table_of, names_of, entry_counts};
+
+    ghost view = { λ t. table_of t.policy t.inputs.items t.outputs.items t.rules.items };
+
+    ghost invariant = { λ t. (columns_fit (length t.inputs.items) (names_of t.outputs.items) (entry_counts t.rules.items) ≡ true) × (operator_fits t.policy (names_of t.outputs.items) ≡ true) };
+}
+
+impl Table {
+    /// The table, or its first fault: of the text of the hit policy, of the columns, of an operator over several outputs. It
+    /// takes no memory; the names of the output columns are compared each with each.
+    pub fn new(
+        hit: &str,
+        inputs: Vec<Expr>,
+        outputs: Vec<Output>,
+        rules: Vec<Rule>,
+    ) -> Result<Table, TableFault>
+        ensures ok { IfOk result (MakesTable hit.now inputs.items outputs.items rules.items) }
+        ensures err { IfErr result (λ f. fault_of_parts hit.now inputs.items outputs.items rules.items ≡ Some f) }
+    {
+        let Some(policy) = HitPolicy::from_text(hit) else {
+            return Err(TableFault::Hit);
+        };
+        if !columns_fit(inputs.len(), &outputs, &rules) {
+            return Err(TableFault::Columns);
+        }
+        if policy.is_operator() && outputs.len() > 1 {
+            return Err(TableFault::Operator);
+        }
+        Ok(Table {
+            policy,
+            inputs,
+            outputs,
+            rules,
+        })
+    }
+}
+
+fn columns_fit(inputs: usize, outputs: &[Output], rules: &[Rule]) -> bool
+    ensures { result ≡ columns_fit_of inputs (names_of outputs.now) (entry_counts rules.now) }
+{
+    if outputs.is_empty() {
+        return false;
+    }
+    if !names_are_distinct(outputs) {
+        return false;
+    }
+    rules_fit(inputs, outputs.len(), rules)
+}
+
+fn rules_fit(inputs: usize, outputs: usize, rules: &[Rule]) -> bool
+    ensures { result ≡ list_all (λ r. fits_columns inputs outputs (length r.tests.items, length r.gives.items)) rules.now }
+{
+    rules.iter().all(|rule| rule.fits(inputs, outputs))
+}
+
+fn names_are_distinct(outputs: &[Output]) -> bool
+    ensures { result ≡ are_distinct (names_of outputs.now) }
+{
+    for (i, output) in outputs.iter().enumerate() {
+        let later = &outputs[i + 1..];
+        if is_among(output.name.as_str(), later) {
+            return false;
+        }
+    }
+    true
+}
+
+fn is_among(name: &str, outputs: &[Output]) -> bool
+    ensures { result ≡ list_any (λ o. bytes_eq name.now (string_bytes o.name)) outputs.now }
+{
+    outputs.iter().any(|output| output.is_named(name))
+}

@@ -1,0 +1,110 @@
+//! Calls while the heap refuses requests.
+use super::{Parts, expressions, output, rule, table, value};
+use crate::{Table, decide};
+use feel_lang::Env;
+use feel_value::{Outcome, Truth, equal};
+use std::alloc::{AllocError, Global};
+use std::test::Fail;
+
+/// The most blocks that the heap is taken in.
+const BLOCKS: usize = 200_000;
+
+/// All that the heap can give, until it is dropped. The pages of a block are never touched, so that this costs address
+/// space and little memory.
+#[derive(Drop)]
+struct FullHeap {
+    blocks: Vec<Vec<u8>>,
+}
+
+impl FullHeap {
+    /// Takes the whole heap but for one block of this size.
+    fn but(alloc: Global, spare: usize) -> Result<FullHeap, AllocError> {
+        let mut blocks = Vec::with_capacity(alloc, BLOCKS)?;
+        let left: Vec<u8> = Vec::with_capacity(alloc, spare)?;
+        let mut size: usize = 1 << 40;
+        for _ in 0..BLOCKS {
+            match Vec::with_capacity(alloc, size) {
+                Ok(block) => {
+                    let _ = blocks.push(block);
+                }
+                Err(_) if size > 1 => size /= 2,
+                Err(_) => break,
+            }
+        }
+        drop(left);
+        Ok(FullHeap { blocks })
+    }
+
+    fn blocks(&self) -> usize {
+        self.blocks.len()
+    }
+}
+
+/// Thirty rules that all hit, and give numbers of two places in turn.
+const RULES: &str =
+    "> 0 => 1; - => 2; 1 => 1; - => 2; - => 1; - => 2; - => 1; - => 2; - => 1; - => 2; \
+    - => 1; - => 2; - => 1; - => 2; - => 1; - => 2; - => 1; - => 2; - => 1; - => 2; \
+    - => 1; - => 2; - => 1; - => 2; - => 1; - => 2; - => 1; - => 2; - => 1; - => 2";
+
+const PARTS: Parts<'static> = Parts {
+    inputs: "a",
+    outputs: "r in 2 / 1",
+    rules: RULES,
+};
+
+#[test]
+fn a_table_is_made_without_memory(rt: HostRuntime) -> Result<(), Fail> {
+    let alloc = rt.alloc();
+    let mut outputs = Vec::new(alloc);
+    outputs.push(output(alloc, &rt, "r in 1 / 2 else 3")?)?;
+    let mut rules = Vec::new(alloc);
+    rules.push(rule(alloc, &rt, "> 0 => 1")?)?;
+    let inputs = expressions(alloc, &rt, "a", ';')?;
+    let full = FullHeap::but(alloc, 0)?;
+    assert!(rt; full.blocks() > 0);
+    let made = Table::new("P", inputs, outputs, rules);
+    drop(full);
+    assert!(rt; made.is_ok());
+    Ok(())
+}
+
+/// With each of these blocks left, a decision is refused memory, and is right when it is made again, or is right at once.
+#[test]
+fn a_decision_is_right_or_finds_no_memory(rt: HostRuntime) -> Result<(), Fail> {
+    let alloc = rt.alloc();
+    for (hit, told) in [
+        ("F", "1"),
+        ("P", "2"),
+        (
+            "O",
+            "[2, 2, 2, 2, 2, 2, 2, 2, 2, 2, 2, 2, 2, 2, 2, 1, 1, 1, 1, 1, 1, 1, 1, 1, 1, 1, 1, 1, 1, 1]",
+        ),
+        ("C+", "45"),
+    ] {
+        let Ok(table) = table(alloc, &rt, hit, PARTS)? else {
+            panic!(rt; "no table");
+        };
+        let want = value(alloc, &rt, told)?;
+        let mut env = Env::new(alloc);
+        env.bind("a", value(alloc, &rt, "1")?)?;
+        for spare in [0, 1040, 1600, 2080, 4096, 8192, 16384, 65536] {
+            let full = FullHeap::but(alloc, spare)?;
+            let first = decide(alloc, &table, &env);
+            drop(full);
+            assert!(rt; first.is_err() || spare > 0);
+            assert!(rt; first.is_ok() || spare < 65536);
+            let found = match first {
+                Ok(found) => found,
+                Err(AllocError) => decide(alloc, &table, &env)?,
+            };
+            let Outcome::Is(found) = found else {
+                panic!(rt; "limit");
+            };
+            assert!(rt;
+                equal(&found, &want) == Truth::Yes,
+                "{hit}, {spare} bytes left"
+            );
+        }
+    }
+    Ok(())
+}

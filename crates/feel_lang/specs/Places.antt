@@ -1,0 +1,24 @@
+-- Internal, cited by no public contract: where the last binding of a name stands.
+use Rattle.std.specs.Prelude.{◌≡◌, ℕ, suc, ◌<◌, List, [], ◌∷◌, map, take, length, slice_index_or, Option, Some, None, String, string_bytes, bytes_eq, if◌then◌else◌}
+use Rattle.std.specs.declared.alloc.Global.{Global}
+use Rattle.std.specs.BTreeMap.{BTreeMap, get_by_text}
+use Rattle.feel_lang.specs.Meaning.{Bindings}
+use Rattle.feel_lang.specs.declared.env.Binding.{Binding}
+
+abbrev pub bindings_of : List Binding → Bindings
+bindings_of = map (λ b. (string_bytes b.name, b.value))
+
+abbrev pub place_after : Option ℕ → Option ℕ → Option ℕ
+place_after None o = o
+place_after (Some i) o = Some (suc i)
+
+-- where the last binding of the name stands
+abbrev pub last_place : List ℕ → Bindings → Option ℕ
+last_place name [] = None
+last_place name (b ∷ bs) = place_after (last_place name bs) (if bytes_eq name b.0 then Some 0 else None)
+
+-- The map has the place of the last binding of each name, and each binding the place of the one that it hides.
+pub record IsIndexed (bindings : List Binding) (places : BTreeMap (String Global) ℕ) : Type 0 where
+  pub last : (name : List ℕ) → get_by_text places name ≡ last_place name (bindings_of bindings)
+  pub hidden : (i : ℕ) (b : Binding) → i < length bindings
+      → (slice_index_or bindings i b).hidden ≡ last_place (string_bytes (slice_index_or bindings i b).name) (take i (bindings_of bindings))

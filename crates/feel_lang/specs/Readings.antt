@@ -1,0 +1,29 @@
+-- What a text spells, if anything: an expression, unary tests, a literal. Each function is tied to the grammar by a law for every
+-- text (proofs/ReadingLaws.antt): `expr_of s ≡ Some e` exactly where `Spells s e`, and so for the other two. Above this crate only the laws count.
+use Rattle.std.specs.Prelude.{ℕ, List, length, Option, Some, None}
+use Rattle.feel_lang.specs.declared.line.Line.TheVariants as line
+use Rattle.feel_lang.specs.Token.{Token}
+use Rattle.feel_lang.specs.Expr.{Expr}
+use Rattle.feel_lang.specs.Tests.{Tests, most_depth}
+use Rattle.feel_lang.specs.Reading.{◌>>=◌, read_at}
+use Rattle.feel_lang.specs.Scanning.{cut_of}
+use Rattle.feel_lang.specs.TestReading.{all_read, tests_at, literal_at}
+use Rattle.feel_value.specs.Datum.{Datum}
+
+-- the expression that all of the tokens spell
+unfoldable pub expression_at : List Token → Option Expr
+expression_at ts = do
+  x ← read_at most_depth line.Whole ts
+  all_read x.2 x.0
+
+-- the expression that a text spells
+unfoldable pub expr_of : List ℕ → Option Expr
+expr_of text = cut_of text >>= expression_at
+
+-- the unary tests that a text spells
+unfoldable pub tests_of : List ℕ → Option Tests
+tests_of text = cut_of text >>= tests_at
+
+-- the literal that a text spells
+unfoldable pub literal_of : List ℕ → Option Datum
+literal_of text = cut_of text >>= literal_at

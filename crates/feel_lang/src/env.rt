@@ -1,0 +1,120 @@
+//! Names with values.
+ghost use Rattle.std.specs.Prelude.{◌≡◌, ◌≤◌, [], ◌∷◌, ◌++◌, List, ℕ, length, take, option_map, MatchResult, IsSome, bytes_eq, string_bytes, if◌then◌else◌};
+ghost use Rattle.std.specs.BTreeMap.{get_by_text};
+ghost use Rattle.feel_lang.specs.Meaning.{bound};
+
+use feel_value::Feel;
+use std::alloc::{AllocError, Global};
+use std::collections::BTreeMap;
+use std::marker::Model;
+
+// A name with its value.
+#[derive(Drop)]
+struct Binding {
+    name: String,
+    value: Feel,
+    // Where the binding stands that this one hides.
+    hidden: Option<usize>,
+}
+
+/// A list of names with values, of which the last binding of a name counts.
+///
+/// Binding, finding and cutting off one name take steps in proportion to the logarithm of how many names there are.
+#[derive(Drop)]
+pub struct Env {
+    bindings: Vec<Binding>,
+    // Where the last binding of each name stands.
+    places: BTreeMap<String, usize>,
+}
+
+impl Model for Env {
+    ghost use Rattle.std.specs.Prelude.{List, ℕ};
+    ghost use Rattle.std.specs.Coded.{coded_list, coded×, coded_ℕ};
+    ghost use Rattle.feel_value.specs.Datum.{Datum};
+    ghost use Rattle.feel_value.specs.Code.{datum_code};
+
+    ghost Value = { List (List ℕ × Datum) };
+
+    ghost coded = { coded_list (coded× (coded_list coded_ℕ) datum_code) };
+
+    ghost use Rattle.feel_lang.specs.Places.{bindings_of, IsIndexed};
+
+    ghost view = { λ e. bindings_of e.bindings.items };
+
+    ghost invariant = { λ e. IsIndexed e.bindings.items e.places };
+}
+
+impl Env {
+    /// An environment with no names. It takes no memory, and keeps the allocator for its bindings.
+    pub fn new(alloc: Global) -> Env
+        ensures { result ≡ [] }
+    {
+        Env {
+            bindings: Vec::new(alloc),
+            places: BTreeMap::new(alloc),
+        }
+    }
+
+    /// Binds a name to a value, which hides what the name was bound to before. Where memory is refused nothing changes,
+    /// and the value is gone.
+    pub fn bind(&mut self, name: &str, value: Feel) -> Result<(), AllocError>
+        ensures { MatchResult result (λ _. self.new ≡ self.old ++ (name.now, value) ∷ []) (λ _. self.new ≡ self.old) }
+    {
+        let alloc = *self.bindings.allocator();
+        let key = String::from_str(alloc, name)?;
+        let name = String::from_str(alloc, name)?;
+        self.bindings.reserve(1)?;
+        let hidden = self.places.insert(key, self.bindings.len())?;
+        self.bindings.push(Binding {
+            name,
+            value,
+            hidden,
+        })?;
+        Ok(())
+    }
+
+    /// The value of the last binding of the name.
+    pub fn find(&self, name: &str) -> Option<&Feel>
+        ensures { option_map (λ v. v.now) result ≡ bound name.now self.now }
+    {
+        let place = *self.places.get(name)?;
+        Some(&self.bindings[place].value)
+    }
+
+    /// How many bindings there are, hidden ones included.
+    pub fn len(&self) -> usize
+        ensures { result ≡ length self.now }
+    {
+        self.bindings.len()
+    }
+
+    /// Drops all bindings but the first `len`; what they hid counts again. It takes no memory.
+    pub fn cut(&mut self, len: usize)
+        requires { len ≤ length self.old }
+        ensures { self.new ≡ take len self.old }
+    {
+        while self.bindings.len() > len {
+            if let Some(binding) = self.bindings.pop() {
+                let Binding {
+                    name,
+                    value,
+                    hidden,
+                } = binding;
+                drop(value);
+                uncover(&mut self.places, name, hidden);
+            }
+        }
+    }
+}
+
+// Gives the name the place that its last binding has hidden, where there is one.
+fn uncover(places: &mut BTreeMap<String, usize>, name: String, hidden: Option<usize>)
+    requires { IsSome (get_by_text places.old (string_bytes name)) }
+    ensures { (other : List ℕ) → get_by_text places.new other ≡ (if bytes_eq (string_bytes name) other then hidden else get_by_text places.old other) }
+{
+    match hidden {
+        // The name is there, so this takes no memory.
+        Some(place) => drop(places.insert(name, place)),
+        None => drop(places.remove(name.as_str())),
+    }
+}

@@ -1,0 +1,141 @@
+//! The evaluation of expressions.
+ghost use Rattle.std.specs.Prelude.{◌≡◌, IfOk, option_map, unwrap_or};
+ghost use Rattle.feel_value.specs.Datum.{null as null_value};
+ghost use Rattle.feel_value.specs.Outcome.{held};
+ghost use Rattle.feel_value.specs.View.{items_view};
+ghost use Rattle.feel_value.specs.declared.feel.Outcome.TheVariants.{Is};
+ghost use Rattle.feel_lang.specs.Meaning.{den, dens, bound, list_held, with_value, path_of};
+ghost use Rattle.feel_lang.specs.Operands.{outcome_of};
+ghost use Rattle.feel_lang.specs.View.{view, views};
+
+use crate::env::Env;
+use crate::eval_calls::call;
+use crate::eval_operators::{between, inverted, modulo, negated, operation};
+use crate::eval_outcome::{null, number};
+use crate::eval_paths::{path, place};
+use crate::expr::Tree;
+use crate::operands::Operand;
+use feel_value::{Outcome, Truth, Value};
+use std::alloc::{AllocError, Global};
+
+/// The value of an expression, where names have the values that the environment gives them, and null where it has none; or that
+/// a limit is broken. Every part is evaluated but the branch of an `if` that isn't taken. A bound value is copied only where the result
+/// keeps it. The only error is that memory was refused.
+#[cycle(eval)]
+pub(crate) fn eval(alloc: Global, expr: &Tree, env: &Env) -> Result<Outcome, AllocError>
+    ensures { IfOk result (λ o. o ≡ den (view expr.now) env.now) }
+{
+    match expr {
+        Tree::Null => Ok(null()),
+        Tree::Boolean(b) => Ok(Outcome::of(Value::Bool(*b))),
+        Tree::Number(n) => Ok(number(i64::try_from(*n).ok())),
+        Tree::Text(text) => Ok(Outcome::of(Value::Text(String::from_str(alloc, text.as_str())?))),
+        Tree::Name(name) => named(alloc, name.as_str(), env),
+        Tree::Group(inner) => eval(alloc, inner, env),
+        Tree::List(exprs) => list(alloc, exprs, env),
+        Tree::Call(function, argument) => Ok(call(*function, operand(alloc, argument, env)?)),
+        Tree::Modulo(left, right) => {
+            let left = operand(alloc, left, env)?;
+            Ok(modulo(left, operand(alloc, right, env)?))
+        }
+        Tree::Not(inner) => Ok(inverted(operand(alloc, inner, env)?)),
+        Tree::Negate(inner) => Ok(negated(operand(alloc, inner, env)?)),
+        Tree::Path(inner, name) => entry(alloc, inner, name.as_str(), env),
+        Tree::Binary(operator, left, right) => {
+            let left = operand(alloc, left, env)?;
+            Ok(operation(*operator, left, operand(alloc, right, env)?))
+        }
+        Tree::Between(value, low, high) => {
+            let value = operand(alloc, value, env)?;
+            let low = operand(alloc, low, env)?;
+            Ok(between(value, low, operand(alloc, high, env)?))
+        }
+        Tree::If(test, yes, no) => match operand(alloc, test, env)? {
+            Some(test) => {
+                if test.value().truth() == Truth::Yes {
+                    eval(alloc, yes, env)
+                } else {
+                    eval(alloc, no, env)
+                }
+            }
+            None => Ok(Outcome::Limit),
+        },
+    }
+}
+
+// The value of an operand, which is looked at and not kept. None where a limit is broken.
+#[cycle(eval)]
+pub(crate) fn operand<'a>(
+    alloc: Global,
+    expr: &Tree,
+    env: &'a Env,
+) -> Result<Option<Operand<'a>>, AllocError>
+    ensures { IfOk result (λ o. outcome_of o ≡ den (view expr.now) env.now) }
+{
+    if let Tree::If(test, yes, no) = expr {
+        return match operand(alloc, test, env)? {
+            Some(test) => {
+                if test.value().truth() == Truth::Yes {
+                    operand(alloc, yes, env)
+                } else {
+                    operand(alloc, no, env)
+                }
+            }
+            None => Ok(None),
+        };
+    }
+    if let Some(value) = place(expr, env) {
+        return Ok(Some(Operand::Lent(value)));
+    }
+    match eval(alloc, expr, env)? {
+        Outcome::Is(value) => Ok(Some(Operand::Formed(value))),
+        Outcome::Limit => Ok(None),
+    }
+}
+
+// The value of a name; null where it has none.
+fn named(alloc: Global, name: &str, env: &Env) -> Result<Outcome, AllocError>
+    ensures { IfOk result (λ o. o ≡ Is (unwrap_or (bound name.now env.now) null_value)) }
+{
+    match env.find(name) {
+        Some(value) => Ok(Outcome::Is(value.try_clone(alloc)?)),
+        None => Ok(null()),
+    }
+}
+
+// A list of expressions.
+#[cycle(eval)]
+fn list(alloc: Global, exprs: &[Tree], env: &Env) -> Result<Outcome, AllocError>
+    ensures { IfOk result (λ o. o ≡ list_held (dens (views exprs.now) env.now)) }
+{
+    match members(alloc, exprs, env)? {
+        Some(values) => Ok(Outcome::of(Value::List(values))),
+        None => Ok(Outcome::Limit),
+    }
+}
+
+// The values of the expressions; None where one breaks a limit.
+#[cycle(eval)]
+fn members(alloc: Global, exprs: &[Tree], env: &Env) -> Result<Option<Vec<Value>>, AllocError>
+    ensures { IfOk result (λ o. option_map (λ v. items_view v.items) o ≡ dens (views exprs.now) env.now) }
+{
+    let mut values = Vec::with_capacity(alloc, exprs.len())?;
+    for expr in exprs {
+        match eval(alloc, expr, env)? {
+            Outcome::Is(value) => values.push(value.into_value())?,
+            Outcome::Limit => return Ok(None),
+        }
+    }
+    Ok(Some(values))
+}
+
+// A path from an expression.
+#[cycle(eval)]
+fn entry(alloc: Global, expr: &Tree, name: &str, env: &Env) -> Result<Outcome, AllocError>
+    ensures { IfOk result (λ o. o ≡ with_value (den (view expr.now) env.now) (λ d. held (path_of name.now d))) }
+{
+    match operand(alloc, expr, env)? {
+        Some(whole) => Ok(Outcome::of(path(alloc, whole.value(), name)?)),
+        None => Ok(Outcome::Limit),
+    }
+}

@@ -1,0 +1,47 @@
+//! FEEL expressions.
+
+/// An operator between two operands.
+#[derive(Clone, Copy, Debug, PartialEq, Eq)]
+pub(crate) enum Operator {
+    Or,
+    And,
+    Equal,
+    NotEqual,
+    Less,
+    LessEqual,
+    Greater,
+    GreaterEqual,
+    Add,
+    Subtract,
+    Multiply,
+}
+
+/// A built-in function of one argument.
+#[derive(Clone, Copy, Debug, PartialEq, Eq)]
+pub(crate) enum Function {
+    Abs,
+    Sum,
+    Min,
+    Max,
+    Count,
+}
+
+/// A FEEL expression. Parentheses are kept, since they count in its depth.
+#[derive(Debug, Drop)]
+pub(crate) enum Tree {
+    Null,
+    Boolean(bool),
+    Number(u64),
+    Text(String),
+    Name(String),
+    Group(Box<Tree>),
+    List(Vec<Tree>),
+    Call(Function, Box<Tree>),
+    Modulo(Box<Tree>, Box<Tree>),
+    Not(Box<Tree>),
+    Negate(Box<Tree>),
+    Path(Box<Tree>, String),
+    Binary(Operator, Box<Tree>, Box<Tree>),
+    Between(Box<Tree>, Box<Tree>, Box<Tree>),
+    If(Box<Tree>, Box<Tree>, Box<Tree>),
+}

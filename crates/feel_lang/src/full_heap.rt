@@ -1,0 +1,37 @@
+//! A heap that refuses requests for memory, for tests.
+use std::alloc::{AllocError, Global};
+
+/// The most blocks that the heap is taken in.
+const BLOCKS: usize = 200_000;
+
+/// All that the heap can give, until it is dropped. The pages of a block are never touched, so that this costs address
+/// space and little memory.
+#[derive(Drop)]
+pub(crate) struct FullHeap {
+    blocks: Vec<Vec<u8>>,
+}
+
+impl FullHeap {
+    /// Takes the whole heap but for one block of this size.
+    pub(crate) fn but(alloc: Global, spare: usize) -> Result<FullHeap, AllocError> {
+        let mut blocks = Vec::with_capacity(alloc, BLOCKS)?;
+        let left: Vec<u8> = Vec::with_capacity(alloc, spare)?;
+        let mut size: usize = 1 << 40;
+        for _ in 0..BLOCKS {
+            match Vec::with_capacity(alloc, size) {
+                Ok(block) => {
+                    let _ = blocks.push(block);
+                }
+                Err(_) if size > 1 => size /= 2,
+                Err(_) => break,
+            }
+        }
+        drop(left);
+        Ok(FullHeap { blocks })
+    }
+
+    /// How many blocks were taken.
+    pub(crate) fn blocks(&self) -> usize {
+        self.blocks.len()
+    }
+}

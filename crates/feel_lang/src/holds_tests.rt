@@ -1,0 +1,171 @@
+//! Whether a value meets unary tests.
+ghost use Rattle.std.specs.Prelude.{◌≡◌, IfOk};
+ghost use Rattle.feel_value.specs.Logic.{and_of, or_of, decided as decided_of};
+ghost use Rattle.feel_value.specs.View.{datum_of, items_view};
+ghost use Rattle.feel_lang.specs.Operands.{outcome_of, answer_of};
+ghost use Rattle.feel_lang.specs.Satisfied.{satisfied, held_of, tested, tested_any, answer, joined, stands_to, is_in, is_listed, is_member, opposite_answer, low_bound, high_bound};
+ghost use Rattle.feel_lang.specs.TestsView.{tests_view, test_view, test_views, bound_view};
+
+use crate::env::Env;
+use crate::eval_expr::operand;
+use crate::operands::Operand;
+use crate::unary::{Bound, Test, TestsTree};
+use feel_value::{Feel, Truth, Value, and3, not3, or3};
+use std::alloc::{AllocError, Global};
+
+/// Whether a value meets unary tests. `No` also where that is unknown; `Limit` where an expression among the tests breaks a
+/// limit.
+#[derive(Clone, Copy, Debug, PartialEq, Eq)]
+pub enum Held {
+    Yes,
+    No,
+    Limit,
+}
+
+/// Whether the value meets the tests. All of them are evaluated, whatever the first ones answer. The only error is that memory was
+/// refused.
+pub(crate) fn holds(
+    alloc: Global,
+    tests: &TestsTree,
+    value: &Feel,
+    env: &Env,
+) -> Result<Held, AllocError>
+    ensures { IfOk result (λ h. h ≡ held_of (satisfied (tests_view tests.now) value.now env.now)) }
+{
+    let answer = match tests {
+        TestsTree::Any => Some(Truth::Yes),
+        TestsTree::OneOf(tests) => any(alloc, tests, value, env)?,
+        TestsTree::NoneOf(tests) => negated(any(alloc, tests, value, env)?),
+    };
+    Ok(match answer {
+        Some(Truth::Yes) => Held::Yes,
+        Some(_) => Held::No,
+        None => Held::Limit,
+    })
+}
+
+// The `or` of all tests; None where a limit is broken, here and below. All of them are evaluated.
+fn any(alloc: Global, tests: &[Test], value: &Feel, env: &Env) -> Result<Option<Truth>, AllocError>
+    ensures { IfOk result (λ a. answer_of a ≡ tested_any (test_views tests.now) value.now env.now) }
+{
+    let mut answer = Some(Truth::No);
+    for test in tests {
+        let next = one(alloc, test, value, env)?;
+        answer = either(answer, next);
+    }
+    Ok(answer)
+}
+
+fn either(first: Option<Truth>, second: Option<Truth>) -> Option<Truth>
+    ensures { answer_of result ≡ joined or_of (answer_of first) (answer_of second) }
+{
+    match (first, second) {
+        (Some(s), Some(t)) => Some(or3(s, t)),
+        _ => None,
+    }
+}
+
+fn both(first: Option<Truth>, second: Option<Truth>) -> Option<Truth>
+    ensures { answer_of result ≡ joined and_of (answer_of first) (answer_of second) }
+{
+    match (first, second) {
+        (Some(s), Some(t)) => Some(and3(s, t)),
+        _ => None,
+    }
+}
+
+fn negated(answer: Option<Truth>) -> Option<Truth>
+    ensures { answer_of result ≡ opposite_answer (answer_of answer) }
+{
+    Some(not3(answer?))
+}
+
+// What one test answers.
+fn one(alloc: Global, test: &Test, value: &Feel, env: &Env) -> Result<Option<Truth>, AllocError>
+    ensures { IfOk result (λ a. answer_of a ≡ tested (test_view test.now) value.now env.now) }
+{
+    match test {
+        Test::Compares(bound, expr) => Ok(compared(*bound, value, operand(alloc, expr, env)?)),
+        Test::Interval(closed_low, low, high, closed_high) => {
+            let low = compared(low_end(*closed_low), value, operand(alloc, low, env)?);
+            let high = compared(high_end(*closed_high), value, operand(alloc, high, env)?);
+            Ok(both(low, high))
+        }
+        Test::Equals(expr) => Ok(matched(value, operand(alloc, expr, env)?)),
+    }
+}
+
+fn low_end(closed: bool) -> Bound
+    ensures { bound_view result ≡ low_bound closed }
+{
+    if closed { Bound::AtLeast } else { Bound::Above }
+}
+
+fn high_end(closed: bool) -> Bound
+    ensures { bound_view result ≡ high_bound closed }
+{
+    if closed { Bound::AtMost } else { Bound::Below }
+}
+
+// Whether the input stands so to an operand.
+fn compared(bound: Bound, input: &Feel, operand: Option<Operand<'_>>) -> Option<Truth>
+    ensures { answer_of result ≡ answer (outcome_of operand.entry) (λ d. stands_to (bound_view bound) input.now d) }
+{
+    let operand = operand?;
+    Some(stands(bound, input.value(), operand.value()))
+}
+
+fn stands(bound: Bound, input: &Value, value: &Value) -> Truth
+    ensures { result ≡ stands_to (bound_view bound) (datum_of input.now) (datum_of value.now) }
+{
+    match bound {
+        Bound::Below => input.less(value),
+        Bound::AtMost => not3(value.less(input)),
+        Bound::Above => value.less(input),
+        Bound::AtLeast => not3(input.less(value)),
+    }
+}
+
+// Whether the input is an operand, or a member of it.
+fn matched(input: &Feel, operand: Option<Operand<'_>>) -> Option<Truth>
+    ensures { answer_of result ≡ answer (outcome_of operand.entry) (λ d. decided_of (is_in input.now d)) }
+{
+    let operand = operand?;
+    Some(decided(found(input.value(), operand.value())))
+}
+
+// Whether the input is the value, or a member of it.
+fn found(input: &Value, value: &Value) -> bool
+    ensures { result ≡ is_in (datum_of input.now) (datum_of value.now) }
+{
+    input.is_equal(value) || listed(input, value)
+}
+
+// Whether the value is a list with a member that the input is equal to.
+fn listed(input: &Value, value: &Value) -> bool
+    ensures { result ≡ is_listed (datum_of input.now) (datum_of value.now) }
+{
+    match value {
+        Value::List(items) => contains(items, input),
+        _ => false,
+    }
+}
+
+// Whether a member of the list is equal to the input.
+fn contains(items: &[Value], input: &Value) -> bool
+    ensures { result ≡ is_member (datum_of input.now) (items_view items.now) }
+{
+    for item in items {
+        if input.is_equal(item) {
+            return true;
+        }
+    }
+    false
+}
+
+// The answer of a test that is never unknown.
+fn decided(holds: bool) -> Truth
+    ensures { result ≡ decided_of holds }
+{
+    if holds { Truth::Yes } else { Truth::No }
+}

@@ -1,0 +1,576 @@
+//! Reading an expression from its tokens, once from left to right.
+
+ghost use Rattle.std.specs.Prelude.{◌≡◌, ◌≤◌, ◌<◌, ◌+◌, List, string_bytes, IfOk, length, map, option_map};
+ghost use Rattle.feel_lang.specs.Gives.{Gives};
+ghost use Rattle.feel_lang.specs.Readings.{expression_at};
+ghost use Rattle.feel_lang.specs.Token.{views};
+ghost use Rattle.feel_lang.specs.Token as token_specs;
+ghost use Rattle.feel_lang.specs.View.{view, exprs_of};
+ghost use Rattle.feel_lang.specs.Expr.{none, more};
+ghost use Rattle.feel_lang.specs.Grammar.{rank, tighter};
+ghost use Rattle.feel_lang.specs.Reading.{after_and, after_bracket, after_close, after_comma, after_else, after_open, after_then, between_at, chain_at, closed_at, compared_at, comparison_at, disjunction_at, function_of, group_at, joined, line_at, list_at, listed_at, members_at, modulo_at, named_at, negated_at, negation_at, operator_at, path_at, paths_at, primary_at, read_at, steps_at, sum_at, whole_at};
+
+use crate::expr::{Function, Operator, Tree};
+use crate::fault::ReadFault;
+use crate::line::Line;
+use crate::token::{Sign, Token, Word};
+use std::alloc::Global;
+
+/// How deep an expression may be.
+pub(crate) const MOST_DEPTH: usize = 64;
+
+/// What was read: an expression, its depth, and the tokens after it.
+pub(crate) type Found<'a> = (Tree, usize, &'a [Token]);
+
+// The tokens after a closing parenthesis.
+pub(crate) fn after_close(tokens: &[Token]) -> Result<&[Token], ReadFault>
+    ensures { Gives (λ rest. views rest.now) result (after_close (views tokens.now)) }
+{
+    match tokens {
+        [Token::Symbol(Sign::CloseParen), rest @ ..] => Ok(rest),
+        _ => Err(ReadFault::Syntax),
+    }
+}
+
+// The tokens after an opening parenthesis.
+fn after_open(tokens: &[Token]) -> Result<&[Token], ReadFault>
+    ensures { Gives (λ rest. views rest.now) result (after_open (views tokens.now)) }
+{
+    match tokens {
+        [Token::Symbol(Sign::OpenParen), rest @ ..] => Ok(rest),
+        _ => Err(ReadFault::Syntax),
+    }
+}
+
+// The tokens after the bracket that closes a list, where it comes first.
+fn after_bracket(tokens: &[Token]) -> Option<&[Token]>
+    ensures { option_map (λ rest. views rest.now) result ≡ after_bracket (views tokens.now) }
+{
+    match tokens {
+        [Token::Symbol(Sign::CloseBracket), rest @ ..] => Some(rest),
+        _ => None,
+    }
+}
+
+// The tokens after a comma.
+fn after_comma(tokens: &[Token]) -> Result<&[Token], ReadFault>
+    ensures { Gives (λ rest. views rest.now) result (after_comma (views tokens.now)) }
+{
+    match tokens {
+        [Token::Symbol(Sign::Comma), rest @ ..] => Ok(rest),
+        _ => Err(ReadFault::Syntax),
+    }
+}
+
+// The tokens after the keyword `then`.
+fn after_then(tokens: &[Token]) -> Result<&[Token], ReadFault>
+    ensures { Gives (λ rest. views rest.now) result (after_then (views tokens.now)) }
+{
+    match tokens {
+        [Token::Keyword(Word::Then), rest @ ..] => Ok(rest),
+        _ => Err(ReadFault::Syntax),
+    }
+}
+
+// The tokens after the keyword `else`.
+fn after_else(tokens: &[Token]) -> Result<&[Token], ReadFault>
+    ensures { Gives (λ rest. views rest.now) result (after_else (views tokens.now)) }
+{
+    match tokens {
+        [Token::Keyword(Word::Else), rest @ ..] => Ok(rest),
+        _ => Err(ReadFault::Syntax),
+    }
+}
+
+// The tokens after the keyword `and`.
+fn after_and(tokens: &[Token]) -> Result<&[Token], ReadFault>
+    ensures { Gives (λ rest. views rest.now) result (after_and (views tokens.now)) }
+{
+    match tokens {
+        [Token::Keyword(Word::And), rest @ ..] => Ok(rest),
+        _ => Err(ReadFault::Syntax),
+    }
+}
+
+// The operator that a token is, on a line of the grammar.
+fn operator_at(line: Line, token: &Token) -> Option<Operator>
+    ensures { result ≡ operator_at line (token_specs.view token.now) }
+{
+    match (line, token) {
+        (Line::Disjunction, Token::Keyword(Word::Or)) => Some(Operator::Or),
+        (Line::Conjunction, Token::Keyword(Word::And)) => Some(Operator::And),
+        (Line::Comparison, Token::Symbol(Sign::Equal)) => Some(Operator::Equal),
+        (Line::Comparison, Token::Symbol(Sign::NotEqual)) => Some(Operator::NotEqual),
+        (Line::Comparison, Token::Symbol(Sign::Less)) => Some(Operator::Less),
+        (Line::Comparison, Token::Symbol(Sign::LessEqual)) => Some(Operator::LessEqual),
+        (Line::Comparison, Token::Symbol(Sign::Greater)) => Some(Operator::Greater),
+        (Line::Comparison, Token::Symbol(Sign::GreaterEqual)) => Some(Operator::GreaterEqual),
+        (Line::Sum, Token::Symbol(Sign::Plus)) => Some(Operator::Add),
+        (Line::Sum, Token::Symbol(Sign::Minus)) => Some(Operator::Subtract),
+        (Line::Product, Token::Symbol(Sign::Star)) => Some(Operator::Multiply),
+        _ => None,
+    }
+}
+
+// The function of one argument that a name is.
+fn function_of(name: &str) -> Option<Function>
+    ensures { result ≡ function_of name.now }
+{
+    match name {
+        "abs" => Some(Function::Abs),
+        "sum" => Some(Function::Sum),
+        "min" => Some(Function::Min),
+        "max" => Some(Function::Max),
+        "count" => Some(Function::Count),
+        _ => None,
+    }
+}
+
+// The names of entries after a first part, fewer than left. Each is one deeper.
+#[tactic(auto, unfolding(crate::specs::Reading::paths_at))]
+fn paths<'a>(
+    alloc: Global,
+    left: usize,
+    inner: usize,
+    first: Tree,
+    depth: usize,
+    tokens: &'a [Token],
+) -> Result<Found<'a>, ReadFault>
+    requires limit { inner < 64 }
+    requires depth { depth ≤ inner + 1 }
+    ensures found { Gives (λ x. (view x.0, x.1, views x.2.now)) result (paths_at left inner (view first) depth (views tokens.now)) }
+    ensures depth { IfOk result (λ x. x.1 ≤ inner + 1) }
+{
+    if left == 0 {
+        return Err(ReadFault::Syntax);
+    }
+    let [Token::Symbol(Sign::Dot), after @ ..] = tokens else {
+        return Ok((first, depth, tokens));
+    };
+    let [Token::Name(name), after @ ..] = after else {
+        return Err(ReadFault::Syntax);
+    };
+    if depth > inner {
+        return Err(ReadFault::Syntax);
+    }
+    let name = name.clone()?;
+    let path = Tree::Path(Box::new(alloc, first)?, name);
+    paths(alloc, left - 1, inner, path, depth + 1, after)
+}
+
+// An expression on a line of the grammar, of a depth of at most the limit.
+#[cycle(reader)]
+#[tactic(auto, unfolding(crate::specs::Reading::read_at))]
+pub(crate) fn read<'a>(
+    alloc: Global,
+    line: Line,
+    limit: usize,
+    tokens: &'a [Token],
+) -> Result<Found<'a>, ReadFault>
+    requires { limit ≤ 64 }
+    ensures found { Gives (λ x. (view x.0, x.1, views x.2.now)) result (read_at limit line (views tokens.now)) }
+    ensures depth { IfOk result (λ x. x.1 ≤ limit) }
+{
+    if limit == 0 {
+        return Err(ReadFault::Syntax);
+    }
+    read_line(alloc, line, limit - 1, tokens)
+}
+
+// The same where each part has a depth of at most inner.
+#[cycle(reader)]
+#[tactic(auto, unfolding(crate::specs::Reading::line_at))]
+fn read_line<'a>(
+    alloc: Global,
+    line: Line,
+    inner: usize,
+    tokens: &'a [Token],
+) -> Result<Found<'a>, ReadFault>
+    requires { inner < 64 }
+    ensures found { Gives (λ x. (view x.0, x.1, views x.2.now)) result (line_at (read_at inner) inner line (views tokens.now)) }
+    ensures depth { IfOk result (λ x. x.1 ≤ inner + 1) }
+{
+    match line {
+        Line::Whole => whole(alloc, inner, tokens),
+        Line::Disjunction | Line::Conjunction | Line::Sum | Line::Product => {
+            chain(alloc, line, inner, tokens)
+        }
+        Line::Comparison => comparison(alloc, inner, tokens),
+        Line::Negation => negation(alloc, inner, tokens),
+        Line::Path => path(alloc, inner, tokens),
+        Line::Primary => primary(alloc, inner, tokens),
+    }
+}
+
+// A conditional, or what a tighter line reads.
+#[cycle(reader)]
+#[tactic(auto, unfolding(crate::specs::Reading::whole_at, crate::specs::Reading::conditional_at, crate::specs::Reading::line_at))]
+fn whole<'a>(alloc: Global, inner: usize, tokens: &'a [Token]) -> Result<Found<'a>, ReadFault>
+    requires { inner < 64 }
+    ensures found { Gives (λ x. (view x.0, x.1, views x.2.now)) result (whole_at (disjunction_at (read_at inner) inner) (read_at inner) (views tokens.now)) }
+    ensures depth { IfOk result (λ x. x.1 ≤ inner + 1) }
+{
+    let [Token::Keyword(Word::If), rest @ ..] = tokens else {
+        return read_line(alloc, Line::Disjunction, inner, tokens);
+    };
+    let (test, test_depth, rest) = read(alloc, Line::Whole, inner, rest)?;
+    let rest = after_then(rest)?;
+    let (yes, yes_depth, rest) = read(alloc, Line::Whole, inner, rest)?;
+    let rest = after_else(rest)?;
+    let (no, no_depth, rest) = read(alloc, Line::Whole, inner, rest)?;
+    let test = Box::new(alloc, test)?;
+    let yes = Box::new(alloc, yes)?;
+    let no = Box::new(alloc, no)?;
+    let depth = 1 + test_depth.max(yes_depth.max(no_depth));
+    Ok((Tree::If(test, yes, no), depth, rest))
+}
+
+// A chain of operators of one line, grouped to the left. Each step is one deeper, so there are at most as many as inner.
+#[cycle(reader)]
+#[tactic(auto, unfolding(crate::specs::Reading::chain_at))]
+fn chain<'a>(
+    alloc: Global,
+    line: Line,
+    inner: usize,
+    tokens: &'a [Token],
+) -> Result<Found<'a>, ReadFault>
+    requires limit { inner < 64 }
+    requires tighter { rank line < rank (tighter line) }
+    ensures found { Gives (λ x. (view x.0, x.1, views x.2.now)) result (chain_at (line_at (read_at inner) inner (tighter line)) (read_at inner) inner line (views tokens.now)) }
+    ensures depth { IfOk result (λ x. x.1 ≤ inner + 1) }
+{
+    let (expr, depth, rest) = read_line(alloc, line.tighter(), inner, tokens)?;
+    steps(alloc, line, inner, expr, depth, rest)
+}
+
+// The steps of a chain after its first operand. Each is one deeper, so there are at most as many as inner.
+#[cycle(reader)]
+fn steps<'a>(
+    alloc: Global,
+    line: Line,
+    inner: usize,
+    first: Tree,
+    first_depth: usize,
+    tokens: &'a [Token],
+) -> Result<Found<'a>, ReadFault>
+    requires limit { inner < 64 }
+    requires depth { first_depth ≤ inner + 1 }
+    ensures found { Gives (λ x. (view x.0, x.1, views x.2.now)) result (steps_at (inner + 1) (read_at inner) inner line (view first) first_depth (views tokens.now)) }
+    ensures depth { IfOk result (λ x. x.1 ≤ inner + 1) }
+{
+    let mut expr = first;
+    let mut depth = first_depth;
+    let mut rest = tokens;
+    for _ in 0..inner + 1 {
+        let Some((token, after)) = rest.split_first() else {
+            return Ok((expr, depth, rest));
+        };
+        let Some(operator) = operator_at(line, token) else {
+            return Ok((expr, depth, rest));
+        };
+        if depth > inner {
+            return Err(ReadFault::Syntax);
+        }
+        let (right, right_depth, after) = read(alloc, line.tighter(), inner, after)?;
+        let left = Box::new(alloc, expr)?;
+        let right = Box::new(alloc, right)?;
+        expr = Tree::Binary(operator, left, right);
+        depth = 1 + depth.max(right_depth);
+        rest = after;
+    }
+    Err(ReadFault::Syntax)
+}
+
+// A sum, and at most one comparison of it.
+#[cycle(reader)]
+#[tactic(auto, unfolding(crate::specs::Reading::comparison_at, crate::specs::Reading::line_at))]
+fn comparison<'a>(alloc: Global, inner: usize, tokens: &'a [Token]) -> Result<Found<'a>, ReadFault>
+    requires { inner < 64 }
+    ensures found { Gives (λ x. (view x.0, x.1, views x.2.now)) result (comparison_at (sum_at (read_at inner) inner) (read_at inner) inner (views tokens.now)) }
+    ensures depth { IfOk result (λ x. x.1 ≤ inner + 1) }
+{
+    let (left, depth, rest) = read_line(alloc, Line::Sum, inner, tokens)?;
+    compared(alloc, inner, left, depth, rest)
+}
+
+// What may follow the first operand of a comparison.
+#[cycle(reader)]
+#[tactic(auto, unfolding(crate::specs::Reading::compared_at, crate::specs::Reading::compared_by))]
+fn compared<'a>(
+    alloc: Global,
+    inner: usize,
+    left: Tree,
+    depth: usize,
+    tokens: &'a [Token],
+) -> Result<Found<'a>, ReadFault>
+    requires limit { inner < 64 }
+    requires depth { depth ≤ inner + 1 }
+    ensures found { Gives (λ x. (view x.0, x.1, views x.2.now)) result (compared_at (read_at inner) inner (view left) depth (views tokens.now)) }
+    ensures depth { IfOk result (λ x. x.1 ≤ inner + 1) }
+{
+    let Some((token, rest)) = tokens.split_first() else {
+        return Ok((left, depth, tokens));
+    };
+    if let Token::Keyword(Word::Between) = token {
+        return between(alloc, inner, left, depth, rest);
+    }
+    let Some(operator) = operator_at(Line::Comparison, token) else {
+        return Ok((left, depth, tokens));
+    };
+    if depth > inner {
+        return Err(ReadFault::Syntax);
+    }
+    let (right, right_depth, rest) = read(alloc, Line::Sum, inner, rest)?;
+    let left = Box::new(alloc, left)?;
+    let right = Box::new(alloc, right)?;
+    Ok((
+        Tree::Binary(operator, left, right),
+        1 + depth.max(right_depth),
+        rest,
+    ))
+}
+
+// The bounds of a `between`, after its keyword.
+#[cycle(reader)]
+#[tactic(auto, unfolding(crate::specs::Reading::between_at))]
+fn between<'a>(
+    alloc: Global,
+    inner: usize,
+    left: Tree,
+    depth: usize,
+    tokens: &'a [Token],
+) -> Result<Found<'a>, ReadFault>
+    requires { inner < 64 }
+    ensures found { Gives (λ x. (view x.0, x.1, views x.2.now)) result (between_at (read_at inner) inner (view left) depth (views tokens.now)) }
+    ensures depth { IfOk result (λ x. x.1 ≤ inner + 1) }
+{
+    if depth > inner {
+        return Err(ReadFault::Syntax);
+    }
+    let (low, low_depth, rest) = read(alloc, Line::Sum, inner, tokens)?;
+    let rest = after_and(rest)?;
+    let (high, high_depth, rest) = read(alloc, Line::Sum, inner, rest)?;
+    let left = Box::new(alloc, left)?;
+    let low = Box::new(alloc, low)?;
+    let high = Box::new(alloc, high)?;
+    Ok((
+        Tree::Between(left, low, high),
+        1 + depth.max(low_depth.max(high_depth)),
+        rest,
+    ))
+}
+
+// A negation, or a path.
+#[cycle(reader)]
+#[tactic(auto, unfolding(crate::specs::Reading::negation_at))]
+fn negation<'a>(alloc: Global, inner: usize, tokens: &'a [Token]) -> Result<Found<'a>, ReadFault>
+    requires { inner < 64 }
+    ensures found { Gives (λ x. (view x.0, x.1, views x.2.now)) result (negation_at (read_at inner) inner (views tokens.now)) }
+    ensures depth { IfOk result (λ x. x.1 ≤ inner + 1) }
+{
+    let [Token::Symbol(Sign::Minus), rest @ ..] = tokens else {
+        return path(alloc, inner, tokens);
+    };
+    let (expr, depth, rest) = read(alloc, Line::Negation, inner, rest)?;
+    Ok((Tree::Negate(Box::new(alloc, expr)?), 1 + depth, rest))
+}
+
+// A primary, and the names of entries after it.
+#[cycle(reader)]
+#[tactic(auto, unfolding(crate::specs::Reading::path_at))]
+fn path<'a>(alloc: Global, inner: usize, tokens: &'a [Token]) -> Result<Found<'a>, ReadFault>
+    requires { inner < 64 }
+    ensures found { Gives (λ x. (view x.0, x.1, views x.2.now)) result (path_at (read_at inner) inner (views tokens.now)) }
+    ensures depth { IfOk result (λ x. x.1 ≤ inner + 1) }
+{
+    let (expr, depth, rest) = primary(alloc, inner, tokens)?;
+    paths(alloc, inner + 1, inner, expr, depth, rest)
+}
+
+// A number, a string, a constant, a name, a call, or what stands in brackets.
+#[cycle(reader)]
+#[tactic(auto, unfolding(crate::specs::Reading::primary_at))]
+fn primary<'a>(alloc: Global, inner: usize, tokens: &'a [Token]) -> Result<Found<'a>, ReadFault>
+    requires { inner < 64 }
+    ensures found { Gives (λ x. (view x.0, x.1, views x.2.now)) result (primary_at (read_at inner) (views tokens.now)) }
+    ensures depth { IfOk result (λ x. x.1 ≤ inner + 1) }
+{
+    let Some((token, rest)) = tokens.split_first() else {
+        return Err(ReadFault::Syntax);
+    };
+    match token {
+        Token::Number(n) => Ok((Tree::Number(*n), 1, rest)),
+        Token::Text(text) => {
+            let text = text.clone()?;
+            Ok((Tree::Text(text), 1, rest))
+        }
+        Token::Name(name) => named(alloc, inner, name, rest),
+        Token::Keyword(Word::Null) => Ok((Tree::Null, 1, rest)),
+        Token::Keyword(Word::True) => Ok((Tree::Boolean(true), 1, rest)),
+        Token::Keyword(Word::False) => Ok((Tree::Boolean(false), 1, rest)),
+        Token::Keyword(Word::Not) => negated(alloc, inner, rest),
+        Token::Symbol(Sign::OpenParen) => group(alloc, inner, rest),
+        Token::Symbol(Sign::OpenBracket) => list(alloc, inner, rest),
+        _ => Err(ReadFault::Syntax),
+    }
+}
+
+// What a name begins: a call where a parenthesis follows, and otherwise the name.
+#[cycle(reader)]
+#[tactic(auto, unfolding(crate::specs::Reading::named_at, crate::specs::Reading::call_at))]
+fn named<'a>(
+    alloc: Global,
+    inner: usize,
+    name: &String,
+    tokens: &'a [Token],
+) -> Result<Found<'a>, ReadFault>
+    requires { inner < 64 }
+    ensures found { Gives (λ x. (view x.0, x.1, views x.2.now)) result (named_at (string_bytes name.now) (read_at inner) (views tokens.now)) }
+    ensures depth { IfOk result (λ x. x.1 ≤ inner + 1) }
+{
+    let [Token::Symbol(Sign::OpenParen), rest @ ..] = tokens else {
+        let name = name.clone()?;
+        return Ok((Tree::Name(name), 1, tokens));
+    };
+    if name.as_str() == "modulo" {
+        return modulo(alloc, inner, rest);
+    }
+    let Some(function) = function_of(name.as_str()) else {
+        return Err(ReadFault::Syntax);
+    };
+    let (expr, depth, rest) = closed(alloc, inner, rest)?;
+    Ok((
+        Tree::Call(function, Box::new(alloc, expr)?),
+        1 + depth,
+        rest,
+    ))
+}
+
+// The two arguments of `modulo`, after their parenthesis.
+#[cycle(reader)]
+#[tactic(auto, unfolding(crate::specs::Reading::modulo_at))]
+fn modulo<'a>(alloc: Global, inner: usize, tokens: &'a [Token]) -> Result<Found<'a>, ReadFault>
+    requires { inner < 64 }
+    ensures found { Gives (λ x. (view x.0, x.1, views x.2.now)) result (modulo_at (read_at inner) (views tokens.now)) }
+    ensures depth { IfOk result (λ x. x.1 ≤ inner + 1) }
+{
+    let (left, left_depth, rest) = read(alloc, Line::Whole, inner, tokens)?;
+    let rest = after_comma(rest)?;
+    let (right, right_depth, rest) = closed(alloc, inner, rest)?;
+    let left = Box::new(alloc, left)?;
+    let right = Box::new(alloc, right)?;
+    Ok((
+        Tree::Modulo(left, right),
+        1 + left_depth.max(right_depth),
+        rest,
+    ))
+}
+
+// The argument of `not`, after that keyword.
+#[cycle(reader)]
+#[tactic(auto, unfolding(crate::specs::Reading::negated_at))]
+fn negated<'a>(alloc: Global, inner: usize, tokens: &'a [Token]) -> Result<Found<'a>, ReadFault>
+    requires { inner < 64 }
+    ensures found { Gives (λ x. (view x.0, x.1, views x.2.now)) result (negated_at (read_at inner) (views tokens.now)) }
+    ensures depth { IfOk result (λ x. x.1 ≤ inner + 1) }
+{
+    let rest = after_open(tokens)?;
+    let (expr, depth, rest) = closed(alloc, inner, rest)?;
+    Ok((Tree::Not(Box::new(alloc, expr)?), 1 + depth, rest))
+}
+
+// An expression in parentheses, after the first.
+#[cycle(reader)]
+#[tactic(auto, unfolding(crate::specs::Reading::group_at))]
+fn group<'a>(alloc: Global, inner: usize, tokens: &'a [Token]) -> Result<Found<'a>, ReadFault>
+    requires { inner < 64 }
+    ensures found { Gives (λ x. (view x.0, x.1, views x.2.now)) result (group_at (read_at inner) (views tokens.now)) }
+    ensures depth { IfOk result (λ x. x.1 ≤ inner + 1) }
+{
+    let (expr, depth, rest) = closed(alloc, inner, tokens)?;
+    Ok((Tree::Group(Box::new(alloc, expr)?), 1 + depth, rest))
+}
+
+// An expression, and the parenthesis after it.
+#[cycle(reader)]
+#[tactic(auto, unfolding(crate::specs::Reading::closed_at))]
+fn closed<'a>(alloc: Global, inner: usize, tokens: &'a [Token]) -> Result<Found<'a>, ReadFault>
+    requires { inner < 64 }
+    ensures found { Gives (λ x. (view x.0, x.1, views x.2.now)) result (closed_at (read_at inner) (views tokens.now)) }
+    ensures depth { IfOk result (λ x. x.1 ≤ inner) }
+{
+    let (expr, depth, rest) = read(alloc, Line::Whole, inner, tokens)?;
+    let rest = after_close(rest)?;
+    Ok((expr, depth, rest))
+}
+
+// A list, after its bracket.
+#[cycle(reader)]
+#[tactic(auto, unfolding(crate::specs::Reading::list_at))]
+fn list<'a>(alloc: Global, inner: usize, tokens: &'a [Token]) -> Result<Found<'a>, ReadFault>
+    requires { inner < 64 }
+    ensures found { Gives (λ x. (view x.0, x.1, views x.2.now)) result (list_at (read_at inner) (views tokens.now)) }
+    ensures depth { IfOk result (λ x. x.1 ≤ inner + 1) }
+{
+    let [Token::Symbol(Sign::CloseBracket), rest @ ..] = tokens else {
+        return listed(alloc, inner, tokens);
+    };
+    Ok((Tree::List(Vec::new(alloc)), 1, rest))
+}
+
+// A list that isn't empty, after its bracket.
+#[cycle(reader)]
+#[tactic(auto, unfolding(crate::specs::Reading::listed_at))]
+fn listed<'a>(alloc: Global, inner: usize, tokens: &'a [Token]) -> Result<Found<'a>, ReadFault>
+    requires { inner < 64 }
+    ensures found { Gives (λ x. (view x.0, x.1, views x.2.now)) result (listed_at (read_at inner) (views tokens.now)) }
+    ensures depth { IfOk result (λ x. x.1 ≤ inner + 1) }
+{
+    let (first, depth, rest) = read(alloc, Line::Whole, inner, tokens)?;
+    let (members, deepest, rest) = members(alloc, inner, first, depth, rest)?;
+    Ok((Tree::List(members), 1 + deepest, rest))
+}
+
+// The members after the first one, and the bracket after them. They are fewer than the tokens.
+#[cycle(reader)]
+fn members<'a>(
+    alloc: Global,
+    inner: usize,
+    first: Tree,
+    first_depth: usize,
+    tokens: &'a [Token],
+) -> Result<(Vec<Tree>, usize, &'a [Token]), ReadFault>
+    requires limit { inner < 64 }
+    requires depth { first_depth ≤ inner }
+    ensures found { Gives (λ x. (exprs_of (map view x.0.items), x.1, views x.2.now)) result (joined (more (view first) none) first_depth (members_at (length (views tokens.now)) (read_at inner) (views tokens.now))) }
+    ensures depth { IfOk result (λ x. x.1 ≤ inner) }
+{
+    let mut members = Vec::new(alloc);
+    members.push(first)?;
+    let mut deepest = first_depth;
+    let mut rest = tokens;
+    for _ in 0..tokens.len() {
+        if let Some(rest) = after_bracket(rest) {
+            return Ok((members, deepest, rest));
+        }
+        let after = after_comma(rest)?;
+        let (member, depth, after) = read(alloc, Line::Whole, inner, after)?;
+        members.push(member)?;
+        deepest = deepest.max(depth);
+        rest = after;
+    }
+    Err(ReadFault::Syntax)
+}
+
+/// The expression that all of the tokens spell, within the limit of depth.
+#[tactic(auto, unfolding(crate::specs::Readings::expression_at))]
+pub(crate) fn expression(alloc: Global, tokens: &[Token]) -> Result<Tree, ReadFault>
+    ensures { Gives view result (expression_at (views tokens.now)) }
+{
+    let (tree, _, rest) = read(alloc, Line::Whole, MOST_DEPTH, tokens)?;
+    if rest.is_empty() {
+        Ok(tree)
+    } else {
+        Err(ReadFault::Syntax)
+    }
+}

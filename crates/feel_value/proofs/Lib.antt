@@ -1,0 +1,13 @@
+pub mod Views
+pub mod Entries
+pub mod Places
+pub mod Booleans
+pub mod DistinctNames
+pub mod Same
+pub mod FromJson
+pub mod ToJson
+pub mod CodePoints
+pub mod Laws
+pub mod Parts
+pub mod JsonKeys
+pub mod Examples

@@ -1,0 +1,13 @@
+pub mod Datum
+pub mod View
+pub mod Code
+pub mod Limits
+pub mod Places
+pub mod Names
+pub mod Logic
+pub mod Comparison
+pub mod Json
+pub mod JsonKeys
+pub mod Faults
+pub mod ReadFaults
+pub mod Outcome

@@ -1,0 +1,128 @@
+//! Which values are equal, and which is less.
+ghost use Rattle.std.specs.Prelude.{◌≡◌};
+ghost use Rattle.feel_value.specs.Comparison.{equal as equal_of, less as less_of, items_equal, values_equal as values_match, names_within as has_names, has_entry};
+ghost use Rattle.feel_value.specs.Limits.{has_name as is_name_of};
+ghost use Rattle.feel_value.specs.Logic.{is_yes};
+ghost use Rattle.feel_value.specs.View.{datum_of, items_view, entries_view};
+
+use crate::feel::Feel;
+use crate::logic::{Truth, decided};
+use crate::names::find;
+use crate::value::Value;
+
+/// Whether two values are equal.
+///
+/// Lists and contexts are compared part by part. Nothing but null is equal to null, and of values of two other kinds the
+/// answer is unknown. The time is linear in the nodes where the entries of the contexts come in one order. Where they do not,
+/// each name is looked for: in two contexts of `n` entries that is up to `2 * n * n` comparisons of names.
+pub fn equal(a: &Feel, b: &Feel) -> Truth
+    ensures answer { result ≡ equal_of a.now b.now }
+    ensures itself { a.now ≡ b.now → result ≡ Truth.Yes }
+{
+    same_value(a.value(), b.value())
+}
+
+/// Whether one number or text is less than another: numbers by size, texts by code points.
+pub fn less(a: &Feel, b: &Feel) -> Truth
+    ensures { result ≡ less_of a.now b.now }
+{
+    less_value(a.value(), b.value())
+}
+
+pub(crate) fn less_value(a: &Value, b: &Value) -> Truth
+    ensures { result ≡ less_of (datum_of a.now) (datum_of b.now) }
+{
+    match (a, b) {
+        (Value::Number(x), Value::Number(y)) => decided(*x < *y),
+        (Value::Text(x), Value::Text(y)) => decided(x.as_str() < y.as_str()),
+        _ => Truth::Unknown,
+    }
+}
+
+#[cycle(same)]
+pub(crate) fn same_value(a: &Value, b: &Value) -> Truth
+    ensures { result ≡ equal_of (datum_of a.now) (datum_of b.now) }
+{
+    match (a, b) {
+        (Value::Null, Value::Null) => Truth::Yes,
+        (Value::Null, _) | (_, Value::Null) => Truth::No,
+        (Value::Bool(x), Value::Bool(y)) => decided(*x == *y),
+        (Value::Number(x), Value::Number(y)) => decided(*x == *y),
+        (Value::Text(x), Value::Text(y)) => decided(x.as_str() == y.as_str()),
+        (Value::List(x), Value::List(y)) => decided(same_items(x, y)),
+        (Value::Context(x), Value::Context(y)) => {
+            decided(same_entries(x, y) && names_within(y, x))
+        }
+        _ => Truth::Unknown,
+    }
+}
+
+// Whether the lists have one length and equal members.
+#[cycle(same)]
+fn same_items(a: &[Value], b: &[Value]) -> bool
+    ensures { result ≡ items_equal (items_view a.now) (items_view b.now) }
+{
+    if a.len() != b.len() {
+        return false;
+    }
+    for (i, item) in a.iter().enumerate() {
+        if same_value(item, &b[i]) != Truth::Yes {
+            return false;
+        }
+    }
+    true
+}
+
+// Whether each entry of the first has its name and an equal value in the second.
+#[cycle(same)]
+fn same_entries(a: &[(String, Value)], b: &[(String, Value)]) -> bool
+    ensures { result ≡ values_match (entries_view a.now) (entries_view b.now) }
+{
+    for (i, (name, value)) in a.iter().enumerate() {
+        if !has_equal(value, name.as_str(), b, i) {
+            return false;
+        }
+    }
+    true
+}
+
+// Whether an entry has the name and an equal value. From `place` on is looked first: there it stands in contexts of one order.
+#[cycle(same)]
+fn has_equal(value: &Value, name: &str, entries: &[(String, Value)], place: usize) -> bool
+    ensures { result ≡ has_entry (λ e. is_yes (equal_of (datum_of value.now) e)) name.now (entries_view entries.now) }
+{
+    let (before, after) = entries.split_at(place.min(entries.len()));
+    has_equal_among(value, name, after) || has_equal_among(value, name, before)
+}
+
+#[cycle(same)]
+fn has_equal_among(value: &Value, name: &str, entries: &[(String, Value)]) -> bool
+    ensures { result ≡ has_entry (λ e. is_yes (equal_of (datum_of value.now) e)) name.now (entries_view entries.now) }
+{
+    for (key, other) in entries {
+        if name == key.as_str() && same_value(value, other) == Truth::Yes {
+            return true;
+        }
+    }
+    false
+}
+
+// Whether each name of the first is a name of the second.
+fn names_within(a: &[(String, Value)], b: &[(String, Value)]) -> bool
+    ensures { result ≡ has_names (entries_view a.now) (entries_view b.now) }
+{
+    for (i, (name, _)) in a.iter().enumerate() {
+        if !has_name(name.as_str(), b, i) {
+            return false;
+        }
+    }
+    true
+}
+
+// Whether an entry has the name, looked for from `place` on first.
+fn has_name(name: &str, entries: &[(String, Value)], place: usize) -> bool
+    ensures { result ≡ is_name_of name.now (entries_view entries.now) }
+{
+    let (before, after) = entries.split_at(place.min(entries.len()));
+    find(after, name).is_some() || find(before, name).is_some()
+}

@@ -1,0 +1,125 @@
+//! Values within the limits of the profile.
+ghost use Rattle.std.specs.Prelude.{◌≡◌, true, Some, None, if◌then◌else◌, IfOk};
+ghost use Rattle.serde_json.specs.View.{view};
+ghost use Rattle.feel_value.specs.Faults.{json_reading, IsDueUnlessMemory};
+ghost use Rattle.feel_value.specs.Json.{json_of};
+ghost use Rattle.feel_value.specs.Limits.{is_value};
+ghost use Rattle.feel_value.specs.View.{datum_of};
+
+use crate::copy::copy;
+use crate::fault::ValueFault;
+use crate::json::{read, write};
+use crate::limits::keeps_limits;
+use crate::names::has_distinct_names;
+use crate::value::Value;
+use std::alloc::{AllocError, Global};
+use std::marker::Model;
+
+/// A value that keeps the limits, and whose contexts have distinct names.
+///
+/// A number is at most 9223372036854775807 and at least its opposite, there are at most 10,000 nodes, and the depth is at
+/// most 100. No call on a `Feel` goes deeper than that.
+#[derive(Drop)]
+pub struct Feel {
+    value: Value,
+}
+
+impl Model for Feel {
+    ghost use Rattle.std.specs.Prelude.{◌≡◌, true};
+    ghost use Rattle.feel_value.specs.Datum.{Datum};
+    ghost use Rattle.feel_value.specs.Code.{datum_code};
+
+    ghost Value = { Datum };
+
+    ghost coded = { datum_code };
+
+    ghost use Rattle.feel_value.specs.Limits.{is_value};
+    ghost use Rattle.feel_value.specs.View.{datum_of};
+
+    ghost view = { λ f. datum_of f.value };
+
+    ghost invariant = { λ f. is_value (datum_of f.value) ≡ true };
+}
+
+impl Feel {
+    /// The value, where it keeps the limits and each context has distinct names.
+    ///
+    /// The time is linear in the nodes where the names of each context rise. A context of `n` names in another order costs up
+    /// to `n * n / 2` comparisons of names. A value that is too deep or has too many nodes is left at the first part too many.
+    pub fn of(value: Value) -> Option<Feel>
+        ensures { result ≡ (if is_value (datum_of value) then Some (datum_of value) else None) }
+    {
+        if keeps_limits(&value) && has_distinct_names(&value) {
+            Some(Feel { value })
+        } else {
+            None
+        }
+    }
+
+    /// The value that a JSON value stands for. An object is a context of its members in the order of their keys.
+    ///
+    /// `Number` where some number is no whole number in range, otherwise `Size` where there are too many nodes or they are too
+    /// deep. The time is linear in the size of the JSON value, whose keys need no search.
+    pub fn from_json(alloc: Global, json: &serde_json::Value) -> Result<Feel, ValueFault>
+        ensures { IsDueUnlessMemory result (json_reading (view json.now)) }
+    {
+        let value = read(alloc, json)?;
+        if !keeps_limits(&value) {
+            return Err(ValueFault::Size);
+        }
+        Ok(Feel { value })
+    }
+
+    /// The same value in JSON, with each context as an object.
+    pub fn to_json(&self, alloc: Global) -> Result<serde_json::Value, AllocError>
+        ensures { IfOk result (λ j. view j ≡ json_of self.now) }
+    {
+        write(alloc, self.value())
+    }
+
+    /// A copy.
+    pub fn try_clone(&self, alloc: Global) -> Result<Feel, AllocError>
+        ensures { IfOk result (λ f. f ≡ self.now) }
+    {
+        let value = copy(alloc, self.value())?;
+        Ok(Feel { value })
+    }
+
+    /// The value itself.
+    pub fn value(&self) -> &Value
+        ensures same { datum_of result.now ≡ self.now }
+        ensures lawful { is_value self.now ≡ true }
+    {
+        &self.value
+    }
+
+    /// The value itself, no longer held to the limits.
+    pub fn into_value(self) -> Value
+        ensures same { datum_of result ≡ self }
+        ensures lawful { is_value self ≡ true }
+    {
+        let Feel { value } = self;
+        value
+    }
+}
+
+/// What an evaluation gives: a value, or that a limit was broken.
+#[derive(Drop)]
+pub enum Outcome {
+    Is(Feel),
+    Limit,
+}
+
+impl Outcome {
+    ghost use Rattle.feel_value.specs.Outcome.{held};
+
+    /// The value held against the limits.
+    pub fn of(value: Value) -> Outcome
+        ensures { result ≡ held (datum_of value) }
+    {
+        match Feel::of(value) {
+            Some(value) => Outcome::Is(value),
+            None => Outcome::Limit,
+        }
+    }
+}

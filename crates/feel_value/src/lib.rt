@@ -1,0 +1,23 @@
+//! Values of FEEL, their limits and their three-valued logic.
+#![tactic(auto)]
+
+mod comparison;
+mod copy;
+mod fault;
+mod feel;
+mod json;
+mod limits;
+mod logic;
+mod names;
+mod reading;
+mod value;
+
+pub use comparison::{equal, less};
+pub use fault::ValueFault;
+pub use feel::{Feel, Outcome};
+pub use logic::{Truth, and3, not3, or3};
+pub use reading::truth;
+pub use value::Value;
+
+#[cfg(test)]
+mod tests;

@@ -1,0 +1,69 @@
+//! Whether a value keeps the limits, in one walk that goes no deeper and no further than they allow.
+ghost use Rattle.std.specs.Prelude.{◌≡◌};
+ghost use Rattle.feel_value.specs.Limits.{in_range, keeps_limits as keeps_limits_of};
+ghost use Rattle.feel_value.specs.Places.{left_of, items_left_of, entries_left_of};
+ghost use Rattle.feel_value.specs.View.{datum_of, items_view, entries_view};
+
+use crate::value::Value;
+
+const MOST_NODES: usize = 10_000;
+
+const MOST_DEPTH: usize = 100;
+
+// Whether a number is in range: as far from 0 as `i64::MAX` at most.
+pub(crate) fn is_in_range(n: i64) -> bool
+    ensures { result ≡ in_range n }
+{
+    n != i64::MIN
+}
+
+// Whether the value keeps the limits.
+pub(crate) fn keeps_limits(value: &Value) -> bool
+    ensures { result ≡ keeps_limits_of (datum_of value.now) }
+{
+    places_left(value, MOST_DEPTH, MOST_NODES).is_some()
+}
+
+// What is left of `places` once the value's nodes are counted, where it fits.
+#[cycle(places_left)]
+fn places_left(value: &Value, levels: usize, places: usize) -> Option<usize>
+    ensures { result ≡ left_of (datum_of value.now) levels places }
+{
+    if levels == 0 || places == 0 {
+        return None;
+    }
+    match value {
+        Value::Null | Value::Bool(_) | Value::Text(_) => Some(places - 1),
+        Value::Number(n) => {
+            if is_in_range(*n) {
+                Some(places - 1)
+            } else {
+                None
+            }
+        }
+        Value::List(items) => items_left(items, levels - 1, places - 1),
+        Value::Context(entries) => entries_left(entries, levels - 1, places - 1),
+    }
+}
+
+#[cycle(places_left)]
+fn items_left(items: &[Value], levels: usize, places: usize) -> Option<usize>
+    ensures { result ≡ items_left_of (items_view items.now) levels places }
+{
+    let mut left = places;
+    for item in items {
+        left = places_left(item, levels, left)?;
+    }
+    Some(left)
+}
+
+#[cycle(places_left)]
+fn entries_left(entries: &[(String, Value)], levels: usize, places: usize) -> Option<usize>
+    ensures { result ≡ entries_left_of (entries_view entries.now) levels places }
+{
+    let mut left = places;
+    for (_, value) in entries {
+        left = places_left(value, levels, left)?;
+    }
+    Some(left)
+}

@@ -1,0 +1,73 @@
+//! A FEEL value as a tree that owns its parts.
+ghost use Rattle.std.specs.Prelude.{◌≡◌, IfOk, option_map};
+ghost use Rattle.feel_value.specs.Datum.{entry_named};
+ghost use Rattle.feel_value.specs.Comparison.{equal as equal_of, less as less_of};
+ghost use Rattle.feel_value.specs.Logic.{is_yes, truth_of};
+ghost use Rattle.feel_value.specs.View.{datum_of};
+
+use crate::comparison::{less_value, same_value};
+use crate::copy::copy;
+use crate::logic::Truth;
+use crate::names::find;
+use crate::reading::truth_value;
+use std::alloc::{AllocError, Global};
+
+/// A value of any size and depth; a `Feel` is one that keeps the limits.
+///
+/// Dropping it goes as deep as it is.
+#[derive(Drop)]
+pub enum Value {
+    Null,
+    Bool(bool),
+    Number(i64),
+    Text(String),
+    List(Vec<Value>),
+    Context(Vec<(String, Value)>),
+}
+
+impl Value {
+    /// A copy of this part of a value.
+    pub fn try_clone(&self, alloc: Global) -> Result<Value, AllocError>
+        ensures { IfOk result (λ v. datum_of v ≡ datum_of self.now) }
+    {
+        copy(alloc, self)
+    }
+
+    /// The entry of that name, where this is a context that has one.
+    pub fn entry(&self, name: &str) -> Option<&Value>
+        ensures { option_map (λ v. datum_of v.now) result ≡ entry_named name.now (datum_of self.now) }
+    {
+        match self {
+            Value::Context(entries) => find(entries, name),
+            _ => None,
+        }
+    }
+
+    /// Whether the values are equal, and that is known. It costs what `equal` costs where both are parts of a `Feel`.
+    pub fn is_equal(&self, other: &Value) -> bool
+        ensures { result ≡ is_yes (equal_of (datum_of self.now) (datum_of other.now)) }
+    {
+        same_value(self, other) == Truth::Yes
+    }
+
+    /// Whether the values are equal, as `equal` has it.
+    pub fn equal(&self, other: &Value) -> Truth
+        ensures { result ≡ equal_of (datum_of self.now) (datum_of other.now) }
+    {
+        same_value(self, other)
+    }
+
+    /// Whether this number or text is less than the other, as `less` has it.
+    pub fn less(&self, other: &Value) -> Truth
+        ensures { result ≡ less_of (datum_of self.now) (datum_of other.now) }
+    {
+        less_value(self, other)
+    }
+
+    /// What the value says, as `truth` has it.
+    pub fn truth(&self) -> Truth
+        ensures { result ≡ truth_of (datum_of self.now) }
+    {
+        truth_value(self)
+    }
+}
