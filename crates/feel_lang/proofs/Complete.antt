@@ -1,12 +1,10 @@
 -- What is spelled is read, where nothing after it goes on with it.
-use Rattle.std.proofs.Common.{◌≡◌, ◌≢◌, ◌≤◌, ◌<◌, ◌+◌, ℕ, zero, suc, max, Bool, true, false, List, [], ◌∷◌, ◌++◌, length, Option, Some, None, refl, sym, ap, subst, ◌∙◌, append_assoc, arith}
-use Rattle.std.specs.Prelude.{codes, IfSome, nat_le, bytes_eq, if◌then◌else◌}
-use Rattle.std.proofs.Common.{◌⊎◌, inl, inr}
-use Rattle.std.proofs.lemmas.Bool.{leb-true, le-leb, cases_lt}
+use Rattle.std.proofs.Common.{◌≡◌, ◌≤◌, ◌<◌, ◌+◌, ℕ, zero, suc, max, true, false, List, [], ◌∷◌, ◌++◌, length, Some, None, refl, sym, ap, subst, ◌∙◌, append_assoc, arith}
+use Rattle.std.specs.Prelude.{codes}
+use Rattle.std.proofs.Common.{inl, inr}
+use Rattle.std.proofs.lemmas.Bool.{le-leb, cases_lt}
 use Rattle.feel_lang.proofs.Found.{IsChain, chains, closing, comparison_left}
-use Rattle.feel_lang.specs.declared.token.Word.{Word}
 use Rattle.feel_lang.specs.declared.token.Word.TheVariants as word
-use Rattle.feel_lang.specs.declared.token.Sign.{Sign}
 use Rattle.feel_lang.specs.declared.token.Sign.TheVariants as sign
 use Rattle.feel_lang.specs.declared.expr.Operator.{Operator}
 use Rattle.feel_lang.specs.declared.expr.Operator.TheVariants as operator
@@ -18,10 +16,8 @@ use Rattle.feel_lang.specs.Expr.{Expr, Exprs, none, more, depth, deepest}
 use Rattle.feel_lang.specs.declared.line.Line.{Line}
 use Rattle.feel_lang.specs.declared.line.Line.TheVariants as line
 use Rattle.feel_lang.specs.Grammar.{rank, line_of, left_of, right_of, token_of, name_of, constant_of, in_parens, tighter}
-use Rattle.feel_lang.specs.Reading.{Read, Reader, ReadMore, ◌>>=◌, choose, operator_at, function_of, after_open, after_close, after_comma, after_then, after_else, after_and, closed_at, members_at, listed_at, list_at, modulo_at, call_at, named_at, negated_at, group_at, primary_at, paths_at, path_at, negation_at, steps_at, chain_at, between_at, compared_by, compared_at, comparison_at, conditional_at, whole_at, line_at, read_at, product_at, sum_at, compare_at, conjunction_at, disjunction_at}
+use Rattle.feel_lang.specs.Reading.{Reader, operator_at, function_of, closed_at, members_at, listed_at, list_at, modulo_at, call_at, named_at, negated_at, group_at, primary_at, paths_at, path_at, negation_at, steps_at, chain_at, between_at, compared_by, compared_at, comparison_at, conditional_at, whole_at, line_at, read_at, product_at, sum_at, compare_at, conjunction_at, disjunction_at}
 use Rattle.feel_lang.proofs.Spelling.{spelling, others, home, Parts, AllParts, Stands}
-use Rattle.std.proofs.lemmas.Slice.Eq.{bytes_eq-Decides}
-use Rattle.std.proofs.lemmas.Option.{IfSome_then}
 use Rattle.std.proofs.Common.{length-append}
 
 -- How tightly a token goes on with what stands before it: the rank of its line, and 0 where it doesn't.

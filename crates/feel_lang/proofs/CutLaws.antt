@@ -1,13 +1,10 @@
 -- The tokens of a whole text: what is scanned is the one cut of the text.
-use Rattle.std.proofs.Common.{◌≡◌, ◌≤◌, ◌<◌, ◌+◌, ℕ, zero, suc, Bool, true, false, List, [], ◌∷◌, length, Option, Some, None, refl, sym, ap, subst, ◌∙◌, arith}
+use Rattle.std.proofs.Common.{◌≡◌, ◌≤◌, ℕ, zero, suc, Bool, true, false, List, [], ◌∷◌, length, Option, Some, None, refl, sym, ap, subst, ◌∙◌, arith}
 use Rattle.std.specs.Prelude.{IfSome, if◌then◌else◌}
-use Rattle.std.specs.List.{list_all}
-use Rattle.std.proofs.lemmas.Option.{same_Some}
 use Rattle.feel_lang.specs.Token.{Token}
 use Rattle.feel_lang.specs.Lexical.{IsCut, is_blank}
 use Rattle.feel_lang.specs.Reading.{◌>>=◌}
 use Rattle.feel_lang.specs.Scanning.{token_at, cut_at, cut_of}
-use Rattle.feel_lang.proofs.Found.{if_bind}
 use Rattle.feel_lang.proofs.Cuts.{blank_before, blank_after, token_before, token_after, token_shorter, no_token, end_found, end_only}
 
 -- ---- what is scanned is a cut

@@ -1,5 +1,5 @@
 -- What is spelled as an expression holds no `..`, and closes each bracket that it opens. So no interval begins an expression.
-use Rattle.std.proofs.Common.{◌≡◌, ℕ, zero, suc, Bool, true, false, List, [], ◌∷◌, ◌++◌, Option, Some, None, refl, sym, ap, ◌∙◌, append_assoc}
+use Rattle.std.proofs.Common.{◌≡◌, ℕ, zero, suc, Bool, true, false, List, [], ◌∷◌, ◌++◌, Some, None, refl, sym, ap, ◌∙◌, append_assoc}
 use Rattle.std.specs.Prelude.{IfSome}
 use Rattle.feel_lang.specs.declared.token.Word.TheVariants as word
 use Rattle.feel_lang.specs.declared.token.Sign.{Sign}
@@ -7,7 +7,7 @@ use Rattle.feel_lang.specs.declared.token.Sign.TheVariants as sign
 use Rattle.feel_lang.specs.declared.expr.Operator.{Operator}
 use Rattle.feel_lang.specs.declared.expr.Operator.TheVariants as operator
 use Rattle.feel_lang.specs.declared.line.Line.TheVariants as line
-use Rattle.feel_lang.specs.Token.{Token, Number, Text, Name, Keyword, Symbol}
+use Rattle.feel_lang.specs.Token.{Token, Name, Keyword, Symbol}
 use Rattle.feel_lang.specs.Expr as expr
 use Rattle.feel_lang.specs.Expr.{Expr, Exprs, none, more}
 use Rattle.feel_lang.specs.Grammar.{token_of, in_parens}

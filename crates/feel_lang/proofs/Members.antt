@@ -1,17 +1,16 @@
 -- The members of a list one after the other, as a loop reads them.
-use Rattle.std.proofs.Common.{◌≡◌, ◌≤◌, ◌<◌, ◌+◌, ◌-◌, ℕ, zero, suc, max, Bool, true, false, List, [], ◌∷◌, ◌++◌, length, map, Option, Some, None, refl, sym, ap, ap₂, ◌∙◌, arith}
-use Rattle.feel_lang.specs.declared.token.Word.TheVariants as word
+use Rattle.std.proofs.Common.{◌≡◌, ◌≤◌, ◌<◌, ◌+◌, ◌-◌, ℕ, suc, max, List, [], ◌∷◌, ◌++◌, map, Some, None, refl, sym, ap, ◌∙◌, arith}
 use Rattle.feel_lang.specs.declared.token.Sign.TheVariants as sign
 use Rattle.feel_lang.specs.declared.line.Line.{Line}
 use Rattle.feel_lang.specs.declared.line.Line.TheVariants as line
 use Rattle.feel_lang.specs.declared.expr.Tree as code
 use Rattle.feel_lang.specs.declared.fault.ReadFault.{ReadFault}
 use Rattle.feel_lang.specs.declared.fault.ReadFault.TheVariants.{Syntax, Memory}
-use Rattle.feel_lang.specs.Token.{Token, Number, Text, Name, Keyword, Symbol}
+use Rattle.feel_lang.specs.Token.{Token, Symbol}
 use Rattle.feel_lang.specs.Expr.{Expr, Exprs, none, more}
 use Rattle.feel_lang.specs.View.{view, exprs_of}
 use Rattle.feel_lang.specs.Gives.{Fails}
-use Rattle.feel_lang.specs.Reading.{Read, Reader, ReadMore, ◌>>=◌, choose, after_bracket, after_comma, members_at, joined, before_more}
+use Rattle.feel_lang.specs.Reading.{Reader, ReadMore, ◌>>=◌, choose, after_bracket, after_comma, members_at, joined, before_more}
 
 -- a further member, and those after it
 abbrev further : ℕ → (Line → Reader) → List Token → ReadMore

@@ -1,5 +1,5 @@
 -- What a text spells is what is read from it: for expressions, unary tests and literals, `expr_of s ≡ Some e` exactly where `Spells s e`, and so on.
-use Rattle.std.proofs.Common.{◌≡◌, ◌≤◌, ◌+◌, ℕ, zero, suc, Bool, true, false, List, [], ◌∷◌, ◌++◌, length, Option, Some, None, refl, sym, ap, subst, ◌∙◌, arith}
+use Rattle.std.proofs.Common.{◌≡◌, ◌≤◌, ℕ, Bool, true, false, List, [], ◌∷◌, ◌++◌, Option, Some, None, refl, sym, ap, subst, ◌∙◌, arith}
 use Rattle.std.specs.Prelude.{Result, Ok, Err, IfOk, IsErrOf, IfSome, ◌↔◌, nat_le, unsigned_abs, pos, ◌-ℤ◌, ℤ, if◌then◌else◌}
 use Rattle.std.proofs.lemmas.List.{append-nil}
 use Rattle.std.proofs.lemmas.Bool.{le-leb}
@@ -14,7 +14,7 @@ use Rattle.feel_lang.specs.declared.line.Line.TheVariants as line
 use Rattle.feel_lang.specs.declared.fault.ReadFault.{ReadFault}
 use Rattle.feel_lang.specs.declared.fault.ReadFault.TheVariants.{Syntax, Memory}
 use Rattle.feel_lang.specs.Gives.{Gives, Fails}
-use Rattle.feel_lang.specs.Token.{Token, Number, Text, Name, Keyword, Symbol}
+use Rattle.feel_lang.specs.Token.{Token, Number, Text, Keyword, Symbol}
 use Rattle.feel_lang.specs.Expr.{Expr, depth}
 use Rattle.feel_lang.specs.Lexical.{IsCut}
 use Rattle.feel_value.specs.Limits.{greatest_number}

@@ -1,20 +1,18 @@
 -- The first token that is scanned is the first token of the text, and the only one.
-use Rattle.std.proofs.Common.{◌≡◌, ◌≤◌, ◌<◌, ◌+◌, ◌-◌, ℕ, zero, suc, Bool, true, false, ◌&&◌, ◌||◌, not, List, [], ◌∷◌, ◌++◌, length, take, drop, Option, Some, None, refl, sym, ap, subst, ◌∙◌, arith, append_assoc, take-append-drop}
-use Rattle.std.specs.List.{list_all, prefix_len}
-use Rattle.std.specs.Prelude.{IsTrue, IfSome, nat_le, nat_lt, ◌==◌, is_some, bytes_eq, codes, if◌then◌else◌}
+use Rattle.std.proofs.Common.{◌≡◌, ◌≤◌, ◌+◌, ℕ, suc, Bool, true, false, ◌&&◌, not, List, [], ◌∷◌, ◌++◌, length, take, drop, Option, Some, None, refl, sym, ap, subst, ◌∙◌, arith, append_assoc, take-append-drop}
+use Rattle.std.specs.List.{list_all}
+use Rattle.std.specs.Prelude.{IfSome, nat_le, nat_lt, ◌==◌, is_some, bytes_eq, codes, if◌then◌else◌}
 use Rattle.std.proofs.lemmas.Bool.Decides.{nat_tests}
-use Rattle.std.proofs.lemmas.Bool.{leb-true, le-leb}
+use Rattle.std.proofs.lemmas.Bool.{leb-true}
 use Rattle.std.proofs.lemmas.Slice.Eq.{bytes_eq-Decides}
 use Rattle.feel_lang.specs.declared.token.Word.{Word}
-use Rattle.feel_lang.specs.declared.token.Word.TheVariants as word
 use Rattle.feel_lang.specs.declared.token.Sign.{Sign}
 use Rattle.feel_lang.specs.declared.token.Sign.TheVariants as sign
-use Rattle.feel_lang.specs.Token.{Token, Number, Text, Name, Keyword, Symbol}
-use Rattle.feel_lang.specs.Lexical.{IsToken, Ends, ends_before, is_blank, is_digit, is_word_byte, is_word, is_name, is_number, is_keyword, keyword_of, keyword_text, sign_text, number_from, escaped, escape_before, before, unescaped}
+use Rattle.feel_lang.specs.Token.{Token, Text, Symbol}
+use Rattle.feel_lang.specs.Lexical.{IsToken, Ends, ends_before, is_digit, is_word_byte, is_word, is_name, is_keyword, keyword_of, keyword_text, sign_text, number_from, escaped, escape_before, before, unescaped}
 use Rattle.feel_value.specs.Limits.{greatest_number}
-use Rattle.feel_lang.specs.Scanning.{number_of, number_token, word_token, run_token, run_length, run_at, text_at, onto, string_at, pair_of, sign_of, single_at, sign_at, token_at, is_plain}
+use Rattle.feel_lang.specs.Scanning.{number_of, number_token, word_token, run_token, run_length, run_at, text_at, onto, string_at, pair_of, sign_of, single_at, sign_at, token_at}
 use Rattle.feel_lang.specs.Reading.{choose}
-use Rattle.feel_lang.proofs.Strings.{text_plain}
 
 -- ---- answers by cases
 

@@ -1,5 +1,5 @@
 -- The tests of a list one after the other, as a loop reads them.
-use Rattle.std.proofs.Common.{◌≡◌, ◌≤◌, ◌<◌, ◌+◌, ◌-◌, ℕ, zero, suc, List, [], ◌∷◌, ◌++◌, Option, Some, None, refl, sym, ap, ◌∙◌, append_assoc, arith}
+use Rattle.std.proofs.Common.{◌≡◌, ◌≤◌, ◌<◌, ◌+◌, ◌-◌, ℕ, suc, List, [], ◌∷◌, ◌++◌, Option, Some, None, refl, sym, ap, ◌∙◌, append_assoc, arith}
 use Rattle.feel_lang.specs.declared.unary.Test as code
 use Rattle.feel_lang.specs.declared.fault.ReadFault.{ReadFault}
 use Rattle.feel_lang.specs.declared.fault.ReadFault.TheVariants.{Syntax, Memory}
@@ -7,7 +7,7 @@ use Rattle.feel_lang.specs.Token.{Token}
 use Rattle.feel_lang.specs.Tests.{Test}
 use Rattle.feel_lang.specs.TestsView.{test_view, test_views}
 use Rattle.feel_lang.specs.Gives.{Fails}
-use Rattle.feel_lang.specs.Reading.{◌>>=◌, choose, after_comma}
+use Rattle.feel_lang.specs.Reading.{◌>>=◌, after_comma}
 use Rattle.feel_lang.specs.TestReading.{test_at, list_at, preceded}
 
 abbrev Listed : Type 0

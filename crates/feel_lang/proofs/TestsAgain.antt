@@ -1,24 +1,23 @@
 -- Unary tests that the tokens spell are read.
-use Rattle.std.proofs.Common.{◌≡◌, ◌≤◌, ◌<◌, ◌+◌, ℕ, zero, suc, max, Bool, true, false, List, [], ◌∷◌, ◌++◌, length, Option, Some, None, refl, sym, ap, subst, ◌∙◌, append_assoc, length-append, arith}
-use Rattle.std.specs.Prelude.{IfSome, if◌then◌else◌}
+use Rattle.std.proofs.Common.{◌≡◌, ◌≤◌, ◌<◌, ℕ, zero, suc, Bool, true, false, List, [], ◌∷◌, ◌++◌, length, Some, None, refl, sym, ap, subst, ◌∙◌, append_assoc, length-append, arith}
 use Rattle.std.proofs.lemmas.List.{append-nil}
 use Rattle.feel_lang.specs.declared.token.Word.TheVariants as word
 use Rattle.feel_lang.specs.declared.token.Sign.{Sign}
 use Rattle.feel_lang.specs.declared.token.Sign.TheVariants as sign
 use Rattle.feel_lang.specs.declared.line.Line.{Line}
 use Rattle.feel_lang.specs.declared.line.Line.TheVariants as line
-use Rattle.feel_lang.specs.Token.{Token, Number, Text, Name, Keyword, Symbol}
+use Rattle.feel_lang.specs.Token.{Token, Name, Keyword, Symbol}
 use Rattle.feel_lang.specs.Expr as expr
 use Rattle.feel_lang.specs.Expr.{Expr, Exprs, none, more, depth}
-use Rattle.feel_lang.specs.Grammar.{Reads, rank, token_of, in_parens}
-use Rattle.feel_lang.specs.Reading.{Read, ◌>>=◌, choose, after_open, after_close, after_comma, read_at}
+use Rattle.feel_lang.specs.Grammar.{Reads, token_of}
+use Rattle.feel_lang.specs.Reading.{◌>>=◌, after_comma, read_at}
 use Rattle.feel_lang.specs.Tests.{Bound, Below, AtMost, Above, AtLeast, Test, Compares, Interval, Equals, Tests, Any, OneOf, NoneOf, ReadsTest, ReadsList, ReadsNot, ReadsTests, ReadsSum, ReadsExpr, Opens, Closes, bound_sign}
 use Rattle.feel_lang.specs.Tests as rule
-use Rattle.feel_lang.specs.TestReading.{bound_of, low_end_of, high_end_of, after_dots, high_end_at, interval_at, compares_at, plain_at, test_at, list_at, all_read, one_of_at, none_of_at, after_not, is_dash, listed_at, tests_at}
-use Rattle.feel_lang.proofs.Spelling.{spelling, others, Stands}
+use Rattle.feel_lang.specs.TestReading.{bound_of, low_end_of, high_end_of, high_end_at, interval_at, compares_at, plain_at, test_at, list_at, one_of_at, none_of_at, after_not, is_dash}
+use Rattle.feel_lang.proofs.Spelling.{spelling}
 use Rattle.feel_lang.proofs.Found.{closing}
 use Rattle.feel_lang.proofs.Complete.{Stops, stops_up, first, begins, begins_more, read_again}
-use Rattle.feel_lang.proofs.Rules.{IsSpelled, is_spelled}
+use Rattle.feel_lang.proofs.Rules.{is_spelled}
 use Rattle.feel_lang.proofs.Dots.{interval_unread}
 
 -- ---- an expression of a test

@@ -1,19 +1,19 @@
 -- The unary tests that are read are spelled by the tokens.
-use Rattle.std.proofs.Common.{◌≡◌, ◌≤◌, ℕ, zero, suc, Bool, true, false, List, [], ◌∷◌, ◌++◌, length, Option, Some, None, refl, sym, ap, subst, ◌∙◌, append_assoc, arith}
-use Rattle.std.specs.Prelude.{IfSome, if◌then◌else◌}
+use Rattle.std.proofs.Common.{◌≡◌, ◌≤◌, ℕ, zero, suc, Bool, List, [], ◌∷◌, ◌++◌, length, Option, Some, None, refl, sym, ap, subst, ◌∙◌, append_assoc, arith}
+use Rattle.std.specs.Prelude.{IfSome}
 use Rattle.std.proofs.lemmas.List.{append-nil}
 use Rattle.feel_lang.specs.declared.token.Word.TheVariants as word
 use Rattle.feel_lang.specs.declared.token.Sign.{Sign}
 use Rattle.feel_lang.specs.declared.token.Sign.TheVariants as sign
 use Rattle.feel_lang.specs.declared.line.Line.{Line}
 use Rattle.feel_lang.specs.declared.line.Line.TheVariants as line
-use Rattle.feel_lang.specs.Token.{Token, Number, Text, Name, Keyword, Symbol}
+use Rattle.feel_lang.specs.Token.{Token, Keyword, Symbol}
 use Rattle.feel_lang.specs.Expr.{Expr, depth}
 use Rattle.feel_lang.specs.Grammar.{Reads}
-use Rattle.feel_lang.specs.Reading.{◌>>=◌, choose, after_open, after_close, after_comma, read_at}
+use Rattle.feel_lang.specs.Reading.{◌>>=◌, after_open, after_close, after_comma, read_at}
 use Rattle.feel_lang.specs.Tests.{Bound, Below, AtMost, Above, AtLeast, Test, Compares, Interval, Equals, Tests, Any, OneOf, NoneOf, ReadsTest, ReadsList, ReadsNot, ReadsTests, ReadsSum, Opens, Closes, bound_sign}
 use Rattle.feel_lang.specs.Tests as rule
-use Rattle.feel_lang.specs.TestReading.{bound_of, low_end_of, high_end_of, after_dots, high_end_at, interval_at, compares_at, plain_at, test_at, list_at, all_read, one_of_at, none_of_at, after_not, is_dash, listed_at, tests_at}
+use Rattle.feel_lang.specs.TestReading.{bound_of, low_end_of, high_end_of, after_dots, high_end_at, interval_at, compares_at, plain_at, test_at, list_at, all_read, one_of_at, none_of_at, after_not}
 use Rattle.feel_lang.proofs.Spelling.{spelling}
 use Rattle.feel_lang.proofs.Found.{IsRead, closing, read_sound, if_bind, if_chosen}
 use Rattle.feel_lang.proofs.Rules.{stands_by_rules}

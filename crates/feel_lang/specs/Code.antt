@@ -1,6 +1,6 @@
 -- Internal: no public contract cites these words. A code of expressions and unary tests: numbers and lists that give them back.
 -- A type of the program that stands for such a value is asked for one.
-use Rattle.std.specs.Prelude.{◌≡◌, ℕ, Bool, true, false, List, [], ◌∷◌, ◌==◌, map, refl, if◌then◌else◌}
+use Rattle.std.specs.Prelude.{◌≡◌, ℕ, true, false, List, [], ◌∷◌, ◌==◌, map, refl, if◌then◌else◌}
 use Rattle.std.proofs.Common.{ap, ap₂}
 use Rattle.std.specs.Coded.{Coded, code_by, coded×, coded_ℕ, coded_list}
 use base.Stored.{Gv, gnil, gnum, gcons, num}
@@ -11,7 +11,7 @@ use Rattle.feel_lang.specs.declared.expr.Operator.TheVariants as operator
 use Rattle.feel_lang.specs.declared.expr.Function.{Function}
 use Rattle.feel_lang.specs.declared.expr.Function.TheVariants as function
 use Rattle.feel_lang.specs.Expr.{Expr, Exprs, none, more, Null, Boolean, Number, Text, Name, Group, Members, Call, Modulo, Not, Negate, Path, Binary, Between, If}
-use Rattle.feel_lang.specs.Tests.{Bound, Below, AtMost, Above, AtLeast, Test, Compares, Interval, Equals, Tests, Any, OneOf, NoneOf}
+use Rattle.feel_lang.specs.Tests.{Below, AtMost, Above, AtLeast, Test, Compares, Interval, Equals, Tests, Any, OneOf, NoneOf}
 
 -- ---- numbers of operators and functions
 

@@ -1,6 +1,6 @@
 -- How a FEEL text is cut into tokens, by the longest run.
 use Rattle.std.specs.List.{list_all}
-use Rattle.std.specs.Prelude.{◌≡◌, ◌≤◌, ℕ, zero, suc, ◌+◌, ◌*◌, ◌-◌, Bool, true, false, not, ◌&&◌, ◌||◌, List, [], ◌∷◌, ◌++◌, length, Option, Some, None, option_map, IsTrue, is_some, nat_le, ◌==◌, bytes_eq, codes, if◌then◌else◌}
+use Rattle.std.specs.Prelude.{◌≡◌, ◌≤◌, ℕ, ◌+◌, ◌*◌, ◌-◌, Bool, true, false, not, ◌&&◌, ◌||◌, List, [], ◌∷◌, ◌++◌, length, Option, Some, None, IsTrue, is_some, nat_le, ◌==◌, bytes_eq, codes, if◌then◌else◌}
 use Rattle.feel_lang.specs.declared.token.Word.{Word}
 use Rattle.feel_lang.specs.declared.token.Word.TheVariants as word
 use Rattle.feel_lang.specs.declared.token.Sign.{Sign}

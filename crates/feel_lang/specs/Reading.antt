@@ -1,9 +1,7 @@
 -- Internal: no public contract cites these words, and the laws of `Readings` say what they come to.
 -- Reading tokens once, from left to right. What is read is an expression, its depth and the tokens after it.
-use Rattle.std.specs.Prelude.{◌≡◌, ℕ, zero, suc, ◌+◌, max, Bool, true, false, codes, List, [], ◌∷◌, Option, Some, None, Result, Ok, Err, nat_le, bytes_eq, length, if◌then◌else◌}
-use Rattle.feel_lang.specs.declared.token.Word.{Word}
+use Rattle.std.specs.Prelude.{ℕ, zero, suc, ◌+◌, max, true, false, codes, List, [], ◌∷◌, Option, Some, None, nat_le, bytes_eq, length, if◌then◌else◌}
 use Rattle.feel_lang.specs.declared.token.Word.TheVariants as word
-use Rattle.feel_lang.specs.declared.token.Sign.{Sign}
 use Rattle.feel_lang.specs.declared.token.Sign.TheVariants as sign
 use Rattle.feel_lang.specs.declared.expr.Operator.{Operator}
 use Rattle.feel_lang.specs.declared.expr.Operator.TheVariants as operator

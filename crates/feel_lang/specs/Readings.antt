@@ -1,6 +1,6 @@
 -- What a text spells, if anything: an expression, unary tests, a literal. Each function is tied to the grammar by a law for every
 -- text (proofs/ReadingLaws.antt): `expr_of s ≡ Some e` exactly where `Spells s e`, and so for the other two. Above this crate only the laws count.
-use Rattle.std.specs.Prelude.{ℕ, List, length, Option, Some, None}
+use Rattle.std.specs.Prelude.{ℕ, List, Option}
 use Rattle.feel_lang.specs.declared.line.Line.TheVariants as line
 use Rattle.feel_lang.specs.Token.{Token}
 use Rattle.feel_lang.specs.Expr.{Expr}

@@ -1,9 +1,7 @@
 -- Internal: no public contract cites these words, and the laws of `Readings` say what they come to.
 -- Reading the first token of a text, byte by byte. What is read is the token and the bytes after it.
 use Rattle.std.specs.List.{list_all, prefix_len}
-use Rattle.std.specs.Prelude.{ℕ, zero, suc, Bool, true, false, not, ◌&&◌, ◌||◌, List, [], ◌∷◌, ◌++◌, length, take, drop, Option, Some, None, nat_le, nat_lt, ◌==◌, bytes_eq, codes, if◌then◌else◌}
-use Rattle.feel_lang.specs.declared.token.Word.{Word}
-use Rattle.feel_lang.specs.declared.token.Word.TheVariants as word
+use Rattle.std.specs.Prelude.{ℕ, zero, suc, Bool, true, false, not, ◌&&◌, List, [], ◌∷◌, ◌++◌, length, take, drop, Option, Some, None, nat_le, nat_lt, ◌==◌, if◌then◌else◌}
 use Rattle.feel_lang.specs.declared.token.Sign.{Sign}
 use Rattle.feel_lang.specs.declared.token.Sign.TheVariants as sign
 use Rattle.feel_lang.specs.Token.{Token, Number, Text, Name, Keyword, Symbol}

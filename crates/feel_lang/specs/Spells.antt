@@ -1,5 +1,5 @@
 -- What a whole text spells. A text spells at most one expression, one unary test and one literal.
-use Rattle.std.specs.Prelude.{◌≡◌, ℕ, List}
+use Rattle.std.specs.Prelude.{ℕ, List}
 use Rattle.feel_lang.specs.Token.{Token}
 use Rattle.feel_lang.specs.Expr.{Expr}
 use Rattle.feel_lang.specs.Lexical.{IsCut}

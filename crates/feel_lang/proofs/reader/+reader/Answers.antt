@@ -7,7 +7,7 @@ use Rattle.feel_lang.specs.View.{view, exprs_of}
 use Rattle.feel_lang.specs.Expr.{none, more}
 use Rattle.feel_lang.proofs.Members as members
 use Rattle.feel_lang.proofs.Members.{ends_bracket, ends_comma, push_seen}
-use Rattle.feel_lang.specs.Reading.{read_at, operator_at, steps_at, joined, before_more, members_at}
+use Rattle.feel_lang.specs.Reading.{read_at, before_more}
 use Rattle.feel_lang.proofs.Steps.{ends_empty, ends_other, ends_deep, ends_fault, goes_on, ends_last}
 use Rattle.feel_lang.specs.declared.line.Line.{Line}
 use Rattle.feel_lang.specs.declared.token.Token as code

@@ -1,5 +1,4 @@
-use Rattle.std.specs.Prelude.{Result, Err, IsErrOf}
-use Rattle.std.proofs.Common.{◌≡◌, List, ℕ, sym, subst, ap, ◌∙◌, Option}
+use Rattle.std.proofs.Common.{List, sym, subst, Option}
 use Rattle.std.proofs.lemmas.Result.{err_from_is_err_and}
 use Rattle.feel_value.specs.Datum.{Datum}
 use Rattle.feel_lang.specs.declared.token.Token as code

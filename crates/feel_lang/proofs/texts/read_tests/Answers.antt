@@ -1,7 +1,5 @@
-use Rattle.std.specs.Prelude.{Result, Ok, Err}
-use Rattle.std.proofs.Common.{◌≡◌, Some, sym, ◌∙◌}
+use Rattle.std.specs.Prelude.{Err}
 use Rattle.std.proofs.lemmas.Result.{err_from_is_err_and}
-use Rattle.feel_lang.specs.Gives.{Gives}
 use Rattle.feel_lang.specs.Readings.{tests_of}
 use Rattle.feel_lang.specs.Spells.{SpellsTests}
 use Rattle.feel_lang.specs.TestsView.{tests_view}

@@ -1,4 +1,4 @@
-use Rattle.std.proofs.Common.{◌≡◌, List, ℕ, sym, subst, Option}
+use Rattle.std.proofs.Common.{List, sym, subst, Option}
 use Rattle.std.proofs.lemmas.Result.{err_from_is_err_and}
 use Rattle.feel_lang.specs.declared.token.Token as code
 use Rattle.feel_lang.specs.Gives.{Gives}

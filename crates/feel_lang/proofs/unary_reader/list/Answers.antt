@@ -1,7 +1,5 @@
-use Rattle.std.proofs.Common.{◌≡◌, ◌<◌, ◌≤◌, List, [], ◌∷◌, ◌++◌, length, Some, sym, ap, subst, ◌∙◌, arith}
+use Rattle.std.proofs.Common.{◌≡◌, ◌<◌, ◌≤◌, [], ◌∷◌, ◌++◌, length, sym, ap, ◌∙◌, arith}
 use Rattle.std.proofs.lemmas.Result.{err_from_is_err_and}
-use Rattle.feel_lang.specs.declared.unary.Test as code
-use Rattle.feel_lang.specs.Tests.{Test}
 use Rattle.feel_lang.specs.TestsView.{test_view, test_views}
 use Rattle.feel_lang.specs.Token.{views}
 use Rattle.feel_lang.proofs.TestLists.{pushed, ends_fault, ends_list, goes_on, ends_count}
