@@ -1,8 +1,8 @@
 -- Distinct names, one output after another.
-use Rattle.std.proofs.Common.{◌≡◌, ℕ, ◌+◌, ◌-◌, ◌<◌, ◌≤◌, suc, List, [], ◌∷◌, refl, sym, ◌∙◌, ap, Bool, true, false, not, map, ◌&&◌, length, drop, take, get_or, arith}
+use Rattle.std.proofs.Common.{◌≡◌, ℕ, ◌+◌, ◌<◌, List, ◌∷◌, sym, ◌∙◌, ap, Bool, true, false, not, map, ◌&&◌, length, drop, get_or, arith}
 use Rattle.std.specs.Prelude.{bytes_eq, string_bytes, nat_lt, nat_eq}
 use Rattle.std.specs.List.{list_any, list_all}
-use Rattle.std.proofs.lemmas.List.{at_drop_more, take_rest}
+use Rattle.std.proofs.lemmas.List.{at_drop_more}
 use Rattle.dmn_table.specs.declared.table.Output.{Output}
 use Rattle.dmn_table.specs.Faults.{are_distinct}
 use Rattle.dmn_table.specs.declared.table.Rule.{Rule}

@@ -1,10 +1,10 @@
 -- The hits of a table have a place for each of its output columns.
-use Rattle.std.proofs.Common.{◌≡◌, ℕ, zero, suc, ◌<◌, List, [], ◌∷◌, map, length, refl, sym, ap, ◌∙◌, subst, arith, Bool, true, false, cond, not, ◌&&◌, Option, Some, None}
+use Rattle.std.proofs.Common.{◌≡◌, ℕ, zero, suc, ◌<◌, List, [], ◌∷◌, map, length, refl, sym, ap, ◌∙◌, subst, arith, Bool, true, false, ◌&&◌, Option, Some, None}
 use Rattle.std.specs.Prelude.{⊤, nat_eq, nat_lt, slice_index_or, string_bytes}
 use Rattle.std.specs.List.{AllPairs, list_all}
 use Rattle.std.proofs.lemmas.Option.{same_Some}
 use Rattle.std.proofs.lemmas.List.{length-map}
-use Rattle.std.proofs.lemmas.Bool.Decides.{eqb_tells, nat_tests}
+use Rattle.std.proofs.lemmas.Bool.Decides.{nat_tests}
 use Rattle.feel_value.specs.Datum.{Datum}
 use Rattle.feel_lang.specs.Meaning.{Bindings}
 use Rattle.dmn_table.specs.declared.priority.Hit as hit
@@ -14,7 +14,7 @@ use Rattle.dmn_table.specs.Evaluated.{each, ◌>>=◌, value_of}
 use Rattle.dmn_table.specs.Faults.{columns_fit, fits_columns, are_distinct}
 use Rattle.dmn_table.specs.Hits.{hit_of, kept, values_of, output_of}
 use Rattle.dmn_table.specs.Parts.{column_view, rule_view, names_of, entry_counts}
-use Rattle.dmn_table.specs.Priority.{Hit, place, places_of}
+use Rattle.dmn_table.specs.Priority.{Hit, places_of}
 use Rattle.dmn_table.specs.Table.{Column, Rule}
 use Rattle.dmn_table.specs.View.{hit_view}
 

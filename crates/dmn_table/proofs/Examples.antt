@@ -10,7 +10,7 @@ use Rattle.feel_lang.specs.Tests.{Tests, Compares, Above, OneOf, Any as any}
 use Rattle.dmn_table.specs.declared.hit_policy.HitPolicy.{HitPolicy}
 use Rattle.dmn_table.specs.declared.hit_policy.HitPolicy.TheVariants.{Unique, Any, Priority, First, OutputOrder, RuleOrder, Collect, Sum, Least, Greatest, Count}
 use Rattle.dmn_table.specs.declared.fault.TableFault.TheVariants.{Hit, Columns, Operator}
-use Rattle.dmn_table.specs.Table.{Column, Rule, Table}
+use Rattle.dmn_table.specs.Table.{Rule, Table}
 use Rattle.dmn_table.specs.Result.{table_result}
 use Rattle.dmn_table.specs.Faults.{table_fault}
 

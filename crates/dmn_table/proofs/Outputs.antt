@@ -1,22 +1,16 @@
 -- Outputs and contexts, as the code holds them and as the definitions do.
-use Rattle.std.proofs.Common.{◌≡◌, ℕ, List, [], ◌∷◌, map, length, refl, sym, ap, ◌∙◌, Bool, true, false, if◌then◌else◌, string_bytes, Option, Some, None}
+use Rattle.std.proofs.Common.{◌≡◌, List, [], ◌∷◌, map, length, refl, ap, false, if◌then◌else◌, string_bytes}
 use Rattle.std.specs.List.{list_all, zip}
-use Rattle.std.specs.Option.{is_none, is_some}
 use Rattle.feel_value.specs.Datum.{Datum, null, context, entries_of}
 use Rattle.feel_value.specs.Outcome.{held}
 use Rattle.feel_value.specs.Logic.{is_yes}
 use Rattle.feel_value.specs.Comparison.{equal}
-use Rattle.feel_value.specs.declared.feel.Outcome.{Outcome}
-use Rattle.feel_value.specs.declared.feel.Outcome.TheVariants.{Is, Limit}
-use Rattle.feel_lang.specs.Meaning.{Bindings}
 use Rattle.dmn_table.specs.declared.priority.Hit as hit
 use Rattle.dmn_table.specs.declared.table.Output.{Output}
-use Rattle.dmn_table.specs.Table.{Column}
 use Rattle.dmn_table.specs.Parts.{column_view}
 use Rattle.dmn_table.specs.View.{hit_view}
 use Rattle.dmn_table.specs.Hits.{output_of}
-use Rattle.dmn_table.specs.Result.{first_of, common_one, defaults, default_values}
-use Rattle.dmn_table.specs.Evaluated.{outcome_from}
+use Rattle.dmn_table.specs.Result.{first_of, common_one}
 
 pub outputs_same : (hs : List hit.Hit) → map (λ h. h.output) (map hit_view hs) ≡ map (λ h. h.output) hs
 outputs_same [] = refl

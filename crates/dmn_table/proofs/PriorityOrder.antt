@@ -1,12 +1,12 @@
 -- The hits in priority are the hits in order by their places, as slices are compared.
-use Rattle.std.proofs.Common.{◌≡◌, ℕ, suc, ◌+◌, List, [], ◌∷◌, map, length, refl, sym, ◌∙◌, ap, Bool, true, false, cond, ◌&&◌, ◌||◌, nat_eq, arith}
+use Rattle.std.proofs.Common.{◌≡◌, ℕ, suc, List, [], ◌∷◌, map, length, refl, sym, ◌∙◌, ap, Bool, true, false, cond, ◌&&◌, ◌||◌, nat_eq, arith}
 use Rattle.std.specs.Prelude.{nat_lt, ⊤, ◌<◌, slice_index_or}
 use Rattle.std.specs.List.{AllPairs}
 use Rattle.std.specs.Ordering.{nat_cmp, is_lt, ordering_then}
 use Rattle.std.specs.Cmp.Lexicographic.{slice_cmp}
 use Rattle.std.specs.declared.cmp.Ordering.TheVariants.{Less, Equal, Greater}
 use Rattle.dmn_table.specs.declared.priority.Hit as hit
-use Rattle.dmn_table.specs.Priority.{Hit, is_higher, put_before, in_priority}
+use Rattle.dmn_table.specs.Priority.{is_higher, put_before, in_priority}
 use Rattle.dmn_table.specs.View.{hit_view}
 use Rattle.dmn_table.proofs.StableOrder.{put, in_order}
 

@@ -1,5 +1,5 @@
 -- A list put in order one element after another is the one that a stable sort gives.
-use Rattle.std.proofs.Common.{add-one, ◌≡◌, ℕ, zero, suc, ◌+◌, ◌<◌, ◌≤◌, List, [], ◌∷◌, length, get_or, refl, sym, ◌∙◌, ap, arith, Bool, true, false, cond, not, ◌&&◌}
+use Rattle.std.proofs.Common.{add-one, ◌≡◌, suc, List, [], ◌∷◌, refl, sym, ◌∙◌, ap, arith, Bool, true, false, cond, not, ◌&&◌}
 use Rattle.std.specs.Prelude.{⊤, if◌then◌else◌}
 use Rattle.std.specs.List.{filter}
 use Rattle.std.specs.Cmp.{IsStrictWeakOrder}

@@ -8,7 +8,6 @@ use Rattle.feel_value.specs.declared.feel.Outcome.{Outcome}
 use Rattle.feel_value.specs.declared.feel.Outcome.TheVariants.{Is}
 use Rattle.feel_lang.specs.Expr.{Expr}
 use Rattle.feel_lang.specs.Meaning.{den, Bindings}
-use Rattle.feel_lang.specs.Tests.{Tests}
 use Rattle.feel_lang.specs.Satisfied.{satisfied, Answer, Told, Broken}
 use Rattle.dmn_table.specs.Evaluated.{value_of, ◌>>=◌, each}
 use Rattle.dmn_table.specs.Table.{Column, Rule, Table}

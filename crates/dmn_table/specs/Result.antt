@@ -1,20 +1,20 @@
 -- The result of a decision table.
-use Rattle.std.specs.Prelude.{ℕ, ℤ, pos, ◌+ℤ◌, List, [], ◌∷◌, Bool, true, false, if◌then◌else◌, map, length, Option, None, Some}
+use Rattle.std.specs.Prelude.{ℤ, pos, ◌+ℤ◌, List, [], ◌∷◌, if◌then◌else◌, map, length, Option, None, Some}
 use Rattle.std.specs.List.{list_all, fold}
-use Rattle.std.specs.Option.{option_map, is_none}
+use Rattle.std.specs.Option.{is_none}
 use Rattle.std.specs.Int.{int_min, int_max}
 use Rattle.feel_value.specs.Datum.{Datum, null, number, list, items_of}
 use Rattle.feel_value.specs.Logic.{is_yes}
 use Rattle.feel_value.specs.Comparison.{equal}
 use Rattle.feel_value.specs.Outcome.{held}
 use Rattle.feel_value.specs.declared.feel.Outcome.{Outcome}
-use Rattle.feel_value.specs.declared.feel.Outcome.TheVariants.{Is, Limit}
+use Rattle.feel_value.specs.declared.feel.Outcome.TheVariants.{Is}
 use Rattle.feel_lang.specs.Expr.{Expr}
 use Rattle.feel_lang.specs.Meaning.{den, Bindings}
 use Rattle.dmn_table.specs.Evaluated.{value_of, ◌>>=◌, each, outcome_from}
 use Rattle.dmn_table.specs.declared.hit_policy.HitPolicy.{HitPolicy}
 use Rattle.dmn_table.specs.declared.hit_policy.HitPolicy.TheVariants.{Unique, Any, Priority, First, OutputOrder, RuleOrder, Collect, Sum, Least, Greatest, Count}
-use Rattle.dmn_table.specs.Table.{Column, Rule, Table}
+use Rattle.dmn_table.specs.Table.{Column, Table}
 use Rattle.dmn_table.specs.Hits.{hits, hit_of, output_of}
 use Rattle.dmn_table.specs.Priority.{Hit, in_priority}
 

@@ -12,8 +12,8 @@ use crate::{eval_expr, holds_tests};
 use feel_value::{Feel, Outcome};
 use std::alloc::{AllocError, Global};
 
-/// The value of an expression, where names have the values that the environment gives them, or that a limit is broken.
-/// Every part is evaluated but the branch of an `if` that isn't taken.
+/// The value of an expression, where names have the values that the environment gives them, or that
+/// a limit is broken. Every part is evaluated but the branch of an `if` that isn't taken.
 pub fn eval(alloc: Global, expr: &Expr, env: &Env) -> Result<Outcome, AllocError>
     ensures { IfOk result (λ o. o ≡ den expr.now env.now) }
 {

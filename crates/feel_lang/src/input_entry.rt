@@ -7,7 +7,8 @@ ghost use Rattle.feel_lang.specs.TestsView.{tests_view};
 use crate::unary::TestsTree;
 use std::marker::Model;
 
-/// Unary tests, an input entry of a decision table, that some text spells. So each of their expressions is at most 64 deep.
+/// Unary tests, an input entry of a decision table, that some text spells. So each of their
+/// expressions is at most 64 deep.
 #[derive(Debug, Drop)]
 pub struct Tests {
     tree: TestsTree,

@@ -138,7 +138,8 @@ fn paths<'a>(
 ) -> Result<Found<'a>, ReadFault>
     requires limit { inner < 64 }
     requires depth { depth ≤ inner + 1 }
-    ensures found { Gives (λ x. (view x.0, x.1, views x.2.now)) result (paths_at left inner (view first) depth (views tokens.now)) }
+    ensures found { Gives (λ x. (view x.0, x.1, views x.2.now)) result
+        (paths_at left inner (view first) depth (views tokens.now)) }
     ensures depth { IfOk result (λ x. x.1 ≤ inner + 1) }
 {
     if left == 0 {
@@ -168,7 +169,8 @@ pub(crate) fn read<'a>(
     tokens: &'a [Token],
 ) -> Result<Found<'a>, ReadFault>
     requires { limit ≤ 64 }
-    ensures found { Gives (λ x. (view x.0, x.1, views x.2.now)) result (read_at limit line (views tokens.now)) }
+    ensures found { Gives (λ x. (view x.0, x.1, views x.2.now)) result
+        (read_at limit line (views tokens.now)) }
     ensures depth { IfOk result (λ x. x.1 ≤ limit) }
 {
     if limit == 0 {
@@ -187,7 +189,8 @@ fn read_line<'a>(
     tokens: &'a [Token],
 ) -> Result<Found<'a>, ReadFault>
     requires { inner < 64 }
-    ensures found { Gives (λ x. (view x.0, x.1, views x.2.now)) result (line_at (read_at inner) inner line (views tokens.now)) }
+    ensures found { Gives (λ x. (view x.0, x.1, views x.2.now)) result
+        (line_at (read_at inner) inner line (views tokens.now)) }
     ensures depth { IfOk result (λ x. x.1 ≤ inner + 1) }
 {
     match line {
@@ -207,7 +210,8 @@ fn read_line<'a>(
 #[tactic(auto, unfolding(crate::specs::Reading::whole_at, crate::specs::Reading::conditional_at, crate::specs::Reading::line_at))]
 fn whole<'a>(alloc: Global, inner: usize, tokens: &'a [Token]) -> Result<Found<'a>, ReadFault>
     requires { inner < 64 }
-    ensures found { Gives (λ x. (view x.0, x.1, views x.2.now)) result (whole_at (disjunction_at (read_at inner) inner) (read_at inner) (views tokens.now)) }
+    ensures found { Gives (λ x. (view x.0, x.1, views x.2.now)) result
+        (whole_at (disjunction_at (read_at inner) inner) (read_at inner) (views tokens.now)) }
     ensures depth { IfOk result (λ x. x.1 ≤ inner + 1) }
 {
     let [Token::Keyword(Word::If), rest @ ..] = tokens else {
@@ -225,7 +229,8 @@ fn whole<'a>(alloc: Global, inner: usize, tokens: &'a [Token]) -> Result<Found<'
     Ok((Tree::If(test, yes, no), depth, rest))
 }
 
-// A chain of operators of one line, grouped to the left. Each step is one deeper, so there are at most as many as inner.
+// A chain of operators of one line, grouped to the left. Each step is one deeper, so there are at
+// most as many as inner.
 #[cycle(reader)]
 #[tactic(auto, unfolding(crate::specs::Reading::chain_at))]
 fn chain<'a>(
@@ -236,14 +241,16 @@ fn chain<'a>(
 ) -> Result<Found<'a>, ReadFault>
     requires limit { inner < 64 }
     requires tighter { rank line < rank (tighter line) }
-    ensures found { Gives (λ x. (view x.0, x.1, views x.2.now)) result (chain_at (line_at (read_at inner) inner (tighter line)) (read_at inner) inner line (views tokens.now)) }
+    ensures found { Gives (λ x. (view x.0, x.1, views x.2.now)) result
+        (chain_at (line_at (read_at inner) inner (tighter line)) (read_at inner) inner line (views tokens.now)) }
     ensures depth { IfOk result (λ x. x.1 ≤ inner + 1) }
 {
     let (expr, depth, rest) = read_line(alloc, line.tighter(), inner, tokens)?;
     steps(alloc, line, inner, expr, depth, rest)
 }
 
-// The steps of a chain after its first operand. Each is one deeper, so there are at most as many as inner.
+// The steps of a chain after its first operand. Each is one deeper, so there are at most as many as
+// inner.
 #[cycle(reader)]
 fn steps<'a>(
     alloc: Global,
@@ -255,7 +262,8 @@ fn steps<'a>(
 ) -> Result<Found<'a>, ReadFault>
     requires limit { inner < 64 }
     requires depth { first_depth ≤ inner + 1 }
-    ensures found { Gives (λ x. (view x.0, x.1, views x.2.now)) result (steps_at (inner + 1) (read_at inner) inner line (view first) first_depth (views tokens.now)) }
+    ensures found { Gives (λ x. (view x.0, x.1, views x.2.now)) result
+        (steps_at (inner + 1) (read_at inner) inner line (view first) first_depth (views tokens.now)) }
     ensures depth { IfOk result (λ x. x.1 ≤ inner + 1) }
 {
     let mut expr = first;
@@ -286,7 +294,8 @@ fn steps<'a>(
 #[tactic(auto, unfolding(crate::specs::Reading::comparison_at, crate::specs::Reading::line_at))]
 fn comparison<'a>(alloc: Global, inner: usize, tokens: &'a [Token]) -> Result<Found<'a>, ReadFault>
     requires { inner < 64 }
-    ensures found { Gives (λ x. (view x.0, x.1, views x.2.now)) result (comparison_at (sum_at (read_at inner) inner) (read_at inner) inner (views tokens.now)) }
+    ensures found { Gives (λ x. (view x.0, x.1, views x.2.now)) result
+        (comparison_at (sum_at (read_at inner) inner) (read_at inner) inner (views tokens.now)) }
     ensures depth { IfOk result (λ x. x.1 ≤ inner + 1) }
 {
     let (left, depth, rest) = read_line(alloc, Line::Sum, inner, tokens)?;
@@ -305,7 +314,8 @@ fn compared<'a>(
 ) -> Result<Found<'a>, ReadFault>
     requires limit { inner < 64 }
     requires depth { depth ≤ inner + 1 }
-    ensures found { Gives (λ x. (view x.0, x.1, views x.2.now)) result (compared_at (read_at inner) inner (view left) depth (views tokens.now)) }
+    ensures found { Gives (λ x. (view x.0, x.1, views x.2.now)) result
+        (compared_at (read_at inner) inner (view left) depth (views tokens.now)) }
     ensures depth { IfOk result (λ x. x.1 ≤ inner + 1) }
 {
     let Some((token, rest)) = tokens.split_first() else {
@@ -341,7 +351,8 @@ fn between<'a>(
     tokens: &'a [Token],
 ) -> Result<Found<'a>, ReadFault>
     requires { inner < 64 }
-    ensures found { Gives (λ x. (view x.0, x.1, views x.2.now)) result (between_at (read_at inner) inner (view left) depth (views tokens.now)) }
+    ensures found { Gives (λ x. (view x.0, x.1, views x.2.now)) result
+        (between_at (read_at inner) inner (view left) depth (views tokens.now)) }
     ensures depth { IfOk result (λ x. x.1 ≤ inner + 1) }
 {
     if depth > inner {
@@ -365,7 +376,8 @@ fn between<'a>(
 #[tactic(auto, unfolding(crate::specs::Reading::negation_at))]
 fn negation<'a>(alloc: Global, inner: usize, tokens: &'a [Token]) -> Result<Found<'a>, ReadFault>
     requires { inner < 64 }
-    ensures found { Gives (λ x. (view x.0, x.1, views x.2.now)) result (negation_at (read_at inner) inner (views tokens.now)) }
+    ensures found { Gives (λ x. (view x.0, x.1, views x.2.now)) result
+        (negation_at (read_at inner) inner (views tokens.now)) }
     ensures depth { IfOk result (λ x. x.1 ≤ inner + 1) }
 {
     let [Token::Symbol(Sign::Minus), rest @ ..] = tokens else {
@@ -380,7 +392,8 @@ fn negation<'a>(alloc: Global, inner: usize, tokens: &'a [Token]) -> Result<Foun
 #[tactic(auto, unfolding(crate::specs::Reading::path_at))]
 fn path<'a>(alloc: Global, inner: usize, tokens: &'a [Token]) -> Result<Found<'a>, ReadFault>
     requires { inner < 64 }
-    ensures found { Gives (λ x. (view x.0, x.1, views x.2.now)) result (path_at (read_at inner) inner (views tokens.now)) }
+    ensures found { Gives (λ x. (view x.0, x.1, views x.2.now)) result
+        (path_at (read_at inner) inner (views tokens.now)) }
     ensures depth { IfOk result (λ x. x.1 ≤ inner + 1) }
 {
     let (expr, depth, rest) = primary(alloc, inner, tokens)?;
@@ -392,7 +405,8 @@ fn path<'a>(alloc: Global, inner: usize, tokens: &'a [Token]) -> Result<Found<'a
 #[tactic(auto, unfolding(crate::specs::Reading::primary_at))]
 fn primary<'a>(alloc: Global, inner: usize, tokens: &'a [Token]) -> Result<Found<'a>, ReadFault>
     requires { inner < 64 }
-    ensures found { Gives (λ x. (view x.0, x.1, views x.2.now)) result (primary_at (read_at inner) (views tokens.now)) }
+    ensures found { Gives (λ x. (view x.0, x.1, views x.2.now)) result
+        (primary_at (read_at inner) (views tokens.now)) }
     ensures depth { IfOk result (λ x. x.1 ≤ inner + 1) }
 {
     let Some((token, rest)) = tokens.split_first() else {
@@ -425,7 +439,8 @@ fn named<'a>(
     tokens: &'a [Token],
 ) -> Result<Found<'a>, ReadFault>
     requires { inner < 64 }
-    ensures found { Gives (λ x. (view x.0, x.1, views x.2.now)) result (named_at (string_bytes name.now) (read_at inner) (views tokens.now)) }
+    ensures found { Gives (λ x. (view x.0, x.1, views x.2.now)) result
+        (named_at (string_bytes name.now) (read_at inner) (views tokens.now)) }
     ensures depth { IfOk result (λ x. x.1 ≤ inner + 1) }
 {
     let [Token::Symbol(Sign::OpenParen), rest @ ..] = tokens else {
@@ -451,7 +466,8 @@ fn named<'a>(
 #[tactic(auto, unfolding(crate::specs::Reading::modulo_at))]
 fn modulo<'a>(alloc: Global, inner: usize, tokens: &'a [Token]) -> Result<Found<'a>, ReadFault>
     requires { inner < 64 }
-    ensures found { Gives (λ x. (view x.0, x.1, views x.2.now)) result (modulo_at (read_at inner) (views tokens.now)) }
+    ensures found { Gives (λ x. (view x.0, x.1, views x.2.now)) result
+        (modulo_at (read_at inner) (views tokens.now)) }
     ensures depth { IfOk result (λ x. x.1 ≤ inner + 1) }
 {
     let (left, left_depth, rest) = read(alloc, Line::Whole, inner, tokens)?;
@@ -471,7 +487,8 @@ fn modulo<'a>(alloc: Global, inner: usize, tokens: &'a [Token]) -> Result<Found<
 #[tactic(auto, unfolding(crate::specs::Reading::negated_at))]
 fn negated<'a>(alloc: Global, inner: usize, tokens: &'a [Token]) -> Result<Found<'a>, ReadFault>
     requires { inner < 64 }
-    ensures found { Gives (λ x. (view x.0, x.1, views x.2.now)) result (negated_at (read_at inner) (views tokens.now)) }
+    ensures found { Gives (λ x. (view x.0, x.1, views x.2.now)) result
+        (negated_at (read_at inner) (views tokens.now)) }
     ensures depth { IfOk result (λ x. x.1 ≤ inner + 1) }
 {
     let rest = after_open(tokens)?;
@@ -484,7 +501,8 @@ fn negated<'a>(alloc: Global, inner: usize, tokens: &'a [Token]) -> Result<Found
 #[tactic(auto, unfolding(crate::specs::Reading::group_at))]
 fn group<'a>(alloc: Global, inner: usize, tokens: &'a [Token]) -> Result<Found<'a>, ReadFault>
     requires { inner < 64 }
-    ensures found { Gives (λ x. (view x.0, x.1, views x.2.now)) result (group_at (read_at inner) (views tokens.now)) }
+    ensures found { Gives (λ x. (view x.0, x.1, views x.2.now)) result
+        (group_at (read_at inner) (views tokens.now)) }
     ensures depth { IfOk result (λ x. x.1 ≤ inner + 1) }
 {
     let (expr, depth, rest) = closed(alloc, inner, tokens)?;
@@ -496,7 +514,8 @@ fn group<'a>(alloc: Global, inner: usize, tokens: &'a [Token]) -> Result<Found<'
 #[tactic(auto, unfolding(crate::specs::Reading::closed_at))]
 fn closed<'a>(alloc: Global, inner: usize, tokens: &'a [Token]) -> Result<Found<'a>, ReadFault>
     requires { inner < 64 }
-    ensures found { Gives (λ x. (view x.0, x.1, views x.2.now)) result (closed_at (read_at inner) (views tokens.now)) }
+    ensures found { Gives (λ x. (view x.0, x.1, views x.2.now)) result
+        (closed_at (read_at inner) (views tokens.now)) }
     ensures depth { IfOk result (λ x. x.1 ≤ inner) }
 {
     let (expr, depth, rest) = read(alloc, Line::Whole, inner, tokens)?;
@@ -509,7 +528,8 @@ fn closed<'a>(alloc: Global, inner: usize, tokens: &'a [Token]) -> Result<Found<
 #[tactic(auto, unfolding(crate::specs::Reading::list_at))]
 fn list<'a>(alloc: Global, inner: usize, tokens: &'a [Token]) -> Result<Found<'a>, ReadFault>
     requires { inner < 64 }
-    ensures found { Gives (λ x. (view x.0, x.1, views x.2.now)) result (list_at (read_at inner) (views tokens.now)) }
+    ensures found { Gives (λ x. (view x.0, x.1, views x.2.now)) result
+        (list_at (read_at inner) (views tokens.now)) }
     ensures depth { IfOk result (λ x. x.1 ≤ inner + 1) }
 {
     let [Token::Symbol(Sign::CloseBracket), rest @ ..] = tokens else {
@@ -523,7 +543,8 @@ fn list<'a>(alloc: Global, inner: usize, tokens: &'a [Token]) -> Result<Found<'a
 #[tactic(auto, unfolding(crate::specs::Reading::listed_at))]
 fn listed<'a>(alloc: Global, inner: usize, tokens: &'a [Token]) -> Result<Found<'a>, ReadFault>
     requires { inner < 64 }
-    ensures found { Gives (λ x. (view x.0, x.1, views x.2.now)) result (listed_at (read_at inner) (views tokens.now)) }
+    ensures found { Gives (λ x. (view x.0, x.1, views x.2.now)) result
+        (listed_at (read_at inner) (views tokens.now)) }
     ensures depth { IfOk result (λ x. x.1 ≤ inner + 1) }
 {
     let (first, depth, rest) = read(alloc, Line::Whole, inner, tokens)?;
@@ -542,7 +563,8 @@ fn members<'a>(
 ) -> Result<(Vec<Tree>, usize, &'a [Token]), ReadFault>
     requires limit { inner < 64 }
     requires depth { first_depth ≤ inner }
-    ensures found { Gives (λ x. (exprs_of (map view x.0.items), x.1, views x.2.now)) result (joined (more (view first) none) first_depth (members_at (length (views tokens.now)) (read_at inner) (views tokens.now))) }
+    ensures found { Gives (λ x. (exprs_of (map view x.0.items), x.1, views x.2.now)) result
+        (joined (more (view first) none) first_depth (members_at (length (views tokens.now)) (read_at inner) (views tokens.now))) }
     ensures depth { IfOk result (λ x. x.1 ≤ inner) }
 {
     let mut members = Vec::new(alloc);

@@ -263,7 +263,8 @@ fn token<'a>(alloc: Global, text: &'a str) -> Result<(Token, &'a str), ReadFault
 /// The tokens of a whole text.
 pub(crate) fn tokens(alloc: Global, text: &str) -> Result<Vec<Token>, ReadFault>
     ensures found { IfOk result (λ v. IsCut text.now (views v.items)) }
-    ensures only { IfOk result (λ v. (ts : List token_specs.Token) → IsCut text.now ts → ts ≡ views v.items) }
+    ensures only { IfOk result
+        (λ v. (ts : List token_specs.Token) → IsCut text.now ts → ts ≡ views v.items) }
     ensures none { IsErrOf result Syntax → (ts : List token_specs.Token) → IsCut text.now ts → ⊥ }
 {
     let mut tokens = Vec::new(alloc);

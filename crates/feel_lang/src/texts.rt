@@ -28,7 +28,8 @@ fn expr_tree(alloc: Global, text: &str) -> Result<Tree, ReadFault>
     reader::expression(alloc, &tokens)
 }
 
-/// The expression that a text spells, within the limit of depth. Syntax is answered exactly where it spells none.
+/// The expression that a text spells, within the limit of depth. Syntax is answered exactly where
+/// it spells none.
 pub fn read_expr(alloc: Global, text: &str) -> Result<Expr, ReadFault>
     ensures found { IfOk result (λ e. Spells text.now e) }
     ensures alone { IfOk result (λ e. (f : expr_specs.Expr) → Spells text.now f → f ≡ e) }
@@ -49,8 +50,9 @@ fn tests_tree(alloc: Global, text: &str) -> Result<TestsTree, ReadFault>
     unary_reader::tests(alloc, &tokens)
 }
 
-/// The unary tests that a text spells, each expression within the limit of depth. A text of the form `not(..)` round a list of tests
-/// is that form only. Syntax is answered exactly where it spells none.
+/// The unary tests that a text spells, each expression within the limit of depth. A text of the
+/// form `not(..)` round a list of tests is that form only. Syntax is answered exactly where it
+/// spells none.
 pub fn read_tests(alloc: Global, text: &str) -> Result<Tests, ReadFault>
     ensures found { IfOk result (λ t. SpellsTests text.now t) }
     ensures alone { IfOk result (λ t. (u : tests_specs.Tests) → SpellsTests text.now u → u ≡ t) }
@@ -63,8 +65,8 @@ pub fn read_tests(alloc: Global, text: &str) -> Result<Tests, ReadFault>
     Ok(Tests::of(tree))
 }
 
-/// The literal that a text spells: a number with an optional `-`, a string, `true`, `false` or `null`. Syntax is answered exactly
-/// where it spells none.
+/// The literal that a text spells: a number with an optional `-`, a string, `true`, `false` or
+/// `null`. Syntax is answered exactly where it spells none.
 pub fn read_literal(alloc: Global, text: &str) -> Result<Feel, ReadFault>
     ensures found { IfOk result (λ d. SpellsLiteral text.now d) }
     ensures alone { IfOk result (λ d. (c : Datum) → SpellsLiteral text.now c → c ≡ d) }

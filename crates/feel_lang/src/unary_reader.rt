@@ -92,7 +92,8 @@ fn interval<'a>(
     first: &Token,
     tokens: &'a [Token],
 ) -> Result<(Test, &'a [Token]), ReadFault>
-    ensures { Gives (λ x. (test_view x.0, views x.1.now)) result (interval_at (token_specs.view first.now) (views tokens.now)) }
+    ensures { Gives (λ x. (test_view x.0, views x.1.now)) result
+        (interval_at (token_specs.view first.now) (views tokens.now)) }
 {
     let Some(closed_low) = low_end_of(first) else {
         return Err(ReadFault::Syntax);
@@ -111,7 +112,8 @@ fn compares<'a>(
     bound: Bound,
     tokens: &'a [Token],
 ) -> Result<(Test, &'a [Token]), ReadFault>
-    ensures { Gives (λ x. (test_view x.0, views x.1.now)) result (compares_at (bound_view bound) (views tokens.now)) }
+    ensures { Gives (λ x. (test_view x.0, views x.1.now)) result
+        (compares_at (bound_view bound) (views tokens.now)) }
 {
     let (tree, _, rest) = read(alloc, Line::Sum, MOST_DEPTH, tokens)?;
     Ok((Test::Compares(bound, tree), rest))
@@ -135,9 +137,11 @@ fn test<'a>(alloc: Global, tokens: &'a [Token]) -> Result<(Test, &'a [Token]), R
     }
 }
 
-// Tests with commas between them, and the tokens after the last. They are at most as many as the tokens.
+// Tests with commas between them, and the tokens after the last. They are at most as many as the
+// tokens.
 fn list<'a>(alloc: Global, tokens: &'a [Token]) -> Result<(Vec<Test>, &'a [Token]), ReadFault>
-    ensures { Gives (λ x. (test_views x.0.items, views x.1.now)) result (list_at (length (views tokens.now)) (views tokens.now)) }
+    ensures { Gives (λ x. (test_views x.0.items, views x.1.now)) result
+        (list_at (length (views tokens.now)) (views tokens.now)) }
 {
     let mut tests = Vec::new(alloc);
     let mut rest = tokens;

@@ -1,4 +1,4 @@
-use Rattle.std.proofs.Common.{◌≡◌, ◌++◌, ◌+◌, ◌&&◌, drop, take, map, Some, length}
+use Rattle.std.proofs.Common.{◌≡◌, drop, map}
 use Rattle.dmn_table.specs.Evaluated.{each}
 use Rattle.dmn_table.specs.Parts.{rule_view}
 use Rattle.dmn_table.specs.Hits.{does_hit}

@@ -1,4 +1,4 @@
-use Rattle.std.proofs.Common.{◌≡◌, List, [], ◌∷◌, map, refl, sym, ap, ◌∙◌, Bool, true, false, ◌&&◌, Some}
+use Rattle.std.proofs.Common.{◌≡◌, List, [], ◌∷◌, refl, sym, ap, ◌∙◌, Bool, true, false, ◌&&◌, Some}
 use Rattle.std.specs.List.{zip, list_all}
 use Rattle.feel_lang.specs.Satisfied.{satisfied}
 use Rattle.dmn_table.specs.Evaluated.{each, ◌>>=◌}

@@ -1,4 +1,4 @@
-use Rattle.std.proofs.Common.{◌≡◌, ◌++◌, ◌+◌, ◌&&◌, drop, take, map, Some, length}
+use Rattle.std.proofs.Common.{◌≡◌, ◌&&◌, Some}
 use Rattle.std.specs.List.{zip, list_all}
 use Rattle.std.specs.Slice.Iter.{iter_rest}
 use Rattle.std.specs.Iterator.Adapters.{zip_first, zip_second}

@@ -1,6 +1,5 @@
 use Rattle.std.proofs.Common.{◌≡◌, List, [], ◌∷◌, ◌++◌, map, refl, sym, ap, ◌∙◌}
 use Rattle.std.proofs.lemmas.List.{append-nil}
-use Rattle.dmn_table.specs.declared.table.Output.{Output}
 use Rattle.dmn_table.specs.Table.{Column}
 use Rattle.dmn_table.specs.Priority.{places_of}
 use Rattle.dmn_table.specs.Parts.{column_view}

@@ -1,4 +1,4 @@
-use Rattle.std.proofs.Common.{◌≡◌, ◌++◌, ◌+◌, ◌&&◌, drop, take, map, Some, length}
+use Rattle.std.proofs.Common.{◌≡◌, drop}
 use Rattle.std.proofs.Common.{fold}
 use Rattle.dmn_table.specs.Result.{least_of}
 use Rattle.std.specs.Int.{int_min}

@@ -1,4 +1,4 @@
-use Rattle.std.proofs.Common.{◌≡◌, ◌++◌, ◌+◌, ◌&&◌, drop, take, map, Some, length}
+use Rattle.std.proofs.Common.{◌≡◌, drop, map}
 use Rattle.dmn_table.specs.Parts.{column_view}
 use Rattle.dmn_table.specs.Result.{default_values}
 use Rattle.dmn_table.proofs.Each.{after}

@@ -1,4 +1,4 @@
-use Rattle.std.proofs.Common.{◌≡◌, ◌++◌, ◌+◌, ◌&&◌, drop, take, map, Some, length}
+use Rattle.std.proofs.Common.{◌≡◌, drop}
 use Rattle.dmn_table.specs.Hits.{values_of}
 use Rattle.dmn_table.proofs.Each.{after}
 use Rattle.dmn_table.proofs.output.evaluated.Given as goal
