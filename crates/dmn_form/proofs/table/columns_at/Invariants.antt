@@ -1,0 +1,9 @@
+use Rattle.std.proofs.Common.{◌≡◌, drop}
+use Rattle.serde_json.specs.View.{items_view}
+use Rattle.dmn_form.specs.Draft.{each_in, column_of}
+use Rattle.dmn_form.specs.FormView.{columns_view}
+use Rattle.dmn_form.proofs.Readings.{read_after}
+use Rattle.dmn_form.proofs.table.columns_at.Given as goal
+
+abbrev pub invariant-loop-item : goal.invariant-loop-item
+invariant-loop-item l = each_in column_of (items_view l.item-items) ≡ read_after (columns_view l.columns) (each_in column_of (items_view (drop l.item-index l.item-items)))
