@@ -108,3 +108,38 @@ fn a_decision_is_right_or_finds_no_memory(rt: HostRuntime) -> Result<(), Fail> {
     }
     Ok(())
 }
+
+/// Decisions whose requests are refused one after another, by hand: each says whether one of its own was. One that was
+/// refused is right when it is made again.
+#[test]
+fn a_refused_decision_answers_nothing_else(rt: HostRuntime) -> Result<(), Fail> {
+    let alloc = rt.alloc();
+    let parts = Parts {
+        inputs: "a",
+        outputs: "r in 2 / 1",
+        rules: "> 0 => 1; - => 2; 1 => 1",
+    };
+    let mut env = Env::new(alloc);
+    env.bind("a", value(alloc, &rt, "1")?)?;
+    let mut decisions = Vec::with_capacity(alloc, 4)?;
+    for (hit, told) in [("F", "1"), ("P", "2"), ("O", "[2, 1, 1]"), ("C+", "4")] {
+        let Ok(table) = table(alloc, &rt, hit, parts)? else {
+            panic!(rt; "no table");
+        };
+        decisions.push((hit, table, value(alloc, &rt, told)?))?;
+    }
+    println!(rt; "made")?;
+    for (hit, table, want) in &decisions {
+        let first = decide(alloc, table, &env);
+        println!(rt; "{hit} refused: {}", first.is_err())?;
+        let found = match first {
+            Ok(found) => found,
+            Err(AllocError) => decide(alloc, table, &env)?,
+        };
+        let Outcome::Is(found) = found else {
+            panic!(rt; "limit");
+        };
+        assert!(rt; equal(&found, want) == Truth::Yes, "{hit}");
+    }
+    Ok(())
+}
