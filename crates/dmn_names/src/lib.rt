@@ -1,0 +1,18 @@
+//! The names of a decision model as it is written: whether each is lawful, whether one stands twice where it may stand once,
+//! and where the values stand that are named.
+#![tactic(auto)]
+
+mod distinct;
+mod index;
+mod lawful;
+mod named;
+mod places;
+mod size;
+
+pub use distinct::has_name_twice;
+pub use lawful::has_bad_name;
+pub use places::{Places, ServicePlaces};
+pub use size::{MOST_DECISIONS, is_large};
+
+#[cfg(test)]
+mod tests;
