@@ -1,0 +1,10 @@
+pub mod Members
+pub mod Reaching
+pub mod Orders
+pub mod Chains
+pub mod Renaming
+pub mod Cycles
+pub mod SearchSteps
+pub mod WalkSteps
+pub mod ReachSteps
+pub mod Ranking
