@@ -1,0 +1,102 @@
+-- Boxed expressions, one member or one entry at a time.
+use Rattle.std.proofs.Common.{◌≡◌, ℕ, ◌+◌, ◌<◌, List, [], ◌∷◌, ◌++◌, map, length, get_or, take, drop, refl, sym, ap, ◌∙◌, append_assoc, String, Vec, Box, Global, string_bytes, rules, Option, None, Some, arith}
+use Rattle.std.proofs.lemmas.List.{at_drop_more, map-append}
+use Rattle.std.proofs.lemmas.Grind.{common_steps}
+use Rattle.feel_value.specs.Datum.{Datum}
+use Rattle.feel_value.specs.View.{datum_of}
+use Rattle.feel_value.specs.declared.feel.Outcome.{Outcome}
+use Rattle.feel_value.specs.declared.feel.Outcome.TheVariants.{Is, Limit}
+use Rattle.feel_value.specs.declared.value.Value.{Value}
+use Rattle.feel_lang.specs.Meaning.{Bindings}
+use Rattle.dmn_table.specs.Evaluated.{value_of, ◌>>=◌, outcome_from}
+use Rattle.dmn_table.proofs.Each.{after}
+use Rattle.dmn_form.specs.Model.{member, entry, context, context_with, entries_of}
+use Rattle.dmn_logic.specs.Boxed.{boxed, member_values, entry_values}
+use Rattle.dmn_logic.specs.LogicView.{logic_view, members_view, entries_view, named_view, entry_view}
+use Rattle.dmn_logic.specs.ValueView.{pair_view, bound_behind}
+use Rattle.dmn_logic.specs.declared.logic.Logic.{Logic, Context, ContextWith, the_lemmas}
+
+pub after-more : {X : Type 0} (vs : List X) (v : X) (o : Option (List X)) → after vs (o >>= λ ds. Some (v ∷ ds)) ≡ after (vs ++ v ∷ []) o
+after-more vs v None = refl
+after-more vs v (Some ds) = ap Some (sym (append_assoc vs (v ∷ []) ds))
+
+members_from : (xs : List Logic) (i : ℕ) (x : Logic) → x ≡ get_or xs i x → i < length xs
+    → members_view (drop i xs) ≡ member (logic_view x) (members_view (drop (i + 1) xs))
+members_from xs i x e h = at_drop_more members_view xs i x h ∙ ap (λ (y : Logic). member (logic_view y) (members_view (drop (i + 1) xs))) (sym e)
+
+abbrev pub Named : Type 0
+Named = String Global × Logic
+
+entries_from : (xs : List Named) (i : ℕ) (x : Named) → x ≡ get_or xs i x → i < length xs
+    → entries_view (drop i xs) ≡ entry (string_bytes x.0) (logic_view x.1) (entries_view (drop (i + 1) xs))
+entries_from xs i x e h = at_drop_more entries_view xs i x h ∙ ap (λ (y : Named). entry (string_bytes y.0) (logic_view y.1) (entries_view (drop (i + 1) xs))) (sym e)
+
+-- the members from the one at i on, by its outcome
+pub members_step : (m : Bindings) (xs : List Logic) (i : ℕ) (x : Logic) (o : Outcome) → x ≡ get_or xs i x → i < length xs → o ≡ boxed (logic_view x) m
+    → member_values (members_view (drop i xs)) m ≡ (value_of o >>= λ d. member_values (members_view (drop (i + 1) xs)) m >>= λ ds. Some (d ∷ ds))
+members_step m xs i x o e h b =
+    ap (λ bs. member_values bs m) (members_from xs i x e h)
+    ∙ ap (λ p. value_of p >>= λ d. member_values (members_view (drop (i + 1) xs)) m >>= λ ds. Some (d ∷ ds)) (sym b)
+
+-- the entries from the one at i on, by its outcome
+pub entries_step : (m : Bindings) (xs : List Named) (i : ℕ) (x : Named) (o : Outcome) → x ≡ get_or xs i x → i < length xs → o ≡ boxed (logic_view x.1) m
+    → entry_values (entries_view (drop i xs)) m
+    ≡ (value_of o >>= λ d. entry_values (entries_view (drop (i + 1) xs)) (m ++ (string_bytes x.0, d) ∷ []) >>= λ ds. Some ((string_bytes x.0, d) ∷ ds))
+entries_step m xs i x o e h b =
+    ap (λ es. entry_values es m) (entries_from xs i x e h)
+    ∙ ap (λ p. value_of p >>= λ d. entry_values (entries_view (drop (i + 1) xs)) (m ++ (string_bytes x.0, d) ∷ []) >>= λ ds. Some ((string_bytes x.0, d) ∷ ds)) (sym b)
+
+fused : (es : List Named) → map named_view (map (λ e. (e.0, logic_view e.1)) es) ≡ map entry_view es
+fused [] = refl
+fused (e ∷ es) = ap (λ r. entry_view e ∷ r) (fused es)
+
+context_in : (v : Vec Named Global) → logic_view (Context v) ≡ context (entries_of (map named_view (map (λ e. (e.0, logic_view e.1)) v.items)))
+context_in v = search (rules, the_lemmas)
+
+context_with_in : (v : Vec Named Global) (b : Box Logic Global)
+    → logic_view (ContextWith v b) ≡ context_with (entries_of (map named_view (map (λ e. (e.0, logic_view e.1)) v.items))) (logic_view b.value)
+context_with_in v b = search (rules, the_lemmas)
+
+pub logic_view-Context : (v : Vec Named Global) → logic_view (Context v) ≡ context (entries_view v.items)
+logic_view-Context v = context_in v ∙ ap (λ es. context (entries_of es)) (fused v.items)
+
+pub logic_view-ContextWith : (v : Vec Named Global) (b : Box Logic Global) → logic_view (ContextWith v b) ≡ context_with (entries_view v.items) (logic_view b.value)
+logic_view-ContextWith v b = context_with_in v b ∙ ap (λ es. context_with (entries_of es) (logic_view b.value)) (fused v.items)
+
+kept_in_front : (outer m r : Bindings) → take (length outer) m ≡ outer → take (length outer) (m ++ r) ≡ outer
+kept_in_front outer m r e = grind (arith, common_steps)
+
+-- one turn of the loop over the entries of a context
+pub entry_turn : (whole : Option (List (List ℕ × Datum))) (outer m0 m1 m2 : Bindings) (vs ws : List (String Global × Value)) (xs : List Named) (i : ℕ) (x : Named)
+    (key : String Global) (name : List ℕ) (v : Value) (d e : Datum)
+    → (take (length outer) m0 ≡ outer) × (whole ≡ after (map pair_view vs) (entry_values (entries_view (drop i xs)) m0))
+    → x ≡ get_or xs i x → i < length xs → Is d ≡ boxed (logic_view x.1) m0 → m1 ≡ m0 → m2 ≡ m1 ++ (name, e) ∷ [] → e ≡ d → name ≡ string_bytes x.0
+    → string_bytes key ≡ string_bytes x.0 → datum_of v ≡ d → ws ≡ vs ++ (key, v) ∷ []
+    → (take (length outer) m2 ≡ outer) × (whole ≡ after (map pair_view ws) (entry_values (entries_view (drop (i + 1) xs)) m2))
+entry_turn whole outer m0 m1 m2 vs ws xs i x key name v d e before here more outcome kept bound copied named keyed same pushed =
+    let pair : List ℕ × Datum = (string_bytes x.0, d) in
+    let paired : pair_view (key, v) ≡ pair = ap (λ k. (k, datum_of v)) keyed ∙ ap (λ z. (string_bytes x.0, z)) same in
+    let new : map pair_view ws ≡ map pair_view vs ++ pair ∷ [] = ap (map pair_view) pushed ∙ map-append pair_view vs ((key, v) ∷ []) ∙ ap (λ p. map pair_view vs ++ p ∷ []) paired in
+    let next : m2 ≡ m0 ++ pair ∷ [] = bound ∙ ap (λ m. m ++ (name, e) ∷ []) kept ∙ ap (λ n. m0 ++ (n, e) ∷ []) named ∙ ap (λ z. m0 ++ (string_bytes x.0, z) ∷ []) copied in (
+      ap (take (length outer)) next ∙ kept_in_front outer m0 (pair ∷ []) before.0,
+      before.1 ∙ ap (after (map pair_view vs)) (entries_step m0 xs i x (Is d) here more outcome)
+          ∙ after-more (map pair_view vs) pair (entry_values (entries_view (drop (i + 1) xs)) (m0 ++ pair ∷ []))
+          ∙ ap (λ ps. after ps (entry_values (entries_view (drop (i + 1) xs)) (m0 ++ pair ∷ []))) (sym new)
+          ∙ ap (λ m. after (map pair_view ws) (entry_values (entries_view (drop (i + 1) xs)) m)) (sym next),
+    )
+
+-- what comes of a context's result, once its entries are bound
+pub from_bound : (f : Bindings → Outcome) (outer m : Bindings) (o : Option (List (List ℕ × Datum))) → bound_behind outer o ≡ Some m → outcome_from (λ ds. f (outer ++ ds)) o ≡ f m
+from_bound f outer m None e = cc
+from_bound f outer m (Some ds) e = cc
+
+pub from_none : (f : Bindings → Outcome) (outer : Bindings) (o : Option (List (List ℕ × Datum))) → bound_behind outer o ≡ None → outcome_from (λ ds. f (outer ++ ds)) o ≡ Limit
+from_none f outer None e = refl
+from_none f outer (Some ds) e = cc
+
+-- a context with a result, whose entries stand in v
+pub with_result : (logic : Logic) (v : Vec Named Global) (es : List Named) (b : Box Logic Global) (m : Bindings) → logic ≡ ContextWith v b → es ≡ v.items
+    → boxed (logic_view logic) m ≡ outcome_from (λ ds. boxed (logic_view b.value) (m ++ ds)) (entry_values (entries_view es) m)
+with_result logic v es b m is e =
+    ap (λ l. boxed (logic_view l) m) is ∙ ap (λ l. boxed l m) (logic_view-ContextWith v b)
+    ∙ ap (λ (xs : List Named). outcome_from (λ ds. boxed (logic_view b.value) (m ++ ds)) (entry_values (entries_view xs) m)) (sym e)

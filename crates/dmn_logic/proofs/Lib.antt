@@ -1,0 +1,7 @@
+pub mod Boxes
+pub mod Readings
+pub mod ReadingSteps
+pub mod Unread
+pub mod Tables
+pub mod Told
+pub mod Kept

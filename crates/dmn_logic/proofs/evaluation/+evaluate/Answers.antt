@@ -1,0 +1,50 @@
+use Rattle.std.proofs.Common.{◌≡◌, ap, sym, ◌∙◌, subst, option_map, Option, Some, None, Bool, if◌then◌else◌, IfOk}
+use Rattle.feel_lang.specs.Meaning.{Bindings}
+use Rattle.feel_value.specs.Datum.{context as context_value, entries_of}
+use Rattle.feel_value.specs.Outcome.{held}
+use Rattle.feel_value.proofs.Views.{datum_of-Context}
+use Rattle.feel_value.proofs.Entries.{entries_view-named}
+use Rattle.dmn_table.specs.Evaluated.{outcome_from}
+use Rattle.dmn_form.specs.Model.{context}
+use Rattle.dmn_logic.specs.Boxed.{boxed}
+use Rattle.dmn_logic.specs.LogicView.{logic_view, entries_view}
+use Rattle.dmn_logic.specs.ValueView.{pairs_view}
+use Rattle.dmn_logic.proofs.Boxes.{logic_view-Context, entry_turn, from_bound, from_none, with_result}
+use Rattle.dmn_logic.proofs.evaluation.+evaluate.Goals as goal
+use Rattle.dmn_logic.proofs.evaluation.+evaluate.Goals.{evaluate-in-Ok-true, evaluate-in-Ok-false, evaluate-in-Err}
+
+pub context_outcome-returns-in-Some-clause-value : goal.context_outcome-returns-in-Some-clause-value
+context_outcome-returns-in-Some-clause-value t c =
+    c.of.ensures ∙ ap held (datum_of-Context c.in-Some.values ∙ ap context_value (entries_view-named c.in-Some.values.items))
+    ∙ ap (outcome_from (λ ds. held (context_value (entries_of ds)))) (sym (ap (option_map pairs_view) c.in-Some.is) ∙ c.in_ok-values.ensures.value)
+
+pub entry_values-loop-name-preserved : goal.entry_values-loop-name-preserved
+entry_values-loop-name-preserved t c =
+    entry_turn _ c.args.env.now c.loop-name.env c.evaluate.new.env c.bind.new.self c.loop-name.values.items c.push.new.self.items c.args.entries.now c.loop-name.name-index c.loop-name-item.result
+    c.in_ok-key.key c.as_str-in-loop-name.result.now c.into_value.result c.in-Is.value c.in_ok-try_clone.field-0
+    c.loop-name.invariant c.loop-name-item.is c.loop-name-test.true (sym c.in-Is.is ∙ c.in_ok-value.ensures.value) c.in_ok-value.ensures.same c.in_ok-bind.ensures
+    c.in_ok-try_clone.ensures c.as_str-in-loop-name.ensures.value (c.in_ok-key.ensures.ok ∙ c.as_str.ensures.value) c.into_value.ensures.same c.in_ok-push.ensures.items
+
+pub evaluate-returns-in_ok-outcome-in-Context-clause-value : goal.evaluate-returns-in_ok-outcome-in-Context-clause-value
+evaluate-returns-in_ok-outcome-in-Context-clause-value t c =
+    c.in_ok-outcome-in-Context.ensures.value
+    ∙ ap (λ l. boxed l c.args.env.now)
+    (ap (λ es. context (entries_view es)) c.deref-in-Context.ensures.value ∙ sym (ap logic_view c.in-Context.is ∙ logic_view-Context c.in-Context.entries))
+
+pub evaluate-returns-after-bind_entries-clause-value : goal.evaluate-returns-after-bind_entries-clause-value
+evaluate-returns-after-bind_entries-clause-value t c =
+    let outer = c.args.env.now in
+    let whole = with_result c.args.logic.now c.in-ContextWith.entries c.deref-in-ContextWith.result.now c.in-ContextWith.last outer c.in-ContextWith.is c.deref-in-ContextWith.ensures.value in
+    let meant = boxed (logic_view c.args.logic.now) outer in
+    let after = c.bind_entries.new.env in
+    let bound_where : Bool → Option Bindings = λ all. if all then Some after else None in
+    elim c.match-bind_entries.branch [
+      | evaluate-in-Ok-true w ↦
+          let bound = w.in-Ok-true.ensures.bound ∙ ap bound_where w.in-Ok-true.field-0-test in
+          let same = ap (λ l. boxed (logic_view l) after) w.deref-in-Ok-true.ensures ∙ sym (whole ∙ from_bound (boxed (logic_view c.in-ContextWith.last.value)) outer after _ bound) in
+          subst (λ r. IfOk r (λ o. o ≡ meant)) (sym w.outcome-is) (subst (λ d. IfOk w.evaluate-outcome.result (λ o. o ≡ d)) same w.evaluate-outcome.ensures.value)
+      | evaluate-in-Ok-false w ↦
+          let bound = w.in-Ok-false.ensures.bound ∙ ap bound_where w.in-Ok-false.field-0-test in
+          subst (λ r. IfOk r (λ o. o ≡ meant)) (sym w.outcome-is) (sym (whole ∙ from_none (boxed (logic_view c.in-ContextWith.last.value)) outer _ bound))
+      | evaluate-in-Err w ↦ subst (λ r. IfOk r (λ o. o ≡ meant)) (sym w.outcome-is) tt
+    ]

@@ -1,0 +1,20 @@
+use Rattle.std.proofs.Common.{◌≡◌, drop, take, length}
+use Rattle.dmn_table.proofs.Each.{after}
+use Rattle.dmn_logic.specs.Boxed.{member_values, entry_values}
+use Rattle.dmn_logic.specs.LogicView.{members_view, entries_view}
+use Rattle.dmn_logic.specs.ValueView.{values_view, pairs_view, bound_behind}
+use Rattle.dmn_logic.proofs.evaluation.+evaluate.Given as goal
+
+abbrev pub invariant-member_values-loop-member : goal.invariant-member_values-loop-member
+invariant-member_values-loop-member l =
+    (l.env ≡ l.fn.env) × (member_values (members_view l.members) l.fn.env ≡ after (values_view l.values) (member_values (members_view (drop l.member-index l.members)) l.fn.env))
+
+abbrev pub invariant-entry_values-loop-name : goal.invariant-entry_values-loop-name
+invariant-entry_values-loop-name l =
+    (take (length l.fn.env) l.env ≡ l.fn.env)
+    × (entry_values (entries_view l.entries) l.fn.env ≡ after (pairs_view l.values) (entry_values (entries_view (drop l.name-index l.entries)) l.env))
+
+abbrev pub invariant-bind_entries-loop-name : goal.invariant-bind_entries-loop-name
+invariant-bind_entries-loop-name l =
+    (take (length l.fn.env) l.env ≡ l.fn.env)
+    × (bound_behind l.fn.env (entry_values (entries_view l.entries) l.fn.env) ≡ bound_behind l.env (entry_values (entries_view (drop l.name-index l.entries)) l.env))

@@ -1,0 +1,8 @@
+pub mod Boxed
+pub mod LogicView
+pub mod ValueView
+pub mod Parts
+pub mod Faults
+pub mod ReadLogic
+pub mod Reading
+pub mod Due

@@ -1,0 +1,24 @@
+use Rattle.std.proofs.Common.{◌∙◌, ap}
+use Rattle.dmn_service.specs.Places.{name_at}
+use Rattle.dmn_service.specs.Run.{values_in, nothing_found, filled_by, given_at, outputs_at}
+use Rattle.dmn_service.proofs.Result.{found_is_result, found_obeys}
+use Rattle.dmn_service.proofs.service.service_outcome.Goals as goal
+
+pub returns : goal.returns
+returns c =
+    let items = c.args.items.now in
+    let service = c.args.service.now in
+    let name = name_at items in
+    let order = service.order.items in
+    let outputs = service.outputs.items in
+    let found =
+    c.in_ok-outcome.ensures
+    ∙ ap (λ qs. outputs_at name (values_in c.fill.new.found) qs) c.deref-3.ensures.value
+    ∙ ap (λ f. outputs_at name f outputs) c.in_ok-fill.ensures
+    ∙ ap (λ qs. outputs_at name (filled_by items qs (values_in c.in_ok-found.found)) outputs) c.deref-2.ensures.value
+    ∙ ap (λ f. outputs_at name (filled_by items order f) outputs) c.in_ok-found.ensures
+    ∙ ap (λ ps. outputs_at name (filled_by items order (given_at ps c.args.values.now nothing_found)) outputs) c.deref.ensures.value in
+    record {
+      result = λ m s plan. found ∙ found_is_result m s items service c.args.values.now plan c.requires.places c.requires.values;
+      recursion = λ m s plan outcome obeys. found ∙ found_obeys m s items service c.args.values.now plan c.requires.places c.requires.values outcome obeys;
+    }

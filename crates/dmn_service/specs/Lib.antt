@@ -1,0 +1,4 @@
+pub mod Decision
+pub mod Places
+pub mod Plan
+pub mod Run

@@ -1,0 +1,13 @@
+//! The result of a decision service: each decision that the service needs is evaluated once, along the places of a plan.
+#![tactic(auto)]
+
+mod found;
+mod outputs;
+mod plan;
+mod service;
+
+pub use plan::{Item, ServicePlan};
+pub use service::service_outcome;
+
+#[cfg(test)]
+mod tests;

@@ -1,0 +1,26 @@
+//! Plans of decision services.
+use dmn_logic::Logic;
+
+/// An input, or a decision with its logic and the places of what it needs. Its own place is its index in a list of items.
+#[derive(Drop)]
+pub struct Item {
+    /// The name under which what needs it sees its value.
+    pub name: String,
+    /// The places of the inputs and decisions that it needs.
+    pub needs: Vec<usize>,
+    /// None for an input.
+    pub logic: Option<Logic>,
+}
+
+/// The way from the parameters of a decision service to its outputs, in places of items.
+#[derive(Drop)]
+pub struct ServicePlan {
+    /// The name of the service.
+    pub name: String,
+    /// The input decisions, then the input data.
+    pub parameters: Vec<usize>,
+    /// The decisions to evaluate, each behind those that it needs.
+    pub order: Vec<usize>,
+    /// The decisions whose values are the result.
+    pub outputs: Vec<usize>,
+}

@@ -1,0 +1,112 @@
+//! The result of a decision service.
+ghost use Rattle.std.specs.Prelude.{◌≡◌, ◌<◌, IfOk, length, option_map};
+ghost use Rattle.std.specs.List.{All};
+ghost use Rattle.dmn_logic.specs.LogicView.{logic_view};
+ghost use Rattle.dmn_service.specs.Places.{name_at};
+ghost use Rattle.dmn_service.specs.Run.{values_in, nothing_found, needed_at, outcome_at, filled_by, given_at};
+ghost use Rattle.dmn_service.specs.Plan.{HasPlacesWithin, IsServiceOutcome, IsRecursionOutcome};
+
+use crate::found::{keep, value_at};
+use crate::outputs::output_outcome;
+use crate::plan::{Item, ServicePlan};
+use dmn_logic::evaluate;
+use feel_lang::Env;
+use feel_value::{Feel, Outcome, Value};
+use std::alloc::{AllocError, Global};
+use std::collections::BTreeMap;
+
+/// The outcome of a decision service, for these values of its parameters in their order.
+///
+/// Each decision of the plan's order is evaluated once, also behind one that breaks a limit. So the steps are those of the
+/// decisions' own logic, and for each need of each of them a search among the places of the plan and a copy of the value.
+pub fn service_outcome(
+    alloc: Global,
+    items: &[Item],
+    service: &ServicePlan,
+    values: &[Feel],
+) -> Result<Outcome, AllocError>
+    requires places { HasPlacesWithin items.now service.now }
+    requires values { length values.now ≡ length service.now.parameters.items }
+    ensures result { IfOk result (IsServiceOutcome items.now service.now values.now) }
+    ensures recursion { IfOk result (IsRecursionOutcome items.now service.now values.now) }
+{
+    let mut found = given(alloc, &service.parameters, values)?;
+    fill(alloc, items, &service.order, &mut found)?;
+    let outcome = output_outcome(alloc, items, &service.outputs, &found)?;
+    Ok(outcome)
+}
+
+/// What is found at the parameters: a copy of the value given for each.
+fn given(
+    alloc: Global,
+    parameters: &[usize],
+    values: &[Feel],
+) -> Result<BTreeMap<usize, Outcome>, AllocError>
+    requires values { length values.now ≡ length parameters.now }
+    ensures { IfOk result (λ found. values_in found ≡ given_at parameters.now values.now nothing_found) }
+{
+    let mut found = BTreeMap::new(alloc);
+    for (i, place) in parameters.iter().enumerate() {
+        let value = values[i].try_clone(alloc)?;
+        keep(&mut found, *place, Outcome::Is(value))?;
+    }
+    Ok(found)
+}
+
+/// Evaluates the items at these places one after another, each from what was found before it.
+fn fill(
+    alloc: Global,
+    items: &[Item],
+    order: &[usize],
+    found: &mut BTreeMap<usize, Outcome>,
+) -> Result<(), AllocError>
+    requires order { All (λ q. q < length items.now) order.now }
+    requires needs { All (λ x. All (λ q. q < length items.now) x.needs.items) items.now }
+    ensures { IfOk result (λ _. values_in found.new ≡ filled_by items.now order.now (values_in found.old)) }
+{
+    for place in order {
+        let outcome = item_outcome(alloc, items, &items[*place], found)?;
+        keep(found, *place, outcome)?;
+    }
+    Ok(())
+}
+
+/// The outcome of a decision's logic, from what was found for its needs; null for an input.
+fn item_outcome(
+    alloc: Global,
+    items: &[Item],
+    item: &Item,
+    found: &BTreeMap<usize, Outcome>,
+) -> Result<Outcome, AllocError>
+    requires needs { All (λ q. q < length items.now) item.now.needs.items }
+    ensures { IfOk result (λ o. o ≡ outcome_at (name_at items.now) (values_in found.now) item.now.needs.items (option_map logic_view item.now.logic)) }
+{
+    let Some(logic) = &item.logic else {
+        return Ok(Outcome::of(Value::Null));
+    };
+    let Some(mut env) = needed(alloc, items, &item.needs, found)? else {
+        return Ok(Outcome::Limit);
+    };
+    let outcome = evaluate(alloc, logic, &mut env)?;
+    Ok(outcome)
+}
+
+/// The names at these places, each bound to a copy of the value found there; None where one breaks a limit.
+fn needed(
+    alloc: Global,
+    items: &[Item],
+    needs: &[usize],
+    found: &BTreeMap<usize, Outcome>,
+) -> Result<Option<Env>, AllocError>
+    requires needs { All (λ q. q < length items.now) needs.now }
+    ensures { IfOk result (λ env. env ≡ needed_at (name_at items.now) (values_in found.now) needs.now) }
+{
+    let mut env = Env::new(alloc);
+    for need in needs {
+        let Some(value) = value_at(found, *need) else {
+            return Ok(None);
+        };
+        env.bind(items[*need].name.as_str(), value.try_clone(alloc)?)?;
+    }
+    Ok(Some(env))
+}
