@@ -1,5 +1,5 @@
 -- The decision of a name among items with distinct names.
-use Rattle.std.proofs.Common.{◌≡◌, ◌∙◌, ap, refl, ℕ, zero, suc, ◌<◌, List, [], ◌∷◌, map, length, get_or, true, false, not, Option, None, Some, option_map, string_bytes, inl, inr, arith}
+use Rattle.std.proofs.Common.{◌≡◌, ◌∙◌, sym, ap, refl, ℕ, zero, suc, ◌<◌, List, [], ◌∷◌, map, length, get_or, Bool, true, false, not, Option, None, Some, option_map, string_bytes, inl, inr, arith}
 use Rattle.std.specs.Prelude.{bytes_eq, nat_eq, ◌||◌, ◌≢◌, ◌⊎◌, if◌then◌else◌}
 use Rattle.std.specs.List.{list_any, filter_map, cons_option}
 use Rattle.std.proofs.lemmas.Bool.Decides.{eqb_tells}
@@ -13,8 +13,7 @@ use Rattle.dmn_logic.specs.declared.logic.Logic.{Logic}
 use Rattle.dmn_service.specs.Decision.{decision_named}
 use Rattle.dmn_service.specs.Places.{names_of, name_at, needs_at}
 use Rattle.dmn_service.specs.Run.{logic_at}
-use Rattle.dmn_graph.specs.Reach.{Each}
-use Rattle.dmn_service.specs.Plan.{IsNotAmong, decision_of}
+use Rattle.dmn_service.specs.Plan.{Each, IsNotAmong, decision_of}
 use Rattle.dmn_service.specs.declared.plan.Item.{Item}
 use Rattle.dmn_service.proofs.Given.{two_true, not_true, both_false, swap}
 
@@ -23,7 +22,7 @@ abbrev pub decision_at : List Item → ℕ → Option (Decision Expr Table)
 decision_at items q = option_map (λ b. record { name = name_at items q; needs = map (name_at items) (needs_at items q); logic = b }) (logic_at items q)
 
 -- a decision of these parts, where there is a logic
-abbrev pub made : Name → List Name → Option Logic → Option (Decision Expr Table)
+abbrev made : Name → List Name → Option Logic → Option (Decision Expr Table)
 made name needs logic = option_map (λ l. record { name = name; needs = needs; logic = logic_view l }) logic
 
 passed : (n name : Name) (needs : List Name) (logic : Option Logic) (ds : List (Decision Expr Table)) → bytes_eq n name ≡ false

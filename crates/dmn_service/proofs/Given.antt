@@ -1,5 +1,5 @@
 -- Values and decisions under distinct names.
-use Rattle.std.proofs.Common.{◌≡◌, ◌∙◌, sym, ap, refl, List, [], ◌∷◌, Bool, true, false, ◌||◌, ◌&&◌, not, None, Some}
+use Rattle.std.proofs.Common.{◌≡◌, ◌∙◌, sym, ap, refl, List, [], ◌∷◌, Bool, true, false, ◌||◌, ◌&&◌, not, Option, None, Some}
 use Rattle.std.specs.Prelude.{bytes_eq, if◌then◌else◌}
 use Rattle.std.specs.List.{list_any, zip}
 use Rattle.std.proofs.lemmas.Slice.Eq.{bytes_eq-Decides}
@@ -7,7 +7,7 @@ use Rattle.feel_value.specs.Datum.{Datum}
 use Rattle.dmn_table.specs.Faults.{are_distinct}
 use Rattle.dmn_form.specs.Model.{Name}
 use Rattle.dmn_service.specs.Decision.{Given, given_value}
-use Rattle.dmn_graph.specs.Reach.{Each}
+use Rattle.dmn_service.specs.Plan.{Each}
 
 pub two_true : (a b : Bool) → (a && b) ≡ true → (a ≡ true) × (b ≡ true)
 two_true true b e = (refl, e)

@@ -2,6 +2,4 @@ pub mod Along
 pub mod Kept
 pub mod Given
 pub mod Decisions
-pub mod Count
 pub mod Result
-mod Examples

@@ -1,9 +1,9 @@
 -- What is found along the places of a plan is what its names stand for in the model.
-use Rattle.std.proofs.Common.{◌≡◌, ◌∙◌, sym, ap, refl, subst, ℕ, zero, suc, ◌+◌, ◌<◌, ◌≤◌, ◌⊎◌, inl, inr, List, [], ◌∷◌, map, length, true, false, cond, ◌||◌, Option, None, Some, option_map, arith}
-use Rattle.std.specs.Prelude.{nat_eq, ◌≢◌}
+use Rattle.std.proofs.Common.{◌≡◌, ◌∙◌, sym, ap, refl, subst, ℕ, zero, suc, ◌+◌, ◌<◌, ◌≤◌, ◌⊎◌, inl, inr, List, [], ◌∷◌, map, length, get_or, Bool, true, false, cond, ◌||◌, Option, None, Some, option_map, arith}
+use Rattle.std.specs.Prelude.{bytes_eq, nat_eq, ◌≢◌}
 use Rattle.std.specs.List.{list_any, zip, All}
 use Rattle.std.proofs.lemmas.Bool.Decides.{eqb_tells}
-use Rattle.feel_value.specs.Datum.{Datum}
+use Rattle.feel_value.specs.Datum.{Datum, null}
 use Rattle.feel_value.specs.declared.feel.Outcome.{Outcome}
 use Rattle.feel_value.specs.declared.feel.Outcome.TheVariants.{Is}
 use Rattle.feel_lang.specs.Expr.{Expr}
@@ -12,17 +12,15 @@ use Rattle.dmn_table.specs.Evaluated.{value_of, ◌>>=◌, each, outcome_from}
 use Rattle.dmn_table.specs.Faults.{are_distinct}
 use Rattle.dmn_table.specs.Hits.{one_or_context}
 use Rattle.dmn_table.specs.Table.{Table}
-use Rattle.dmn_form.specs.Model.{Name, Boxed, Service, Model}
+use Rattle.dmn_form.specs.Model.{Name, Boxed, Decision, Service, Model}
 use Rattle.dmn_logic.specs.Boxed.{boxed}
 use Rattle.dmn_service.specs.Decision.{parameters_of, Given, given_value, given_or, decision_named, decided_if, bindings_to, stands_for, outcome_within, outcome_of, outputs_result, service_result}
 use Rattle.dmn_service.specs.Places.{names_of, name_at, needs_at}
 use Rattle.dmn_service.specs.Run.{logic_at, Found, nothing_found, kept_at, needed_at, outcome_at, filled_by, given_at, outputs_at}
-use Rattle.dmn_graph.specs.Reach.{Each, IsInOrder}
-use Rattle.dmn_service.specs.Plan.{HasPlacesWithin, IsAmong, IsNotAmong, IsPlanOf, ObeysRecursion}
+use Rattle.dmn_service.specs.Plan.{HasPlacesWithin, Each, IsAmong, IsNotAmong, IsInOrder, IsPlanOf, ObeysRecursion}
 use Rattle.dmn_service.specs.declared.plan.Item.{Item}
 use Rattle.dmn_service.specs.declared.plan.ServicePlan.{ServicePlan}
 use Rattle.dmn_service.proofs.Given.{zip_given, not_given}
-use Rattle.dmn_service.proofs.Count.{short}
 use Rattle.dmn_service.proofs.Decisions.{decision_at, fits, name_apart}
 
 -- what holds of each of a list holds of what is among it
@@ -104,7 +102,7 @@ module _ (m : Model Expr Table) (given : Given) (items : List Item) (fits : (q :
   Turn q = (q < length items) × (given_value given (name_at items q) ≡ None)
 
   -- along an order, what is found at its places settles, and what was settled before stays so
-  settled_along : (qs seen : List ℕ) (r : ℕ) (found : Found) → Each Turn qs → Each (Settled r found) seen → IsInOrder nat_eq (needs_at items) seen qs
+  settled_along : (qs seen : List ℕ) (r : ℕ) (found : Found) → Each Turn qs → Each (Settled r found) seen → IsInOrder (needs_at items) seen qs
       → Each (Settled (r + length qs) (filled_by items qs found)) qs × Each (Settled (r + length qs) (filled_by items qs found)) seen
   settled_along [] seen r found turns h order = (tt, each_all (Settled r found) (Settled (r + 0) found) (λ q s. settled_later r (r + 0) found q (omega arith) s) seen h)
   settled_along (q ∷ qs) seen r found turns h order =
@@ -180,7 +178,7 @@ found_is_late m s items plan values h inside same stage step =
     let settled = settled_along m given items fit stage step order ps 1 start turns (settled_parameters m given items fit stage step ps values nothing_found same own) h.behind in
     let late = 1 + length order in
     let ends = each_all (IsAmong order) (Settled m given items fit stage step late found) (λ q a. each_at (Settled m given items fit stage step late found) order q settled.0 a) outs h.ends in
-    let few : 1 + length order ≤ suc (length m.decisions) = (let e = short items order h.once h.decide in let many = ap length h.decisions in omega (arith, e, many)) in
+    let few : 1 + length order ≤ suc (length m.decisions) = (let e = h.short in omega arith) in
     ap (outcome_from (one_or_context (map (name_at items) outs))) (outputs_same m given items fit stage step late (suc (length m.decisions)) found outs few ends)
     ∙ ap (λ ns. outcome_from (one_or_context ns) (each (λ n. value_of (stage (suc (length m.decisions)) n)) ns)) (sym h.outputs)
 

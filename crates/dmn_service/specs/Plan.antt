@@ -1,6 +1,6 @@
 -- When places and their order are a plan of a service of a model.
-use Rattle.std.specs.Prelude.{◌≡◌, ◌<◌, ℕ, List, map, length, Option, option_map, is_some, string_bytes, nat_eq, true, false, slice_index_or}
-use Rattle.std.specs.List.{filter_map, zip, All}
+use Rattle.std.specs.Prelude.{◌≡◌, ◌<◌, ◌≤◌, ℕ, List, [], ◌∷◌, map, length, Option, option_map, string_bytes, nat_eq, true, false, ⊤}
+use Rattle.std.specs.List.{list_any, filter_map, zip, All}
 use Rattle.feel_value.specs.Datum.{Datum}
 use Rattle.feel_value.specs.declared.feel.Outcome.{Outcome}
 use Rattle.feel_lang.specs.Expr.{Expr}
@@ -8,7 +8,6 @@ use Rattle.dmn_table.specs.Faults.{are_distinct}
 use Rattle.dmn_table.specs.Table.{Table}
 use Rattle.dmn_form.specs.Model.{Name, Decision, Service, Model}
 use Rattle.dmn_logic.specs.LogicView.{logic_view}
-use Rattle.dmn_graph.specs.Reach.{is_among, Each, IsInOrder, IsDistinct}
 use Rattle.dmn_service.specs.Decision.{Given, parameters_of, stands_for, outputs_result, service_result}
 use Rattle.dmn_service.specs.Places.{names_of, name_at, needs_at}
 use Rattle.dmn_service.specs.declared.plan.Item.{Item}
@@ -21,15 +20,21 @@ pub record HasPlacesWithin (items : List Item) (plan : ServicePlan) : Type 0 whe
   pub order : All (λ q. q < length items) plan.order.items
   pub outputs : All (λ q. q < length items) plan.outputs.items
 
+-- what holds of each element of a list
+abbrev pub Each : {X : Type 0} → (X → Type 0) → List X → Type 0
+Each P [] = ⊤
+Each P (x ∷ xs) = P x × Each P xs
+
 abbrev pub IsAmong : List ℕ → ℕ → Type 0
-IsAmong qs q = is_among nat_eq qs q ≡ true
+IsAmong qs q = list_any (nat_eq q) qs ≡ true
 
 abbrev pub IsNotAmong : List ℕ → ℕ → Type 0
-IsNotAmong qs q = is_among nat_eq qs q ≡ false
+IsNotAmong qs q = list_any (nat_eq q) qs ≡ false
 
--- the item at a place has a logic, so it is a decision
-abbrev pub IsDecisionAt : List Item → ℕ → Type 0
-IsDecisionAt items q = slice_index_or (map (λ x. is_some x.logic) items) q false ≡ true
+-- each of these places stands behind all that it needs, but for what was there before
+abbrev pub IsInOrder : (ℕ → List ℕ) → List ℕ → List ℕ → Type 0
+IsInOrder needs before [] = ⊤
+IsInOrder needs before (q ∷ qs) = Each (IsAmong before) (needs q) × IsInOrder needs (q ∷ before) qs
 
 -- the decision that an item is; none where it is an input
 abbrev pub decision_of : List Item → Item → Option (Decision Expr Table)
@@ -37,16 +42,16 @@ decision_of items x =
     option_map (λ l. record { name = string_bytes x.name; needs = map (name_at items) x.needs.items; logic = logic_view l }) x.logic
 
 -- The items have distinct names and are the decisions of the model, among inputs; and the plan leads from the parameters of the
--- service to its outputs. Its order has decisions that are no parameters, each once and behind those that it needs.
+-- service to its outputs. Its order has no parameter, at most as many places as the model has decisions, and each behind those
+-- that it needs.
 pub record IsPlanOf (m : Model Expr Table) (s : Service) (items : List Item) (plan : ServicePlan) : Type 0 where
   pub names : are_distinct (names_of items) ≡ true
   pub decisions : m.decisions ≡ filter_map (decision_of items) items
   pub parameters : parameters_of s ≡ map (name_at items) plan.parameters.items
   pub distinct : are_distinct (parameters_of s) ≡ true
-  pub decide : Each (IsDecisionAt items) plan.order.items
   pub apart : Each (IsNotAmong plan.parameters.items) plan.order.items
-  pub once : IsDistinct nat_eq plan.order.items
-  pub behind : IsInOrder nat_eq (needs_at items) plan.parameters.items plan.order.items
+  pub short : length plan.order.items ≤ length m.decisions
+  pub behind : IsInOrder (needs_at items) plan.parameters.items plan.order.items
   pub outputs : s.outputs ≡ map (name_at items) plan.outputs.items
   pub ends : Each (IsAmong plan.order.items) plan.outputs.items
 

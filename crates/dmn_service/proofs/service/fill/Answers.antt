@@ -1,3 +1,4 @@
+use Rattle.std.proofs.Common.{get_or}
 use Rattle.dmn_service.specs.Run.{values_in, filled_by}
 use Rattle.dmn_service.proofs.Kept.{filled_more}
 use Rattle.dmn_service.proofs.service.fill.Goals as goal
