@@ -23,12 +23,11 @@ fn logic_of(
         text.push_str("}")?;
     }
     text.push_str("]}")?;
-    let json = serde_json::Value::from_str(alloc, text.as_str());
-    let form = match json {
-        Ok(json) => read_form(alloc, &json)?,
-        Err(_) => None,
+    // The text is JSON, so that nothing but memory can be wrong.
+    let Ok(json) = serde_json::Value::from_str(alloc, text.as_str()) else {
+        return Err(AllocError);
     };
-    let Some(model) = form else {
+    let Some(model) = read_form(alloc, &json)? else {
         panic!(rt; "no model: {text}");
     };
     Ok(read_decision_logic(alloc, &model.decisions))
