@@ -1,0 +1,64 @@
+-- Items that are filled in one after another, from names, needs and logic.
+use Rattle.std.proofs.Common.{◌≡◌, ℕ, ◌+◌, List, [], ◌∷◌, ◌++◌, map, drop, length, Some, None, refl, sym, ap, ap₂, ◌∙◌, append-nil, Vec, Global, arith, inl, inr, ◌⊎◌}
+use Rattle.std.proofs.lemmas.List.{length-append, length-map, drop-map, drop_at}
+use Rattle.dmn_form.specs.Draft.{Draft}
+use Rattle.dmn_form.specs.Model.{Name}
+use Rattle.dmn_graph.specs.Needs.{needs_view}
+use Rattle.dmn_logic.specs.LogicView.{Read}
+use Rattle.dmn_names.specs.Parts.{decision_names, value_names}
+use Rattle.dmn_plan.specs.Items.{IsAfterInputs, have_names, have_needs, have_logic}
+use Rattle.dmn_plan.specs.Plans.{AreItemsOf, place_logic}
+use Rattle.dmn_service.specs.declared.plan.Item.{Item}
+
+pub empty : {A : Type 0} (xs : List A) → length xs ≡ 0 → xs ≡ []
+empty [] e = refl
+empty (x ∷ xs) e = cc
+
+abbrev no_places : Name → List ℕ
+no_places n = []
+
+-- behind the lists of the inputs stand those of the decisions
+pub behind_inputs : (m : Draft) (needs : List (Vec ℕ Global)) (n : ℕ) → IsAfterInputs m (needs_view needs) → n ≡ length m.inputs
+    → needs_view needs ≡ map (λ n. []) m.inputs ++ needs_view (drop n needs)
+behind_inputs m needs n after e =
+    let rest = after.0 in
+    let is : needs_view needs ≡ map no_places m.inputs ++ rest = after.1 in
+    let left : needs_view (drop n needs) ≡ rest =
+    sym (drop-map (λ (v : Vec ℕ Global). v.items) n needs) ∙ ap (drop n) is ∙ drop_at (map no_places m.inputs) rest n (length-map m.inputs no_places ∙ sym e) in
+    is ∙ ap (λ r. map no_places m.inputs ++ r) (sym left)
+
+count_names : (m : Draft) → length (value_names m) ≡ length m.inputs + length m.decisions
+count_names m = length-append m.inputs (decision_names m) ∙ ap (λ k. length m.inputs + k) (length-map m.decisions (λ d. d.name))
+
+count_needs : (m : Draft) (needs : List (List ℕ)) → IsAfterInputs m needs → length needs ≡ length m.inputs + length m.decisions
+count_needs m needs after =
+    ap length after.1 ∙ length-append (map no_places m.inputs) after.0 ∙ ap₂ (λ a b. a + b) (length-map m.inputs no_places) after.2
+
+count_logic : (inputs : List Name) (logics : List Read) → length (place_logic inputs logics) ≡ length inputs + length logics
+count_logic inputs logics =
+    length-append (map (λ n. None) inputs) (map Some logics) ∙ ap₂ (λ a b. a + b) (length-map inputs (λ n. None)) (length-map logics Some)
+
+-- where names, needs or logic end, all of them do
+pub all_filled : (m : Draft) (needs : List (List ℕ)) (logics : List Read) (items : List Item) (a : List Name) (b : List (List ℕ)) (c : List Read)
+    → IsAfterInputs m needs → length logics ≡ length m.decisions
+    → value_names m ≡ have_names items ++ a → needs ≡ have_needs items ++ b → place_logic m.inputs logics ≡ have_logic items ++ map Some c
+    → (length a ≡ 0) ⊎ ((length b ≡ 0) ⊎ (length c ≡ 0)) → AreItemsOf m needs logics items
+all_filled m needs logics items a b c after same f g h ends =
+    let names : length (value_names m) ≡ length items + length a = ap length f ∙ length-append (have_names items) a ∙ ap (λ k. k + length a) (length-map items _) in
+    let needed : length needs ≡ length items + length b = ap length g ∙ length-append (have_needs items) b ∙ ap (λ k. k + length b) (length-map items _) in
+    let logic : length (place_logic m.inputs logics) ≡ length items + length c =
+    ap length h ∙ length-append (have_logic items) (map Some c) ∙ ap₂ (λ k l. k + l) (length-map items _) (length-map c Some) in
+    let p = count_names m in
+    let q = count_needs m needs after in
+    let r = count_logic m.inputs logics in
+    let none : (length a ≡ 0) × (length b ≡ 0) × (length c ≡ 0) = together ends (omega arith) (omega arith) in
+    record {
+      names = sym (f ∙ ap (λ x. have_names items ++ x) (empty a none.0) ∙ append-nil (have_names items));
+      needed = sym (g ∙ ap (λ x. have_needs items ++ x) (empty b none.1) ∙ append-nil (have_needs items));
+      logic = sym (h ∙ ap (λ x. have_logic items ++ map Some x) (empty c none.2) ∙ append-nil (have_logic items));
+    }
+  where
+    together : {i j k : ℕ} → (i ≡ 0) ⊎ ((j ≡ 0) ⊎ (k ≡ 0)) → i ≡ j → i ≡ k → (i ≡ 0) × (j ≡ 0) × (k ≡ 0)
+    together (inl e) p q = (e, sym p ∙ e, sym q ∙ e)
+    together (inr (inl e)) p q = (p ∙ e, e, sym q ∙ p ∙ e)
+    together (inr (inr e)) p q = (q ∙ e, sym p ∙ q ∙ e, e)

@@ -1,0 +1,8 @@
+pub mod RequirementCycles
+pub mod ServicesByName
+pub mod ServicesFaults
+pub mod ServicesRoutes
+mod Filling
+mod Assembled
+mod Planned
+mod Indexing

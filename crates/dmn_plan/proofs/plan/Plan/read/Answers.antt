@@ -1,0 +1,14 @@
+use Rattle.std.proofs.Common.{◌∙◌, sym, Some}
+use Rattle.std.proofs.lemmas.Result.{err_from_is_err_and}
+use Rattle.serde_json.specs.View.{view}
+use Rattle.dmn_plan.proofs.Indexing.{model_of_text, due_of_text}
+use Rattle.dmn_plan.proofs.plan.Plan.read.Goals as goal
+
+pub returns-in_err-plan-clause-err : goal.returns-in_err-plan-clause-err
+returns-in_err-plan-clause-err c =
+    let p = err_from_is_err_and c.from_residual-in_err-plan.result c.from_residual-in_err-plan.ensures.1 in
+    rw (p.1, p.2) (due_of_text c.args.text.now (view c.in_ok-json.json) c.in_err-plan.field-0.0 c.in_ok-json.ensures.utf8 c.in_ok-json.ensures.value c.in_err-plan.ensures.err)
+
+pub returns-clause-model : goal.returns-clause-model
+returns-clause-model c =
+    c.in_ok-plan.ensures.model ∙ sym (model_of_text c.args.text.now (Some (view c.in_ok-json.json)) c.in_ok-json.ensures.value)

@@ -1,0 +1,9 @@
+pub mod Faults
+pub mod ReadModel
+pub mod Request
+pub mod Due
+pub mod Plans
+pub mod ServicesByPlace
+pub mod Items
+pub mod Parts
+pub mod Indexed

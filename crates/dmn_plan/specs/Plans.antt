@@ -1,0 +1,73 @@
+-- Names, needs and logic of a model by places, and when plans of services are those of a model.
+use Rattle.std.specs.Prelude.{◌≡◌, ◌<◌, ◌≤◌, ℕ, List, [], ◌∷◌, ◌++◌, map, length, true, Option, None, Some, option_map, Result, Ok, Err, string_bytes, slice_index_or, ⊤}
+use Rattle.std.specs.List.{All}
+use Rattle.feel_lang.specs.Expr.{Expr}
+use Rattle.dmn_table.specs.Table.{Table}
+use Rattle.dmn_form.specs.Draft.{Draft}
+use Rattle.dmn_form.specs.Model.{Name, Boxed, Service, Model}
+use Rattle.dmn_logic.specs.LogicView.{logic_view}
+use Rattle.dmn_names.specs.Names.{are_distinct}
+use Rattle.dmn_names.specs.Parts.{value_names}
+use Rattle.dmn_service.specs.Decision.{parameters_of}
+use Rattle.dmn_service.specs.Plan.{HasPlacesWithin, IsPlanOf, Each, IsAmong, IsNotAmong, IsInOrder}
+use Rattle.dmn_service.specs.declared.plan.Item.{Item}
+use Rattle.dmn_service.specs.declared.plan.ServicePlan.{ServicePlan}
+use Rattle.dmn_plan.specs.declared.fault.ModelFault.{ModelFault}
+
+-- ---- by places: first the inputs, and then the decisions
+
+-- the logic at each place: an input has none
+abbrev pub place_logic : List Name → List (Boxed Expr Table) → List (Option (Boxed Expr Table))
+place_logic inputs logics = map (λ n. None) inputs ++ map Some logics
+
+-- the items are those of the model, with what each place needs and the logic of each decision
+pub record AreItemsOf (m : Draft) (needs : List (List ℕ)) (logics : List (Boxed Expr Table)) (items : List Item) : Type 0 where
+  pub names : map (λ x. string_bytes x.name) items ≡ value_names m
+  pub needed : map (λ x. x.needs.items) items ≡ needs
+  pub logic : map (λ x. option_map logic_view x.logic) items ≡ place_logic m.inputs logics
+
+abbrev pub place_name : Draft → ℕ → Name
+place_name m q = slice_index_or (value_names m) q []
+
+-- what a place needs
+abbrev pub place_need : List (List ℕ) → ℕ → List ℕ
+place_need needs q = slice_index_or needs q []
+
+-- The plan leads from the service's parameters to its outputs. Its order has no parameter, at most as many places as there are
+-- decisions, and each behind those that it needs. All places are places of the model.
+pub record IsRouteOf (m : Draft) (needs : List (List ℕ)) (s : Service) (plan : ServicePlan) : Type 0 where
+  pub name : string_bytes plan.name ≡ s.name
+  pub parameters_within : All (λ q. q < length (value_names m)) plan.parameters.items
+  pub order_within : All (λ q. q < length (value_names m)) plan.order.items
+  pub outputs_within : All (λ q. q < length (value_names m)) plan.outputs.items
+  pub parameters : parameters_of s ≡ map (place_name m) plan.parameters.items
+  pub distinct : are_distinct (parameters_of s) ≡ true
+  pub apart : Each (IsNotAmong plan.parameters.items) plan.order.items
+  pub short : length plan.order.items ≤ length m.decisions
+  pub behind : IsInOrder (place_need needs) plan.parameters.items plan.order.items
+  pub outputs : s.outputs ≡ map (place_name m) plan.outputs.items
+  pub ends : Each (IsAmong plan.order.items) plan.outputs.items
+
+abbrev pub AreRoutesOf : Draft → List (List ℕ) → List Service → List ServicePlan → Type 0
+AreRoutesOf m needs [] [] = ⊤
+AreRoutesOf m needs (s ∷ ss) (p ∷ ps) = IsRouteOf m needs s p × AreRoutesOf m needs ss ps
+AreRoutesOf m needs [] (p ∷ ps) = ⊥
+AreRoutesOf m needs (s ∷ ss) [] = ⊥
+
+-- ---- of the model that was read
+
+-- the plan is one of the service in this model
+abbrev pub IsPlanFor : Model Expr Table → List Item → Service → ServicePlan → Type 0
+IsPlanFor m items s p = (string_bytes p.name ≡ s.name) × HasPlacesWithin items p × IsPlanOf m s items p
+
+-- each service has its plan, in their order
+abbrev pub ArePlansFor : Model Expr Table → List Item → List Service → List ServicePlan → Type 0
+ArePlansFor m items [] [] = ⊤
+ArePlansFor m items (s ∷ ss) (p ∷ ps) = IsPlanFor m items s p × ArePlansFor m items ss ps
+ArePlansFor m items [] (p ∷ ps) = ⊥
+ArePlansFor m items (s ∷ ss) [] = ⊥
+
+-- there is a model, and these are its items and the plans of its services
+abbrev pub IsPlanned : Result (Model Expr Table) ModelFault → List Item → List ServicePlan → Type 0
+IsPlanned (Ok m) items plans = ArePlansFor m items m.services plans
+IsPlanned (Err f) items plans = ⊥

@@ -1,0 +1,63 @@
+//! The inputs and decisions of a model, by places.
+ghost use Rattle.std.specs.Prelude.{◌≡◌, [], None, Some, IfOk, map, length, option_map, string_bytes};
+ghost use Rattle.dmn_form.specs.ModelView.{model_view};
+ghost use Rattle.dmn_graph.specs.Needs.{needs_view};
+ghost use Rattle.dmn_logic.specs.LogicView.{logic_view};
+ghost use Rattle.dmn_names.specs.Parts.{value_names};
+ghost use Rattle.dmn_plan.specs.Plans.{AreItemsOf};
+ghost use Rattle.dmn_plan.specs.Items.{IsAfterInputs, have_names, have_needs, have_logic};
+
+use dmn_form::WrittenModel;
+use dmn_logic::Logic;
+use dmn_service::Item;
+use std::alloc::{AllocError, Global};
+
+/// The inputs: each needs nothing and has no logic.
+fn input_items(alloc: Global, model: &WrittenModel) -> Result<Vec<Item>, AllocError>
+    ensures names { IfOk result (λ v. have_names v.items ≡ (model_view model.now).inputs) }
+    ensures needs { IfOk result (λ v. have_needs v.items ≡ map (λ n. []) (model_view model.now).inputs) }
+    ensures logic { IfOk result (λ v. have_logic v.items ≡ map (λ n. None) (model_view model.now).inputs) }
+{
+    let mut items = Vec::with_capacity(alloc, model.inputs.len())?;
+    for input in &model.inputs {
+        let name = String::from_str(alloc, input.as_str())?;
+        items.push(Item {
+            name,
+            needs: Vec::new(alloc),
+            logic: None,
+        })?;
+    }
+    Ok(items)
+}
+
+/// The inputs, and then the decisions with what each needs and its logic. `needs` has a list for each input and each decision,
+/// those of inputs being empty, and `logics` the logic of each decision.
+pub(crate) fn items_of(
+    alloc: Global,
+    model: &WrittenModel,
+    mut needs: Vec<Vec<usize>>,
+    logics: Vec<Logic>,
+) -> Result<Vec<Item>, AllocError>
+    requires needs { IsAfterInputs (model_view model.now) (needs_view needs.items) }
+    requires logics { length logics.items ≡ length (model_view model.now).decisions }
+    ensures { IfOk result (λ v. AreItemsOf (model_view model.now) (needs_view needs.items) (map logic_view logics.items) v.items) }
+{
+    let mut items = input_items(alloc, model)?;
+    let mut needs = needs.split_off(model.inputs.len())?.into_iter();
+    let mut logics = logics.into_iter();
+    for decision in &model.decisions {
+        let Some(needs) = needs.next() else {
+            break;
+        };
+        let Some(logic) = logics.next() else {
+            break;
+        };
+        let name = String::from_str(alloc, decision.name.as_str())?;
+        items.push(Item {
+            name,
+            needs,
+            logic: Some(logic),
+        })?;
+    }
+    Ok(items)
+}

@@ -1,0 +1,98 @@
+//! Decision models that were read.
+ghost use Rattle.std.specs.Prelude.{◌≡◌, Some, IfOk, IfErr, IsUtf8};
+ghost use Rattle.serde_json.specs.Read.{read};
+ghost use Rattle.serde_json.specs.View.{view};
+ghost use Rattle.dmn_plan.specs.Due.{IsReadDue};
+
+use crate::fault::ModelFault;
+use crate::index::plans_by_name;
+use crate::planning::plan_of;
+use dmn_form::read_form;
+use dmn_service::{Item, ServicePlan};
+use std::alloc::Global;
+use std::collections::BTreeMap;
+use std::marker::Model;
+
+/// A decision model without a fault, ready for requests to its services. Contracts see the bytes of its text.
+#[derive(Drop)]
+pub struct Plan {
+    text: String,
+    items: Vec<Item>,
+    services: BTreeMap<String, ServicePlan>,
+}
+
+impl Model for Plan {
+    ghost use Rattle.std.specs.Prelude.{List, ℕ, string_bytes};
+    ghost use Rattle.dmn_plan.specs.Indexed.{IsIndexed};
+    ghost use Rattle.dmn_plan.specs.ReadModel.{read_text};
+
+    ghost Value = { List ℕ };
+
+    ghost view = { λ p. string_bytes p.text };
+
+    ghost invariant = { λ p. IsIndexed (read_text (string_bytes p.text)) p.items.items p.services };
+}
+
+impl Plan {
+    ghost use Rattle.std.specs.Prelude.{◌≡◌, Some, false, IfOk, IfErr, IsUtf8};
+    ghost use Rattle.serde_json.specs.Data.{Data};
+    ghost use Rattle.serde_json.specs.Read.{read};
+    ghost use Rattle.serde_json.specs.View.{view};
+    ghost use Rattle.serde_json.specs.Written.{has_float, compact_text};
+    ghost use Rattle.dmn_plan.specs.Due.{IsDue, IsReadDue};
+    ghost use Rattle.dmn_plan.specs.ReadModel.{read_model, read_text};
+
+    /// The plan of a model in JSON, or its first fault: Shape, Name, Twice, Expression, Table, Unknown, Cycle, Service, Large, in
+    /// this order. Its text is the compact text of the value, with the keys of each object in the order of their bytes.
+    pub fn of(alloc: Global, json: &serde_json::Value) -> Result<Plan, ModelFault>
+        ensures same { IfOk result (λ p. read p ≡ Some (view json.now)) }
+        ensures model { IfOk result (λ p. read_text p ≡ read_model (view json.now)) }
+        ensures compact { IfOk result (λ p. has_float (view json.now) ≡ false → p ≡ compact_text (view json.now)) }
+        ensures err { IfErr result (IsDue (read_model (view json.now))) }
+    {
+        let Some(model) = read_form(alloc, json)? else {
+            return Err(ModelFault::Shape);
+        };
+        let plan = plan_of(alloc, &model)?;
+        let services = plans_by_name(alloc, plan.services)?;
+        let text = json.to_string(alloc)?;
+        Ok(Plan {
+            text,
+            items: plan.items,
+            services,
+        })
+    }
+
+    /// The plan of a model in the bytes of a JSON text, or its first fault: first Syntax, and then the others.
+    pub fn read(alloc: Global, text: &[u8]) -> Result<Plan, ModelFault>
+        ensures utf8 { IfOk result (λ _. IsUtf8 text.now) }
+        ensures same { IfOk result (λ p. read p ≡ read text.now) }
+        ensures model { IfOk result (λ p. read_text p ≡ read_text text.now) }
+        ensures err { IfErr result (IsReadDue text.now) }
+    {
+        let json = value_of(alloc, text)?;
+        let plan = Plan::of(alloc, &json)?;
+        Ok(plan)
+    }
+
+    /// The compact text of the model, with the keys of each object in the order of their bytes.
+    pub fn text(&self) -> &[u8]
+        ensures { result.now ≡ self.now }
+    {
+        self.text.as_bytes()
+    }
+}
+
+/// The JSON value of a text.
+#[tactic(auto, using(crate::proofs::Indexing::model_of_text))]
+fn value_of(alloc: Global, text: &[u8]) -> Result<serde_json::Value, ModelFault>
+    ensures utf8 { IfOk result (λ _. IsUtf8 text.now) }
+    ensures value { IfOk result (λ v. read text.now ≡ Some (view v)) }
+    ensures err { IfErr result (IsReadDue text.now) }
+{
+    match serde_json::Value::from_slice(alloc, text) {
+        Ok(json) => Ok(json),
+        Err(error) if error.is_memory() => Err(ModelFault::Memory),
+        Err(_) => Err(ModelFault::Syntax),
+    }
+}
