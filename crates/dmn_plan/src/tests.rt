@@ -33,9 +33,11 @@ fn a_text_without_a_reading_is_told_before_an_unknown_need(
     rt: HostRuntime,
 ) -> Result<(), AllocError> {
     let alloc = rt.alloc();
-    let unread = "{\"inputs\":[],\"decisions\":[{\"name\":\"d\",\"needs\":[\"a\"],\"expr\":\"1 +\"}],\"services\":[]}";
+    let unread =
+        "{\"inputs\":[],\"decisions\":[{\"name\":\"d\",\"needs\":[\"a\"],\"expr\":\"1 +\"}],\"services\":[]}";
     assert!(rt; fault_of(alloc, unread) == Some(ModelFault::Expression));
-    let unknown = "{\"inputs\":[],\"decisions\":[{\"name\":\"d\",\"needs\":[\"a\"],\"expr\":\"1\"}],\"services\":[]}";
+    let unknown =
+        "{\"inputs\":[],\"decisions\":[{\"name\":\"d\",\"needs\":[\"a\"],\"expr\":\"1\"}],\"services\":[]}";
     assert!(rt; fault_of(alloc, unknown) == Some(ModelFault::Unknown));
     Ok(())
 }
@@ -43,7 +45,8 @@ fn a_text_without_a_reading_is_told_before_an_unknown_need(
 #[test]
 fn a_table_has_an_output(rt: HostRuntime) -> Result<(), AllocError> {
     let alloc = rt.alloc();
-    let refused = "{\"inputs\":[],\"decisions\":[{\"name\":\"d\",\"needs\":[],\"expr\":{\"table\":{\"hit\":\"U\",\"inputs\":[],\"outputs\":[],\"rules\":[]}}}],\"services\":[]}";
+    let refused =
+        "{\"inputs\":[],\"decisions\":[{\"name\":\"d\",\"needs\":[],\"expr\":{\"table\":{\"hit\":\"U\",\"inputs\":[],\"outputs\":[],\"rules\":[]}}}],\"services\":[]}";
     assert!(rt; fault_of(alloc, refused) == Some(ModelFault::Table));
     Ok(())
 }
