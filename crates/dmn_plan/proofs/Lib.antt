@@ -6,3 +6,4 @@ mod Filling
 mod Assembled
 mod Planned
 mod Indexing
+mod Asked

@@ -14,4 +14,6 @@ pub use fault::{ModelFault, TaskFault};
 pub use plan::Plan;
 
 #[cfg(test)]
+mod services_tests;
+#[cfg(test)]
 mod tests;

@@ -8,8 +8,9 @@ use crate::fault::ModelFault;
 use crate::index::plans_by_name;
 use crate::planning::plan_of;
 use dmn_form::read_form;
-use dmn_service::{Item, ServicePlan};
-use std::alloc::Global;
+use dmn_service::{Item, ServicePlan, service_outcome};
+use feel_value::{Feel, Outcome};
+use std::alloc::{AllocError, Global};
 use std::collections::BTreeMap;
 use std::marker::Model;
 
@@ -41,6 +42,8 @@ impl Plan {
     ghost use Rattle.serde_json.specs.Written.{has_float, compact_text};
     ghost use Rattle.dmn_plan.specs.Due.{IsDue, IsReadDue};
     ghost use Rattle.dmn_plan.specs.ReadModel.{read_model, read_text};
+    ghost use Rattle.dmn_plan.specs.Request.{TakesValues, request_result};
+    ghost use Rattle.std.specs.Prelude.{length};
 
     /// The plan of a model in JSON, or its first fault: Shape, Name, Twice, Expression, Table, Unknown, Cycle, Service, Large, in
     /// this order. Its text is the compact text of the value, with the keys of each object in the order of their bytes.
@@ -73,6 +76,23 @@ impl Plan {
         let json = value_of(alloc, text)?;
         let plan = Plan::of(alloc, &json)?;
         Ok(plan)
+    }
+
+    /// The outcome of the service of this name, for these values of its parameters: its input decisions, then its input data.
+    pub fn outcome(
+        &self,
+        alloc: Global,
+        service: &str,
+        values: &[Feel],
+    ) -> Result<Outcome, AllocError>
+        requires { TakesValues self.now service.now (length values.now) }
+        ensures { IfOk result (λ o. o ≡ request_result (record { text = self.now; service = service.now; values = values.now })) }
+    {
+        let Some(plan) = self.services.get(service) else {
+            return Ok(Outcome::Limit);
+        };
+        let outcome = service_outcome(alloc, &self.items, plan, values)?;
+        Ok(outcome)
     }
 
     /// The compact text of the model, with the keys of each object in the order of their bytes.
