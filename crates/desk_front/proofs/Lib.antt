@@ -3,3 +3,4 @@ pub mod Coming
 pub mod Talking
 mod Examples
 pub mod Answering
+pub mod Floats

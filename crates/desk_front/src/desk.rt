@@ -5,16 +5,18 @@ ghost use Rattle.serde_json.specs.View.{view};
 ghost use Rattle.serde_json.specs.Written.{has_float};
 ghost use Rattle.desk_front.specs.Lines.{ended, kept_line, max_line};
 ghost use Rattle.desk_front.specs.Line.{Reading, Reads, is_blank};
-ghost use Rattle.desk_front.specs.Desk.{Answers, Reports};
+ghost use Rattle.desk_front.specs.Desk.{Answers, Reports, IsReport, fault_name};
+ghost use Rattle.desk_front.specs.Line as said;
+ghost use Rattle.desk_front.specs.LineView.{line_view};
 
 use crate::line::{Line, is_blank, line_in, parse};
 use crate::lines::LineText;
 use crate::report;
 use box_core::{AddRefusal, Answered, Broker, Done, Job, Refusal};
+use dmn_plan::{ModelFault, Plan, Task, TaskFault};
 use serde_json::Value;
 use std::alloc::{AllocError, Global};
 use std::sync::Arc;
-use thin_plan::{ModelFault, Plan, Task, TaskFault};
 
 /// The clients that a broker may have.
 const CLIENTS: usize = 64;
@@ -54,6 +56,24 @@ fn unadded_word(why: AddRefusal) -> &'static str {
         AddRefusal::Capacity => "capacity",
         AddRefusal::Many => "clients",
         AddRefusal::Memory => "memory",
+    }
+}
+
+fn model_word(fault: ModelFault) -> &'static str
+    ensures { result.now ≡ fault_name fault }
+{
+    match fault {
+        ModelFault::Syntax => "syntax",
+        ModelFault::Shape => "shape",
+        ModelFault::Name => "name",
+        ModelFault::Twice => "twice",
+        ModelFault::Expression => "expression",
+        ModelFault::Table => "table",
+        ModelFault::Unknown => "unknown",
+        ModelFault::Cycle => "cycle",
+        ModelFault::Service => "service",
+        ModelFault::Large => "large",
+        ModelFault::Memory => "memory",
     }
 }
 
@@ -122,6 +142,7 @@ impl Desk {
 
     fn model(&mut self, alloc: Global, line: u64, model: &Value) -> Result<Value, AllocError>
         ensures plain { IfOk result (λ v. has_float (view v) ≡ false) }
+        ensures report { IfOk result (λ v. IsReport line (said.Model (view model.now)) (view v)) }
     {
         match Plan::of(alloc, model) {
             Ok(plan) => {
@@ -131,9 +152,8 @@ impl Desk {
                 self.plan = Some(plan);
                 report::loaded(alloc, line)
             }
-            Err(ModelFault::Shape) => report::faulty(alloc, line, "shape"),
-            Err(ModelFault::Expression) => report::faulty(alloc, line, "expression"),
             Err(ModelFault::Memory) => report::refused_line(alloc, line, "memory"),
+            Err(fault) => report::faulty(alloc, line, model_word(fault)),
         }
     }
 
@@ -266,7 +286,7 @@ impl Desk {
     {
         let client = self.client_of(name);
         match self.broker.release(client) {
-            Ok(Some(reply)) => report::handed(alloc, name, reply.outcome, reply.ticket),
+            Ok(Some(reply)) => report::handed(alloc, name, &reply.outcome, reply.ticket),
             Ok(None) => report::nothing(alloc, name, line),
             Err(why) => report::refused(alloc, name, line, refusal_word(why)),
         }
@@ -301,6 +321,7 @@ impl Desk {
     /// The report of a line.
     fn say(&mut self, alloc: Global, number: u64, line: &Line<'_>) -> Result<Value, AllocError>
         ensures plain { IfOk result (λ v. has_float (view v) ≡ false) }
+        ensures report { IfOk result (λ v. IsReport number (line_view line.now) (view v)) }
     {
         match line {
             Line::Model(model) => self.model(alloc, number, model),

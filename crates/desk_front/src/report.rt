@@ -5,8 +5,11 @@ ghost use Rattle.serde_json.specs.View.{view};
 ghost use Rattle.serde_json.specs.Written.{compact_text, has_float};
 ghost use Rattle.desk_front.specs.Line.{with_name, with_number};
 ghost use Rattle.desk_front.specs.Lines.{ended};
-ghost use Rattle.desk_front.specs.Shown.{number_or_null};
+ghost use Rattle.desk_front.specs.Shown.{reply};
+ghost use Rattle.feel_value.specs.Json.{json_of};
+ghost use Rattle.feel_value.specs.declared.feel.Outcome.TheVariants.{Limit};
 
+use feel_value::{Feel, Outcome};
 use serde_json::{Value, json};
 use std::alloc::{AllocError, Global};
 
@@ -98,35 +101,49 @@ pub fn closed(alloc: Global, name: &str, line: u64) -> Result<Value, AllocError>
     json!(in alloc; {"client": name, "closed": true, "line": line})
 }
 
-/// `{"client":name,"result":n,"ticket":t}`
-fn handed_number(alloc: Global, name: &str, number: i64, ticket: u64) -> Result<Value, AllocError>
+/// A value in JSON, which has no float.
+#[tactic(auto, using(crate::proofs::Floats::plain_of))]
+fn shown(alloc: Global, value: &Feel) -> Result<Value, AllocError>
     ensures plain { IfOk result (λ v. has_float (view v) ≡ false) }
-    ensures value { IfOk result (λ v. view v ≡ object (with_name (codes "client") name.now (member (codes "result") (number_or_null (Some number)) (with_number (codes "ticket") ticket no_members)))) }
+    ensures value { IfOk result (λ v. view v ≡ json_of value.now) }
 {
-    json!(in alloc; {"client": name, "result": number, "ticket": ticket})
-}
-
-/// `{"client":name,"result":null,"ticket":t}`
-fn handed_null(alloc: Global, name: &str, ticket: u64) -> Result<Value, AllocError>
-    ensures plain { IfOk result (λ v. has_float (view v) ≡ false) }
-    ensures value { IfOk result (λ v. view v ≡ object (with_name (codes "client") name.now (member (codes "result") (number_or_null None) (with_number (codes "ticket") ticket no_members)))) }
-{
-    json!(in alloc; {"client": name, "result": null, "ticket": ticket})
+    let json = value.to_json(alloc)?;
+    Ok(json)
 }
 
 /// `{"client":name,"result":V,"ticket":t}`
+fn handed_value(alloc: Global, name: &str, value: Value, ticket: u64) -> Result<Value, AllocError>
+    requires { has_float (view value) ≡ false }
+    ensures plain { IfOk result (λ v. has_float (view v) ≡ false) }
+    ensures value { IfOk result (λ v. view v ≡ object (with_name (codes "client") name.now (member (codes "result") (view value) (with_number (codes "ticket") ticket no_members)))) }
+{
+    json!(in alloc; {"client": name, "result": value, "ticket": ticket})
+}
+
+/// `{"client":name,"fault":"limit","ticket":t}`
+fn handed_limit(alloc: Global, name: &str, ticket: u64) -> Result<Value, AllocError>
+    ensures plain { IfOk result (λ v. has_float (view v) ≡ false) }
+    ensures value { IfOk result (λ v. view v ≡ reply name.now Limit ticket) }
+{
+    json!(in alloc; {"client": name, "fault": "limit", "ticket": ticket})
+}
+
+/// `{"client":name,"result":V,"ticket":t}`, or `{"client":name,"fault":"limit","ticket":t}` where a limit was broken.
 pub fn handed(
     alloc: Global,
     name: &str,
-    outcome: Option<i64>,
+    outcome: &Outcome,
     ticket: u64,
 ) -> Result<Value, AllocError>
     ensures plain { IfOk result (λ v. has_float (view v) ≡ false) }
-    ensures value { IfOk result (λ v. view v ≡ object (with_name (codes "client") name.now (member (codes "result") (number_or_null outcome) (with_number (codes "ticket") ticket no_members)))) }
+    ensures value { IfOk result (λ v. view v ≡ reply name.now outcome.now ticket) }
 {
     match outcome {
-        Some(number) => handed_number(alloc, name, number, ticket),
-        None => handed_null(alloc, name, ticket),
+        Outcome::Is(value) => {
+            let value = shown(alloc, value)?;
+            handed_value(alloc, name, value, ticket)
+        }
+        Outcome::Limit => handed_limit(alloc, name, ticket),
     }
 }
 

@@ -7,3 +7,6 @@ mod Assembled
 mod Planned
 mod Indexing
 mod Asked
+mod Sameness
+mod Requested
+mod Alike

@@ -1,5 +1,5 @@
 -- The faults of a model's requirements and of its services.
-use Rattle.std.specs.Prelude.{ℕ, List, [], ◌∷◌, ◌++◌, length, Bool, not, ◌&&◌, ◌||◌, if◌then◌else◌, nat_lt, bytes_eq}
+use Rattle.std.specs.Prelude.{List, [], ◌∷◌, ◌++◌, length, Bool, not, ◌&&◌, ◌||◌, if◌then◌else◌, nat_lt, bytes_eq}
 use Rattle.std.specs.List.{list_any}
 use Rattle.dmn_form.specs.Model.{Name, Decision, Service}
 use Rattle.dmn_form.specs.Draft.{Draft, Written}

@@ -7,3 +7,5 @@ pub mod ServicesByPlace
 pub mod Items
 pub mod Parts
 pub mod Indexed
+pub mod Identical
+pub mod Code

@@ -8,12 +8,18 @@ mod items;
 mod plan;
 mod planning;
 mod requirements;
+mod same;
 mod services;
+mod task;
+mod values;
 
 pub use fault::{ModelFault, TaskFault};
 pub use plan::Plan;
+pub use task::Task;
 
 #[cfg(test)]
 mod services_tests;
+#[cfg(test)]
+mod task_tests;
 #[cfg(test)]
 mod tests;

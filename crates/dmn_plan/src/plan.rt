@@ -4,9 +4,10 @@ ghost use Rattle.serde_json.specs.Read.{read};
 ghost use Rattle.serde_json.specs.View.{view};
 ghost use Rattle.dmn_plan.specs.Due.{IsReadDue};
 
-use crate::fault::ModelFault;
+use crate::fault::{ModelFault, TaskFault};
 use crate::index::plans_by_name;
 use crate::planning::plan_of;
+use crate::values::values_at;
 use dmn_form::read_form;
 use dmn_service::{Item, ServicePlan, service_outcome};
 use feel_value::{Feel, Outcome};
@@ -40,10 +41,10 @@ impl Plan {
     ghost use Rattle.serde_json.specs.Read.{read};
     ghost use Rattle.serde_json.specs.View.{view};
     ghost use Rattle.serde_json.specs.Written.{has_float, compact_text};
-    ghost use Rattle.dmn_plan.specs.Due.{IsDue, IsReadDue};
+    ghost use Rattle.dmn_plan.specs.Due.{IsDue, IsReadDue, IsTaskDue};
     ghost use Rattle.dmn_plan.specs.ReadModel.{read_model, read_text};
-    ghost use Rattle.dmn_plan.specs.Request.{TakesValues, request_result};
-    ghost use Rattle.std.specs.Prelude.{length};
+    ghost use Rattle.dmn_plan.specs.Request.{TakesValues, request_of, request_result};
+    ghost use Rattle.std.specs.Prelude.{length, Ok};
 
     /// The plan of a model in JSON, or its first fault: Shape, Name, Twice, Expression, Table, Unknown, Cycle, Service, Large, in
     /// this order. Its text is the compact text of the value, with the keys of each object in the order of their bytes.
@@ -93,6 +94,26 @@ impl Plan {
         };
         let outcome = service_outcome(alloc, &self.items, plan, values)?;
         Ok(outcome)
+    }
+
+    /// The values that the service of this name takes, out of JSON: first Service, then Value. A parameter whose name is missing
+    /// is null, and a name that the service doesn't take is ignored.
+    pub(crate) fn values_for(
+        &self,
+        alloc: Global,
+        service: &str,
+        inputs: &serde_json::Value,
+    ) -> Result<Vec<Feel>, TaskFault>
+        ensures ok { IfOk result (λ v. request_of self.now service.now (view inputs.now) ≡ Ok (record { text = self.now; service = service.now; values = v.items })) }
+        ensures err { IfErr result (IsTaskDue (request_of self.now service.now (view inputs.now))) }
+    {
+        let Some(plan) = self.services.get(service) else {
+            return Err(TaskFault::Service);
+        };
+        let Some(values) = values_at(alloc, inputs, &self.items, &plan.parameters)? else {
+            return Err(TaskFault::Value);
+        };
+        Ok(values)
     }
 
     /// The compact text of the model, with the keys of each object in the order of their bytes.

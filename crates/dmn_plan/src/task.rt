@@ -1,0 +1,89 @@
+//! Tasks: a service of a model with the values that it takes.
+ghost use Rattle.std.specs.Prelude.{◌≡◌, IfOk, IfErr};
+ghost use Rattle.std.specs.Arc.{arc_value};
+
+use crate::fault::TaskFault;
+use crate::plan::Plan;
+use crate::same::same_values;
+use box_core::Work;
+use feel_value::{Feel, Outcome};
+use std::alloc::{AllocError, Global};
+use std::marker::Model;
+use std::sync::Arc;
+
+/// A service of a model, with a value for each of its input decisions and then for each of its input data. Contracts see it as
+/// the request that it stands for.
+#[derive(Drop)]
+pub struct Task {
+    plan: Arc<Plan>,
+    service: String,
+    values: Vec<Feel>,
+}
+
+impl Model for Task {
+    ghost use Rattle.std.specs.Prelude.{length, string_bytes};
+    ghost use Rattle.std.specs.Arc.{arc_value};
+    ghost use Rattle.dmn_plan.specs.Code.{request_code};
+    ghost use Rattle.dmn_plan.specs.Request.{Request, TakesValues};
+
+    ghost Value = { Request };
+
+    ghost coded = { request_code };
+
+    ghost view = { λ t. record { text = arc_value t.plan; service = string_bytes t.service; values = t.values.items } };
+
+    ghost invariant = { λ t. TakesValues (arc_value t.plan) (string_bytes t.service) (length t.values.items) };
+}
+
+impl Task {
+    ghost use Rattle.std.specs.Prelude.{◌≡◌, Ok, IfOk, IfErr};
+    ghost use Rattle.std.specs.Arc.{arc_value};
+    ghost use Rattle.serde_json.specs.View.{view};
+    ghost use Rattle.dmn_plan.specs.Due.{IsTaskDue};
+    ghost use Rattle.dmn_plan.specs.Request.{request_of};
+
+    /// The task of a service of the plan, with values out of JSON: first Service, then Value. A parameter whose name is missing
+    /// among the inputs is null, and a name that the service doesn't take is ignored.
+    pub fn new(
+        alloc: Global,
+        plan: Arc<Plan>,
+        service: &str,
+        inputs: &serde_json::Value,
+    ) -> Result<Task, TaskFault>
+        ensures ok { IfOk result (λ t. request_of (arc_value plan) service.now (view inputs.now) ≡ Ok t) }
+        ensures err { IfErr result (IsTaskDue (request_of (arc_value plan) service.now (view inputs.now))) }
+    {
+        let values = plan.values_for(alloc, service, inputs)?;
+        let service = String::from_str(alloc, service)?;
+        Ok(Task {
+            plan,
+            service,
+            values,
+        })
+    }
+}
+
+impl Work for Task {
+    ghost use Rattle.dmn_plan.specs.Request as request;
+
+    type Out = Outcome;
+
+    ghost Request = { request.Request };
+
+    ghost request = { λ t. t };
+
+    ghost result_of = { request.request_result };
+
+    fn same(&self, other: &Self) -> bool {
+        self.plan.text() == other.plan.text()
+            && self.service == other.service
+            && same_values(&self.values, &other.values)
+    }
+
+    fn run(&self, alloc: Global) -> Result<Outcome, AllocError> {
+        let outcome = self
+            .plan
+            .outcome(alloc, self.service.as_str(), &self.values)?;
+        Ok(outcome)
+    }
+}

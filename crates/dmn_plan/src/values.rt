@@ -1,0 +1,77 @@
+//! The values of a service's parameters out of JSON.
+ghost use Rattle.std.specs.Prelude.{◌≡◌, ◌<◌, IfOk, length, map, option_map};
+ghost use Rattle.std.specs.List.{All};
+ghost use Rattle.serde_json.specs.Find.{get};
+ghost use Rattle.serde_json.specs.View.{view};
+ghost use Rattle.feel_value.specs.Faults.{json_reading};
+ghost use Rattle.dmn_table.specs.Evaluated.{each};
+ghost use Rattle.dmn_service.specs.Places.{name_at};
+ghost use Rattle.dmn_plan.specs.Request.{if_ok, value_under, values_under};
+
+use dmn_service::Item;
+use feel_value::{Feel, Value, ValueFault};
+use std::alloc::{AllocError, Global};
+
+/// The value that JSON stands for; None where it stands for none.
+fn read_value(alloc: Global, json: &serde_json::Value) -> Result<Option<Feel>, AllocError>
+    ensures { IfOk result (λ o. o ≡ if_ok (json_reading (view json.now))) }
+{
+    match Feel::from_json(alloc, json) {
+        Ok(value) => Ok(Some(value)),
+        Err(ValueFault::Memory) => Err(AllocError),
+        Err(_) => Ok(None),
+    }
+}
+
+/// The value under a name, and null where there is none; None where what stands there is no value.
+fn named_value(
+    alloc: Global,
+    inputs: &serde_json::Value,
+    name: &str,
+) -> Result<Option<Feel>, AllocError>
+    ensures { IfOk result (λ o. o ≡ value_under (get name.now (view inputs.now))) }
+{
+    let Some(json) = inputs.get(name) else {
+        return Ok(Feel::of(Value::Null));
+    };
+    let value = read_value(alloc, json)?;
+    Ok(value)
+}
+
+/// The values under the names of these places; None where what stands under one is no value.
+fn place_values(
+    alloc: Global,
+    inputs: &serde_json::Value,
+    items: &[Item],
+    places: &[usize],
+) -> Result<Option<Vec<Feel>>, AllocError>
+    requires { All (λ q. q < length items.now) places.now }
+    ensures { IfOk result (λ o. option_map (λ v. v.items) o ≡ each (λ q. value_under (get (name_at items.now q) (view inputs.now))) places.now) }
+{
+    let mut values = Vec::with_capacity(alloc, places.len())?;
+    for place in places {
+        let Some(value) = named_value(alloc, inputs, items[*place].name.as_str())? else {
+            return Ok(None);
+        };
+        values.push(value)?;
+    }
+    Ok(Some(values))
+}
+
+/// The values under the names of these places of an object; None where there is no object, or what stands under a name is no
+/// value.
+pub(crate) fn values_at(
+    alloc: Global,
+    inputs: &serde_json::Value,
+    items: &[Item],
+    places: &[usize],
+) -> Result<Option<Vec<Feel>>, AllocError>
+    requires { All (λ q. q < length items.now) places.now }
+    ensures { IfOk result (λ o. option_map (λ v. v.items) o ≡ values_under (map (name_at items.now) places.now) (view inputs.now)) }
+{
+    if !inputs.is_object() {
+        return Ok(None);
+    }
+    let values = place_values(alloc, inputs, items, places)?;
+    Ok(values)
+}
