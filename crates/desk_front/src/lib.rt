@@ -3,13 +3,10 @@
 
 mod desk;
 mod device;
-mod effect;
 mod fault;
-mod hearing;
 mod line;
 mod lines;
 mod report;
-mod said;
 mod session;
 mod talk;
 mod write;
@@ -19,8 +16,4 @@ pub use fault::FrontFault;
 pub use session::replay;
 
 #[cfg(test)]
-mod device_tests;
-#[cfg(test)]
-mod line_tests;
-#[cfg(test)]
-mod refused_tests;
+mod tests;

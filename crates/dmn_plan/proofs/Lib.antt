@@ -10,6 +10,3 @@ mod Asked
 mod Sameness
 mod Requested
 mod Alike
-mod Rising
-mod Floats
-pub mod Decided
