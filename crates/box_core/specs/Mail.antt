@@ -1,5 +1,6 @@
 -- The state of one client, and what each call makes of it.
 use Rattle.std.specs.Prelude.{ℕ, zero, suc, ◌+◌, ◌-◌, ◌^◌, ◌≤◌, Bool, true, false, ◌||◌, ◌==◌, nat_lt, if◌then◌else◌, List, [], ◌∷◌, ◌++◌, length, drop, slice_get, Option, Some, None, is_some}
+use Rattle.std.specs.Option.{option_map}
 use Rattle.box_core.specs.declared.faults.Refusal.{Refusal}
 use Rattle.box_core.specs.declared.faults.Refusal.TheVariants as refusal
 
@@ -87,6 +88,10 @@ module _ {W O : Type 0} where
   abbrev pub status_in : Mail W O → ℕ → Status W
   status_in mail ticket =
       if nat_lt ticket mail.handed then Settled else status_of_place (slice_get mail.outstanding (ticket - mail.handed))
+
+  -- where a ticket of a client stands, if there is such a client
+  abbrev pub standing_at : List (Mail W O) → ℕ → ℕ → Option (Status W)
+  standing_at mails client ticket = option_map (λ mail. status_in mail ticket) (slice_get mails client)
 
   abbrev pub open_of_place : Option (Place W O) → Option W
   open_of_place None = None

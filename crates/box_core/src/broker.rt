@@ -3,12 +3,14 @@ ghost use Rattle.std.specs.Arc.{arc_value};
 ghost use Rattle.box_core.specs.History as history;
 ghost use Rattle.box_core.specs.Table.{Step, Legal};
 ghost use Rattle.box_core.specs.Claims.{HandedInOrder, HandedWhole, ClosedRefuses, Continues};
-ghost use Rattle.box_core.specs.Views.{event_of, report_of, history_of, added_report, submitted_report, taken_report, answer_report, released_report, closed_report, resized_report};
+ghost use Rattle.box_core.specs.Views.{event_of, report_of, history_of, added_report, submitted_report, taken_report, answer_report, released_report, closed_report, resized_report, standing_of};
+ghost use Rattle.box_core.specs.Mail.{standing_at};
 
 use crate::event::{Event, Report};
 use crate::faults::{AddRefusal, Answered, Refusal};
 use crate::job::Job;
 use crate::mailbox::{Mailbox, is_capacity};
+use crate::standing::Standing;
 use crate::work::{Done, Reply, Work};
 use std::alloc::{AllocError, Global};
 use std::marker::Model;
@@ -87,6 +89,16 @@ impl<W: Work> Broker<W> {
             return Err(Refusal::NoClient);
         };
         mailbox.take(ticket)
+    }
+
+    /// Where a ticket of a client stands, as `Mailbox::standing` says; none where the broker has no such client.
+    pub fn standing(&self, client: u32, ticket: u64) -> Result<Option<Standing<W>>, AllocError>
+        ensures { IfOk result (λ standing. standing_of standing ≡ standing_at self.now client ticket) }
+    {
+        match self.boxes.get(client as usize) {
+            Some(mailbox) => Ok(Some(mailbox.standing(ticket)?)),
+            None => Ok(None),
+        }
     }
 
     /// Answers a request, as `Mailbox::answer` does. It is refused only as `NoClient`. No memory is taken.

@@ -7,6 +7,7 @@ mod event;
 mod faults;
 mod job;
 mod mailbox;
+mod standing;
 mod work;
 
 pub use broker::Broker;
@@ -14,6 +15,7 @@ pub use event::{Event, Report};
 pub use faults::{AddRefusal, Answered, BoxFault, Refusal};
 pub use job::Job;
 pub use mailbox::Mailbox;
+pub use standing::Standing;
 pub use work::{Done, Reply, Work};
 
 #[cfg(test)]

@@ -1,15 +1,16 @@
 ghost use Rattle.std.specs.Prelude.{◌≡◌, ◌⊎◌, Err, ℕ, ◌+◌, ◌-◌, ◌^◌, ◌<◌, ◌≤◌, Some, None, IfOk, IfErr, OnOk, OnErr, IfSome, IfNone, MatchOption, IsTrue, ◌↔◌, length, slice_get, not, true, ◌≢◌};
 ghost use Rattle.std.specs.Arc.{arc_value};
 ghost use Rattle.box_core.specs.Table.{AnswerReport, OrMemory, take_report};
-ghost use Rattle.box_core.specs.Views.{answered_report, taken_report};
+ghost use Rattle.box_core.specs.Views.{answered_report, taken_report, status_of_standing};
 ghost use Rattle.box_core.specs.declared.faults.Answered.TheVariants as answered;
 ghost use Rattle.box_core.specs.Mail.{IsCapacity, is_no_capacity, fresh, accepted_in, refusal_in, status_in, next_in, with_request, with_taken, with_kept, with_handed, with_close, with_capacity, resize_refusal_in, status_of_place, open_in, Status, Waiting, Unknown, Running, Settled};
 
 use crate::faults::{Answered, BoxFault, Refusal};
 use crate::job::Job;
+use crate::standing::Standing;
 use crate::work::{Done, Reply, Work};
 use circular_buffer::HeapCircularBuffer;
-use std::alloc::Global;
+use std::alloc::{AllocError, Global};
 use std::marker::Model;
 use std::sync::Arc;
 
@@ -86,6 +87,17 @@ impl<W: Work> Place<W> {
         }
         self.kept = Some(done.into_outcome());
         Answered::Kept
+    }
+
+    // Where the ticket of this place stands.
+    fn standing(&self) -> Result<Standing<W>, AllocError>
+        ensures { IfOk result (λ standing. status_of_standing standing ≡ status_of_place (Some self.now)) }
+    {
+        match (self.taken, self.kept.is_some()) {
+            (true, true) => Ok(Standing::Settled),
+            (true, false) => Ok(Standing::Running(Arc::try_clone(&self.work)?)),
+            (false, _) => Ok(Standing::Waiting(Arc::try_clone(&self.work)?)),
+        }
     }
 
     // The job of this place, if it waits.
@@ -232,6 +244,20 @@ impl<W: Work> Mailbox<W> {
             return Err(Refusal::NotWaiting);
         };
         place.take(ticket)
+    }
+
+    /// Where a ticket stands, with its work where the request is still to be answered.
+    pub fn standing(&self, ticket: u64) -> Result<Standing<W>, AllocError>
+        ensures { IfOk result (λ standing. status_of_standing standing ≡ status_in self.now ticket) }
+    {
+        if ticket < self.handed {
+            return Ok(Standing::Settled);
+        }
+        let index = (ticket - self.handed) as usize;
+        let Some(place) = self.places.get(index) else {
+            return Ok(Standing::Unknown);
+        };
+        place.standing()
     }
 
     /// Takes in an answer. One that is not kept is dropped and changes nothing. What it is called is decided in this

@@ -1,7 +1,7 @@
 -- Worked examples of the definitions.
-use Rattle.std.proofs.Common.{◌≡◌, ℕ, List, [], ◌∷◌, Option, Some, None, refl}
+use Rattle.std.proofs.Common.{◌≡◌, [], ◌∷◌, Some, None, refl}
 use Rattle.std.specs.Prelude.{codes}
-use Rattle.serde_json.specs.Data.{number, unsigned, no_members, member}
+use Rattle.serde_json.specs.Data.{number, unsigned, object, no_members, member}
 use Rattle.serde_json.specs.Read.{read}
 use Rattle.serde_json.proofs.OnLiterals.{serde_json_on_literals}
 use Rattle.desk_front.specs.Lines.{lines_of, whole_lines_of}
@@ -27,7 +27,7 @@ reads_open : read (codes "{\"open\":\"a\",\"capacity\":2}") ≡ Some (object_of 
 unfolding serde_json_on_literals
 reads_open = refl
 
-reads_submit : read (codes "{\"submit\":\"a\",\"service\":\"s\",\"inputs\":{\"a\":4}}") ≡ Some (object_of (Submit (codes "a") (codes "s") (member (codes "a") (number (unsigned 4)) no_members)))
+reads_submit : read (codes "{\"submit\":\"a\",\"service\":\"s\",\"inputs\":{\"a\":4}}") ≡ Some (object_of (Submit (codes "a") (codes "s") (object (member (codes "a") (number (unsigned 4)) no_members))))
 unfolding serde_json_on_literals
 reads_submit = refl
 
@@ -35,7 +35,7 @@ reads_take : read (codes "{\"take\":\"a\",\"ticket\":0}") ≡ Some (object_of (T
 unfolding serde_json_on_literals
 reads_take = refl
 
-reads_answer : read (codes "{\"answer\":\"a\",\"ticket\":0,\"service\":\"s\",\"inputs\":{}}") ≡ Some (object_of (AnswerWith (codes "a") 0 (codes "s") no_members))
+reads_answer : read (codes "{\"answer\":\"a\",\"ticket\":0,\"service\":\"s\",\"inputs\":{}}") ≡ Some (object_of (AnswerWith (codes "a") 0 (codes "s") (object no_members)))
 unfolding serde_json_on_literals
 reads_answer = refl
 

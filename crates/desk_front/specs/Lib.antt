@@ -3,8 +3,14 @@ pub mod Counted
 pub mod Lines
 pub mod LineReader
 pub mod Talk
+pub mod Gathers
 pub mod Line
 pub mod LineView
 pub mod Shown
+pub mod Words
+pub mod Turns
+pub mod Due
+pub mod Said
+pub mod Script
 pub mod Desk
 pub mod Fault

@@ -1,5 +1,5 @@
 -- What a line says.
-use Rattle.std.specs.Prelude.{◌≡◌, ◌≢◌, ◌⊎◌, ℕ, ◌^◌, ◌<◌, ◌≤◌, ◌==◌, ◌||◌, Bool, true, List, [], ◌∷◌, length, Some, None, codes}
+use Rattle.std.specs.Prelude.{◌≡◌, ◌≢◌, ◌⊎◌, ℕ, ◌^◌, ◌<◌, ◌≤◌, ◌==◌, ◌||◌, Bool, true, List, length, Some, None, codes}
 use Rattle.std.specs.List.{list_all}
 use Rattle.std.specs.Str.{IsUtf8}
 use Rattle.serde_json.specs.Data.{Data, string, number, unsigned, object, Members, member, no_members}
@@ -10,10 +10,10 @@ use Rattle.desk_front.specs.Lines.{max_line}
 pub data Line : Type 0 where
   Model : (model : Data) → Line
   Open : (name : List ℕ) → (capacity : ℕ) → Line
-  Submit : (name service : List ℕ) → (inputs : Members) → Line
+  Submit : (name service : List ℕ) → (inputs : Data) → Line
   Take : (name : List ℕ) → (ticket : ℕ) → Line
   Answer : (name : List ℕ) → (ticket : ℕ) → Line
-  AnswerWith : (name : List ℕ) → (ticket : ℕ) → (service : List ℕ) → (inputs : Members) → Line
+  AnswerWith : (name : List ℕ) → (ticket : ℕ) → (service : List ℕ) → (inputs : Data) → Line
   Release : (name : List ℕ) → Line
   Close : (name : List ℕ) → Line
   Resize : (name : List ℕ) → (capacity : ℕ) → Line
@@ -30,11 +30,11 @@ abbrev pub object_of : Line → Data
 object_of (Model model) = object (member (codes "model") model no_members)
 object_of (Open name capacity) = object (with_number (codes "capacity") capacity (with_name (codes "open") name no_members))
 object_of (Submit name service inputs) =
-    object (member (codes "inputs") (object inputs) (with_name (codes "service") service (with_name (codes "submit") name no_members)))
+    object (member (codes "inputs") inputs (with_name (codes "service") service (with_name (codes "submit") name no_members)))
 object_of (Take name ticket) = object (with_name (codes "take") name (with_number (codes "ticket") ticket no_members))
 object_of (Answer name ticket) = object (with_name (codes "answer") name (with_number (codes "ticket") ticket no_members))
 object_of (AnswerWith name ticket service inputs) =
-    object (with_name (codes "answer") name (member (codes "inputs") (object inputs)
+    object (with_name (codes "answer") name (member (codes "inputs") inputs
     (with_name (codes "service") service (with_number (codes "ticket") ticket no_members))))
 object_of (Release name) = object (with_name (codes "release") name no_members)
 object_of (Close name) = object (with_name (codes "close") name no_members)
@@ -46,14 +46,17 @@ IsName name = (1 ≤ length name) × (length name ≤ 64)
 abbrev pub IsTicket : ℕ → Type 0
 IsTicket ticket = ticket < 2 ^ 63
 
--- names have 1 to 64 bytes, capacities fit 32 bits, tickets 63
+abbrev pub IsObject : Data → Type 0
+IsObject value = (members : Members) × (value ≡ object members)
+
+-- names have 1 to 64 bytes, capacities fit 32 bits, tickets 63, and inputs are objects
 abbrev pub IsLawful : Line → Type 0
 IsLawful (Model model) = Unit {0}
 IsLawful (Open name capacity) = IsName name × (capacity < 2 ^ 32)
-IsLawful (Submit name service inputs) = IsName name
+IsLawful (Submit name service inputs) = IsName name × IsObject inputs
 IsLawful (Take name ticket) = IsName name × IsTicket ticket
 IsLawful (Answer name ticket) = IsName name × IsTicket ticket
-IsLawful (AnswerWith name ticket service inputs) = IsName name × IsTicket ticket
+IsLawful (AnswerWith name ticket service inputs) = IsName name × IsTicket ticket × IsObject inputs
 IsLawful (Release name) = IsName name
 IsLawful (Close name) = IsName name
 IsLawful (Resize name capacity) = IsName name × (capacity < 2 ^ 32)

@@ -1,27 +1,16 @@
 -- The line that the code holds.
-use Rattle.std.specs.Prelude.{ℕ, List}
-use Rattle.serde_json.specs.Data.{Data, null, boolean, number, string, array, object, Members, no_members}
 use Rattle.serde_json.specs.View.{view}
 use Rattle.desk_front.specs.Line as said
 use Rattle.desk_front.specs.declared.line.Line.{Line}
 use Rattle.desk_front.specs.declared.line.Line.TheVariants.{Model, Open, Submit, Take, Answer, AnswerWith, Release, Close, Resize}
 
--- the members of an object
-abbrev pub members_in : Data → Members
-members_in (object members) = members
-members_in null = no_members
-members_in (boolean b) = no_members
-members_in (number n) = no_members
-members_in (string s) = no_members
-members_in (array items) = no_members
-
 abbrev pub line_view : Line → said.Line
 line_view (Model model) = said.Model (view model.now)
 line_view (Open name n) = said.Open name.now n
-line_view (Submit name service inputs) = said.Submit name.now service.now (members_in (view inputs.now))
+line_view (Submit name service inputs) = said.Submit name.now service.now (view inputs.now)
 line_view (Take name t) = said.Take name.now t
 line_view (Answer name t) = said.Answer name.now t
-line_view (AnswerWith name t service inputs) = said.AnswerWith name.now t service.now (members_in (view inputs.now))
+line_view (AnswerWith name t service inputs) = said.AnswerWith name.now t service.now (view inputs.now)
 line_view (Release name) = said.Release name.now
 line_view (Close name) = said.Close name.now
 line_view (Resize name n) = said.Resize name.now n

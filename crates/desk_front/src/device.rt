@@ -2,11 +2,12 @@
 ghost use Rattle.std.specs.Prelude.{◌≡◌, ℕ, List, Option};
 ghost use Rattle.std.specs.Io.{ReadsAtMost, WritesAtMost};
 ghost use Rattle.std.specs.Io.KnownBytes.{ReadConsumes, WriteAppends};
-ghost use Rattle.desk_front.specs.Device.{counted, read_fails, write_fails};
+ghost use Rattle.desk_front.specs.Device.{came_after, counted, read_fails, write_fails};
 
 use std::io;
 
-/// A reader that counts its faults: each error of a read is one. At 2^64 - 1 the count stays.
+/// A reader that counts its faults: each error of a read is one. At 2^64 - 1 the count stays, and so does that of the
+/// bytes that came.
 pub trait Source {
     /// The bytes that reads will give from here on, where they are known.
     ghost remaining: { Self → Option (List ℕ) };
@@ -14,11 +15,15 @@ pub trait Source {
     /// How many faults there were.
     ghost faults: { Self → ℕ };
 
+    /// How many bytes came.
+    ghost came: { Self → ℕ };
+
     /// Reads as `std::io::Read::read` does.
     fn read(&mut self, buf: &mut [u8]) -> io::Result<usize>
         ensures bound { ReadsAtMost result buf.new }
         ensures bytes { ReadConsumes (remaining self.old) (remaining self.new) result buf.new }
-        ensures count { faults self.new ≡ counted (faults self.old) (read_fails result) };
+        ensures count { faults self.new ≡ counted (faults self.old) (read_fails result) }
+        ensures comes { came self.new ≡ came_after (came self.old) result };
 
     /// How many faults there were.
     fn failures(&self) -> u64
@@ -45,38 +50,47 @@ pub trait Sink {
         ensures { result ≡ faults self.now };
 }
 
-/// A reader or a writer of std, with the count of its faults.
+/// A reader or a writer of std, with the count of its faults and, of a reader, that of the bytes that came.
 #[derive(Drop)]
 pub struct Counted<T> {
     /// The device itself.
     pub inner: T,
     failures: u64,
+    came: u64,
 }
 
 impl<T> Counted<T> {
-    ghost use Rattle.desk_front.specs.Counted.{faults_of};
+    ghost use Rattle.desk_front.specs.Counted.{came_of, faults_of};
 
-    /// The device with no fault counted yet.
+    /// The device with nothing counted yet.
     pub fn new(inner: T) -> Self
         ensures inner { result.inner ≡ inner }
-        ensures none { faults_of result ≡ 0 }
+        ensures no_fault { faults_of result ≡ 0 }
+        ensures no_byte { came_of result ≡ 0 }
     {
-        Counted { inner, failures: 0 }
+        Counted {
+            inner,
+            failures: 0,
+            came: 0,
+        }
     }
 }
 
 impl<T: io::Read> Source for Counted<T> {
-    ghost use Rattle.desk_front.specs.Counted.{faults_of};
+    ghost use Rattle.desk_front.specs.Counted.{came_of, faults_of};
 
     ghost remaining = { λ s. T.remaining s.inner };
 
     ghost faults = { faults_of };
 
+    ghost came = { came_of };
+
     /// Reads as `std::io::Read::read` does.
     fn read(&mut self, buf: &mut [u8]) -> io::Result<usize> {
         let result = self.inner.read(buf);
-        if result.is_err() {
-            self.failures = self.failures.saturating_add(1);
+        match &result {
+            Ok(n) => self.came = self.came.saturating_add(*n as u64),
+            Err(_) => self.failures = self.failures.saturating_add(1),
         }
         result
     }

@@ -3,10 +3,13 @@
 
 mod desk;
 mod device;
+mod effect;
 mod fault;
+mod hearing;
 mod line;
 mod lines;
 mod report;
+mod said;
 mod session;
 mod talk;
 mod write;
@@ -16,4 +19,8 @@ pub use fault::FrontFault;
 pub use session::replay;
 
 #[cfg(test)]
-mod tests;
+mod device_tests;
+#[cfg(test)]
+mod line_tests;
+#[cfg(test)]
+mod refused_tests;

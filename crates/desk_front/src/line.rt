@@ -1,7 +1,7 @@
 //! What a line says.
 ghost use Rattle.std.specs.Prelude.{◌≡◌, ◌≢◌, ◌<◌, ◌⊎◌, ◌^◌, ℕ, List, MatchOption, IfSome, IfNone, IfOk, MatchResult, length, None, Some};
 ghost use Rattle.std.specs.Str.{IsUtf8};
-ghost use Rattle.serde_json.specs.Data.{Data, Members, string, number, unsigned, object};
+ghost use Rattle.serde_json.specs.Data.{Data, string, number, unsigned, object};
 ghost use Rattle.serde_json.specs.View.{view};
 ghost use Rattle.serde_json.specs.Read.{read};
 ghost use Rattle.desk_front.specs.Line.{IsName, IsTicket, IsLine, is_blank};
@@ -92,7 +92,7 @@ fn open_line(value: &Value) -> Option<Line<'_>>
 
 fn submit_line(value: &Value) -> Option<Line<'_>>
     ensures found { IfSome result (λ line. IsLine (line_view line) (view value.now)) }
-    ensures other { IfNone result ((name service : List ℕ) (inputs : Members) → ¬ IsLine (said.Submit name service inputs) (view value.now)) }
+    ensures other { IfNone result ((name service : List ℕ) (inputs : Data) → ¬ IsLine (said.Submit name service inputs) (view value.now)) }
 {
     let (inputs, service, name) = three_fields(value, "inputs", "service", "submit")?;
     if !inputs.is_object() {
@@ -119,7 +119,7 @@ fn answer_line(value: &Value) -> Option<Line<'_>>
 
 fn answer_with_line(value: &Value) -> Option<Line<'_>>
     ensures found { IfSome result (λ line. IsLine (line_view line) (view value.now)) }
-    ensures other { IfNone result ((name : List ℕ) (t : ℕ) (service : List ℕ) (inputs : Members) → ¬ IsLine (said.AnswerWith name t service inputs) (view value.now)) }
+    ensures other { IfNone result ((name : List ℕ) (t : ℕ) (service : List ℕ) (inputs : Data) → ¬ IsLine (said.AnswerWith name t service inputs) (view value.now)) }
 {
     let (name, inputs, service, ticket) = four_fields(
         value, "answer", "inputs", "service", "ticket",

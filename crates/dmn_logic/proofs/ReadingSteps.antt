@@ -1,12 +1,14 @@
 -- Reading tables and contexts from their parts.
-use Rattle.std.proofs.Common.{◌≡◌, ℕ, List, [], ◌∷◌, map, length, refl, sym, ap, ap₂, ◌∙◌, Some, Vec, Box, String, Global}
+use Rattle.std.proofs.Common.{◌≡◌, ℕ, List, [], ◌∷◌, map, length, refl, sym, ap, ap₂, ◌∙◌, false, Option, Some, None, Vec, Box, String, Global}
 use Rattle.feel_lang.specs.Expr.{Expr}
 use Rattle.dmn_table.specs.declared.fault.TableFault.{TableFault}
 use Rattle.dmn_table.specs.declared.table.Output.{Output}
 use Rattle.dmn_table.specs.declared.table.Rule as rule
-use Rattle.dmn_table.specs.Faults.{policy_of, table_fault}
-use Rattle.dmn_table.specs.Parts.{column_view, rule_view, entry_counts, fault_of_parts, MakesTable}
-use Rattle.dmn_table.specs.Table.{Table}
+use Rattle.dmn_table.specs.Faults.{are_distinct, policy_of, fault_under, table_fault}
+use Rattle.dmn_table.specs.declared.hit_policy.HitPolicy.{HitPolicy}
+use Rattle.dmn_table.specs.Parts.{column_view, rule_view, names_of, entry_counts, fault_of_parts, MakesTable}
+use Rattle.dmn_table.specs.Table.{Column, Rule, Table}
+use Rattle.dmn_table.proofs.Distinct.{twice_columns}
 use Rattle.dmn_table.proofs.Outputs.{names_same}
 use Rattle.dmn_form.specs.Model.{Name, context, entries_of}
 use Rattle.dmn_form.specs.LogicView.{logic_view as written_view, entry_view as written_entry}
@@ -40,6 +42,18 @@ pub made_refused : (hit : List ℕ) (inputs : List Expr) (outputs : List Output)
     → Refused ≡ made_table hit inputs (map column_view outputs) (map rule_view rules)
 made_refused hit inputs outputs rules f e =
     sym (ap (λ o. made_under o (policy_of hit) inputs (map column_view outputs) (map rule_view rules)) (fault_same hit inputs outputs rules ∙ e))
+
+refused_by : (o : Option HitPolicy) (inputs : List Expr) (outputs : List Column) (rules : List Rule) (n : ℕ) (ns : List (List ℕ)) (counts : List (ℕ × ℕ)) → are_distinct ns ≡ false
+    → Refused ≡ made_under (fault_under o n ns counts) o inputs outputs rules
+refused_by None inputs outputs rules n ns counts e = refl
+refused_by (Some p) inputs outputs rules n ns counts e = sym (ap (λ f. made_under f (Some p) inputs outputs rules) (twice_columns (Some p) p n ns counts refl e))
+
+-- a table of which two output columns have one name
+pub made_with_twice : (hit : List ℕ) (inputs : List Expr) (outputs : List Output) (rules : List rule.Rule) → are_distinct (names_of outputs) ≡ false
+    → Refused ≡ made_table hit inputs (map column_view outputs) (map rule_view rules)
+made_with_twice hit inputs outputs rules e =
+    refused_by (policy_of hit) inputs (map column_view outputs) (map rule_view rules) (length inputs) (map (λ c. c.name) (map column_view outputs)) (map (λ r. (length r.tests, length r.gives)) (map rule_view rules))
+    (ap are_distinct (names_same outputs) ∙ e)
 
 -- ---- contexts
 

@@ -2,7 +2,8 @@
 ghost use Rattle.std.specs.Prelude.{◌≡◌, IfOk, option_map, map};
 ghost use Rattle.dmn_form.specs.FormView.{column_view as written_column, rule_view as written_rule, table_view};
 ghost use Rattle.dmn_table.specs.Evaluated.{each};
-ghost use Rattle.dmn_table.specs.Parts.{column_view, rule_view};
+ghost use Rattle.dmn_table.specs.Faults.{are_distinct};
+ghost use Rattle.dmn_table.specs.Parts.{column_view, names_of, rule_view};
 ghost use Rattle.dmn_logic.specs.ReadLogic.{read_column, read_rule};
 ghost use Rattle.dmn_logic.specs.Reading.{made_table, table_reading};
 
@@ -12,6 +13,7 @@ use dmn_form::{WrittenColumn, WrittenRule, WrittenTable};
 use dmn_table::{Output, Rule, Table};
 use feel_lang::Expr;
 use std::alloc::{AllocError, Global};
+use std::collections::BTreeSet;
 
 /// An output column, if each of its texts has a reading.
 fn column_of(alloc: Global, written: &WrittenColumn) -> Result<Option<Output>, AllocError>
@@ -72,13 +74,37 @@ fn rules_of(alloc: Global, written: &[WrittenRule]) -> Result<Option<Vec<Rule>>,
     Ok(Some(rules))
 }
 
-/// The table of these parts, if it is not refused.
-fn made(hit: &str, inputs: Vec<Expr>, outputs: Vec<Output>, rules: Vec<Rule>) -> Reading<Table>
-    ensures { result ≡ made_table hit.now inputs.items (map column_view outputs.items) (map rule_view rules.items) }
+/// Whether each output column has a name of its own. The steps are in proportion to how many columns there are, times the
+/// logarithm of that.
+fn names_are_distinct(alloc: Global, columns: &[Output]) -> Result<bool, AllocError>
+    ensures { IfOk result (λ b. b ≡ are_distinct (names_of columns.now)) }
 {
-    match Table::new(hit, inputs, outputs, rules) {
-        Ok(table) => Reading::Found(table),
-        Err(_) => Reading::Refused,
+    let mut seen = BTreeSet::new(alloc);
+    for column in columns {
+        let is_new = seen.insert(column.name.as_str())?;
+        if !is_new {
+            return Ok(false);
+        }
+    }
+    Ok(true)
+}
+
+/// The table of these parts, if it is not refused.
+fn made(
+    alloc: Global,
+    hit: &str,
+    inputs: Vec<Expr>,
+    outputs: Vec<Output>,
+    rules: Vec<Rule>,
+) -> Result<Reading<Table>, AllocError>
+    ensures { IfOk result (λ r. r ≡ made_table hit.now inputs.items (map column_view outputs.items) (map rule_view rules.items)) }
+{
+    if !names_are_distinct(alloc, &outputs)? {
+        return Ok(Reading::Refused);
+    }
+    match Table::with_distinct_names(hit, inputs, outputs, rules) {
+        Ok(table) => Ok(Reading::Found(table)),
+        Err(_) => Ok(Reading::Refused),
     }
 }
 
@@ -95,5 +121,6 @@ pub(crate) fn table_of(alloc: Global, written: &WrittenTable) -> Result<Reading<
     let Some(rules) = rules_of(alloc, &written.rules)? else {
         return Ok(Reading::Unread);
     };
-    Ok(made(written.hit.as_str(), inputs, outputs, rules))
+    let table = made(alloc, written.hit.as_str(), inputs, outputs, rules)?;
+    Ok(table)
 }

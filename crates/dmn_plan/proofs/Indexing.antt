@@ -1,6 +1,6 @@
 -- Plans that are put into a map under their names, one after another.
 use Rattle.std.proofs.Common.{◌≡◌, ℕ, List, [], ◌∷◌, Option, Some, None, is_some, refl, sym, ap, subst, ◌∙◌, Bool, true, false, if◌then◌else◌, String, Global, string_bytes, cond, ◌≤◌, arith}
-use Rattle.std.specs.Prelude.{bytes_eq, Result, Ok, Err, IsUtf8, nat_le}
+use Rattle.std.specs.Prelude.{bytes_eq, Result, Ok, Err, is_ok, IsUtf8, nat_le}
 use Rattle.std.proofs.lemmas.Bool.Decides.{nat_tests}
 use Rattle.std.specs.BTreeMap.{BTreeMap, get_by_text, Updates}
 use Rattle.std.specs.String.{string_cmp}
@@ -72,6 +72,11 @@ pub indexed : (r : Result (Model Expr Table) ModelFault) (items : List Item) (pl
     → IsPlanned r items plans → ((n : Name) → get_by_text found n ≡ plan_named plans n) → IsIndexed r items found
 indexed (Ok m) items plans found h e = λ n. subst (λ o. IsPlanAt m items (service_named m.services n) o) (sym (e n)) (plan_at m items n m.services plans h)
 indexed (Err f) items plans found h e = absurd h
+
+-- what has plans is a model
+pub planned_is_model : (r : Result (Model Expr Table) ModelFault) (items : List Item) (plans : List ServicePlan) → IsPlanned r items plans → is_ok r ≡ true
+planned_is_model (Ok m) items plans h = refl
+planned_is_model (Err f) items plans h = absurd h
 
 -- ---- the model of a text
 

@@ -10,3 +10,6 @@ mod Asked
 mod Sameness
 mod Requested
 mod Alike
+mod Rising
+mod Floats
+pub mod Decided

@@ -20,6 +20,4 @@ pub use task::Task;
 #[cfg(test)]
 mod services_tests;
 #[cfg(test)]
-mod task_tests;
-#[cfg(test)]
 mod tests;

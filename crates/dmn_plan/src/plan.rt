@@ -36,11 +36,11 @@ impl Model for Plan {
 }
 
 impl Plan {
-    ghost use Rattle.std.specs.Prelude.{◌≡◌, Some, false, IfOk, IfErr, IsUtf8};
+    ghost use Rattle.std.specs.Prelude.{◌≡◌, Some, true, is_ok, option_map, IfOk, IfErr, IsUtf8};
     ghost use Rattle.serde_json.specs.Data.{Data};
     ghost use Rattle.serde_json.specs.Read.{read};
     ghost use Rattle.serde_json.specs.View.{view};
-    ghost use Rattle.serde_json.specs.Written.{has_float, compact_text};
+    ghost use Rattle.serde_json.specs.Written.{compact_text};
     ghost use Rattle.dmn_plan.specs.Due.{IsDue, IsReadDue, IsTaskDue};
     ghost use Rattle.dmn_plan.specs.ReadModel.{read_model, read_text};
     ghost use Rattle.dmn_plan.specs.Request.{TakesValues, request_of, request_result};
@@ -51,7 +51,8 @@ impl Plan {
     pub fn of(alloc: Global, json: &serde_json::Value) -> Result<Plan, ModelFault>
         ensures same { IfOk result (λ p. read p ≡ Some (view json.now)) }
         ensures model { IfOk result (λ p. read_text p ≡ read_model (view json.now)) }
-        ensures compact { IfOk result (λ p. has_float (view json.now) ≡ false → p ≡ compact_text (view json.now)) }
+        ensures read { IfOk result (λ _. is_ok (read_model (view json.now)) ≡ true) }
+        ensures compact { IfOk result (λ p. p ≡ compact_text (view json.now)) }
         ensures err { IfErr result (IsDue (read_model (view json.now))) }
     {
         let Some(model) = read_form(alloc, json)? else {
@@ -72,6 +73,8 @@ impl Plan {
         ensures utf8 { IfOk result (λ _. IsUtf8 text.now) }
         ensures same { IfOk result (λ p. read p ≡ read text.now) }
         ensures model { IfOk result (λ p. read_text p ≡ read_text text.now) }
+        ensures read { IfOk result (λ _. is_ok (read_text text.now) ≡ true) }
+        ensures compact { IfOk result (λ p. option_map compact_text (read text.now) ≡ Some p) }
         ensures err { IfErr result (IsReadDue text.now) }
     {
         let json = value_of(alloc, text)?;

@@ -1,52 +1,74 @@
-//! Models with a fault.
-use crate::{ModelFault, Plan};
-use std::alloc::{AllocError, Global};
+//! Models and requests from their JSON texts to faults and outcomes.
+mod faults;
+mod graphs;
+mod outcomes;
+mod refused;
+mod works;
 
-/// The fault of a text of a model.
-fn fault_of(alloc: Global, text: &str) -> Option<ModelFault> {
-    match Plan::read(alloc, text.as_bytes()) {
-        Ok(_) => None,
-        Err(fault) => Some(fault),
+use crate::{Plan, Task, TaskFault};
+use box_core::Work;
+use feel_value::Outcome;
+use std::alloc::{AllocError, Global};
+use std::sync::Arc;
+use std::test::Fail;
+
+/// A decision that needs the input `a`.
+const DECISION: &str = r#"{"name":"d","needs":["a"],"expr":"a + 1"}"#;
+
+/// A service with that decision.
+const SERVICE: &str =
+    r#"{"name":"s","outputs":["d"],"encapsulated":[],"inputDecisions":[],"inputData":["a"]}"#;
+
+/// Four decisions, of which one is needed by two, and two services; the second takes a decision's value from the caller.
+const SHARED: &str = r#"{"inputs":["a"],"decisions":[
+{"name":"D","needs":["a"],"expr":"a"},
+{"name":"B","needs":["D"],"expr":"D * 4611686018427387904"},
+{"name":"C","needs":["D"],"expr":"D + 1"},
+{"name":"A","needs":["B","C"],"expr":"B + C"}],"services":[
+{"name":"s1","outputs":["A","B"],"encapsulated":["C","D"],"inputDecisions":[],"inputData":["a"]},
+{"name":"s2","outputs":["A"],"encapsulated":["C","D"],"inputDecisions":["B"],"inputData":["a"]}]}"#;
+
+/// The text of a model with these inputs, decisions and services.
+fn model(
+    alloc: Global,
+    inputs: &str,
+    decisions: &str,
+    services: &str,
+) -> Result<String, AllocError> {
+    format!(in alloc;
+        "{{\"inputs\":[{inputs}],\"decisions\":[{decisions}],\"services\":[{services}]}}"
+    )
+}
+
+/// The plan of a text that is one.
+fn plan(alloc: Global, text: &str) -> Result<Arc<Plan>, Fail> {
+    let plan = Plan::read(alloc, text.as_bytes())?;
+    Ok(Arc::new(alloc, plan)?)
+}
+
+/// The task of a service of the model of a text, with inputs that it takes.
+fn task(alloc: Global, text: &str, service: &str, inputs: &str) -> Result<Task, Fail> {
+    let inputs = serde_json::Value::from_str(alloc, inputs)?;
+    let task = Task::new(alloc, plan(alloc, text)?, service, &inputs)?;
+    Ok(task)
+}
+
+/// An outcome as JSON text, or `limit`.
+fn shown(alloc: Global, outcome: Outcome) -> Result<String, AllocError> {
+    match outcome {
+        Outcome::Is(value) => value.to_json(alloc)?.to_string(alloc),
+        Outcome::Limit => String::from_str(alloc, "limit"),
     }
 }
 
-#[test]
-fn bytes_that_are_no_json_are_no_model(rt: HostRuntime) -> Result<(), AllocError> {
-    let alloc = rt.alloc();
-    assert!(rt; fault_of(alloc, "{") == Some(ModelFault::Syntax));
-    assert!(rt; fault_of(alloc, "{}") == Some(ModelFault::Shape));
-    Ok(())
-}
-
-#[test]
-fn names_are_lawful_and_stand_once(rt: HostRuntime) -> Result<(), AllocError> {
-    let alloc = rt.alloc();
-    let unlawful = "{\"inputs\":[\"1\",\"1\"],\"decisions\":[],\"services\":[]}";
-    assert!(rt; fault_of(alloc, unlawful) == Some(ModelFault::Name));
-    let twice = "{\"inputs\":[\"a\",\"a\"],\"decisions\":[],\"services\":[]}";
-    assert!(rt; fault_of(alloc, twice) == Some(ModelFault::Twice));
-    Ok(())
-}
-
-#[test]
-fn a_text_without_a_reading_is_told_before_an_unknown_need(
-    rt: HostRuntime,
-) -> Result<(), AllocError> {
-    let alloc = rt.alloc();
-    let unread =
-        "{\"inputs\":[],\"decisions\":[{\"name\":\"d\",\"needs\":[\"a\"],\"expr\":\"1 +\"}],\"services\":[]}";
-    assert!(rt; fault_of(alloc, unread) == Some(ModelFault::Expression));
-    let unknown =
-        "{\"inputs\":[],\"decisions\":[{\"name\":\"d\",\"needs\":[\"a\"],\"expr\":\"1\"}],\"services\":[]}";
-    assert!(rt; fault_of(alloc, unknown) == Some(ModelFault::Unknown));
-    Ok(())
-}
-
-#[test]
-fn a_table_has_an_output(rt: HostRuntime) -> Result<(), AllocError> {
-    let alloc = rt.alloc();
-    let refused =
-        "{\"inputs\":[],\"decisions\":[{\"name\":\"d\",\"needs\":[],\"expr\":{\"table\":{\"hit\":\"U\",\"inputs\":[],\"outputs\":[],\"rules\":[]}}}],\"services\":[]}";
-    assert!(rt; fault_of(alloc, refused) == Some(ModelFault::Table));
-    Ok(())
+/// What is told of a request: its outcome, or its fault.
+fn told(alloc: Global, text: &str, service: &str, inputs: &str) -> Result<String, Fail> {
+    let inputs = serde_json::Value::from_str(alloc, inputs)?;
+    let told = match Task::new(alloc, plan(alloc, text)?, service, &inputs) {
+        Ok(task) => shown(alloc, task.run(alloc)?)?,
+        Err(TaskFault::Service) => String::from_str(alloc, "Service")?,
+        Err(TaskFault::Value) => String::from_str(alloc, "Value")?,
+        Err(TaskFault::Memory) => String::from_str(alloc, "Memory")?,
+    };
+    Ok(told)
 }

@@ -1,12 +1,14 @@
 -- Distinct names, one output after another.
-use Rattle.std.proofs.Common.{◌≡◌, ℕ, ◌+◌, ◌<◌, List, ◌∷◌, sym, ◌∙◌, ap, Bool, true, false, not, map, ◌&&◌, length, drop, get_or, arith}
+use Rattle.std.proofs.Common.{◌≡◌, ℕ, ◌+◌, ◌<◌, List, ◌∷◌, refl, sym, ◌∙◌, ap, Bool, true, false, not, map, ◌&&◌, if◌then◌else◌, Option, Some, None, length, drop, get_or, arith}
 use Rattle.std.specs.Prelude.{bytes_eq, string_bytes, nat_lt, nat_eq}
 use Rattle.std.specs.List.{list_any, list_all}
 use Rattle.std.proofs.lemmas.List.{at_drop_more}
 use Rattle.dmn_table.specs.declared.table.Output.{Output}
 use Rattle.dmn_table.specs.Faults.{are_distinct}
 use Rattle.dmn_table.specs.declared.table.Rule.{Rule}
-use Rattle.dmn_table.specs.Faults.{columns_fit, fits_columns}
+use Rattle.dmn_table.specs.Faults.{columns_fit, fits_columns, operator_fits, fault_under}
+use Rattle.dmn_table.specs.declared.fault.TableFault.TheVariants.{Hit, Columns, Operator}
+use Rattle.dmn_table.specs.declared.hit_policy.HitPolicy.{HitPolicy}
 use Rattle.dmn_table.specs.Parts.{entry_counts}
 use Rattle.dmn_table.proofs.MappedTests.{list_any-map, list_all-map}
 use Rattle.std.proofs.lemmas.List.{length-map}
@@ -52,3 +54,20 @@ fit_by_rules inputs os rules r some distinct e =
     let lt : nat_lt 0 (length os) ≡ true = grind (arith, nat_tests) in
     let all : r ≡ list_all (fits_columns inputs (length os)) (entry_counts rules) = e ∙ sym (list_all-map (λ q. (length q.tests.items, length q.gives.items)) (fits_columns inputs (length os)) rules) in
     rw (n, lt, ← distinct) all
+
+-- the columns don't fit where a name stands twice
+unfit : (inputs : ℕ) (names : List (List ℕ)) (rules : List (ℕ × ℕ)) → are_distinct names ≡ false → columns_fit inputs names rules ≡ false
+unfit inputs names rules e = ap (λ b. nat_lt 0 (length names) && b && list_all (fits_columns inputs (length names)) rules) e ∙ and_none (nat_lt 0 (length names)) (list_all (fits_columns inputs (length names)) rules)
+  where
+    and_none : (a b : Bool) → (a && false && b) ≡ false
+    and_none true b = refl
+    and_none false b = refl
+
+-- where a name stands twice, the fault is that of the columns, unless the hit policy is none
+pub twice_columns : (o : Option HitPolicy) (p : HitPolicy) (inputs : ℕ) (names : List (List ℕ)) (rules : List (ℕ × ℕ)) → o ≡ Some p → are_distinct names ≡ false
+    → fault_under o inputs names rules ≡ Some Columns
+twice_columns o p inputs names rules is e =
+    ap (λ q. fault_under q inputs names rules) is ∙ ap (λ b. if not b then Some Columns else (if not (operator_fits p names) then Some Operator else None)) (unfit inputs names rules e)
+
+pub no_policy : (o : Option HitPolicy) (inputs : ℕ) (names : List (List ℕ)) (rules : List (ℕ × ℕ)) → o ≡ None → fault_under o inputs names rules ≡ Some Hit
+no_policy o inputs names rules is = ap (λ q. fault_under q inputs names rules) is

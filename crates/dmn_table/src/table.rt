@@ -1,4 +1,4 @@
-ghost use Rattle.std.specs.Prelude.{◌≡◌, IfOk, IfErr, string_bytes, bytes_eq, length};
+ghost use Rattle.std.specs.Prelude.{◌≡◌, true, IfOk, IfErr, string_bytes, bytes_eq, length};
 ghost use Rattle.std.specs.List.{list_all, list_any};
 ghost use Rattle.dmn_table.specs.Faults.{columns_fit as columns_fit_of, fits_columns, are_distinct};
 ghost use Rattle.dmn_table.specs.Parts.{names_of, entry_counts, fault_of_parts, MakesTable};
@@ -79,6 +79,26 @@ impl Table {
         ensures ok { IfOk result (MakesTable hit.now inputs.items outputs.items rules.items) }
         ensures err { IfErr result (λ f. fault_of_parts hit.now inputs.items outputs.items rules.items ≡ Some f) }
     {
+        if !names_are_distinct(&outputs) {
+            return match HitPolicy::from_text(hit) {
+                Some(_) => Err(TableFault::Columns),
+                None => Err(TableFault::Hit),
+            };
+        }
+        Table::with_distinct_names(hit, inputs, outputs, rules)
+    }
+
+    /// The same of output columns whose names are known to be distinct: they are not compared.
+    pub fn with_distinct_names(
+        hit: &str,
+        inputs: Vec<Expr>,
+        outputs: Vec<Output>,
+        rules: Vec<Rule>,
+    ) -> Result<Table, TableFault>
+        requires { are_distinct (names_of outputs.items) ≡ true }
+        ensures ok { IfOk result (MakesTable hit.now inputs.items outputs.items rules.items) }
+        ensures err { IfErr result (λ f. fault_of_parts hit.now inputs.items outputs.items rules.items ≡ Some f) }
+    {
         let Some(policy) = HitPolicy::from_text(hit) else {
             return Err(TableFault::Hit);
         };
@@ -97,13 +117,12 @@ impl Table {
     }
 }
 
+/// Whether there is an output column, and an entry for each column in each rule.
 fn columns_fit(inputs: usize, outputs: &[Output], rules: &[Rule]) -> bool
+    requires { are_distinct (names_of outputs.now) ≡ true }
     ensures { result ≡ columns_fit_of inputs (names_of outputs.now) (entry_counts rules.now) }
 {
     if outputs.is_empty() {
-        return false;
-    }
-    if !names_are_distinct(outputs) {
         return false;
     }
     rules_fit(inputs, outputs.len(), rules)

@@ -1,4 +1,8 @@
-use Rattle.dmn_logic.proofs.ReadingSteps.{made_found, made_refused}
+use Rattle.std.proofs.Common.{List, ◌∙◌, sym, ap}
+use Rattle.dmn_table.specs.declared.table.Output.{Output}
+use Rattle.dmn_table.specs.Faults.{are_distinct}
+use Rattle.dmn_table.specs.Parts.{names_of}
+use Rattle.dmn_logic.proofs.ReadingSteps.{made_found, made_refused, made_with_twice}
 use Rattle.dmn_logic.proofs.table.made.Goals as goal
 
 pub returns-in-Ok : goal.returns-in-Ok
@@ -6,3 +10,8 @@ returns-in-Ok c = made_found c.args.hit.now c.args.inputs.items c.args.outputs.i
 
 pub returns-in-Err : goal.returns-in-Err
 returns-in-Err c = made_refused c.args.hit.now c.args.inputs.items c.args.outputs.items c.args.rules.items c.in-Err.field-0 c.in-Err.ensures.err
+
+pub returns-then-not-branch : goal.returns-then-not-branch
+returns-then-not-branch c =
+    made_with_twice c.args.hit.now c.args.inputs.items c.args.outputs.items c.args.rules.items
+    (ap (λ (os : List Output). are_distinct (names_of os)) (sym c.deref.ensures.value) ∙ sym c.in_ok-names_are_distinct.ensures ∙ c.if-not-branch.true)

@@ -1,6 +1,8 @@
-use Rattle.std.proofs.Common.{◌∙◌, sym, Some}
+use Rattle.std.proofs.Common.{◌∙◌, sym, ap, Some, option_map}
+use Rattle.std.specs.Prelude.{is_ok}
 use Rattle.std.proofs.lemmas.Result.{err_from_is_err_and}
 use Rattle.serde_json.specs.View.{view}
+use Rattle.serde_json.specs.Written.{compact_text}
 use Rattle.dmn_plan.proofs.Indexing.{model_of_text, due_of_text}
 use Rattle.dmn_plan.proofs.plan.Plan.read.Goals as goal
 
@@ -12,3 +14,11 @@ returns-in_err-plan-clause-err c =
 pub returns-clause-model : goal.returns-clause-model
 returns-clause-model c =
     c.in_ok-plan.ensures.model ∙ sym (model_of_text c.args.text.now (Some (view c.in_ok-json.json)) c.in_ok-json.ensures.value)
+
+pub returns-clause-read : goal.returns-clause-read
+returns-clause-read c =
+    ap is_ok (model_of_text c.args.text.now (Some (view c.in_ok-json.json)) c.in_ok-json.ensures.value) ∙ c.in_ok-plan.ensures.read
+
+pub returns-clause-compact : goal.returns-clause-compact
+returns-clause-compact c =
+    ap (option_map compact_text) c.in_ok-json.ensures.value ∙ ap Some (sym c.in_ok-plan.ensures.compact)

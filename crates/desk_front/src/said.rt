@@ -1,0 +1,158 @@
+//! What is said of a line.
+ghost use Rattle.std.specs.Prelude.{◌≡◌, IfOk, false};
+ghost use Rattle.serde_json.specs.View.{view};
+ghost use Rattle.serde_json.specs.Written.{has_float};
+ghost use Rattle.box_core.specs.Views.{report_of};
+ghost use Rattle.desk_front.specs.Line.{Says};
+ghost use Rattle.desk_front.specs.Words as words;
+ghost use Rattle.desk_front.specs.Said as said;
+ghost use Rattle.desk_front.specs.Desk.{told_of};
+ghost use Rattle.desk_front.specs.LineView.{line_view};
+
+use crate::effect::{Effect, LineRefusal};
+use crate::line::Line;
+use crate::report;
+use box_core::{AddRefusal, Refusal, Report};
+use dmn_plan::{ModelFault, Task};
+use serde_json::Value;
+use std::alloc::{AllocError, Global};
+
+fn refusal_word(why: Refusal) -> &'static str
+    ensures { result.now ≡ words.refusal_word why }
+{
+    match why {
+        Refusal::NoClient => "no client",
+        Refusal::Closed => "closed",
+        Refusal::Full => "full",
+        Refusal::Spent => "spent",
+        Refusal::NotWaiting => "not waiting",
+        Refusal::Capacity => "capacity",
+        Refusal::Small => "small",
+        Refusal::Memory => "memory",
+    }
+}
+
+fn unadded_word(why: AddRefusal) -> &'static str
+    ensures { result.now ≡ words.unadded_word why }
+{
+    match why {
+        AddRefusal::Capacity => "capacity",
+        AddRefusal::Many => "clients",
+        AddRefusal::Memory => "memory",
+    }
+}
+
+fn model_word(fault: ModelFault) -> &'static str
+    ensures { result.now ≡ words.fault_name fault }
+{
+    match fault {
+        ModelFault::Syntax => "syntax",
+        ModelFault::Shape => "shape",
+        ModelFault::Name => "name",
+        ModelFault::Twice => "twice",
+        ModelFault::Expression => "expression",
+        ModelFault::Table => "table",
+        ModelFault::Unknown => "unknown",
+        ModelFault::Cycle => "cycle",
+        ModelFault::Service => "service",
+        ModelFault::Large => "large",
+        ModelFault::Memory => "memory",
+    }
+}
+
+/// The name on a line; a model line has none.
+fn name_on<'a>(line: &Line<'a>) -> &'a str
+    ensures { result.now ≡ said.name_on (line_view line.now) }
+{
+    match line {
+        Line::Model(_) => "",
+        Line::Open(name, _) => name,
+        Line::Submit(name, _, _) => name,
+        Line::Take(name, _) => name,
+        Line::Answer(name, _) => name,
+        Line::AnswerWith(name, _, _, _) => name,
+        Line::Release(name) => name,
+        Line::Close(name) => name,
+        Line::Resize(name, _) => name,
+    }
+}
+
+/// The capacity that a line opens a name with.
+fn capacity_on(line: &Line<'_>) -> u32
+    ensures { result ≡ said.capacity_on (line_view line.now) }
+{
+    match line {
+        Line::Open(_, capacity) => *capacity,
+        _ => 0,
+    }
+}
+
+/// The ticket that a line answers.
+fn ticket_on(line: &Line<'_>) -> u64
+    ensures { result ≡ said.ticket_on (line_view line.now) }
+{
+    match line {
+        Line::Answer(_, ticket) => *ticket,
+        Line::AnswerWith(_, ticket, _, _) => *ticket,
+        _ => 0,
+    }
+}
+
+fn refused(
+    alloc: Global,
+    number: u64,
+    line: &Line<'_>,
+    why: LineRefusal,
+) -> Result<Value, AllocError>
+    ensures plain { IfOk result (λ v. has_float (view v) ≡ false) }
+    ensures value { IfOk result (λ v. view v ≡ said.refused (Says (line_view line.now)) number (words.line_word why)) }
+{
+    match line {
+        Line::Model(_) => report::refused_line(alloc, number, why.word()),
+        _ => report::refused(alloc, name_on(line), number, why.word()),
+    }
+}
+
+fn reported(
+    alloc: Global,
+    number: u64,
+    line: &Line<'_>,
+    told: &Report<Task>,
+) -> Result<Value, AllocError>
+    ensures plain { IfOk result (λ v. has_float (view v) ≡ false) }
+    ensures value { IfOk result (λ v. view v ≡ said.reported number (line_view line.now) (report_of told.now)) }
+{
+    let name = name_on(line);
+    match told {
+        Report::Added(_) => report::opened(alloc, name, number, capacity_on(line)),
+        Report::NotAdded(why) => report::refused(alloc, name, number, unadded_word(*why)),
+        Report::Accepted(ticket) => report::accepted(alloc, name, number, *ticket),
+        Report::Taken(job) => report::taken(alloc, name, number, job.ticket()),
+        Report::Kept => report::kept(alloc, name, number, ticket_on(line)),
+        Report::Strange => report::refused(alloc, name, number, "strange"),
+        Report::Repeated => report::refused(alloc, name, number, "repeated"),
+        Report::Handed(reply) => report::handed(alloc, name, &reply.outcome, reply.ticket),
+        Report::Nothing => report::nothing(alloc, name, number),
+        Report::Closed => report::closed(alloc, name, number),
+        Report::Resized(capacity) => report::resized(alloc, name, number, *capacity),
+        Report::Refused(why) => report::refused(alloc, name, number, refusal_word(*why)),
+    }
+}
+
+/// The report on a line, by what became of it.
+pub fn said_of(
+    alloc: Global,
+    number: u64,
+    line: &Line<'_>,
+    effect: &Effect,
+) -> Result<Value, AllocError>
+    ensures plain { IfOk result (λ v. has_float (view v) ≡ false) }
+    ensures value { IfOk result (λ v. view v ≡ told_of number (line_view line.now) effect.now) }
+{
+    match effect {
+        Effect::Loaded => report::loaded(alloc, number),
+        Effect::Faulty(fault) => report::faulty(alloc, number, model_word(*fault)),
+        Effect::Reported(told) => reported(alloc, number, line, told),
+        Effect::Refused(why) => refused(alloc, number, line, *why),
+    }
+}

@@ -1,0 +1,14 @@
+pub mod Carried
+pub mod Serving
+pub mod Mails
+pub mod Accounting
+pub mod Once
+pub mod Crossing
+pub mod Joining
+pub mod Settlement
+pub mod Taking
+pub mod Lane
+pub mod Replies
+pub mod Making
+pub mod Columns
+pub mod Ringing

@@ -1,0 +1,31 @@
+use Rattle.std.proofs.Common.{◌≡◌, ◌∷◌, [], ◌++◌, ◌+◌, ◌<◌, map, length, refl, sym, ap, ◌∙◌, subst, arith, rules}
+use Rattle.lanes.specs.Links.{empties, AreOfOneCall}
+use Rattle.lanes.specs.Made.{AreNew}
+use Rattle.lanes.specs.Clients.{client_links}
+use Rattle.lanes.specs.Workers.{ports_of, worker_links}
+use Rattle.lanes.proofs.Crossing.{none, one_call_none}
+use Rattle.lanes.proofs.Making.{few_lanes, lanes_more, new_none, new_more, worker_links_none, idle_none, map_length}
+use Rattle.lanes.proofs.open.open_all.Goals as goal
+
+pub loop-init : goal.loop-init
+loop-init g c =
+    let made = c.in_ok-crew.ensures in let crew = c.in_ok-crew.crew.items in
+    let links = worker_links_none crew c.args.workers made.empty in
+    let many : c.args.workers ≡ length (map worker_links crew) = (let n = map_length worker_links crew in omega (arith, n, made.len, c.in_ok-crew.crew.ok.0)) in
+    record {
+      count = search rules;
+      one_call = subst (λ l. AreOfOneCall (map client_links l) (map worker_links crew)) (sym c.new-ends.ensures.items) (one_call_none (map worker_links crew) (links ∙ ap (λ n. empties n) many));
+      new = (subst (λ l. AreNew c.args.capacity l) (sym c.new-ends.ensures.items) (new_none c.args.capacity), idle_none crew c.args.workers made.empty);
+    }
+
+pub open_lane-requires-clause-few : goal.open_lane-requires-clause-few
+open_lane-requires-clause-few g c = few_lanes c.loop.ends.items c.loop.crew.items c.loop.invariant.one_call (omega (arith, c.loop.invariant.count.0, c.loop-test.true, c.requires.0, c.loop.ends.ok.0))
+
+pub loop-preserved : goal.loop-preserved
+loop-preserved g c =
+    let inv = c.loop.invariant in let opened = c.in_ok-client.ensures in let pushed = c.in_ok-push.ensures in
+    record {
+      count = search rules;
+      one_call = lanes_more c.loop.ends.items c.push.new.self.items c.loop.crew.items c.open_lane.new.crew.items c.in_ok-client.client inv.one_call pushed.items (let n = opened.links.0 in omega (arith, n, c.loop.crew.ok.0)) opened.links.1;
+      new = (new_more c.args.capacity c.loop.ends.items c.push.new.self.items c.in_ok-client.client inv.new.0 pushed.items opened.new, opened.idle inv.new.1);
+    }

@@ -1,0 +1,14 @@
+pub mod Accounts
+pub mod Books
+pub mod Clients
+pub mod Held
+pub mod Joined
+pub mod Links
+pub mod Made
+pub mod Polls
+pub mod Ports
+pub mod Rest
+pub mod Rooms
+pub mod Settling
+pub mod Steps
+pub mod Workers

@@ -1,0 +1,25 @@
+//! Lanes between clients and workers: each client submits requests to a lane of its own, any worker takes them, and
+//! each client is handed the results in order. No call of an end waits for another thread.
+#![tactic(auto)]
+
+mod book;
+mod client;
+mod ending;
+mod fault;
+mod gate;
+mod open;
+mod port;
+mod settled;
+mod settling;
+mod worker;
+
+pub use client::Client;
+pub use fault::LaneFault;
+pub use gate::{Gate, OpenGate, Stepped};
+pub use open::lanes;
+pub use settled::Settled;
+pub use settling::settle;
+pub use worker::Worker;
+
+#[cfg(test)]
+mod tests;

@@ -1,0 +1,103 @@
+//! What one worker has of one lane.
+ghost use Rattle.std.specs.Prelude.{◌≡◌, ◌++◌, MatchResult};
+ghost use Rattle.crossbeam_deque.specs.Handles.{view, IsPassOf, stealer_deque};
+ghost use Rattle.rtrb.specs.Ring.{sent};
+ghost use Rattle.lanes.specs.Books.{ticket_of, Rises, Rises-prop};
+ghost use Rattle.lanes.specs.Held.{held_in};
+
+use crate::book::{Seat, Steals, Thief};
+use crate::gate::{Gate, Stepped};
+use box_core::{Done, Job, Work};
+use crossbeam_deque::Steal;
+use rtrb::{Producer, PushError};
+use std::alloc::Global;
+use std::mem;
+
+/// What a worker has yet to do for a lane.
+#[derive(Drop)]
+pub enum Held<W: Work> {
+    Nothing,
+    Job(Job<W>),
+    Done(Done<W>),
+}
+
+/// It steals the lane's jobs, and sends their answers.
+#[derive(Drop)]
+pub struct Port<W: Work> {
+    pub(crate) thief: Thief<W>,
+    pub(crate) seat: Seat<W>,
+    pub(crate) sender: Producer<Done<W>>,
+    pub(crate) held: Held<W>,
+    ghost seated: { IsPassOf (stealer_deque thief) seat },
+    ghost live: { (view seat).live ≡ 1 },
+    ghost rises: { Rises ticket_of (view seat).taken } by { Rises-prop ticket_of (view seat).taken },
+    ghost carried: { sent sender ++ held_in held ≡ (view seat).taken },
+}
+
+impl<W: Work> Port<W> {
+    ghost use Rattle.std.specs.Prelude.{◌≡◌, ◌+◌, [], ◌++◌, length};
+    ghost use Rattle.crossbeam_deque.specs.Steals.{MatchSteal};
+    ghost use Rattle.lanes.specs.Held.{HoldsJob};
+    ghost use Rattle.lanes.specs.Ports.{taken_at, sent_at, held_at, SamePort, SameBooks, Finishes};
+
+    /// Steals the oldest job that waits, and holds it.
+    pub(crate) fn steal(&mut self) -> Steal<()>
+        requires { held_at self.old ≡ [] }
+        ensures same { SamePort self.old self.new × (sent_at self.new ≡ sent_at self.old) }
+        ensures taken { MatchSteal result (SameBooks self.old self.new) (SameBooks self.old self.new) (λ _. HoldsJob self.new.held × (taken_at self.new ≡ taken_at self.old ++ held_at self.new)) }
+    {
+        match self.thief.steal_as::<Steals>(&mut self.seat) {
+            Steal::Success(job) => {
+                self.held = Held::Job(job);
+                Steal::Success(())
+            }
+            Steal::Empty => Steal::Empty,
+            Steal::Retry => Steal::Retry,
+        }
+    }
+
+    /// Runs the job that is held, and sends its answer. What cannot be done is held still.
+    pub(crate) fn finish<G: Gate>(&mut self, alloc: Global, gate: &G, lane: u32) -> Stepped
+        ensures same { SamePort self.old self.new × (taken_at self.new ≡ taken_at self.old) }
+        ensures finishes { Finishes self.old result self.new }
+    {
+        let done = match mem::replace(&mut self.held, Held::Nothing) {
+            Held::Nothing => return Stepped::Idle,
+            Held::Done(done) => done,
+            Held::Job(job) => match run_gated(job, alloc, gate, lane) {
+                Ok(done) => done,
+                Err(job) => {
+                    self.held = Held::Job(job);
+                    return Stepped::NoMemory;
+                }
+            },
+        };
+        match self.sender.push(done) {
+            Ok(()) => Stepped::Answered,
+            Err(PushError::Full(done)) => {
+                self.held = Held::Done(done);
+                Stepped::RingFull
+            }
+        }
+    }
+}
+
+// Runs a job between the two calls of the gate.
+fn run_gated<W: Work, G: Gate>(
+    job: Job<W>,
+    alloc: Global,
+    gate: &G,
+    lane: u32,
+) -> Result<Done<W>, Job<W>>
+    ensures { MatchResult result (λ done. done ≡ job) (λ back. back ≡ job) }
+{
+    let ticket = job.ticket();
+    gate.enter(lane, ticket);
+    match job.run(alloc) {
+        Ok(done) => {
+            gate.leave(lane, ticket);
+            Ok(done)
+        }
+        Err((_, job)) => Err(job),
+    }
+}

@@ -1,0 +1,122 @@
+ghost use Rattle.std.specs.Prelude.{◌≡◌, ◌<◌, ◌≤◌, vec_len, length, sum_by};
+ghost use Rattle.lanes.specs.Ports.{held_at};
+
+use crate::gate::{Gate, Stepped};
+use crate::port::{Held, Port};
+use box_core::Work;
+use crossbeam_deque::Steal;
+use std::alloc::{AllocError, Global};
+
+/// A worker's end of every lane: it takes jobs, runs them, and sends their answers.
+///
+/// It belongs to one thread. No call of it waits for another thread.
+#[derive(Drop)]
+pub struct Worker<W: Work> {
+    alloc: Global,
+    pub(crate) ports: Vec<Port<W>>,
+    ghost few: { vec_len ports ≤ 64 },
+    // It holds at most one job or answer.
+    ghost one: { sum_by (λ p. length (held_at p)) ports.items ≤ 1 },
+}
+
+impl<W: Work> Worker<W> {
+    ghost use Rattle.std.specs.Prelude.{◌≡◌, ◌<◌, ◌++◌, [], ◌∷◌, vec_len, IfOk, IfSome, IfNone};
+    ghost use Rattle.lanes.specs.Ports.{held_at};
+    ghost use Rattle.lanes.specs.Steps.{Steps};
+    ghost use Rattle.lanes.specs.Workers.{worker_links, ports_of};
+
+    // A worker without a lane.
+    pub(crate) fn without_lanes(alloc: Global) -> Worker<W>
+        ensures { ports_of result ≡ [] }
+    {
+        Worker {
+            alloc,
+            ports: Vec::new(alloc),
+        }
+    }
+
+    // One lane more.
+    pub(crate) fn add(&mut self, port: Port<W>) -> Result<(), AllocError>
+        requires few { vec_len self.old.ports < 64 }
+        requires free { held_at port ≡ [] }
+        ensures { IfOk result (λ _. ports_of self.new ≡ ports_of self.old ++ port ∷ []) }
+    {
+        self.ports.push(port)?;
+        Ok(())
+    }
+
+    // The last lane, out of the others.
+    pub(crate) fn remove(&mut self) -> Option<Port<W>>
+        ensures some { IfSome result (λ port. ports_of self.old ≡ ports_of self.new ++ port ∷ []) }
+        ensures none { IfNone result ((ports_of self.old ≡ []) × (ports_of self.new ≡ [])) }
+    {
+        self.ports.pop()
+    }
+
+    /// Does one step: what the worker holds is tried first, and is then the whole step. Otherwise it takes the oldest
+    /// job of some lane, where one waits, runs it, and posts the answer. A step that finds nothing looks at each lane
+    /// once and takes no memory.
+    pub fn step<G: Gate>(&mut self, gate: &G) -> Stepped
+        ensures same { worker_links self.new ≡ worker_links self.old }
+        ensures steps { Steps (ports_of self.old) result (ports_of self.new) }
+    {
+        let alloc = self.alloc;
+        match first_held(&self.ports) {
+            Some(lane) => finish_held(&mut self.ports, alloc, gate, lane),
+            None => look(&mut self.ports, alloc, gate),
+        }
+    }
+}
+
+ghost use Rattle.std.specs.Prelude.{◌≢◌, [], ℕ, All, IfSome, IfNone, slice_index_or};
+ghost use Rattle.lanes.specs.Steps.{HoldNothing, Holds, Unchanged, Serves, ServesOne, Steps};
+
+// The lane for which something is held.
+fn first_held<W: Work>(ports: &Vec<Port<W>>) -> Option<usize>
+    requires few { vec_len ports.now ≤ 64 }
+    ensures found { IfSome result (λ lane. (lane < vec_len ports.now) × Holds ports.now.items lane) }
+    ensures none { IfNone result (HoldNothing ports.now.items) }
+{
+    for lane in 0..ports.len() {
+        match ports[lane].held {
+            Held::Nothing => {}
+            _ => return Some(lane),
+        }
+    }
+    None
+}
+
+// Tries what is held again.
+fn finish_held<W: Work, G: Gate>(
+    ports: &mut Vec<Port<W>>,
+    alloc: Global,
+    gate: &G,
+    lane: usize,
+) -> Stepped
+    requires lane { lane < vec_len ports.old }
+    requires held { Holds ports.old.items lane }
+    requires few { vec_len ports.old ≤ 64 }
+    requires one { sum_by (λ p. length (held_at p)) ports.old.items ≤ 1 }
+    ensures { Steps ports.old.items result ports.new.items }
+{
+    let port = &mut ports[lane];
+    port.finish(alloc, gate, lane as u32)
+}
+
+// Takes a job of some lane where one waits, and runs it.
+pub(crate) fn look<W: Work, G: Gate>(ports: &mut Vec<Port<W>>, alloc: Global, gate: &G) -> Stepped
+    requires nothing { HoldNothing ports.old.items }
+    requires few { vec_len ports.old ≤ 64 }
+    ensures { Steps ports.old.items result ports.new.items }
+{
+    let mut again = false;
+    for lane in 0..ports.len() {
+        let port = &mut ports[lane];
+        match port.steal() {
+            Steal::Success(()) => return port.finish(alloc, gate, lane as u32),
+            Steal::Retry => again = true,
+            Steal::Empty => {}
+        }
+    }
+    if again { Stepped::Again } else { Stepped::Idle }
+}
