@@ -17,10 +17,3 @@ mod write;
 pub use device::{Counted, Sink, Source};
 pub use fault::FrontFault;
 pub use session::replay;
-
-#[cfg(test)]
-mod device_tests;
-#[cfg(test)]
-mod line_tests;
-#[cfg(test)]
-mod refused_tests;

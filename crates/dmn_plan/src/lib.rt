@@ -16,8 +16,3 @@ mod values;
 pub use fault::{ModelFault, TaskFault};
 pub use plan::Plan;
 pub use task::Task;
-
-#[cfg(test)]
-mod services_tests;
-#[cfg(test)]
-mod tests;

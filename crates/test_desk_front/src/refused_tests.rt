@@ -1,5 +1,5 @@
 //! Runs in which a request for memory is refused, whichever it is.
-use crate::{Counted, FrontFault, replay};
+use desk_front::{Counted, FrontFault, replay};
 use std::alloc::Global;
 use std::io;
 use std::test::Fail;

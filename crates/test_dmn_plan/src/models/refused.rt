@@ -3,8 +3,8 @@
 //! shows the rest: past the requests of the set-up a test then ends well with "refused: true", once for each request of its call,
 //! and later with "refused: false".
 use super::{SHARED, plan, shown, task};
-use crate::{ModelFault, Plan, Task, TaskFault};
 use box_core::Work;
+use dmn_plan::{ModelFault, Plan, Task, TaskFault};
 use serde_json::Value;
 use std::alloc::{AllocError, Global};
 use std::sync::Arc;

@@ -1,5 +1,5 @@
 //! What expressions give, as texts that are read and evaluated.
-use crate::{Env, eval, read_expr};
+use feel_lang::{Env, eval, read_expr};
 use feel_value::{Feel, Outcome, Value};
 use std::alloc::{AllocError, Global};
 use std::process::Abort;

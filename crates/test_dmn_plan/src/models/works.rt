@@ -1,7 +1,7 @@
 //! Tasks as works of a mailbox: which of them are one request.
 use super::{model, task};
-use crate::Task;
 use box_core::{Answered, Done, Mailbox, Work};
+use dmn_plan::Task;
 use std::alloc::{AllocError, Global};
 use std::sync::Arc;
 use std::test::Fail;

@@ -1,4 +1,4 @@
-use crate::{Counted, FrontFault, replay};
+use desk_front::{Counted, FrontFault, replay};
 use std::alloc::Global;
 use std::io;
 use std::test::Fail;

@@ -1,5 +1,5 @@
 //! Whole inputs with their answers, worked out by hand from the rules.
-use crate::{Counted, replay};
+use desk_front::{Counted, replay};
 use std::alloc::Global;
 use std::test::Fail;
 

@@ -1,5 +1,5 @@
 //! Calls whose requests for memory are refused. With ample memory each test prints that nothing was refused.
-use crate::{Env, Held, eval, holds, read_expr, read_tests};
+use feel_lang::{Env, Held, eval, holds, read_expr, read_tests};
 use feel_value::{Feel, Outcome, Value};
 use std::alloc::Global;
 use std::process::Abort;

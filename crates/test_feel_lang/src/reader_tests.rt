@@ -1,5 +1,5 @@
 //! What texts spell, and texts that look right and spell nothing.
-use crate::{ReadFault, is_name, read_expr, read_literal, read_tests};
+use feel_lang::{ReadFault, is_name, read_expr, read_literal, read_tests};
 use feel_value::{Feel, Value};
 use std::alloc::{AllocError, Global};
 use std::test::Fail;
@@ -23,20 +23,30 @@ fn around(
     Ok(whole)
 }
 
+/// A tree as it is shown, without the type that holds it.
+fn tree(alloc: Global, shown: &str, front: &str) -> Result<String, AllocError> {
+    let tree = shown
+        .strip_prefix(front)
+        .and_then(|rest| rest.strip_suffix(" }"));
+    String::from_str(alloc, tree.unwrap_or(shown))
+}
+
 /// The tree of the expression that a text spells, or why it isn't read.
 fn expression(alloc: Global, text: &str) -> Result<String, AllocError> {
-    match read_expr(alloc, text) {
-        Ok(expr) => format!(in alloc; "{:?}", expr.tree()),
-        Err(fault) => format!(in alloc; "{fault:?}"),
-    }
+    let shown = match read_expr(alloc, text) {
+        Ok(expr) => format!(in alloc; "{expr:?}")?,
+        Err(fault) => format!(in alloc; "{fault:?}")?,
+    };
+    tree(alloc, shown.as_str(), "Expr { tree: ")
 }
 
 /// The tree of the unary tests that a text spells, or why they aren't read.
 fn tests(alloc: Global, text: &str) -> Result<String, AllocError> {
-    match read_tests(alloc, text) {
-        Ok(tests) => format!(in alloc; "{:?}", tests.tree()),
-        Err(fault) => format!(in alloc; "{fault:?}"),
-    }
+    let shown = match read_tests(alloc, text) {
+        Ok(tests) => format!(in alloc; "{tests:?}")?,
+        Err(fault) => format!(in alloc; "{fault:?}")?,
+    };
+    tree(alloc, shown.as_str(), "Tests { tree: ")
 }
 
 /// Why a text isn't read as an expression.

@@ -1,6 +1,6 @@
 //! Models with a fault, and with two, of which the first is told.
 use super::{DECISION, SERVICE, model};
-use crate::{ModelFault, Plan};
+use dmn_plan::{ModelFault, Plan};
 use std::alloc::{AllocError, Global};
 use std::test::Fail;
 

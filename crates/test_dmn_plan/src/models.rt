@@ -5,8 +5,8 @@ mod outcomes;
 mod refused;
 mod works;
 
-use crate::{Plan, Task, TaskFault};
 use box_core::Work;
+use dmn_plan::{Plan, Task, TaskFault};
 use feel_value::Outcome;
 use std::alloc::{AllocError, Global};
 use std::sync::Arc;

@@ -1,5 +1,5 @@
 //! Bindings that hide one another.
-use crate::Env;
+use feel_lang::Env;
 use feel_value::{Feel, Value};
 use std::process::Abort;
 use std::test::Fail;

@@ -1,5 +1,5 @@
 //! Which values meet which unary tests.
-use crate::{Env, Held, holds, read_tests};
+use feel_lang::{Env, Held, holds, read_tests};
 use feel_value::{Feel, Value};
 use std::alloc::Global;
 use std::process::Abort;
