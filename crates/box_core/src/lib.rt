@@ -17,6 +17,3 @@ pub use job::Job;
 pub use mailbox::Mailbox;
 pub use standing::Standing;
 pub use work::{Done, Reply, Work};
-
-#[cfg(test)]
-mod tests;

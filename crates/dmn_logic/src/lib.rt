@@ -14,6 +14,3 @@ pub use decisions::read_decision_logic;
 pub use evaluation::evaluate;
 pub use fault::LogicFault;
 pub use logic::Logic;
-
-#[cfg(test)]
-mod tests;

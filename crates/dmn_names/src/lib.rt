@@ -13,6 +13,3 @@ pub use distinct::has_name_twice;
 pub use lawful::has_bad_name;
 pub use places::{Places, ServicePlaces};
 pub use size::{MOST_DECISIONS, is_large};
-
-#[cfg(test)]
-mod tests;

@@ -8,6 +8,3 @@ mod service;
 
 pub use plan::{Item, ServicePlan};
 pub use service::service_outcome;
-
-#[cfg(test)]
-mod tests;

@@ -15,6 +15,3 @@ mod table;
 pub use decision::decide;
 pub use fault::TableFault;
 pub use table::{Output, Rule, Table};
-
-#[cfg(test)]
-mod tests;

@@ -18,6 +18,3 @@ pub use feel::{Feel, Outcome};
 pub use logic::{Truth, and3, not3, or3};
 pub use reading::truth;
 pub use value::Value;
-
-#[cfg(test)]
-mod tests;

@@ -11,12 +11,31 @@ use std::sync::atomic::{AtomicU64, Ordering};
 use std::test::Fail;
 use std::thread::{self, Threads};
 
+mod refused;
+
 /// A request for a number. Its run counts itself, and is refused memory as often as it was told.
 #[derive(Drop)]
 struct Task {
     number: u64,
     refusals: AtomicU64,
     runs: Arc<AtomicU64>,
+}
+
+impl Task {
+    fn asking(
+        alloc: Global,
+        number: u64,
+        refusals: u64,
+        runs: &Arc<AtomicU64>,
+    ) -> Result<Arc<Task>, AllocError> {
+        let task = Task {
+            number,
+            refusals: AtomicU64::new(refusals),
+            runs: Arc::try_clone(runs)?,
+        };
+        let work = Arc::new(alloc, task)?;
+        Ok(work)
+    }
 }
 
 impl Work for Task {
@@ -79,12 +98,7 @@ fn submitted(
 ) -> Result<Seen, AllocError>
     ensures { map client_links clients.new.items ≡ map client_links clients.old.items }
 {
-    let task = Task {
-        number,
-        refusals: AtomicU64::new(refusals),
-        runs: Arc::try_clone(runs)?,
-    };
-    let work = Arc::new(alloc, task)?;
+    let work = Task::asking(alloc, number, refusals, runs)?;
     let Some(end) = clients.get_mut(client) else {
         return Ok(Seen::NoEnd);
     };
@@ -431,15 +445,17 @@ fn work_off_all<R: Threads + Sync>(rt: &R, workers: &mut [Worker<Task>])
     thread::for_each_mut(rt, workers, 8, &|_, worker| work_off(worker));
 }
 
-// Three clients put ten requests each, eight threads step until nothing waits, and all ends are settled.
+// Three clients put so many requests each, eight threads step until nothing waits, and all ends are settled.
 fn settled_after_threads<R: Threads + Sync>(
     rt: &R,
     alloc: Global,
     runs: &Arc<AtomicU64>,
+    capacity: u32,
+    requests: u64,
 ) -> Result<Vec<Settled<Task>>, AllocError> {
-    let (mut clients, mut workers) = ends_of(alloc, 3, 8, 16)?;
+    let (mut clients, mut workers) = ends_of(alloc, 3, 8, capacity)?;
     let mut calls = Vec::new(alloc);
-    for number in 0..10 {
+    for number in 0..requests {
         for client in 0..3 {
             calls.push(Call::Submit(client, number))?;
         }
@@ -452,20 +468,43 @@ fn settled_after_threads<R: Threads + Sync>(
     }
 }
 
+// Whether each end hands out the results of so many requests, once what is left has run.
+fn each_is_whole(
+    alloc: Global,
+    ends: &mut Vec<Settled<Task>>,
+    requests: u64,
+) -> Result<bool, AllocError> {
+    let mut due = Vec::new(alloc);
+    for number in 0..requests {
+        due.push(number)?;
+    }
+    let mut all_are = true;
+    for end in ends.iter_mut() {
+        run_left(alloc, end);
+        let outcomes = handed_out(alloc, end)?;
+        all_are = all_are && outcomes.as_slice() == due.as_slice() && end.is_whole();
+    }
+    Ok(all_are)
+}
+
 #[test]
 fn eight_threads_give_each_job_once(rt: HostRuntime) -> Result<(), Fail> {
     let alloc = rt.alloc();
     let runs = Arc::new(alloc, AtomicU64::new(0))?;
-    let mut ends = settled_after_threads(&rt, alloc, &runs)?;
-    for end in ends.iter_mut() {
-        run_left(alloc, end);
-        let outcomes = handed_out(alloc, end)?;
-        assert_eq!(rt;
-            outcomes.as_slice(),
-            [0, 1, 2, 3, 4, 5, 6, 7, 8, 9].as_slice()
-        );
-        assert!(rt; end.is_whole());
-    }
+    let mut ends = settled_after_threads(&rt, alloc, &runs, 16, 10)?;
+    assert!(rt; each_is_whole(alloc, &mut ends, 10)?);
     assert_eq!(rt; runs.load(Ordering::SeqCst), 30);
+    Ok(())
+}
+
+#[test]
+fn eight_threads_give_each_of_many_jobs_once(rt: HostRuntime) -> Result<(), Fail> {
+    let alloc = rt.alloc();
+    for _ in 0..20 {
+        let runs = Arc::new(alloc, AtomicU64::new(0))?;
+        let mut ends = settled_after_threads(&rt, alloc, &runs, 256, 200)?;
+        assert!(rt; each_is_whole(alloc, &mut ends, 200)?);
+        assert_eq!(rt; runs.load(Ordering::SeqCst), 600);
+    }
     Ok(())
 }

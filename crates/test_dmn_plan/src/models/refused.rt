@@ -88,9 +88,11 @@ fn calls_while_the_heap_is_full(rt: HostRuntime) -> Result<(), Fail> {
     let inputs = Value::from_str(alloc, r#"{"a":1}"#)?;
     let plan = plan(alloc, SHARED)?;
     let task = task(alloc, SHARED, "s1", r#"{"a":1}"#)?;
+    // The refused call drops its own share of the plan, so that nothing is given back to the heap.
+    let share = Arc::clone(&plan)?;
     let full = full_heap(alloc)?;
     let made = Plan::of(alloc, &json);
-    let other = Task::new(alloc, plan, "s1", &inputs);
+    let other = Task::new(alloc, share, "s1", &inputs);
     let outcome = task.run(alloc);
     drop(full);
     assert!(rt; matches!(made, Err(ModelFault::Memory)));

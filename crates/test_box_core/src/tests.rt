@@ -1,6 +1,8 @@
 ghost use Rattle.std.specs.Prelude.{◌≡◌, ℕ, ◌+◌};
 
-use crate::{AddRefusal, Answered, BoxFault, Broker, Done, Event, Mailbox, Refusal, Report, Work};
+use box_core::{
+    AddRefusal, Answered, BoxFault, Broker, Done, Event, Mailbox, Refusal, Report, Work,
+};
 use std::alloc::{AllocError, Global};
 use std::sync::Arc;
 use std::test::Fail;

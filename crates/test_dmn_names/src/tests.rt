@@ -1,5 +1,5 @@
-use crate::{MOST_DECISIONS, Places, has_bad_name, has_name_twice, is_large};
 use dmn_form::{WrittenDecision, WrittenLogic, WrittenModel, read_form};
+use dmn_names::{MOST_DECISIONS, Places, has_bad_name, has_name_twice, is_large};
 use serde_json::Value;
 use std::alloc::{AllocError, Global};
 use std::test::Fail;

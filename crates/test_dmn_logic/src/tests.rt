@@ -1,6 +1,6 @@
 //! Worked decisions, from the JSON that they are written in to their outcomes.
-use crate::{Logic, LogicFault, evaluate, read_decision_logic};
 use dmn_form::read_form;
+use dmn_logic::{Logic, LogicFault, evaluate, read_decision_logic};
 use feel_lang::Env;
 use feel_value::{Feel, Outcome, Value};
 use std::alloc::{AllocError, Global};

@@ -1,7 +1,7 @@
 //! What no clause says: that the definitions are the ones meant, at values worked out by hand, and that the calls succeed.
 mod refused;
 
-use crate::{Feel, Outcome, Truth, Value, ValueFault, and3, equal, less, not3, or3, truth};
+use feel_value::{Feel, Outcome, Truth, Value, ValueFault, and3, equal, less, not3, or3, truth};
 use std::alloc::{AllocError, Global};
 use std::process::Abort;
 use std::test::Fail;

@@ -3,8 +3,8 @@
 ghost use Rattle.std.specs.Prelude.{◌<◌, ◌↔◌, IsTrue, length};
 ghost use Rattle.std.specs.List.{All};
 
-use crate::{Item, ServicePlan, service_outcome};
 use dmn_logic::Logic;
+use dmn_service::{Item, ServicePlan, service_outcome};
 use feel_lang::{Env, Expr, ReadFault, eval, read_expr};
 use feel_value::{Feel, Outcome};
 use std::alloc::{AllocError, Global};

@@ -1,6 +1,6 @@
 //! Calls while the heap refuses every request.
 use super::{Successor, admitted, submitted, work};
-use crate::{AddRefusal, Answered, Broker, Done, Event, Mailbox, Refusal, Report};
+use box_core::{AddRefusal, Answered, Broker, Done, Event, Mailbox, Refusal, Report};
 use std::alloc::{AllocError, Global};
 use std::sync::Arc;
 use std::test::Fail;

@@ -2,7 +2,7 @@
 //! expressions, the output columns (`name in value / value else default`), the rules (`test / test => output / output`),
 //! the value of `a`, and what is told: the outcome as JSON text, `limit`, or the fault. Parts of several items have `;`
 //! between them.
-use crate::{Output, Rule, Table, TableFault, decide};
+use dmn_table::{Output, Rule, Table, TableFault, decide};
 use feel_lang::{Env, Expr, ReadFault, Tests, eval, read_expr, read_literal, read_tests};
 use feel_value::{Feel, Outcome, Value};
 use std::alloc::{AllocError, Global};

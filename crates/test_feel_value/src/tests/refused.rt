@@ -2,7 +2,7 @@
 //! gives the value. In a plain run nothing is refused. A run that refuses the Nth request of each test shows the rest: past the
 //! requests of the set-up a test then ends well with "refused: true", once for each request of its call, and later with "refused: false".
 use super::feel;
-use crate::{Feel, Truth, ValueFault, equal};
+use feel_value::{Feel, Truth, ValueFault, equal};
 use std::alloc::AllocError;
 use std::test::Fail;
 

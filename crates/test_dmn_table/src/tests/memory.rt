@@ -1,6 +1,6 @@
 //! Calls while the heap refuses requests.
 use super::{Parts, expressions, output, rule, table, value};
-use crate::{Table, decide};
+use dmn_table::{Table, decide};
 use feel_lang::Env;
 use feel_value::{Outcome, Truth, equal};
 use std::alloc::{AllocError, Global};
