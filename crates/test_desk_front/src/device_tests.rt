@@ -1,6 +1,7 @@
 use desk_front::{Counted, FrontFault, replay};
 use std::alloc::Global;
 use std::io;
+use std::sync::atomic::{AtomicU64, Ordering};
 use std::test::Fail;
 
 /// Gives a text in pieces of at most so many bytes, and fails at one call, counted from 1.
@@ -244,5 +245,67 @@ fn a_device_that_fails_leaves_the_lines_before(rt: HostRuntime) -> Result<(), Fa
         assert!(rt; run.output.as_slice() == output);
         assert!(rt; run.ended == ended);
     }
+    Ok(())
+}
+
+/// Gives a line at a call, and notes whether a line before it is still unanswered then.
+#[derive(Drop)]
+struct Turns<'a> {
+    text: &'a [u8],
+    given: u64,
+    answered: &'a AtomicU64,
+    is_late: bool,
+}
+
+impl io::Read for Turns<'_> {
+    fn read(&mut self, buf: &mut [u8]) -> io::Result<usize> {
+        if self.answered.load(Ordering::SeqCst) < self.given {
+            self.is_late = true;
+        }
+        let line = match self.text.iter().position(|b| *b == b'\n') {
+            Some(k) => k + 1,
+            None => self.text.len(),
+        };
+        let n = line.min(buf.len());
+        buf[..n].copy_from_slice(&self.text[..n]);
+        self.text = &self.text[n..];
+        self.given = self.given.saturating_add(1);
+        Ok(n)
+    }
+}
+
+/// Counts the lines that are written.
+#[derive(Drop)]
+struct Answers<'a> {
+    answered: &'a AtomicU64,
+}
+
+impl io::Write for Answers<'_> {
+    fn write(&mut self, buf: &[u8]) -> io::Result<usize> {
+        self.answered
+            .fetch_add(lines_in(buf) as u64, Ordering::SeqCst);
+        Ok(buf.len())
+    }
+
+    fn flush(&mut self) -> io::Result<()> {
+        Ok(())
+    }
+}
+
+#[test]
+fn an_answer_is_written_before_more_is_asked_for(rt: HostRuntime) -> Result<(), Fail> {
+    let answered = AtomicU64::new(0);
+    let mut reader = Counted::new(Turns {
+        text: TWO_REQUESTS,
+        given: 0,
+        answered: &answered,
+        is_late: false,
+    });
+    let mut writer = Counted::new(Answers {
+        answered: &answered,
+    });
+    assert!(rt; replay(rt.alloc(), &mut reader, &mut writer).is_ok());
+    assert!(rt; !reader.inner.is_late);
+    assert_eq!(rt; answered.load(Ordering::SeqCst), 12);
     Ok(())
 }

@@ -11,6 +11,20 @@ fn says(alloc: Global, lines: &[u8], answers: &[u8]) -> bool {
     ended.is_ok() && writer.inner.as_slice() == answers
 }
 
+/// A line with a model of one decision.
+const MODEL: &[u8] = b"\
+{\"model\":{\"inputs\":[\"a\"],\"decisions\":[{\"name\":\"d\",\"needs\":[\"a\"],\"expr\":\"a + 1\"}],\"services\":[{\"name\":\"s\",\"outputs\":[\"d\"],\"encapsulated\":[],\"inputDecisions\":[],\"inputData\":[\"a\"]}]}}";
+
+#[test]
+fn a_model_that_is_cut_is_no_json_text(rt: HostRuntime) -> Result<(), Fail> {
+    let refused = b"{\"line\":1,\"refused\":\"syntax\"}\n";
+    for length in 1..MODEL.len() {
+        assert!(rt; says(rt.alloc(), &MODEL[..length], refused), "{length}");
+    }
+    assert!(rt; says(rt.alloc(), MODEL, b"{\"line\":1,\"model\":true}\n"));
+    Ok(())
+}
+
 #[test]
 fn a_broken_limit_is_told(rt: HostRuntime) -> Result<(), Fail> {
     let lines = b"\
