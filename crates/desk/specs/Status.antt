@@ -1,38 +1,59 @@
--- What the program's status says.
-use Rattle.std.specs.Prelude.{◌≡◌, ◌⊎◌, ◌<◌, ◌≤◌, ◌+◌, ◌-◌, ◌^◌, ℕ, List, Option, Result, Ok, Err, OnOk, IfErr}
+-- What the program's status says, and what it tells of it.
+use Rattle.std.specs.Prelude.{◌≡◌, ◌≢◌, ◌⊎◌, ◌<◌, ◌≤◌, ◌+◌, ◌-◌, ◌^◌, ◌++◌, ℕ, List, [], codes, Option, Result, Ok, Err, OnOk, IfErr}
+use Rattle.std.specs.Io.KnownBytes.{Appends}
 use Rattle.clap.specs.Kinds.{Kinds, IsAmong}
 use Rattle.clap.specs.declared.error.kind.ErrorKind.{ErrorKind}
 use Rattle.clap.specs.declared.error.kind.ErrorKind.TheVariants as kind
+use Rattle.desk_front.specs.Fault.{fault_word}
 use Rattle.desk_front.specs.Talk.{Replays, EndsBy}
 use Rattle.desk_front.specs.Script.{Script}
-use Rattle.desk_front.specs.Lines.{max_input}
+use Rattle.desk_front.specs.Lines.{ended, max_input}
 use Rattle.desk_front.specs.declared.fault.FrontFault.{FrontFault}
-use Rattle.desk_front.specs.declared.fault.FrontFault.TheVariants as faults
+use Rattle.desk_front.specs.declared.fault.FrontFault.TheVariants as front
 
 -- 0 at the end of the input, 1 where a fault came before it
 abbrev pub status_of : Result (Unit {0}) FrontFault → ℕ
 status_of (Ok done) = 0
 status_of (Err why) = 1
 
--- 0 where help was asked for, 1 where memory was refused, 2 where the words are wrong
+-- 0 where help was asked for, 2 where the words are wrong
 abbrev pub status_of_kind : ErrorKind → ℕ
 status_of_kind kind.DisplayHelp = 0
 status_of_kind kind.DisplayVersion = 0
-status_of_kind kind.OutOfMemory = 1
 status_of_kind _ = 2
 
-module _ (left left' wrote wrote' : Option (List ℕ)) (reader_failed writer_failed : Type 0) (came came' : ℕ) where
-  -- `replay` ran, from these bytes to read, those written and the count of those that came to others, and the program has its status
-  pub record Replayed (status : ℕ) : Type 0 where
-    pub ended : Result (Unit {0}) FrontFault
-    pub ok : OnOk ended (Replays Script left left' wrote wrote')
-    pub fault : IfErr ended (λ e. EndsBy Script left left' wrote wrote' e)
-    pub read_only_at_fault : (ended ≡ Err faults.Read) → reader_failed
-    pub write_only_at_fault : (ended ≡ Err faults.Write) → writer_failed
-    pub long_only_past_limit : (ended ≡ Err faults.Long) → came < 2 ^ 63 → max_input < came' - came
-    pub ok_within_limit : OnOk ended (came' ≤ came + max_input)
-    pub read_within_limit : (ended ≡ Err faults.Read) → came' ≤ came + max_input
-    pub is : status ≡ status_of ended
+-- the line that tells a fault
+abbrev pub fault_line : FrontFault → List ℕ
+fault_line why = ended (fault_word why)
+
+-- the line that tells of a word that is no text
+abbrev pub no_utf8_line : List ℕ
+no_utf8_line = ended (codes "error: a word of the command line is not UTF-8")
+
+-- what is told of how a run ended: a fault on a line of its own, and nothing else
+abbrev pub end_text : Result (Unit {0}) FrontFault → List ℕ
+end_text (Ok done) = []
+end_text (Err why) = fault_line why
+
+-- a text went to a writer: all of it, or as far as the writer took it before it failed
+module _ {W : Type 0} (contents : W → Option (List ℕ)) (failures : W → ℕ) (old new : W) where
+  pub record IsTold (text : List ℕ) : Type 0 where
+    pub told : List ℕ
+    pub untold : List ℕ
+    pub begins : text ≡ told ++ untold
+    pub written : Appends (contents old) (contents new) told
+    pub cut_only_at_fault : (untold ≢ []) → failures old < failures new
+
+-- `replay` ran over a reader and a writer, and ended so
+module _ {R W : Type 0} (remaining : R → Option (List ℕ)) (failures came : R → ℕ) (reader reader' : R) (contents : W → Option (List ℕ)) (write_failures : W → ℕ) (writer writer' : W) where
+  pub record Replayed (end : Result (Unit {0}) FrontFault) : Type 0 where
+    pub ok : OnOk end (Replays Script (remaining reader) (remaining reader') (contents writer) (contents writer'))
+    pub fault : IfErr end (λ e. EndsBy Script (remaining reader) (remaining reader') (contents writer) (contents writer') e)
+    pub read_only_at_fault : (end ≡ Err front.Read) → failures reader < failures reader'
+    pub write_only_at_fault : (end ≡ Err front.Write) → write_failures writer < write_failures writer'
+    pub long_only_past_limit : (end ≡ Err front.Long) → came reader < 2 ^ 63 → max_input < came reader' - came reader
+    pub ok_within_limit : OnOk end (came reader' ≤ came reader + max_input)
+    pub read_within_limit : (end ≡ Err front.Read) → came reader' ≤ came reader + max_input
 
 -- memory was refused, or the status is that of one of these kinds of error
 abbrev pub IsStatusOf : Kinds → ℕ → Type 0

@@ -1,9 +1,8 @@
 //! The command line, as `clap` reads it.
-ghost use Rattle.std.specs.Prelude.{◌≡◌, IfOk, IfErr, map, true, string_bytes};
-ghost use Rattle.clap.specs.Words.{app_of, takes, kind_of};
-ghost use Rattle.clap.specs.Faults.{fault_of};
+ghost use Rattle.std.specs.Prelude.{◌≡◌, IfOk, IfErr, map, string_bytes};
+ghost use Rattle.clap.specs.Words.{app_of, kind_of};
 ghost use Rattle.clap.specs.Kinds.{FailsBy};
-ghost use Rattle.desk.specs.CommandLine.{desk_command};
+ghost use Rattle.desk.specs.CommandLine.{desk_command, IsCommand, kinds_of};
 
 use clap::error::ErrorKind;
 use clap::{ArgMatches, Command, Error};
@@ -29,8 +28,8 @@ fn command<'a>(alloc: Global) -> Result<Command<'a>, AllocError>
 /// Reads the words of a command line, the program's name first. Words that name no command are refused with the error
 /// that `clap` has for them, and so is a call for help, whose error is the help.
 pub fn read_words<'a>(alloc: Global, words: &'a [String]) -> Result<ArgMatches<'a>, Error>
-    ensures taken { IfErr result (λ error. takes desk_command (map string_bytes words.entry.now) ≡ true → kind_of error ≡ ErrorKind.OutOfMemory) }
-    ensures refused { FailsBy (fault_of desk_command (map string_bytes words.entry.now)) result }
+    ensures taken { IfErr result (λ error. IsCommand (map string_bytes words.entry.now) → kind_of error ≡ ErrorKind.OutOfMemory) }
+    ensures refused { FailsBy (kinds_of (map string_bytes words.entry.now)) result }
 {
     let command = command(alloc)?;
     command.try_get_matches_from(words)

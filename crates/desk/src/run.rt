@@ -1,16 +1,17 @@
 //! What the program does with its words, as a function of them and of its streams.
-ghost use Rattle.std.specs.Prelude.{◌≡◌, ◌≢◌, ◌⊎◌, ◌<◌, ◌-◌, ◌^◌, [], map, true, string_bytes};
-ghost use Rattle.clap.specs.Words.{takes, kind_of};
-ghost use Rattle.clap.specs.Faults.{fault_of};
-ghost use Rattle.desk.specs.CommandLine.{desk_command};
-ghost use Rattle.desk.specs.Status.{Replayed, IsStatusOf, status_of_kind};
+ghost use Rattle.std.specs.Prelude.{◌≡◌, ◌≢◌, ◌⊎◌, ◌<◌, ◌-◌, ◌^◌, ℕ, List, [], Result, map, string_bytes};
+ghost use Rattle.std.specs.IoError.{error_kind};
+ghost use Rattle.clap.specs.Words.{kind_of};
+ghost use Rattle.desk_front.specs.declared.fault.FrontFault.{FrontFault};
+ghost use Rattle.desk.specs.CommandLine.{IsCommand, kinds_of};
+ghost use Rattle.desk.specs.Status.{Replayed, IsTold, IsStatusOf, status_of, status_of_kind, fault_line, no_utf8_line, end_text};
 
 use crate::command::read_words;
 use clap::Error;
 use clap::error::ErrorKind;
-use desk_front::{FrontFault, Sink, Source, replay};
+use desk_front::{FrontFault, Sink, Source, replay, write_all};
 use std::alloc::Global;
-use std::io::{self, Write};
+use std::io::{self, ErrorKind as IoKind};
 
 /// The status of a run that came to its end.
 const DONE: u8 = 0;
@@ -19,32 +20,41 @@ const FAULT: u8 = 1;
 /// The status where the words name no command.
 const WRONG_COMMAND: u8 = 2;
 
-/// Standard output as a writer of std.
-#[derive(Drop)]
-struct Output<'a, W> {
-    sink: &'a mut W,
-}
-
-impl<W: Sink> io::Write for Output<'_, W> {
-    fn write(&mut self, buf: &[u8]) -> io::Result<usize> {
-        self.sink.write(buf)
-    }
-
-    fn flush(&mut self) -> io::Result<()> {
-        Ok(())
-    }
-}
-
-/// Tells a fault by its word.
-fn tell<F: io::Write>(fault: FrontFault, faults: &mut F) -> u8
-    ensures { result ≡ 1 }
+/// Writes a text as far as the writer takes it.
+fn tell<W: Sink>(text: &str, writer: &mut W)
+    requires counts { W.faults writer.old < 2 ^ 64 - 1 }
+    ensures { IsTold W.contents W.faults writer.old writer.new text.now }
 {
-    let _ = faults.writeln(fault.word());
+    let _ = write_all(writer, text.as_bytes());
+}
+
+/// Tells a fault by its word, on a line of its own.
+fn tell_fault<F: Sink>(fault: FrontFault, faults: &mut F) -> u8
+    requires counts { F.faults faults.old < 2 ^ 64 - 1 }
+    ensures status { result ≡ 1 }
+    ensures word { IsTold F.contents F.faults faults.old faults.new (fault_line fault) }
+{
+    if write_all(faults, fault.word().as_bytes()).is_ok() {
+        tell("\n", faults);
+    }
     FAULT
 }
 
+/// Tells why the words of the command line can't be had: for want of memory, or since one of them is not UTF-8.
+pub fn tell_of_words<F: Sink>(error: &io::Error, faults: &mut F) -> u8
+    requires counts { F.faults faults.old < 2 ^ 64 - 1 }
+    ensures memory { error_kind error.now ≡ IoKind.OutOfMemory → (result ≡ 1) × IsTold F.contents F.faults faults.old faults.new (fault_line FrontFault.Memory) }
+    ensures wrong { error_kind error.now ≢ IoKind.OutOfMemory → (result ≡ 2) × IsTold F.contents F.faults faults.old faults.new no_utf8_line }
+{
+    if error.kind() == IoKind::OutOfMemory {
+        return tell_fault(FrontFault::Memory, faults);
+    }
+    tell("error: a word of the command line is not UTF-8\n", faults);
+    WRONG_COMMAND
+}
+
 /// Replays the lines of the reader, and tells the fault that ends it, if one does.
-fn run_replay<R: Source, W: Sink, F: io::Write>(
+fn run_replay<R: Source, W: Sink, F: Sink>(
     alloc: Global,
     reader: &mut R,
     writer: &mut W,
@@ -52,37 +62,47 @@ fn run_replay<R: Source, W: Sink, F: io::Write>(
 ) -> u8
     requires read_counts { R.faults reader.old < 2 ^ 64 - 1 }
     requires write_counts { W.faults writer.old < 2 ^ 64 - 1 }
-    ensures { Replayed (R.remaining reader.old) (R.remaining reader.new) (W.contents writer.old) (W.contents writer.new) (R.faults reader.old < R.faults reader.new) (W.faults writer.old < W.faults writer.new) (R.came reader.old) (R.came reader.new) result }
+    requires fault_counts { F.faults faults.old < 2 ^ 64 - 1 }
+    ensures { (end : Result (Unit {0}) FrontFault) × Replayed R.remaining R.faults R.came reader.old reader.new W.contents W.faults writer.old writer.new end × (result ≡ status_of end) × IsTold F.contents F.faults faults.old faults.new (end_text end) }
 {
     match replay(alloc, reader, writer) {
         Ok(()) => DONE,
-        Err(fault) => tell(fault, faults),
+        Err(fault) => tell_fault(fault, faults),
     }
 }
 
 /// Tells why the words name no command, or the help that they ask for.
-fn explain<W: Sink, F: io::Write>(error: &Error, writer: &mut W, faults: &mut F) -> u8
-    ensures status { result ≡ status_of_kind (kind_of error.now) }
+fn explain<W: Sink, F: Sink>(alloc: Global, error: &Error, writer: &mut W, faults: &mut F) -> u8
+    requires write_counts { W.faults writer.old < 2 ^ 64 - 1 }
+    requires fault_counts { F.faults faults.old < 2 ^ 64 - 1 }
+    ensures status { (result ≡ 1) ⊎ (result ≡ status_of_kind (kind_of error.now)) }
+    ensures starved { kind_of error.now ≡ ErrorKind.OutOfMemory → result ≡ 1 }
+    ensures memory { result ≡ 1 → IsTold F.contents F.faults faults.old faults.new (fault_line FrontFault.Memory) }
+    ensures wrong { result ≡ 2 → (text : List ℕ) × IsTold F.contents F.faults faults.old faults.new text }
+    ensures help { result ≡ 0 → (text : List ℕ) × IsTold W.contents W.faults writer.old writer.new text }
     ensures silent { result ≢ 0 → writer.new ≡ writer.old }
+    ensures no_fault { result ≡ 0 → faults.new ≡ faults.old }
 {
     if error.kind() == ErrorKind::OutOfMemory {
-        return tell(FrontFault::Memory, faults);
+        return tell_fault(FrontFault::Memory, faults);
     }
+    let Ok(text) = error.to_string(alloc) else {
+        return tell_fault(FrontFault::Memory, faults);
+    };
     if error.use_stderr() {
-        let _ = faults.write_fmt(error);
+        tell(&text, faults);
         return WRONG_COMMAND;
     }
-    let mut output = Output { sink: writer };
-    let _ = output.write_fmt(error);
+    tell(&text, writer);
     DONE
 }
 
 /// Runs the command that the words name, and gives the program's status. The first word is the program's name.
 ///
-/// The status is 0 where the command came to its end or help was asked for, 1 where a fault ended it or `clap` found no
-/// memory, and 2 where the words name no command. A fault is told on `faults` by its word, and a wrong command line by the
-/// text of `clap`; help goes to the writer. A text that can't be written changes no status.
-pub fn run_desk<R: Source, W: Sink, F: io::Write>(
+/// The status is 0 where the command came to its end or help was asked for, 1 where a fault ended it or no memory was
+/// found for the words, and 2 where they name no command. A fault is told on `faults` by its word, and a wrong command line by
+/// the text of `clap`; help goes to the writer. A text that can't be written changes no status.
+pub fn run_desk<R: Source, W: Sink, F: Sink>(
     rt: &HostRuntime,
     words: Vec<String>,
     reader: &mut R,
@@ -91,15 +111,20 @@ pub fn run_desk<R: Source, W: Sink, F: io::Write>(
 ) -> u8
     requires read_counts { R.faults reader.old < 2 ^ 64 - 1 }
     requires write_counts { W.faults writer.old < 2 ^ 64 - 1 }
-    ensures taken { takes desk_command (map string_bytes words.items) ≡ true →
-        ((result ≡ 1) × (reader.new ≡ reader.old) × (writer.new ≡ writer.old))
-        ⊎ Replayed (R.remaining reader.old) (R.remaining reader.new) (W.contents writer.old) (W.contents writer.new) (R.faults reader.old < R.faults reader.new) (W.faults writer.old < W.faults writer.new) (R.came reader.old) (R.came reader.new) result }
-    ensures refused { fault_of desk_command (map string_bytes words.items) ≢ [] → IsStatusOf (fault_of desk_command (map string_bytes words.items)) result × (reader.new ≡ reader.old) }
-    ensures silent { fault_of desk_command (map string_bytes words.items) ≢ [] → result ≢ 0 → writer.new ≡ writer.old }
+    requires fault_counts { F.faults faults.old < 2 ^ 64 - 1 }
+    ensures taken { IsCommand (map string_bytes words.items) →
+        ((result ≡ 1) × (reader.new ≡ reader.old) × (writer.new ≡ writer.old) × IsTold F.contents F.faults faults.old faults.new (fault_line FrontFault.Memory))
+        ⊎ ((end : Result (Unit {0}) FrontFault) × Replayed R.remaining R.faults R.came reader.old reader.new W.contents W.faults writer.old writer.new end × (result ≡ status_of end) × IsTold F.contents F.faults faults.old faults.new (end_text end)) }
+    ensures refused { kinds_of (map string_bytes words.items) ≢ [] → IsStatusOf (kinds_of (map string_bytes words.items)) result × (reader.new ≡ reader.old) }
+    ensures memory { kinds_of (map string_bytes words.items) ≢ [] → result ≡ 1 → IsTold F.contents F.faults faults.old faults.new (fault_line FrontFault.Memory) }
+    ensures wrong { kinds_of (map string_bytes words.items) ≢ [] → result ≡ 2 → (text : List ℕ) × IsTold F.contents F.faults faults.old faults.new text }
+    ensures help { kinds_of (map string_bytes words.items) ≢ [] → result ≡ 0 → (text : List ℕ) × IsTold W.contents W.faults writer.old writer.new text }
+    ensures silent { kinds_of (map string_bytes words.items) ≢ [] → result ≢ 0 → writer.new ≡ writer.old }
+    ensures no_fault { kinds_of (map string_bytes words.items) ≢ [] → result ≡ 0 → faults.new ≡ faults.old }
 {
     let alloc = rt.alloc();
     match read_words(alloc, words.as_slice()) {
         Ok(_) => run_replay(alloc, reader, writer, faults),
-        Err(error) => explain(&error, writer, faults),
+        Err(error) => explain(alloc, &error, writer, faults),
     }
 }

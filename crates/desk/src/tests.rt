@@ -1,5 +1,5 @@
 //! The program's words, statuses and streams.
-use crate::run::run_desk;
+use crate::run::{run_desk, tell_of_words};
 use desk_front::Counted;
 use std::alloc::{AllocError, Global};
 use std::io;
@@ -44,12 +44,12 @@ fn run<R: io::Read + Drop>(rt: &HostRuntime, words: &[&str], input: R) -> Result
     let words = words_of(alloc, words)?;
     let mut reader = Counted::new(input);
     let mut writer = Counted::new(Vec::new(alloc));
-    let mut faults = Vec::new(alloc);
+    let mut faults = Counted::new(Vec::new(alloc));
     let status = run_desk(rt, words, &mut reader, &mut writer, &mut faults);
     Ok(Left {
         status,
         output: writer.inner,
-        faults,
+        faults: faults.inner,
     })
 }
 
@@ -61,6 +61,33 @@ impl io::Read for Broken {
     fn read(&mut self, _buf: &mut [u8]) -> io::Result<usize> {
         Err(io::Error::from(io::ErrorKind::Other))
     }
+}
+
+/// A writer that fails at each write.
+#[derive(Drop)]
+struct Closed;
+
+impl io::Write for Closed {
+    fn write(&mut self, _buf: &[u8]) -> io::Result<usize> {
+        Err(io::Error::from(io::ErrorKind::Other))
+    }
+
+    fn flush(&mut self) -> io::Result<()> {
+        Ok(())
+    }
+}
+
+/// The status of a run of which nothing can be told.
+fn untold_status<R: io::Read + Drop>(
+    rt: &HostRuntime,
+    words: &[&str],
+    input: R,
+) -> Result<u8, AllocError> {
+    let words = words_of(rt.alloc(), words)?;
+    let mut reader = Counted::new(input);
+    let mut writer = Counted::new(Closed);
+    let mut faults = Counted::new(Closed);
+    Ok(run_desk(rt, words, &mut reader, &mut writer, &mut faults))
 }
 
 #[test]
@@ -103,5 +130,31 @@ fn help_is_told(rt: HostRuntime) -> Result<(), Fail> {
     assert!(rt; run(&rt, &["desk", "help"], input)?.is_help());
     assert!(rt; run(&rt, &["desk", "help", "replay"], input)?.is_help());
     assert!(rt; run(&rt, &["desk", "replay", "--help"], input)?.is_help());
+    Ok(())
+}
+
+#[test]
+fn a_text_that_cant_be_written_changes_no_status(rt: HostRuntime) -> Result<(), Fail> {
+    let nothing = b"".as_slice();
+    assert_eq!(rt; untold_status(&rt, &["desk", "replay"], Broken)?, 1);
+    assert_eq!(rt; untold_status(&rt, &["desk", "replay"], nothing)?, 0);
+    assert_eq!(rt; untold_status(&rt, &["desk", "repeat"], nothing)?, 2);
+    assert_eq!(rt; untold_status(&rt, &["desk", "--help"], nothing)?, 0);
+    Ok(())
+}
+
+#[test]
+fn words_that_cant_be_had_are_told(rt: HostRuntime) -> Result<(), Fail> {
+    let mut faults = Counted::new(Vec::new(rt.alloc()));
+    let refused = io::Error::from(io::ErrorKind::OutOfMemory);
+    assert_eq!(rt; tell_of_words(&refused, &mut faults), 1);
+    assert_eq!(rt; faults.inner.as_slice(), b"memory\n".as_slice());
+    let mut faults = Counted::new(Vec::new(rt.alloc()));
+    let no_text = io::Error::from(io::ErrorKind::InvalidData);
+    assert_eq!(rt; tell_of_words(&no_text, &mut faults), 2);
+    assert_eq!(rt;
+        faults.inner.as_slice(),
+        b"error: a word of the command line is not UTF-8\n".as_slice()
+    );
     Ok(())
 }

@@ -17,3 +17,4 @@ mod write;
 pub use device::{Counted, Sink, Source};
 pub use fault::FrontFault;
 pub use session::replay;
+pub use write::write_all;

@@ -7,8 +7,6 @@ mod env_tests;
 #[cfg(test)]
 mod eval_tests;
 #[cfg(test)]
-mod full_heap;
-#[cfg(test)]
 mod reader_tests;
 #[cfg(test)]
 mod refused_readings;

@@ -1,6 +1,6 @@
 //! Readers while the heap refuses requests for memory.
-use crate::full_heap::FullHeap;
 use feel_lang::{ReadFault, is_name, read_expr, read_literal, read_tests};
+use full_heap::FullHeap;
 use std::test::Fail;
 
 /// Sizes of what the heap still gives, from nothing to more than enough.

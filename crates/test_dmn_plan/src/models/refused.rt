@@ -5,8 +5,8 @@
 use super::{SHARED, plan, shown, task};
 use box_core::Work;
 use dmn_plan::{ModelFault, Plan, Task, TaskFault};
+use full_heap::FullHeap;
 use serde_json::Value;
-use std::alloc::{AllocError, Global};
 use std::sync::Arc;
 use std::test::Fail;
 
@@ -61,26 +61,6 @@ fn a_refused_run(rt: HostRuntime) -> Result<(), Fail> {
     Ok(())
 }
 
-/// The most blocks that the heap is taken in.
-const BLOCKS: usize = 200_000;
-
-/// All that the heap can give, until it is dropped. The pages of a block are never touched, so that this costs address space and
-/// little memory.
-fn full_heap(alloc: Global) -> Result<Vec<Vec<u8>>, AllocError> {
-    let mut blocks = Vec::with_capacity(alloc, BLOCKS)?;
-    let mut size: usize = 1 << 40;
-    for _ in 0..BLOCKS {
-        match Vec::with_capacity(alloc, size) {
-            Ok(block) => {
-                let _ = blocks.push(block);
-            }
-            Err(_) if size > 1 => size /= 2,
-            Err(_) => break,
-        }
-    }
-    Ok(blocks)
-}
-
 #[test]
 fn calls_while_the_heap_is_full(rt: HostRuntime) -> Result<(), Fail> {
     let alloc = rt.alloc();
@@ -90,7 +70,7 @@ fn calls_while_the_heap_is_full(rt: HostRuntime) -> Result<(), Fail> {
     let task = task(alloc, SHARED, "s1", r#"{"a":1}"#)?;
     // The refused call drops its own share of the plan, so that nothing is given back to the heap.
     let share = Arc::clone(&plan)?;
-    let full = full_heap(alloc)?;
+    let full = FullHeap::but(alloc, 0)?;
     let made = Plan::of(alloc, &json);
     let other = Task::new(alloc, share, "s1", &inputs);
     let outcome = task.run(alloc);

@@ -3,42 +3,9 @@ use super::{Parts, expressions, output, rule, table, value};
 use dmn_table::{Table, decide};
 use feel_lang::Env;
 use feel_value::{Outcome, Truth, equal};
-use std::alloc::{AllocError, Global};
+use full_heap::FullHeap;
+use std::alloc::AllocError;
 use std::test::Fail;
-
-/// The most blocks that the heap is taken in.
-const BLOCKS: usize = 200_000;
-
-/// All that the heap can give, until it is dropped. The pages of a block are never touched, so that this costs address
-/// space and little memory.
-#[derive(Drop)]
-struct FullHeap {
-    blocks: Vec<Vec<u8>>,
-}
-
-impl FullHeap {
-    /// Takes the whole heap but for one block of this size.
-    fn but(alloc: Global, spare: usize) -> Result<FullHeap, AllocError> {
-        let mut blocks = Vec::with_capacity(alloc, BLOCKS)?;
-        let left: Vec<u8> = Vec::with_capacity(alloc, spare)?;
-        let mut size: usize = 1 << 40;
-        for _ in 0..BLOCKS {
-            match Vec::with_capacity(alloc, size) {
-                Ok(block) => {
-                    let _ = blocks.push(block);
-                }
-                Err(_) if size > 1 => size /= 2,
-                Err(_) => break,
-            }
-        }
-        drop(left);
-        Ok(FullHeap { blocks })
-    }
-
-    fn blocks(&self) -> usize {
-        self.blocks.len()
-    }
-}
 
 /// Thirty rules that all hit, and give numbers of two places in turn.
 const RULES: &str =

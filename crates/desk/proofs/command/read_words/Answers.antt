@@ -1,4 +1,4 @@
-use Rattle.std.proofs.Common.{◌≡◌, ◌∙◌, true, ap, subst, List, map, string_bytes}
+use Rattle.std.proofs.Common.{◌≡◌, ◌∙◌, ap, subst, List, map, string_bytes}
 use Rattle.clap.specs.Words.{Text}
 use Rattle.std.proofs.lemmas.Result.{IfErr-weaker}
 use Rattle.clap.specs.Simple.{app_of}

@@ -1,22 +1,27 @@
-//! A heap that refuses requests for memory, for tests.
+//! A heap that refuses requests for memory, for tests. It can't be had under an address sanitizer, which keeps a heap of its own.
+#![tactic(auto)]
+
 use std::alloc::{AllocError, Global};
 
 /// The most blocks that the heap is taken in.
 const BLOCKS: usize = 200_000;
 
+/// The size of the first block that is asked for, in bytes: more than there is.
+const LARGEST: usize = 1 << 40;
+
 /// All that the heap can give, until it is dropped. The pages of a block are never touched, so that this costs address
 /// space and little memory.
 #[derive(Drop)]
-pub(crate) struct FullHeap {
+pub struct FullHeap {
     blocks: Vec<Vec<u8>>,
 }
 
 impl FullHeap {
-    /// Takes the whole heap but for one block of this size.
-    pub(crate) fn but(alloc: Global, spare: usize) -> Result<FullHeap, AllocError> {
+    /// Takes the whole heap but for one block of so many bytes.
+    pub fn but(alloc: Global, spare: usize) -> Result<FullHeap, AllocError> {
         let mut blocks = Vec::with_capacity(alloc, BLOCKS)?;
         let left: Vec<u8> = Vec::with_capacity(alloc, spare)?;
-        let mut size: usize = 1 << 40;
+        let mut size = LARGEST;
         for _ in 0..BLOCKS {
             match Vec::with_capacity(alloc, size) {
                 Ok(block) => {
@@ -31,7 +36,7 @@ impl FullHeap {
     }
 
     /// How many blocks were taken.
-    pub(crate) fn blocks(&self) -> usize {
+    pub fn blocks(&self) -> usize {
         self.blocks.len()
     }
 }
