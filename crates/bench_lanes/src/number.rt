@@ -1,3 +1,4 @@
+//! The request that is passed.
 ghost use Rattle.std.specs.Prelude.{ℕ};
 
 use box_core::Work;

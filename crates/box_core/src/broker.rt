@@ -1,3 +1,4 @@
+//! Clients by their numbers, each with a mailbox, and the requests that wait to be taken.
 ghost use Rattle.std.specs.Prelude.{◌≡◌, List, [], Err, IfOk, IfErr, length};
 ghost use Rattle.std.specs.Arc.{arc_value};
 ghost use Rattle.box_core.specs.History as history;

@@ -1,3 +1,4 @@
+//! What may be asked of a broker, and what it reports.
 use crate::faults::{AddRefusal, Refusal};
 use crate::job::Job;
 use crate::work::{Done, Reply, Work};

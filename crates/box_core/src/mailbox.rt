@@ -1,3 +1,4 @@
+//! One client's outstanding requests, in the order of their acceptance.
 ghost use Rattle.std.specs.Prelude.{◌≡◌, ◌⊎◌, Err, ℕ, ◌+◌, ◌-◌, ◌^◌, ◌<◌, ◌≤◌, Some, None, IfOk, IfErr, OnOk, OnErr, IfSome, IfNone, MatchOption, IsTrue, ◌↔◌, length, slice_get, not, true, ◌≢◌};
 ghost use Rattle.std.specs.Arc.{arc_value};
 ghost use Rattle.box_core.specs.Table.{AnswerReport, OrMemory, take_report};

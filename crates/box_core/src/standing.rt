@@ -1,3 +1,4 @@
+//! How a ticket stands.
 use crate::work::Work;
 use std::sync::Arc;
 

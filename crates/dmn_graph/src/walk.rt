@@ -1,5 +1,7 @@
 //! What places lead to within the lists of a decision service.
 ghost use Rattle.std.specs.Prelude.{◌≡◌, ◌≤◌, ◌<◌, ◌∷◌, [], ℕ, nat_eq, length, slice_index, is_some, IfOk, IfSome, MatchBool, All};
+ghost use Rattle.std.specs.BTreeSet.{contains};
+ghost use Rattle.std.specs.Ordering.{nat_cmp};
 ghost use Rattle.dmn_graph.specs.Reach.{is_among};
 ghost use Rattle.dmn_graph.specs.Needs.{needs_view, needs_of, AreNeedsBelow, count_needing};
 ghost use Rattle.dmn_graph.specs.Within.{reaches_only, IsReachOf};
@@ -96,9 +98,9 @@ impl Walk {
     }
 }
 
-/// The set of these places.
-fn set_of(alloc: Global, places: &[usize]) -> Result<BTreeSet<usize>, AllocError>
-    ensures { IfOk result (λ s. (q : ℕ) → has_place s q ≡ is_among nat_eq places.now q) }
+/// The set of these places. It takes memory in their number.
+pub fn set_of(alloc: Global, places: &[usize]) -> Result<BTreeSet<usize>, AllocError>
+    ensures { IfOk result (λ s. (q : ℕ) → contains nat_cmp s q ≡ is_among nat_eq places.now q) }
 {
     let mut set = BTreeSet::new(alloc);
     for place in places {

@@ -31,9 +31,13 @@ enum Kind {
 /// The lists of a service by places.
 #[derive(Debug, Drop)]
 pub struct ServicePlaces {
+    /// The decisions whose values it answers.
     pub outputs: Vec<usize>,
+    /// The decisions that it evaluates on the way.
     pub encapsulated: Vec<usize>,
+    /// The decisions whose values a request brings.
     pub input_decisions: Vec<usize>,
+    /// The inputs whose values a request brings.
     pub input_data: Vec<usize>,
 }
 

@@ -1,10 +1,8 @@
 //! Plans of decision services.
-ghost use Rattle.std.specs.Prelude.{◌≡◌, ◌≤◌, ◌<◌, ◌++◌, ℕ, List, [], false, Some, Bool, IfOk, IfSome, is_none, length, nat_eq, string_bytes, All};
+ghost use Rattle.std.specs.Prelude.{◌≡◌, ◌≤◌, ◌<◌, ◌++◌, ℕ, List, [], false, Some, Bool, IfOk, IfSome, is_none, length, string_bytes, All};
 ghost use Rattle.std.specs.List.{list_any};
 ghost use Rattle.dmn_form.specs.ModelView.{model_view, service_view, services_view};
 ghost use Rattle.dmn_graph.specs.Needs.{needs_view, count_needing, AreNeedsBelow, IsOrderOf, DoRanksFall};
-ghost use Rattle.dmn_graph.specs.Reach.{is_among};
-ghost use Rattle.dmn_graph.specs.WalkState.{has_place};
 ghost use Rattle.dmn_names.specs.Names.{has_name_twice, have_twice};
 ghost use Rattle.dmn_names.specs.Parts.{service_lists};
 ghost use Rattle.dmn_names.specs.Places.{needs_by_place};
@@ -14,22 +12,10 @@ ghost use Rattle.dmn_plan.specs.Plans.{IsRouteOf, AreRoutesOf};
 ghost use Rattle.dmn_plan.specs.ServicesByPlace.{do_share, is_bad_by_place, IsPlacedPlan};
 
 use dmn_form::{WrittenModel, WrittenService};
-use dmn_graph::{ranks_of, reached_order};
+use dmn_graph::{ranks_of, reached_order, set_of};
 use dmn_names::{Places, ServicePlaces};
 use dmn_service::ServicePlan;
 use std::alloc::{AllocError, Global};
-use std::collections::BTreeSet;
-
-/// The set of these places.
-fn set_of(alloc: Global, places: &[usize]) -> Result<BTreeSet<usize>, AllocError>
-    ensures { IfOk result (λ s. (q : ℕ) → has_place s q ≡ is_among nat_eq places.now q) }
-{
-    let mut set = BTreeSet::new(alloc);
-    for place in places {
-        set.insert(*place)?;
-    }
-    Ok(set)
-}
 
 /// Whether one of these places is among the others.
 fn share(alloc: Global, places: &[usize], others: &[usize]) -> Result<bool, AllocError>

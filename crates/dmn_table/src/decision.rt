@@ -1,3 +1,4 @@
+//! What a table decides.
 ghost use Rattle.std.specs.Prelude.{◌≡◌, IfOk, map};
 ghost use Rattle.dmn_table.specs.Result.{table_result, defaults as defaults_of};
 ghost use Rattle.dmn_table.specs.Parts.{column_view};

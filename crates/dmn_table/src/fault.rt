@@ -1,3 +1,4 @@
+//! Why parts make no table.
 use thiserror::Error;
 
 /// Why texts and columns make no table.

@@ -1,3 +1,4 @@
+//! The hit policies and their texts.
 ghost use Rattle.std.specs.Prelude.{◌≡◌};
 ghost use Rattle.dmn_table.specs.Faults.{policy_of, is_operator as makes_a_number};
 

@@ -1,3 +1,4 @@
+//! The rules that hit.
 ghost use Rattle.std.specs.Prelude.{◌≡◌, IfOk, map, option_map};
 ghost use Rattle.dmn_table.specs.Evaluated.{each};
 ghost use Rattle.dmn_table.specs.Hits.{does_hit as does_hit_of, hit_of as hit_of_rule, kept};

@@ -1,3 +1,4 @@
+//! Sums and extremes of outputs.
 ghost use Rattle.std.specs.Prelude.{◌≡◌, IfOk, map, option_map};
 ghost use Rattle.feel_value.specs.Datum.{number};
 ghost use Rattle.feel_value.specs.Outcome.{held};

@@ -1,3 +1,4 @@
+//! The output of a rule, and what stands where none hits.
 ghost use Rattle.std.specs.Prelude.{◌≡◌, IfOk, map, option_map, string_bytes};
 ghost use Rattle.feel_value.specs.Outcome.{held};
 ghost use Rattle.feel_value.specs.Datum.{context, entries_of};

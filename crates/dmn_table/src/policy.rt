@@ -1,3 +1,4 @@
+//! What each hit policy makes of the hits.
 ghost use Rattle.std.specs.Prelude.{◌≡◌, IfOk, map, length, pos};
 ghost use Rattle.std.specs.List.{AllPairs, list_all};
 ghost use Rattle.feel_value.specs.Datum.{number};

@@ -1,3 +1,4 @@
+//! The order of hits by their output values.
 ghost use Rattle.std.specs.Prelude.{◌≡◌, IfOk, map, length};
 ghost use Rattle.std.specs.List.{AllPairs};
 ghost use Rattle.dmn_table.specs.Priority.{in_priority as in_priority_of};

@@ -1,3 +1,4 @@
+//! Decision tables and their parts.
 ghost use Rattle.std.specs.Prelude.{◌≡◌, true, IfOk, IfErr, string_bytes, bytes_eq, length};
 ghost use Rattle.std.specs.List.{list_all, list_any};
 ghost use Rattle.dmn_table.specs.Faults.{columns_fit as columns_fit_of, fits_columns, are_distinct};
@@ -12,15 +13,20 @@ use std::marker::Model;
 /// An output column: its name, its list of output values (empty where it has none) and its default.
 #[derive(Drop)]
 pub struct Output {
+    /// Its name, under which a context has its value where there are several columns.
     pub name: String,
+    /// Its output values, the highest in priority first; empty where it has none.
     pub values: Vec<Feel>,
+    /// Its default, where no rule hits.
     pub fallback: Option<Expr>,
 }
 
 /// A rule: unary tests for each input column, and an expression for each output column.
 #[derive(Drop)]
 pub struct Rule {
+    /// Its input entries, one for each input expression.
     pub tests: Vec<Tests>,
+    /// Its output entries, one for each output column.
     pub gives: Vec<Expr>,
 }
 

@@ -10,7 +10,7 @@ use crate::env::Env;
 use crate::eval_expr::operand;
 use crate::operands::Operand;
 use crate::unary::{Bound, Test, TestsTree};
-use feel_value::{Feel, Truth, Value, and3, not3, or3};
+use feel_value::{Feel, Truth, Value, and3, decided, not3, or3};
 use std::alloc::{AllocError, Global};
 
 /// Whether a value meets unary tests. `No` also where that is unknown; `Limit` where an expression among the tests breaks a
@@ -161,11 +161,4 @@ fn contains(items: &[Value], input: &Value) -> bool
         }
     }
     false
-}
-
-// The answer of a test that is never unknown.
-fn decided(holds: bool) -> Truth
-    ensures { result ≡ decided_of holds }
-{
-    if holds { Truth::Yes } else { Truth::No }
 }

@@ -6,7 +6,7 @@ use std::alloc::{AllocError, AllocFailed};
 use thiserror::Error;
 
 /// Why a JSON value is no value. `Number` counts before `Size`; `Memory` comes only where a request for memory was refused.
-#[derive(Debug, Drop, Error)]
+#[derive(Clone, Copy, Debug, PartialEq, Eq, Error)]
 pub enum ValueFault {
     /// Some number is no whole number in range.
     #[error("a number is no whole number in range")]

@@ -15,6 +15,6 @@ mod value;
 pub use comparison::{equal, less};
 pub use fault::ValueFault;
 pub use feel::{Feel, Outcome};
-pub use logic::{Truth, and3, not3, or3};
+pub use logic::{Truth, and3, decided, not3, or3};
 pub use reading::truth;
 pub use value::Value;

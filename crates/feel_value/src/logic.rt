@@ -10,8 +10,8 @@ pub enum Truth {
     Unknown,
 }
 
-// The answer of a test that is never unknown.
-pub(crate) fn decided(holds: bool) -> Truth
+/// The answer of a test that is never unknown: `Yes` where it holds, otherwise `No`.
+pub fn decided(holds: bool) -> Truth
     ensures { result ≡ decided_of holds }
 {
     if holds { Truth::Yes } else { Truth::No }

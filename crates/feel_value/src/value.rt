@@ -17,11 +17,17 @@ use std::alloc::{AllocError, Global};
 /// Dropping it goes as deep as it is.
 #[derive(Drop)]
 pub enum Value {
+    /// The value null.
     Null,
+    /// A boolean.
     Bool(bool),
+    /// A whole number.
     Number(i64),
+    /// A text.
     Text(String),
+    /// A list of values.
     List(Vec<Value>),
+    /// A context: values under names, in the order of their entries.
     Context(Vec<(String, Value)>),
 }
 

@@ -14,11 +14,15 @@ pub type Thief<W> = Stealer<Job<W>, Global, Book<Job<W>>, Carriage>;
 /// What a worker knows of a lane's deque.
 pub type Seat<W> = Pass<Job<W>, Book<Job<W>>>;
 
-/// The book of one pass: whether it still takes part, how many passes were split off it and not yet joined, and what it put and took.
+/// The book of one pass.
 pub struct Book<T> {
+    /// Whether it still takes part: 1, or 0.
     pub live: u64,
+    /// How many passes were split off it and not yet joined.
     pub out: u64,
+    /// What it put.
     pub put: LinkedList<T>,
+    /// What it took.
     pub taken: LinkedList<T>,
 }
 

@@ -1,3 +1,4 @@
+//! A client's end of its lane.
 ghost use Rattle.std.specs.Prelude.{◌≡◌, ◌+◌, ◌≤◌, All, List, length, map, drop, vec_len};
 ghost use Rattle.crossbeam_deque.specs.Handles.{worker_port, worker_view, worker_flavor};
 ghost use Rattle.box_core.specs.Mail.{accepted_in};

@@ -1,3 +1,4 @@
+//! One lane on its way to being settled.
 ghost use Rattle.std.specs.Prelude.{◌≡◌, ◌+◌, ◌-◌, ◌≤◌, List, [], ◌∷◌, ◌++◌, length, max, vec_len, vec_capacity, IsPermutation};
 ghost use Rattle.crossbeam_deque.specs.Handles.{worker_deque, stealer_deque, worker_port, worker_view, worker_flavor, SameWorker};
 ghost use Rattle.rtrb.specs.Ring.{sent, received, IsPair};

@@ -1,3 +1,4 @@
+//! Why there are no lanes.
 use thiserror::Error;
 
 /// Why lanes are not made.

@@ -1,3 +1,4 @@
+//! What a worker does in a step, and who sees its runs.
 /// What one step of a worker did.
 #[derive(Clone, Copy, Debug, Drop, PartialEq, Eq)]
 pub enum Stepped {

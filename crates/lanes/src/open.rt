@@ -1,3 +1,4 @@
+//! The making of all ends.
 ghost use Rattle.std.specs.Prelude.{◌≡◌, ◌⊎◌, ◌+◌, ◌<◌, ◌≤◌, All, List, [], ◌∷◌, ◌++◌, length, map, vec_len, Some, None, IfOk, IfErr, OnOk};
 ghost use Rattle.crossbeam_deque.specs.Handles.{stealer_deque, worker_deque, worker_port, worker_view, worker_flavor, SameWorker};
 ghost use Rattle.rtrb.specs.Ring.{received, IsPair};

@@ -1,3 +1,4 @@
+//! A client's lane once all ends came together.
 ghost use Rattle.std.specs.Prelude.{◌≡◌, ◌+◌, length, map, drop};
 ghost use Rattle.crossbeam_deque.specs.Handles.{worker_view};
 ghost use Rattle.box_core.specs.Mail.{accepted_in};

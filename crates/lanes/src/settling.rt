@@ -1,3 +1,4 @@
+//! All ends come together.
 ghost use Rattle.std.specs.Prelude.{◌≡◌, ◌≤◌, List, [], ◌∷◌, ◌++◌, length, map, vec_len, vec_capacity, IfOk, IfErr};
 ghost use Rattle.lanes.specs.Clients.{client_links};
 ghost use Rattle.lanes.specs.Links.{AreOfOneCall, add_each};

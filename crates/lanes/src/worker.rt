@@ -1,3 +1,4 @@
+//! A worker's end of every lane.
 ghost use Rattle.std.specs.Prelude.{◌≡◌, ◌<◌, ◌≤◌, vec_len, length, sum_by};
 ghost use Rattle.lanes.specs.Ports.{held_at};
 

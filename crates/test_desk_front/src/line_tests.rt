@@ -104,7 +104,7 @@ fn a_service_gives_its_outputs_and_takes_a_decision_from_its_caller(
 }
 
 #[test]
-fn boxed_contexts_and_lists(rt: HostRuntime) -> Result<(), Fail> {
+fn a_boxed_context(rt: HostRuntime) -> Result<(), Fail> {
     let lines = b"\
 {\"model\":{\"decisions\":[{\"expr\":{\"context\":[{\"expr\":\"2\",\"name\":\"x\"},{\"expr\":\"x * 3\",\"name\":\"y\"}]},\"name\":\"d\",\"needs\":[\"a\"]}],\"inputs\":[\"a\"],\"services\":[{\"encapsulated\":[],\"inputData\":[\"a\"],\"inputDecisions\":[],\"name\":\"s\",\"outputs\":[\"d\"]}]}}\n\
 {\"open\":\"a\",\"capacity\":1}\n\
@@ -122,6 +122,11 @@ fn boxed_contexts_and_lists(rt: HostRuntime) -> Result<(), Fail> {
 {\"client\":\"a\",\"result\":{\"x\":2,\"y\":6},\"ticket\":0}\n"
         .as_slice();
     assert!(rt; says(rt.alloc(), lines, answers));
+    Ok(())
+}
+
+#[test]
+fn a_boxed_context_with_a_result(rt: HostRuntime) -> Result<(), Fail> {
     let lines = b"\
 {\"model\":{\"decisions\":[{\"expr\":{\"context\":[{\"expr\":\"2\",\"name\":\"x\"},{\"expr\":\"x * 3\",\"name\":\"y\"}],\"result\":\"y - 1\"},\"name\":\"d\",\"needs\":[\"a\"]}],\"inputs\":[\"a\"],\"services\":[{\"encapsulated\":[],\"inputData\":[\"a\"],\"inputDecisions\":[],\"name\":\"s\",\"outputs\":[\"d\"]}]}}\n\
 {\"open\":\"a\",\"capacity\":1}\n\
@@ -139,6 +144,11 @@ fn boxed_contexts_and_lists(rt: HostRuntime) -> Result<(), Fail> {
 {\"client\":\"a\",\"result\":5,\"ticket\":0}\n"
         .as_slice();
     assert!(rt; says(rt.alloc(), lines, answers));
+    Ok(())
+}
+
+#[test]
+fn a_boxed_list(rt: HostRuntime) -> Result<(), Fail> {
     let lines = b"\
 {\"model\":{\"decisions\":[{\"expr\":{\"list\":[\"a\",\"a * a\"]},\"name\":\"d\",\"needs\":[\"a\"]}],\"inputs\":[\"a\"],\"services\":[{\"encapsulated\":[],\"inputData\":[\"a\"],\"inputDecisions\":[],\"name\":\"s\",\"outputs\":[\"d\"]}]}}\n\
 {\"open\":\"a\",\"capacity\":1}\n\
@@ -293,9 +303,8 @@ fn a_closed_client_is_served_to_its_last_result(rt: HostRuntime) -> Result<(), F
     Ok(())
 }
 
-#[test]
-fn names_that_were_not_opened_and_clients_past_the_limit(rt: HostRuntime) -> Result<(), Fail> {
-    let lines = b"\
+/// Names that were not opened, and more names than there may be clients.
+const MANY_NAMES: &str = "\
 {\"model\":{\"inputs\":[\"a\"],\"decisions\":[{\"name\":\"d\",\"needs\":[\"a\"],\"expr\":\"a + 1\"}],\"services\":[{\"name\":\"s\",\"outputs\":[\"d\"],\"encapsulated\":[],\"inputDecisions\":[],\"inputData\":[\"a\"]}]}}\n\
 {\"open\":\"a\",\"capacity\":2}\n\
 {\"inputs\":{\"a\":1},\"service\":\"s\",\"submit\":\"a\"}\n\
@@ -370,9 +379,10 @@ fn names_that_were_not_opened_and_clients_past_the_limit(rt: HostRuntime) -> Res
 {\"open\":\"n62\",\"capacity\":1}\n\
 {\"open\":\"last\",\"capacity\":1}\n\
 {\"open\":\"a\",\"capacity\":1}\n\
-{\"open\":\"last\",\"capacity\":0}\n"
-        .as_slice();
-    let answers = b"\
+{\"open\":\"last\",\"capacity\":0}\n";
+
+/// What is answered to these.
+const MANY_NAMES_ANSWERS: &str = "\
 {\"line\":1,\"model\":true}\n\
 {\"client\":\"a\",\"line\":2,\"opened\":2}\n\
 {\"accepted\":0,\"client\":\"a\",\"line\":3}\n\
@@ -447,8 +457,11 @@ fn names_that_were_not_opened_and_clients_past_the_limit(rt: HostRuntime) -> Res
 {\"client\":\"n62\",\"line\":72,\"opened\":1}\n\
 {\"client\":\"last\",\"line\":73,\"refused\":\"clients\"}\n\
 {\"client\":\"a\",\"line\":74,\"refused\":\"present\"}\n\
-{\"client\":\"last\",\"line\":75,\"refused\":\"capacity\"}\n"
-        .as_slice();
+{\"client\":\"last\",\"line\":75,\"refused\":\"capacity\"}\n";
+
+#[test]
+fn names_that_were_not_opened_and_clients_past_the_limit(rt: HostRuntime) -> Result<(), Fail> {
+    let (lines, answers) = (MANY_NAMES.as_bytes(), MANY_NAMES_ANSWERS.as_bytes());
     assert!(rt; says(rt.alloc(), lines, answers));
     Ok(())
 }

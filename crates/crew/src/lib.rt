@@ -1,0 +1,16 @@
+//! Workers' ends run in threads of their own, beside a front that runs on the calling thread, and come back in order as
+//! the ends that they were.
+#![tactic(auto)]
+
+mod crew;
+mod front;
+mod promise;
+mod scoped;
+mod threads;
+
+pub use crew::Crew;
+pub use front::Front;
+pub use scoped::beside;
+
+#[cfg(test)]
+mod tests;
