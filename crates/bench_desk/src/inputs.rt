@@ -113,85 +113,96 @@ pub fn small_requests(alloc: Global, requests: u64) -> Result<Lines, AllocError>
     Ok(lines)
 }
 
-/// The rules of a table, each of which asks that all six inputs are above a number.
+/// A rule that asks that all six inputs are above a number.
+fn rule(alloc: Global, n: u64) -> Result<String, AllocError> {
+    let test = format!(in alloc; "\"> {n}\"")?;
+    let mut tests = String::from_str(alloc, test.as_str())?;
+    for _ in 1..6 {
+        tests.push(',')?;
+        tests.push_str(test.as_str())?;
+    }
+    format!(in alloc; "{{\"when\":[{tests}],\"then\":[\"{n}\"]}}")
+}
+
+/// The rules of a table.
 fn rules(alloc: Global) -> Result<String, AllocError> {
-    let mut rules = String::new(alloc);
-    for n in 0..RULES {
-        if n > 0 {
-            rules.push(',')?;
-        }
-        rules.push_str("{\"when\":[")?;
-        let test = format!(in alloc; "\"> {n}\"")?;
-        for column in 0..6 {
-            if column > 0 {
-                rules.push(',')?;
-            }
-            rules.push_str(test.as_str())?;
-        }
-        let gives = format!(in alloc; "],\"then\":[\"{n}\"]")?;
-        rules.push_str(gives.as_str())?;
-        rules.push('}')?;
+    let mut rules = rule(alloc, 0)?;
+    for n in 1..RULES {
+        rules.push(',')?;
+        rules.push_str(rule(alloc, n)?.as_str())?;
     }
     Ok(rules)
 }
 
+/// The names of six inputs.
+const SIX: &str = "\"a\",\"b\",\"c\",\"d\",\"e\",\"f\"";
+
+/// A decision by a table of 200 rules and 6 inputs.
+fn table_decision(alloc: Global) -> Result<String, AllocError> {
+    let rules = rules(alloc)?;
+    format!(in alloc;
+        "{{\"name\":\"t\",\"needs\":[{SIX}],\"expr\":{{\"table\":{{\"hit\":\"C+\",\"inputs\":[{SIX}],\"outputs\":[{{\"name\":\"r\"}}],\"rules\":[{rules}]}}}}}}"
+    )
+}
+
+/// The same number for each of six inputs.
+fn six_values(alloc: Global, n: u64) -> Result<String, AllocError> {
+    format!(in alloc; "\"a\":{n},\"b\":{n},\"c\":{n},\"d\":{n},\"e\":{n},\"f\":{n}")
+}
+
 /// Requests to a table of 200 rules and 6 inputs, of which up to ten hit.
 pub fn table_requests(alloc: Global, requests: u64) -> Result<Lines, AllocError> {
-    let inputs = "\"a\",\"b\",\"c\",\"d\",\"e\",\"f\"";
-    let mut decision = String::new(alloc);
-    decision.push_str("{\"name\":\"t\",\"needs\":[")?;
-    decision.push_str(inputs)?;
-    decision.push_str("],\"expr\":{\"table\":{\"hit\":\"C+\",\"inputs\":[")?;
-    decision.push_str(inputs)?;
-    decision.push_str("],\"outputs\":[{\"name\":\"r\"}],\"rules\":[")?;
-    decision.push_str(rules(alloc)?.as_str())?;
-    decision.push_str("]}}}")?;
     let mut lines = Lines::new(alloc);
-    lines.model(inputs, decision.as_str(), "t", "")?;
+    lines.model(SIX, table_decision(alloc)?.as_str(), "t", "")?;
     lines.open_clients()?;
     for number in 0..requests {
-        let n = number % 10;
-        let values = format!(in alloc;
-            "\"a\":{n},\"b\":{n},\"c\":{n},\"d\":{n},\"e\":{n},\"f\":{n}"
-        )?;
+        let values = six_values(alloc, number % 10)?;
         lines.request(number, values.as_str())?;
     }
     Ok(lines)
 }
 
-/// Requests to 400 decisions, which share those of the level before.
-pub fn graph_requests(alloc: Global, requests: u64) -> Result<Lines, AllocError> {
-    let mut decisions = String::new(alloc);
-    decisions.push_str(
+/// The two decisions of a level, which need those of the level below.
+fn level_decisions(alloc: Global, level: u64) -> Result<String, AllocError> {
+    let below = level.saturating_sub(1);
+    let needs = format!(in alloc; "\"needs\":[\"x{below}\",\"y{below}\"]")?;
+    format!(in alloc;
+        ",{{\"name\":\"x{level}\",{needs},\"expr\":\"x{below}\"}},{{\"name\":\"y{level}\",{needs},\"expr\":\"y{below}\"}}"
+    )
+}
+
+/// The decisions of all levels.
+fn graph_decisions(alloc: Global) -> Result<String, AllocError> {
+    let mut decisions = String::from_str(
+        alloc,
         "{\"name\":\"x0\",\"needs\":[\"a\"],\"expr\":\"a\"},{\"name\":\"y0\",\"needs\":[\"a\"],\"expr\":\"a\"}",
     )?;
-    let mut encapsulated = String::new(alloc);
-    encapsulated.push_str("\"x0\",\"y0\"")?;
+    for level in 1..LEVELS {
+        decisions.push_str(level_decisions(alloc, level)?.as_str())?;
+    }
+    Ok(decisions)
+}
+
+/// The names of all decisions but the last.
+fn graph_encapsulated(alloc: Global) -> Result<String, AllocError> {
+    let mut names = String::from_str(alloc, "\"y0\"")?;
     for level in 1..LEVELS {
         let below = level - 1;
-        for name in ["x", "y"] {
-            let needs = format!(in alloc;
-                "{name}{level}\",\"needs\":[\"x{below}\",\"y{below}\"],\"expr\":\"{name}{below}\""
-            )?;
-            decisions.push_str(",{\"name\":\"")?;
-            decisions.push_str(needs.as_str())?;
-            decisions.push('}')?;
-        }
-        let others = if level + 1 < LEVELS {
-            format!(in alloc; ",\"x{level}\",\"y{level}\"")?
-        } else {
-            format!(in alloc; ",\"y{level}\"")?
-        };
-        encapsulated.push_str(others.as_str())?;
+        let more = format!(in alloc; ",\"x{below}\",\"y{level}\"")?;
+        names.push_str(more.as_str())?;
     }
-    let last = LEVELS - 1;
-    let output = format!(in alloc; "x{last}")?;
+    Ok(names)
+}
+
+/// Requests to 400 decisions, which share those of the level before.
+pub fn graph_requests(alloc: Global, requests: u64) -> Result<Lines, AllocError> {
     let mut lines = Lines::new(alloc);
+    let last = LEVELS - 1;
     lines.model(
         "\"a\"",
-        decisions.as_str(),
-        output.as_str(),
-        encapsulated.as_str(),
+        graph_decisions(alloc)?.as_str(),
+        format!(in alloc; "x{last}")?.as_str(),
+        graph_encapsulated(alloc)?.as_str(),
     )?;
     lines.open_clients()?;
     for number in 0..requests {

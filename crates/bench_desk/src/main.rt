@@ -45,11 +45,15 @@ fn echo(alloc: Global, text: &[u8]) -> Result<usize, Error> {
     Ok(printed.len())
 }
 
-/// Tells how long the lines take.
-fn time<R: Clock + Eprint>(rt: &R, alloc: Global, name: &str, lines: &Lines) -> Result<(), Error> {
-    let start = Instant::now(rt)?;
-    let echoed = echo(alloc, lines.bytes())?;
-    let bare = start.elapsed(rt)?.as_millis();
+/// What `replay` took and wrote.
+struct Replayed {
+    millis: u128,
+    bytes: usize,
+    calls: u64,
+}
+
+/// Replays the lines.
+fn time_replay<R: Clock>(rt: &R, alloc: Global, lines: &Lines) -> Result<Replayed, Error> {
     let mut reader = Counted::new(lines.bytes());
     let mut writer = Counted::new(Written {
         bytes: Vec::new(alloc),
@@ -57,12 +61,31 @@ fn time<R: Clock + Eprint>(rt: &R, alloc: Global, name: &str, lines: &Lines) -> 
     });
     let start = Instant::now(rt)?;
     replay(alloc, &mut reader, &mut writer)?;
-    let whole = start.elapsed(rt)?.as_millis();
+    Ok(Replayed {
+        millis: start.elapsed(rt)?.as_millis(),
+        bytes: writer.inner.bytes.len(),
+        calls: writer.inner.calls,
+    })
+}
+
+/// The milliseconds of the bare loop, and how many bytes it prints.
+fn time_echo<R: Clock>(rt: &R, alloc: Global, lines: &Lines) -> Result<(u128, usize), Error> {
+    let start = Instant::now(rt)?;
+    let bytes = echo(alloc, lines.bytes())?;
+    Ok((start.elapsed(rt)?.as_millis(), bytes))
+}
+
+/// Tells how long the lines take.
+fn time<R: Clock + Eprint>(rt: &R, alloc: Global, name: &str, lines: &Lines) -> Result<(), Error> {
+    let (bare, echoed) = time_echo(rt, alloc, lines)?;
+    let Replayed {
+        millis,
+        bytes,
+        calls,
+    } = time_replay(rt, alloc, lines)?;
     let count = lines.count();
-    let written = writer.inner.bytes.len();
-    let calls = writer.inner.calls;
     eprintln!(rt;
-        "{name}: {count} lines: replay {whole} ms, {written} bytes in {calls} writes; bare loop {bare} ms, {echoed} bytes"
+        "{name}: {count} lines: replay {millis} ms, {bytes} bytes in {calls} writes; bare loop {bare} ms, {echoed} bytes"
     )?;
     Ok(())
 }
@@ -77,27 +100,27 @@ fn asks_whole(rt: &HostRuntime) -> io::Result<bool> {
     }
 }
 
+fn time_small<R: Clock + Eprint>(rt: &R, alloc: Global, requests: u64) -> Result<(), Error> {
+    let lines = small_requests(alloc, requests)?;
+    time(rt, alloc, "small requests", &lines)
+}
+
+fn time_table<R: Clock + Eprint>(rt: &R, alloc: Global, requests: u64) -> Result<(), Error> {
+    let lines = table_requests(alloc, requests)?;
+    time(rt, alloc, "a table of 200 rules", &lines)
+}
+
+fn time_graph<R: Clock + Eprint>(rt: &R, alloc: Global, requests: u64) -> Result<(), Error> {
+    let lines = graph_requests(alloc, requests)?;
+    time(rt, alloc, "400 shared decisions", &lines)
+}
+
 fn main(rt: HostRuntime) -> Result<(), Error> {
     let alloc = rt.alloc();
     let part = if asks_whole(&rt)? { 1 } else { 100 };
     for requests in [50_000 / part, 100_000 / part, 200_000 / part] {
-        time(
-            &rt,
-            alloc,
-            "small requests",
-            &small_requests(alloc, requests)?,
-        )?;
+        time_small(&rt, alloc, requests)?;
     }
-    time(
-        &rt,
-        alloc,
-        "a table of 200 rules",
-        &table_requests(alloc, 50_000 / part)?,
-    )?;
-    time(
-        &rt,
-        alloc,
-        "400 shared decisions",
-        &graph_requests(alloc, 5_000 / part)?,
-    )
+    time_table(&rt, alloc, 50_000 / part)?;
+    time_graph(&rt, alloc, 5_000 / part)
 }

@@ -7,7 +7,10 @@ mod number;
 mod over_lanes;
 
 use anyhow::Error;
-use std::time::Instant;
+use std::alloc::Global;
+use std::sync::Wait;
+use std::thread::Threads;
+use std::time::{Clock, Instant};
 use std::{env, io};
 
 /// How many requests pass at a time that is not whole, and at one that is.
@@ -22,20 +25,41 @@ fn is_whole(rt: &HostRuntime) -> io::Result<bool> {
     Ok(is_whole)
 }
 
+/// The milliseconds that it takes over lanes.
+fn time_lanes<R: Clock + Threads + Wait + Sync>(
+    rt: &R,
+    alloc: Global,
+    workers: u32,
+    count: u64,
+) -> Result<u128, Error> {
+    let start = Instant::now(rt)?;
+    if over_lanes::pass(rt, alloc, workers, CAPACITY, count)? != count {
+        return Err(Error::msg("not all came back over lanes"));
+    }
+    Ok(start.elapsed(rt)?.as_millis())
+}
+
+/// The milliseconds that it takes through a lock.
+fn time_locked<R: Clock + Threads + Wait + Sync>(
+    rt: &R,
+    alloc: Global,
+    workers: u32,
+    count: u64,
+) -> Result<u128, Error> {
+    let start = Instant::now(rt)?;
+    if locked::pass(rt, alloc, workers, CAPACITY, count)? != count {
+        return Err(Error::msg("not all came back through a lock"));
+    }
+    Ok(start.elapsed(rt)?.as_millis())
+}
+
 fn main(rt: HostRuntime) -> Result<(), Error> {
     let alloc = rt.alloc();
     let count = COUNTS[usize::from(is_whole(&rt)?)];
     for workers in [1, 2, 4] {
-        let start = Instant::now(&rt)?;
-        let passed = over_lanes::pass(&rt, alloc, workers, CAPACITY, count)?;
-        let lanes = start.elapsed(&rt)?.as_millis();
-        let start = Instant::now(&rt)?;
-        let passed_locked = locked::pass(&rt, alloc, workers, CAPACITY, count)?;
-        let lock = start.elapsed(&rt)?.as_millis();
-        if passed != count || passed_locked != count {
-            return Err(Error::msg("not all came back"));
-        }
-        eprintln!(rt;
+        let lanes = time_lanes(&rt, alloc, workers, count)?;
+        let lock = time_locked(&rt, alloc, workers, count)?;
+        eprintln!(&rt;
             "{count} requests, {workers} workers: over lanes {lanes} ms, through a lock {lock} ms"
         )?;
     }

@@ -1,7 +1,7 @@
 //! How long the language takes: three expressions that are read and evaluated, and 10,000 names that are bound and found.
 #![tactic(auto)]
 
-use feel_lang::{Env, eval, read_expr};
+use feel_lang::{Env, Expr, eval, read_expr};
 use feel_value::{Feel, Outcome, Value};
 use std::alloc::{AllocError, Global};
 use std::io;
@@ -44,26 +44,51 @@ fn long(alloc: Global) -> Result<String, AllocError> {
     Ok(text)
 }
 
-// Reads and evaluates a text many times, and tells how long one round takes.
-fn run(rt: &HostRuntime, name: &str, text: &str, env: &Env) -> io::Result<()> {
-    let alloc = rt.alloc();
-    let mut values = 0u64;
-    let mut reading = 0u128;
-    let mut evaluating = 0u128;
-    for _ in 0..ROUNDS {
+// How many rounds gave a value, and the nanoseconds that reading and evaluating took.
+#[derive(Default, Drop)]
+struct Rounds {
+    values: u64,
+    reading: u128,
+    evaluating: u128,
+}
+
+impl Rounds {
+    fn read(&mut self, rt: &HostRuntime, text: &str) -> io::Result<Option<Expr>> {
         let start = Instant::now(rt)?;
-        let read = read_expr(alloc, text);
-        reading = reading.wrapping_add(start.elapsed(rt)?.as_nanos());
-        if let Ok(expr) = read {
-            let start = Instant::now(rt)?;
-            let outcome = eval(alloc, &expr, env);
-            evaluating = evaluating.wrapping_add(start.elapsed(rt)?.as_nanos());
-            if let Ok(Outcome::Is(_)) = outcome {
-                values = values.wrapping_add(1);
-            }
+        let read = read_expr(rt.alloc(), text);
+        self.reading = self.reading.wrapping_add(start.elapsed(rt)?.as_nanos());
+        Ok(read.ok())
+    }
+
+    fn evaluate(&mut self, rt: &HostRuntime, expr: &Expr, env: &Env) -> io::Result<()> {
+        let start = Instant::now(rt)?;
+        let outcome = eval(rt.alloc(), expr, env);
+        self.evaluating = self.evaluating.wrapping_add(start.elapsed(rt)?.as_nanos());
+        if let Ok(Outcome::Is(_)) = outcome {
+            self.values = self.values.wrapping_add(1);
+        }
+        Ok(())
+    }
+
+    fn add(&mut self, rt: &HostRuntime, text: &str, env: &Env) -> io::Result<()> {
+        match self.read(rt, text)? {
+            Some(expr) => self.evaluate(rt, &expr, env),
+            None => Ok(()),
         }
     }
-    let (read, evaluated) = (reading / 100_000, evaluating / 100_000);
+}
+
+// Reads and evaluates a text many times, and tells how long one round takes.
+fn run(rt: &HostRuntime, name: &str, text: &str, env: &Env) -> io::Result<()> {
+    let mut rounds = Rounds::default();
+    for _ in 0..ROUNDS {
+        rounds.add(rt, text, env)?;
+    }
+    let (values, read, evaluated) = (
+        rounds.values,
+        rounds.reading / 100_000,
+        rounds.evaluating / 100_000,
+    );
     eprintln!(rt; "{name}: {values} values, read in {read} us, evaluated in {evaluated} us")
 }
 
@@ -71,26 +96,36 @@ fn number(n: i64) -> Option<Feel> {
     Feel::of(Value::Number(n))
 }
 
-// Binds as many names, finds each, and cuts all of them off.
-fn names(rt: &HostRuntime) -> io::Result<()> {
-    let alloc = rt.alloc();
-    let mut env = Env::new(alloc);
-    let start = Instant::now(rt)?;
+// Binds as many names.
+fn bind(alloc: Global, env: &mut Env) -> Result<(), AllocError> {
     for n in 0..NAMES {
         let name = format!(in alloc; "name_{n}")?;
         if let Some(value) = number(7) {
             env.bind(name.as_str(), value)?;
         }
     }
-    let bound = start.elapsed(rt)?.as_millis();
-    let start = Instant::now(rt)?;
+    Ok(())
+}
+
+// How many of the names are found.
+fn find(alloc: Global, env: &Env) -> Result<u64, AllocError> {
     let mut found = 0u64;
     for n in 0..NAMES {
         let name = format!(in alloc; "name_{n}")?;
-        if env.find(name.as_str()).is_some() {
-            found = found.wrapping_add(1);
-        }
+        found = found.wrapping_add(u64::from(env.find(name.as_str()).is_some()));
     }
+    Ok(found)
+}
+
+// Binds as many names, finds each, and cuts all of them off.
+fn names(rt: &HostRuntime) -> io::Result<()> {
+    let alloc = rt.alloc();
+    let mut env = Env::new(alloc);
+    let start = Instant::now(rt)?;
+    bind(alloc, &mut env)?;
+    let bound = start.elapsed(rt)?.as_millis();
+    let start = Instant::now(rt)?;
+    let found = find(alloc, &env)?;
     let searched = start.elapsed(rt)?.as_millis();
     let start = Instant::now(rt)?;
     env.cut(0);
@@ -98,14 +133,19 @@ fn names(rt: &HostRuntime) -> io::Result<()> {
     eprintln!(rt; "{found} names: bound in {bound} ms, found in {searched} ms, cut off in {cut} ms")
 }
 
-fn main(rt: HostRuntime) -> io::Result<()> {
+// The texts, over an environment with one name.
+fn texts(rt: &HostRuntime) -> io::Result<()> {
     let alloc = rt.alloc();
     let mut env = Env::new(alloc);
     if let Some(value) = number(4) {
         env.bind("a", value)?;
     }
-    run(&rt, "short", short(alloc)?.as_str(), &env)?;
-    run(&rt, "64 deep", deep(alloc)?.as_str(), &env)?;
-    run(&rt, "5,000 members", long(alloc)?.as_str(), &env)?;
+    run(rt, "short", short(alloc)?.as_str(), &env)?;
+    run(rt, "64 deep", deep(alloc)?.as_str(), &env)?;
+    run(rt, "5,000 members", long(alloc)?.as_str(), &env)
+}
+
+fn main(rt: HostRuntime) -> io::Result<()> {
+    texts(&rt)?;
     names(&rt)
 }

@@ -54,26 +54,47 @@ fn answering<R: Clock>(rt: &R, alloc: Global, text: &str, tasks: u32) -> Result<
     Ok(start.elapsed(rt)?.as_micros())
 }
 
-fn main(rt: HostRuntime) -> Result<(), Error> {
-    let alloc = rt.alloc();
-    let scale = usize::from(is_whole(&rt)?);
+/// Tells how long the largest texts of each shape take.
+fn time_largest<R: Clock + Eprint>(rt: &R, alloc: Global, bytes: usize) -> Result<(), Error> {
     for (name, shape) in largest() {
-        let text = shape.text(alloc, BYTES[scale])?;
-        let (micros, is_model) = reading(&rt, alloc, text.as_str())?;
+        let text = shape.text(alloc, bytes)?;
+        let (micros, is_model) = reading(rt, alloc, text.as_str())?;
         let bytes = text.len();
         eprintln!(rt; "{name}, {bytes} bytes, read: {is_model}: {micros} us")?;
     }
-    for needed in [1, 2, 10] {
-        let text = graph(alloc, LAYERS[scale], needed)?;
-        let (read, _) = reading(&rt, alloc, text.as_str())?;
-        let run = answering(&rt, alloc, text.as_str(), 1)?;
-        let decisions = 2 * LAYERS[scale];
-        eprintln!(rt;
-            "{decisions} decisions that need {needed} layers before: read {read} us, run {run} us"
-        )?;
-    }
-    let tasks = TASKS[scale];
-    let micros = answering(&rt, alloc, small(alloc)?.as_str(), tasks)?;
+    Ok(())
+}
+
+/// Tells how long a graph takes whose decisions need so many layers before their own.
+fn time_graph<R: Clock + Eprint>(
+    rt: &R,
+    alloc: Global,
+    layers: usize,
+    needed: usize,
+) -> Result<(), Error> {
+    let text = graph(alloc, layers, needed)?;
+    let (read, _) = reading(rt, alloc, text.as_str())?;
+    let run = answering(rt, alloc, text.as_str(), 1)?;
+    let decisions = layers.saturating_mul(2);
+    eprintln!(rt;
+        "{decisions} decisions that need {needed} layers before: read {read} us, run {run} us"
+    )?;
+    Ok(())
+}
+
+/// Tells how long tasks of a small model take.
+fn time_small<R: Clock + Eprint>(rt: &R, alloc: Global, tasks: u32) -> Result<(), Error> {
+    let micros = answering(rt, alloc, small(alloc)?.as_str(), tasks)?;
     eprintln!(rt; "{tasks} tasks of a small model: {micros} us")?;
     Ok(())
+}
+
+fn main(rt: HostRuntime) -> Result<(), Error> {
+    let alloc = rt.alloc();
+    let scale = usize::from(is_whole(&rt)?);
+    time_largest(&rt, alloc, BYTES[scale])?;
+    for needed in [1, 2, 10] {
+        time_graph(&rt, alloc, LAYERS[scale], needed)?;
+    }
+    time_small(&rt, alloc, TASKS[scale])
 }

@@ -221,27 +221,43 @@ fn layers_before(
     Ok(names)
 }
 
-/// Layers of two decisions, which both need all of so many layers before, and a service of the last.
-pub(crate) fn graph(alloc: Global, layers: usize, needed: usize) -> Result<String, AllocError> {
+/// The two decisions of a layer, which both need all of so many layers before.
+fn layer_decisions(alloc: Global, layer: usize, needed: usize) -> Result<String, AllocError> {
+    let needs = layers_before(alloc, layer, needed, "\"")?;
+    let names = layers_before(alloc, layer, needed, "")?;
+    format!(in alloc;
+        ",{{\"name\":\"x{layer}\",\"needs\":[{needs}],\"expr\":\"max([{names}])\"}},{{\"name\":\"y{layer}\",\"needs\":[{needs}],\"expr\":\"min([{names}])\"}}"
+    )
+}
+
+/// The decisions of all layers.
+fn graph_decisions(alloc: Global, last: usize, needed: usize) -> Result<String, AllocError> {
     let mut decisions = String::from_str(
         alloc,
         "{\"name\":\"x0\",\"needs\":[\"a\"],\"expr\":\"a\"},{\"name\":\"y0\",\"needs\":[\"a\"],\"expr\":\"a\"}",
     )?;
+    for before in 0..last {
+        decisions.push_str(layer_decisions(alloc, before + 1, needed)?.as_str())?;
+    }
+    Ok(decisions)
+}
+
+/// The names of all decisions but the last layer's first.
+fn graph_inner(alloc: Global, last: usize) -> Result<String, AllocError> {
     let mut inner = String::from_str(alloc, "\"y0\"")?;
-    let last = layers.saturating_sub(1);
     for before in 0..last {
         let layer = before + 1;
-        let needs = layers_before(alloc, layer, needed, "\"")?;
-        let names = layers_before(alloc, layer, needed, "")?;
-        decisions.push_str(format!(in alloc;
-            ",{{\"name\":\"x{layer}\",\"needs\":[{needs}],\"expr\":\"max([{names}])\"}}"
-        )?.as_str())?;
-        decisions.push_str(format!(in alloc;
-            ",{{\"name\":\"y{layer}\",\"needs\":[{needs}],\"expr\":\"min([{names}])\"}}"
-        )?.as_str())?;
         inner.push_str(format!(in alloc; ",\"y{layer}\",\"x{before}\"")?.as_str())?;
     }
+    Ok(inner)
+}
+
+/// Layers of two decisions, which both need all of so many layers before, and a service of the last.
+pub(crate) fn graph(alloc: Global, layers: usize, needed: usize) -> Result<String, AllocError> {
+    let last = layers.saturating_sub(1);
+    let decisions = graph_decisions(alloc, last, needed)?;
     let output = format!(in alloc; "x{last}")?;
+    let inner = graph_inner(alloc, last)?;
     let service = service(alloc, output.as_str(), inner.as_str())?;
     model(alloc, "\"a\"", decisions.as_str(), service.as_str())
 }

@@ -25,36 +25,63 @@ fn text(
     Ok(whole)
 }
 
+// Tells whether the text is an expression, and how long it took to see that.
+fn time_expr(rt: &HostRuntime, text: &str) -> io::Result<()> {
+    let start = Instant::now(rt)?;
+    let is_read = read_expr(rt.alloc(), text).is_ok();
+    let micros = start.elapsed(rt)?.as_micros();
+    eprintln!(rt; "  as an expression, {is_read}: {micros} us")
+}
+
+// The same of unary tests.
+fn time_tests(rt: &HostRuntime, text: &str) -> io::Result<()> {
+    let start = Instant::now(rt)?;
+    let is_read = read_tests(rt.alloc(), text).is_ok();
+    let micros = start.elapsed(rt)?.as_micros();
+    eprintln!(rt; "  as unary tests, {is_read}: {micros} us")
+}
+
+// The same of a literal.
+fn time_literal(rt: &HostRuntime, text: &str) -> io::Result<()> {
+    let start = Instant::now(rt)?;
+    let is_read = read_literal(rt.alloc(), text).is_ok();
+    let micros = start.elapsed(rt)?.as_micros();
+    eprintln!(rt; "  as a literal, {is_read}: {micros} us")
+}
+
 // Reads such a text by each reader, and tells how long that takes.
+fn run_once(rt: &HostRuntime, text: &str) -> io::Result<()> {
+    time_expr(rt, text)?;
+    time_tests(rt, text)?;
+    time_literal(rt, text)
+}
+
+// The same for texts of three lengths.
 fn run(rt: &HostRuntime, first: &str, piece: &str, last: &str) -> io::Result<()> {
-    let alloc = rt.alloc();
     for pieces in [PIECES, 2 * PIECES, 4 * PIECES] {
-        let text = text(alloc, pieces, first, piece, last)?;
-        let start = Instant::now(rt)?;
-        let is_expr = read_expr(alloc, &text).is_ok();
-        let expr = start.elapsed(rt)?.as_micros();
-        let start = Instant::now(rt)?;
-        let are_tests = read_tests(alloc, &text).is_ok();
-        let tests = start.elapsed(rt)?.as_micros();
-        let start = Instant::now(rt)?;
-        let is_literal = read_literal(alloc, &text).is_ok();
-        let literal = start.elapsed(rt)?.as_micros();
+        let text = text(rt.alloc(), pieces, first, piece, last)?;
         let bytes = text.len();
-        eprintln!(rt;
-            "{first}{piece}..{last} {bytes} bytes: expression {is_expr} {expr} us, tests {are_tests} {tests} us, literal {is_literal} {literal} us"
-        )?;
+        eprintln!(rt; "{first}{piece}..{last} {bytes} bytes:")?;
+        run_once(rt, &text)?;
     }
     Ok(())
 }
 
+const PATTERNS: [(&str, &str, &str); 9] = [
+    ("[1", ",1", "]"),
+    ("[1", ",1", ""),
+    ("not(1", ",1", ""),
+    ("1", ",1", ""),
+    ("", "((", ""),
+    ("1", "+1", ""),
+    ("", "ab", ""),
+    ("\"", "\\n", "\""),
+    ("", "  ", "1"),
+];
+
 fn main(rt: HostRuntime) -> io::Result<()> {
-    run(&rt, "[1", ",1", "]")?;
-    run(&rt, "[1", ",1", "")?;
-    run(&rt, "not(1", ",1", "")?;
-    run(&rt, "1", ",1", "")?;
-    run(&rt, "", "((", "")?;
-    run(&rt, "1", "+1", "")?;
-    run(&rt, "", "ab", "")?;
-    run(&rt, "\"", "\\n", "\"")?;
-    run(&rt, "", "  ", "1")
+    for (first, piece, last) in PATTERNS {
+        run(&rt, first, piece, last)?;
+    }
+    Ok(())
 }

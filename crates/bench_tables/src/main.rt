@@ -30,12 +30,18 @@ fn above(alloc: Global, n: i64) -> Result<Tests, Error> {
     read_tests(alloc, text.as_str()).map_err(|_| Error::msg("no tests"))
 }
 
-/// A rule that hits where all inputs are above n. Its outputs are n, and one of ten listed values.
-fn rule(alloc: Global, n: i64) -> Result<Rule, Error> {
+/// These tests for each input.
+fn all_above(alloc: Global, n: i64) -> Result<Vec<Tests>, Error> {
     let mut tests = Vec::new(alloc);
     for _ in INPUTS {
         tests.push(above(alloc, n)?)?;
     }
+    Ok(tests)
+}
+
+/// A rule that hits where all inputs are above n. Its outputs are n, and one of ten listed values.
+fn rule(alloc: Global, n: i64) -> Result<Rule, Error> {
+    let tests = all_above(alloc, n)?;
     let mut gives = Vec::new(alloc);
     gives.push(number(alloc, n % 10)?)?;
     Ok(Rule { tests, gives })
@@ -58,28 +64,43 @@ fn outputs(alloc: Global) -> Result<Vec<Output>, AllocError> {
     Ok(outputs)
 }
 
-fn table(alloc: Global, hit: &str) -> Result<Table, Error> {
+fn inputs(alloc: Global) -> Result<Vec<Expr>, Error> {
     let mut inputs = Vec::new(alloc);
     for name in INPUTS {
         inputs.push(expression(alloc, name)?)?;
     }
+    Ok(inputs)
+}
+
+fn rules(alloc: Global) -> Result<Vec<Rule>, Error> {
     let mut rules = Vec::new(alloc);
     for n in 0..RULES {
         rules.push(rule(alloc, n)?)?;
     }
-    Ok(Table::new(hit, inputs, outputs(alloc)?, rules)?)
+    Ok(rules)
 }
 
-/// The microseconds that making a table of so many output columns takes.
-fn making<R: Clock>(rt: &R, alloc: Global, columns: u32) -> Result<u128, Error> {
+fn table(alloc: Global, hit: &str) -> Result<Table, Error> {
+    let table = Table::new(hit, inputs(alloc)?, outputs(alloc)?, rules(alloc)?)?;
+    Ok(table)
+}
+
+/// So many output columns.
+fn columns(alloc: Global, count: u32) -> Result<Vec<Output>, AllocError> {
     let mut outputs = Vec::new(alloc);
-    for i in 0..columns {
+    for i in 0..count {
         outputs.push(Output {
             name: format!(in alloc; "column_{i:05}")?,
             values: Vec::new(alloc),
             fallback: None,
         })?;
     }
+    Ok(outputs)
+}
+
+/// The microseconds that making a table of so many output columns takes.
+fn making<R: Clock>(rt: &R, alloc: Global, count: u32) -> Result<u128, Error> {
+    let outputs = columns(alloc, count)?;
     let start = Instant::now(rt)?;
     let _table = Table::new("F", Vec::new(alloc), outputs, Vec::new(alloc))?;
     Ok(start.elapsed(rt)?.as_micros())
@@ -112,19 +133,25 @@ fn average<R: Clock>(rt: &R, alloc: Global, table: &Table, env: &Env) -> Result<
     Ok(start.elapsed(rt)?.as_micros() / u128::from(ROUNDS))
 }
 
+/// Tells how long decisions of a table take under this hit policy.
+fn time_decisions<R: Clock + Eprint>(rt: &R, alloc: Global, hit: &str) -> Result<(), Error> {
+    let table = table(alloc, hit)?;
+    for hits in [0, 10, 200] {
+        let env = environment(alloc, hits)?;
+        let micros = average(rt, alloc, &table, &env)?;
+        eprintln!(rt; "{hit}, {hits} hits: {micros} us")?;
+    }
+    Ok(())
+}
+
 fn main(rt: HostRuntime) -> Result<(), Error> {
     let alloc = rt.alloc();
     for hit in ["U", "F", "P", "O", "C", "C+"] {
-        let table = table(alloc, hit)?;
-        for hits in [0, 10, 200] {
-            let env = environment(alloc, hits)?;
-            let micros = average(&rt, alloc, &table, &env)?;
-            eprintln!(rt; "{hit}, {hits} hits: {micros} us")?;
-        }
+        time_decisions(&rt, alloc, hit)?;
     }
     for columns in [10, 100, 1_000, 10_000] {
         let micros = making(&rt, alloc, columns)?;
-        eprintln!(rt; "a table of {columns} output columns: {micros} us")?;
+        eprintln!(&rt; "a table of {columns} output columns: {micros} us")?;
     }
     Ok(())
 }

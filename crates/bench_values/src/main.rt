@@ -98,10 +98,17 @@ fn time<R: Clock + Eprint>(rt: &R, alloc: Global, call: Call, case: &Case) -> Re
     Ok(())
 }
 
-fn main(rt: HostRuntime) -> Result<(), Error> {
-    let alloc = rt.alloc();
+fn time_list<R: Clock + Eprint>(rt: &R, alloc: Global) -> Result<(), Error> {
     let list = make_case(alloc, "list of 9,999", numbers(alloc)?)?;
-    let mut context = make_case(alloc, "context of 2,000", object(alloc)?)?;
+    time_each(rt, alloc, &list)
+}
+
+fn time_context<R: Clock + Eprint>(rt: &R, alloc: Global) -> Result<(), Error> {
+    let context = make_case(alloc, "context of 2,000", object(alloc)?)?;
+    time_each(rt, alloc, &context)
+}
+
+fn time_each<R: Clock + Eprint>(rt: &R, alloc: Global, case: &Case) -> Result<(), Error> {
     let calls = [
         Call::Read,
         Call::Write,
@@ -110,15 +117,29 @@ fn main(rt: HostRuntime) -> Result<(), Error> {
         Call::CopyAndCompare,
     ];
     for call in calls {
-        time(&rt, alloc, call, &list)?;
-        time(&rt, alloc, call, &context)?;
+        time(rt, alloc, call, case)?;
     }
+    Ok(())
+}
+
+fn falling_case(alloc: Global) -> Result<Case, Error> {
     let Some(value) = Feel::of(falling(alloc)?) else {
         return Err(Error::msg("no value"));
     };
-    context.name = "names falling";
-    context.value = value;
-    time(&rt, alloc, Call::CopyAndHold, &context)?;
-    time(&rt, alloc, Call::CopyAndCompare, &context)?;
-    Ok(())
+    let mut case = make_case(alloc, "names falling", object(alloc)?)?;
+    case.value = value;
+    Ok(case)
+}
+
+fn time_falling<R: Clock + Eprint>(rt: &R, alloc: Global) -> Result<(), Error> {
+    let case = falling_case(alloc)?;
+    time(rt, alloc, Call::CopyAndHold, &case)?;
+    time(rt, alloc, Call::CopyAndCompare, &case)
+}
+
+fn main(rt: HostRuntime) -> Result<(), Error> {
+    let alloc = rt.alloc();
+    time_list(&rt, alloc)?;
+    time_context(&rt, alloc)?;
+    time_falling(&rt, alloc)
 }

@@ -11,6 +11,3 @@ mod threads;
 pub use crew::Crew;
 pub use front::Front;
 pub use scoped::beside;
-
-#[cfg(test)]
-mod tests;

@@ -1,8 +1,8 @@
 -- Reading boxed expressions member by member.
-use Rattle.std.proofs.Common.{◌≡◌, ℕ, ◌+◌, ◌<◌, ◌≤◌, List, [], ◌∷◌, ◌++◌, map, length, get_or, drop, Option, None, Some, option_map, refl, sym, ap, ap₂, ◌∙◌, String, Vec, Box, Global, string_bytes, BTreeMap, rules, Bool, true, false, ◌&&◌, if◌then◌else◌}
+use Rattle.std.proofs.Common.{◌≡◌, ℕ, ◌≤◌, List, [], ◌∷◌, map, length, drop, Option, None, Some, option_map, refl, sym, ap, ap₂, ◌∙◌, String, Vec, Box, Global, string_bytes, BTreeMap, rules, Bool, true, false, ◌&&◌, if◌then◌else◌}
 use Rattle.std.specs.Prelude.{codes, bytes_eq}
-use Rattle.std.proofs.lemmas.List.{at_drop_more, map-append, drop_all}
-use Rattle.serde_json.specs.Data.{Data, item, member, no_members}
+use Rattle.std.proofs.lemmas.List.{drop_all}
+use Rattle.serde_json.specs.Data.{Data, member, no_members}
 use Rattle.serde_json.specs.View.{view, items_view, members_view}
 use Rattle.serde_json.specs.declared.value.Value.{Value, Object}
 use Rattle.serde_json.proofs.Views.{view-Object}
@@ -10,20 +10,7 @@ use Rattle.dmn_form.specs.Model.{context, context_with, entries_of}
 use Rattle.dmn_form.specs.Draft.{◌>>=◌, Logic, logic_of, text_of, logic_in, logic_under, members_in, entries_at, entry_at, entry_members, context_with_of, named_logic}
 use Rattle.dmn_form.specs.LogicView.{logic_view, named_view, entry_view, entries_view}
 use Rattle.dmn_form.specs.declared.written.WrittenLogic.{WrittenLogic, Context, ContextWith, the_lemmas}
-use Rattle.dmn_form.proofs.Readings.{read_after, read_after-more, read_after-all}
-
-items_from : (xs : List Value) (i : ℕ) (x : Value) → x ≡ get_or xs i x → i < length xs → items_view (drop i xs) ≡ item (view x) (items_view (drop (i + 1) xs))
-items_from xs i x e h = at_drop_more items_view xs i x h ∙ ap (λ (y : Value). item (view y) (items_view (drop (i + 1) xs))) (sym e)
-
--- one member more
-pub member_turn : (whole : Option (List Logic)) (ms ns : List WrittenLogic) (m : WrittenLogic) (xs : List Value) (i : ℕ) (x : Value)
-    → whole ≡ read_after (map logic_view ms) (members_in (items_view (drop i xs))) → x ≡ get_or xs i x → i < length xs → Some (logic_view m) ≡ logic_of (view x) → ns ≡ ms ++ m ∷ []
-    → whole ≡ read_after (map logic_view ns) (members_in (items_view (drop (i + 1) xs)))
-member_turn whole ms ns m xs i x before e h read pushed =
-    before ∙ ap (λ ds. read_after (map logic_view ms) (members_in ds)) (items_from xs i x e h)
-    ∙ ap (λ o. read_after (map logic_view ms) (o >>= λ b. members_in (items_view (drop (i + 1) xs)) >>= λ bs. Some (b ∷ bs))) (sym read)
-    ∙ read_after-more (map logic_view ms) (logic_view m) (members_in (items_view (drop (i + 1) xs)))
-    ∙ ap (λ ls. read_after ls (members_in (items_view (drop (i + 1) xs)))) (sym (ap (map logic_view) pushed ∙ map-append logic_view ms (m ∷ [])))
+use Rattle.dmn_form.proofs.Readings.{read_after, read_after-all}
 
 -- the members at the end
 pub members_end : (whole : Option (List Logic)) (ms : List WrittenLogic) (xs : List Value) (i : ℕ)

@@ -14,6 +14,3 @@ pub use written::{
     WrittenColumn, WrittenDecision, WrittenLogic, WrittenModel, WrittenRule, WrittenService,
     WrittenTable,
 };
-
-#[cfg(test)]
-mod tests;

@@ -12,6 +12,3 @@ pub use needs::{are_below, are_needs_below};
 pub use order::order_of;
 pub use rank::{ranks_of, reached_order};
 pub use walk::{reach, set_of};
-
-#[cfg(test)]
-mod tests;

@@ -85,6 +85,20 @@ entry_turn whole outer m0 m1 m2 vs ws xs i x key name v d e before here more out
           ∙ ap (λ m. after (map pair_view ws) (entry_values (entries_view (drop (i + 1) xs)) m)) (sym next),
     )
 
+-- one turn of the loop that binds the entries of a context
+pub bind_turn : (whole : Option Bindings) (outer m0 m1 m2 : Bindings) (xs : List Named) (i : ℕ) (x : Named) (name : List ℕ) (d : Datum)
+    → (take (length outer) m0 ≡ outer) × (whole ≡ bound_behind m0 (entry_values (entries_view (drop i xs)) m0))
+    → x ≡ get_or xs i x → i < length xs → Is d ≡ boxed (logic_view x.1) m0 → m1 ≡ m0 → m2 ≡ m1 ++ (name, d) ∷ [] → name ≡ string_bytes x.0
+    → (take (length outer) m2 ≡ outer) × (whole ≡ bound_behind m2 (entry_values (entries_view (drop (i + 1) xs)) m2))
+bind_turn whole outer m0 m1 m2 xs i x name d before here more outcome kept bound named =
+    let pair : List ℕ × Datum = (string_bytes x.0, d) in
+    let next : m2 ≡ m0 ++ pair ∷ [] = bound ∙ ap (λ m. m ++ (name, d) ∷ []) kept ∙ ap (λ n. m0 ++ (n, d) ∷ []) named in (
+      ap (take (length outer)) next ∙ kept_in_front outer m0 (pair ∷ []) before.0,
+      before.1 ∙ ap (bound_behind m0) (entries_step m0 xs i x (Is d) here more outcome)
+          ∙ after-more m0 pair (entry_values (entries_view (drop (i + 1) xs)) (m0 ++ pair ∷ []))
+          ∙ ap (λ m. bound_behind m (entry_values (entries_view (drop (i + 1) xs)) m)) (sym next),
+    )
+
 -- what comes of a context's result, once its entries are bound
 pub from_bound : (f : Bindings → Outcome) (outer m : Bindings) (o : Option (List (List ℕ × Datum))) → bound_behind outer o ≡ Some m → outcome_from (λ ds. f (outer ++ ds)) o ≡ f m
 from_bound f outer m None e = cc

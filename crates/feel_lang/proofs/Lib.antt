@@ -21,3 +21,4 @@ pub mod TestsFound
 pub mod TestsAgain
 pub mod ReadingLaws
 pub mod TestLists
+pub mod Forms

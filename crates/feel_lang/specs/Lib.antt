@@ -17,3 +17,4 @@ pub mod Numbers
 pub mod Places
 pub mod Operands
 pub mod Satisfied
+pub mod Parts

@@ -4,8 +4,9 @@ ghost use Rattle.feel_value.specs.Datum.{null as null_value};
 ghost use Rattle.feel_value.specs.Outcome.{held};
 ghost use Rattle.feel_value.specs.View.{items_view};
 ghost use Rattle.feel_value.specs.declared.feel.Outcome.TheVariants.{Is};
+ghost use Rattle.feel_lang.specs.Expr as expr_specs;
 ghost use Rattle.feel_lang.specs.Meaning.{den, dens, bound, list_held, with_value, path_of};
-ghost use Rattle.feel_lang.specs.Operands.{outcome_of};
+ghost use Rattle.feel_lang.specs.Operands.{met_of, outcome_of};
 ghost use Rattle.feel_lang.specs.View.{view, views};
 
 use crate::env::Env;
@@ -35,29 +36,20 @@ pub(crate) fn eval(alloc: Global, expr: &Tree, env: &Env) -> Result<Outcome, All
         Tree::List(exprs) => list(alloc, exprs, env),
         Tree::Call(function, argument) => Ok(call(*function, operand(alloc, argument, env)?)),
         Tree::Modulo(left, right) => {
-            let left = operand(alloc, left, env)?;
-            Ok(modulo(left, operand(alloc, right, env)?))
+            let (left, right) = operands(alloc, left, right, env)?;
+            Ok(modulo(left, right))
         }
         Tree::Not(inner) => Ok(inverted(operand(alloc, inner, env)?)),
         Tree::Negate(inner) => Ok(negated(operand(alloc, inner, env)?)),
         Tree::Path(inner, name) => entry(alloc, inner, name.as_str(), env),
         Tree::Binary(operator, left, right) => {
-            let left = operand(alloc, left, env)?;
-            Ok(operation(*operator, left, operand(alloc, right, env)?))
+            let (left, right) = operands(alloc, left, right, env)?;
+            Ok(operation(*operator, left, right))
         }
-        Tree::Between(value, low, high) => {
-            let value = operand(alloc, value, env)?;
-            let low = operand(alloc, low, env)?;
-            Ok(between(value, low, operand(alloc, high, env)?))
-        }
-        Tree::If(test, yes, no) => match operand(alloc, test, env)? {
-            Some(test) => {
-                if test.value().truth() == Truth::Yes {
-                    eval(alloc, yes, env)
-                } else {
-                    eval(alloc, no, env)
-                }
-            }
+        Tree::Between(value, low, high) => lies_between(alloc, value, low, high, env),
+        Tree::If(test, yes, no) => match is_met(alloc, test, env)? {
+            Some(true) => eval(alloc, yes, env),
+            Some(false) => eval(alloc, no, env),
             None => Ok(Outcome::Limit),
         },
     }
@@ -73,14 +65,9 @@ pub(crate) fn operand<'a>(
     ensures { IfOk result (λ o. outcome_of o ≡ den (view expr.now) env.now) }
 {
     if let Tree::If(test, yes, no) = expr {
-        return match operand(alloc, test, env)? {
-            Some(test) => {
-                if test.value().truth() == Truth::Yes {
-                    operand(alloc, yes, env)
-                } else {
-                    operand(alloc, no, env)
-                }
-            }
+        return match is_met(alloc, test, env)? {
+            Some(true) => operand(alloc, yes, env),
+            Some(false) => operand(alloc, no, env),
             None => Ok(None),
         };
     }
@@ -91,6 +78,48 @@ pub(crate) fn operand<'a>(
         Outcome::Is(value) => Ok(Some(Operand::Formed(value))),
         Outcome::Limit => Ok(None),
     }
+}
+
+// Whether the test of an `if` is true. None where a limit is broken.
+#[cycle(eval)]
+fn is_met(alloc: Global, test: &Tree, env: &Env) -> Result<Option<bool>, AllocError>
+    ensures { IfOk result (λ o. o ≡ met_of (den (view test.now) env.now)) }
+{
+    match operand(alloc, test, env)? {
+        Some(test) => Ok(Some(test.value().truth() == Truth::Yes)),
+        None => Ok(None),
+    }
+}
+
+// The values of two operands, the left one first.
+#[cycle(eval)]
+fn operands<'a>(
+    alloc: Global,
+    left: &Tree,
+    right: &Tree,
+    env: &'a Env,
+) -> Result<(Option<Operand<'a>>, Option<Operand<'a>>), AllocError>
+    ensures left { IfOk result (λ o. outcome_of o.0 ≡ den (view left.now) env.now) }
+    ensures right { IfOk result (λ o. outcome_of o.1 ≡ den (view right.now) env.now) }
+{
+    let left = operand(alloc, left, env)?;
+    Ok((left, operand(alloc, right, env)?))
+}
+
+// Whether a value lies between two others.
+#[cycle(eval)]
+fn lies_between(
+    alloc: Global,
+    value: &Tree,
+    low: &Tree,
+    high: &Tree,
+    env: &Env,
+) -> Result<Outcome, AllocError>
+    ensures { IfOk result (λ o. o ≡ den (expr_specs.Between (view value.now) (view low.now) (view high.now)) env.now) }
+{
+    let value = operand(alloc, value, env)?;
+    let (low, high) = operands(alloc, low, high, env)?;
+    Ok(between(value, low, high))
 }
 
 // The value of a name; null where it has none.

@@ -22,6 +22,7 @@ mod reader;
 mod scanner;
 mod texts;
 mod token;
+mod trees;
 mod unary;
 mod unary_reader;
 

@@ -8,12 +8,14 @@ ghost use Rattle.feel_lang.specs.Token as token_specs;
 ghost use Rattle.feel_lang.specs.View.{view, exprs_of};
 ghost use Rattle.feel_lang.specs.Expr.{none, more};
 ghost use Rattle.feel_lang.specs.Grammar.{rank, tighter};
-ghost use Rattle.feel_lang.specs.Reading.{after_and, after_bracket, after_close, after_comma, after_else, after_open, after_then, between_at, chain_at, closed_at, compared_at, comparison_at, disjunction_at, function_of, group_at, joined, line_at, list_at, listed_at, members_at, modulo_at, named_at, negated_at, negation_at, operator_at, path_at, paths_at, primary_at, read_at, steps_at, sum_at, whole_at};
+ghost use Rattle.feel_lang.specs.Parts.{bounds_at, branches_at, else_at, first_operator, high_at, step_at, then_at};
+ghost use Rattle.feel_lang.specs.Reading.{after_and, after_bracket, after_close, after_comma, after_else, after_open, after_then, between_at, chain_at, closed_at, compared_at, comparison_at, conditional_at, disjunction_at, function_of, group_at, joined, line_at, list_at, listed_at, members_at, modulo_at, named_at, negated_at, negation_at, operator_at, path_at, paths_at, primary_at, read_at, steps_at, sum_at, whole_at};
 
 use crate::expr::{Function, Operator, Tree};
 use crate::fault::ReadFault;
 use crate::line::Line;
 use crate::token::{Sign, Token, Word};
+use crate::trees;
 use std::alloc::Global;
 
 /// How deep an expression may be.
@@ -21,6 +23,9 @@ pub(crate) const MOST_DEPTH: usize = 64;
 
 /// What was read: an expression, its depth, and the tokens after it.
 pub(crate) type Found<'a> = (Tree, usize, &'a [Token]);
+
+/// Two expressions, the depth of the deeper one, and the tokens after them.
+type Pair<'a> = (Tree, Tree, usize, &'a [Token]);
 
 // The tokens after a closing parenthesis.
 pub(crate) fn after_close(tokens: &[Token]) -> Result<&[Token], ReadFault>
@@ -112,6 +117,15 @@ fn operator_at(line: Line, token: &Token) -> Option<Operator>
     }
 }
 
+// The operator of a line that comes first, and the tokens after it.
+#[tactic(auto, unfolding(crate::specs::Parts::first_operator))]
+fn first_operator(line: Line, tokens: &[Token]) -> Option<(Operator, &[Token])>
+    ensures { option_map (λ x. (x.0, views x.1.now)) result ≡ first_operator line (views tokens.now) }
+{
+    let (token, rest) = tokens.split_first()?;
+    Some((operator_at(line, token)?, rest))
+}
+
 // The function of one argument that a name is.
 fn function_of(name: &str) -> Option<Function>
     ensures { result ≡ function_of name.now }
@@ -154,8 +168,7 @@ fn paths<'a>(
     if depth > inner {
         return Err(ReadFault::Syntax);
     }
-    let name = name.clone()?;
-    let path = Tree::Path(Box::new(alloc, first)?, name);
+    let path = trees::path(alloc, first, name)?;
     paths(alloc, left - 1, inner, path, depth + 1, after)
 }
 
@@ -207,7 +220,7 @@ fn read_line<'a>(
 
 // A conditional, or what a tighter line reads.
 #[cycle(reader)]
-#[tactic(auto, unfolding(crate::specs::Reading::whole_at, crate::specs::Reading::conditional_at, crate::specs::Reading::line_at))]
+#[tactic(auto, unfolding(crate::specs::Reading::whole_at, crate::specs::Reading::line_at))]
 fn whole<'a>(alloc: Global, inner: usize, tokens: &'a [Token]) -> Result<Found<'a>, ReadFault>
     requires { inner < 64 }
     ensures found { Gives (λ x. (view x.0, x.1, views x.2.now)) result
@@ -217,16 +230,60 @@ fn whole<'a>(alloc: Global, inner: usize, tokens: &'a [Token]) -> Result<Found<'
     let [Token::Keyword(Word::If), rest @ ..] = tokens else {
         return read_line(alloc, Line::Disjunction, inner, tokens);
     };
-    let (test, test_depth, rest) = read(alloc, Line::Whole, inner, rest)?;
-    let rest = after_then(rest)?;
-    let (yes, yes_depth, rest) = read(alloc, Line::Whole, inner, rest)?;
-    let rest = after_else(rest)?;
-    let (no, no_depth, rest) = read(alloc, Line::Whole, inner, rest)?;
-    let test = Box::new(alloc, test)?;
-    let yes = Box::new(alloc, yes)?;
-    let no = Box::new(alloc, no)?;
-    let depth = 1 + test_depth.max(yes_depth.max(no_depth));
-    Ok((Tree::If(test, yes, no), depth, rest))
+    conditional(alloc, inner, rest)
+}
+
+/// The test and the branches of a conditional, after its keyword `if`.
+#[cycle(reader)]
+#[tactic(auto, unfolding(crate::specs::Reading::conditional_at))]
+fn conditional<'a>(alloc: Global, inner: usize, tokens: &'a [Token]) -> Result<Found<'a>, ReadFault>
+    requires { inner < 64 }
+    ensures found { Gives (λ x. (view x.0, x.1, views x.2.now)) result
+        (conditional_at (read_at inner) (views tokens.now)) }
+    ensures depth { IfOk result (λ x. x.1 ≤ inner + 1) }
+{
+    let (test, depth, rest) = read(alloc, Line::Whole, inner, tokens)?;
+    let (yes, no, deepest, rest) = branches(alloc, inner, rest)?;
+    let tree = trees::conditional(alloc, test, yes, no)?;
+    Ok((tree, 1 + depth.max(deepest), rest))
+}
+
+/// The branches of a conditional, with the depth of the deeper one.
+#[cycle(reader)]
+#[tactic(auto, unfolding(crate::specs::Parts::branches_at))]
+fn branches<'a>(alloc: Global, inner: usize, tokens: &'a [Token]) -> Result<Pair<'a>, ReadFault>
+    requires { inner < 64 }
+    ensures found { Gives (λ x. (view x.0, view x.1, x.2, views x.3.now)) result
+        (branches_at (read_at inner) (views tokens.now)) }
+    ensures depth { IfOk result (λ x. x.2 ≤ inner) }
+{
+    let (yes, depth, rest) = then_branch(alloc, inner, tokens)?;
+    let (no, other_depth, rest) = else_branch(alloc, inner, rest)?;
+    Ok((yes, no, depth.max(other_depth), rest))
+}
+
+/// The first branch of a conditional, with its keyword `then`.
+#[cycle(reader)]
+fn then_branch<'a>(alloc: Global, inner: usize, tokens: &'a [Token]) -> Result<Found<'a>, ReadFault>
+    requires { inner < 64 }
+    ensures found { Gives (λ x. (view x.0, x.1, views x.2.now)) result
+        (then_at (read_at inner) (views tokens.now)) }
+    ensures depth { IfOk result (λ x. x.1 ≤ inner) }
+{
+    let rest = after_then(tokens)?;
+    read(alloc, Line::Whole, inner, rest)
+}
+
+/// The second branch of a conditional, with its keyword `else`.
+#[cycle(reader)]
+fn else_branch<'a>(alloc: Global, inner: usize, tokens: &'a [Token]) -> Result<Found<'a>, ReadFault>
+    requires { inner < 64 }
+    ensures found { Gives (λ x. (view x.0, x.1, views x.2.now)) result
+        (else_at (read_at inner) (views tokens.now)) }
+    ensures depth { IfOk result (λ x. x.1 ≤ inner) }
+{
+    let rest = after_else(tokens)?;
+    read(alloc, Line::Whole, inner, rest)
 }
 
 // A chain of operators of one line, grouped to the left. Each step is one deeper, so there are at
@@ -270,23 +327,48 @@ fn steps<'a>(
     let mut depth = first_depth;
     let mut rest = tokens;
     for _ in 0..inner + 1 {
-        let Some((token, after)) = rest.split_first() else {
+        let Some((operator, after)) = first_operator(line, rest) else {
             return Ok((expr, depth, rest));
         };
-        let Some(operator) = operator_at(line, token) else {
-            return Ok((expr, depth, rest));
-        };
-        if depth > inner {
-            return Err(ReadFault::Syntax);
-        }
-        let (right, right_depth, after) = read(alloc, line.tighter(), inner, after)?;
-        let left = Box::new(alloc, expr)?;
-        let right = Box::new(alloc, right)?;
-        expr = Tree::Binary(operator, left, right);
-        depth = 1 + depth.max(right_depth);
+        let (tree, tree_depth, after) = step(
+            alloc,
+            operator,
+            line.tighter(),
+            inner,
+            expr,
+            depth,
+            after,
+        )?;
+        expr = tree;
+        depth = tree_depth;
         rest = after;
     }
     Err(ReadFault::Syntax)
+}
+
+// An operator between a left operand and the right one, which begins the tokens.
+#[cycle(reader)]
+#[tactic(auto, unfolding(crate::specs::Parts::step_at))]
+fn step<'a>(
+    alloc: Global,
+    operator: Operator,
+    line: Line,
+    inner: usize,
+    left: Tree,
+    depth: usize,
+    tokens: &'a [Token],
+) -> Result<Found<'a>, ReadFault>
+    requires { inner < 64 }
+    ensures found { Gives (λ x. (view x.0, x.1, views x.2.now)) result
+        (step_at operator (read_at inner line) inner (view left) depth (views tokens.now)) }
+    ensures depth { IfOk result (λ x. x.1 ≤ inner + 1) }
+{
+    if depth > inner {
+        return Err(ReadFault::Syntax);
+    }
+    let (right, right_depth, rest) = read(alloc, line, inner, tokens)?;
+    let tree = trees::binary(alloc, operator, left, right)?;
+    Ok((tree, 1 + depth.max(right_depth), rest))
 }
 
 // A sum, and at most one comparison of it.
@@ -304,7 +386,7 @@ fn comparison<'a>(alloc: Global, inner: usize, tokens: &'a [Token]) -> Result<Fo
 
 // What may follow the first operand of a comparison.
 #[cycle(reader)]
-#[tactic(auto, unfolding(crate::specs::Reading::compared_at, crate::specs::Reading::compared_by))]
+#[tactic(auto, unfolding(crate::specs::Reading::compared_at, crate::specs::Reading::compared_by, crate::specs::Parts::step_at))]
 fn compared<'a>(
     alloc: Global,
     inner: usize,
@@ -327,20 +409,10 @@ fn compared<'a>(
     let Some(operator) = operator_at(Line::Comparison, token) else {
         return Ok((left, depth, tokens));
     };
-    if depth > inner {
-        return Err(ReadFault::Syntax);
-    }
-    let (right, right_depth, rest) = read(alloc, Line::Sum, inner, rest)?;
-    let left = Box::new(alloc, left)?;
-    let right = Box::new(alloc, right)?;
-    Ok((
-        Tree::Binary(operator, left, right),
-        1 + depth.max(right_depth),
-        rest,
-    ))
+    step(alloc, operator, Line::Sum, inner, left, depth, rest)
 }
 
-// The bounds of a `between`, after its keyword.
+// A `between`, after its keyword.
 #[cycle(reader)]
 #[tactic(auto, unfolding(crate::specs::Reading::between_at))]
 fn between<'a>(
@@ -358,17 +430,35 @@ fn between<'a>(
     if depth > inner {
         return Err(ReadFault::Syntax);
     }
-    let (low, low_depth, rest) = read(alloc, Line::Sum, inner, tokens)?;
-    let rest = after_and(rest)?;
-    let (high, high_depth, rest) = read(alloc, Line::Sum, inner, rest)?;
-    let left = Box::new(alloc, left)?;
-    let low = Box::new(alloc, low)?;
-    let high = Box::new(alloc, high)?;
-    Ok((
-        Tree::Between(left, low, high),
-        1 + depth.max(low_depth.max(high_depth)),
-        rest,
-    ))
+    let (low, high, deepest, rest) = bounds(alloc, inner, tokens)?;
+    let tree = trees::between(alloc, left, low, high)?;
+    Ok((tree, 1 + depth.max(deepest), rest))
+}
+
+/// The bounds of a `between`, with the depth of the deeper one.
+#[cycle(reader)]
+#[tactic(auto, unfolding(crate::specs::Parts::bounds_at))]
+fn bounds<'a>(alloc: Global, inner: usize, tokens: &'a [Token]) -> Result<Pair<'a>, ReadFault>
+    requires { inner < 64 }
+    ensures found { Gives (λ x. (view x.0, view x.1, x.2, views x.3.now)) result
+        (bounds_at (read_at inner) (views tokens.now)) }
+    ensures depth { IfOk result (λ x. x.2 ≤ inner) }
+{
+    let (low, depth, rest) = read(alloc, Line::Sum, inner, tokens)?;
+    let (high, other_depth, rest) = high_bound(alloc, inner, rest)?;
+    Ok((low, high, depth.max(other_depth), rest))
+}
+
+/// The high bound of a `between`, with its keyword `and`.
+#[cycle(reader)]
+fn high_bound<'a>(alloc: Global, inner: usize, tokens: &'a [Token]) -> Result<Found<'a>, ReadFault>
+    requires { inner < 64 }
+    ensures found { Gives (λ x. (view x.0, x.1, views x.2.now)) result
+        (high_at (read_at inner) (views tokens.now)) }
+    ensures depth { IfOk result (λ x. x.1 ≤ inner) }
+{
+    let rest = after_and(tokens)?;
+    read(alloc, Line::Sum, inner, rest)
 }
 
 // A negation, or a path.
@@ -473,13 +563,8 @@ fn modulo<'a>(alloc: Global, inner: usize, tokens: &'a [Token]) -> Result<Found<
     let (left, left_depth, rest) = read(alloc, Line::Whole, inner, tokens)?;
     let rest = after_comma(rest)?;
     let (right, right_depth, rest) = closed(alloc, inner, rest)?;
-    let left = Box::new(alloc, left)?;
-    let right = Box::new(alloc, right)?;
-    Ok((
-        Tree::Modulo(left, right),
-        1 + left_depth.max(right_depth),
-        rest,
-    ))
+    let tree = trees::modulo(alloc, left, right)?;
+    Ok((tree, 1 + left_depth.max(right_depth), rest))
 }
 
 // The argument of `not`, after that keyword.

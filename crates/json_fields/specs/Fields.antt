@@ -13,6 +13,3 @@ object3 k l m d e f = object (member k d (member l e (member m f no_members)))
 
 abbrev pub object4 : List ℕ → List ℕ → List ℕ → List ℕ → Data → Data → Data → Data → Data
 object4 k l m n d e f g = object (member k d (member l e (member m f (member n g no_members))))
-
-abbrev pub object5 : List ℕ → List ℕ → List ℕ → List ℕ → List ℕ → Data → Data → Data → Data → Data → Data
-object5 k l m n o d e f g h = object (member k d (member l e (member m f (member n g (member o h no_members)))))

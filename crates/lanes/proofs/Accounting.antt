@@ -45,6 +45,15 @@ module _ {W R O : Type 0} (request : W → R) (result_of : R → O) where
     pub fits : Fits put mail
     pub credits : Credits put mail came
 
+  -- A mailbox in which the same requests are outstanding: it may be closed, or have another capacity.
+  pub same_places : (put : List (Ticketed W)) (mail mail' : Mail W O) (came : List (Ticketed W)) → mail'.handed ≡ mail.handed → mail'.outstanding ≡ mail.outstanding → Fits put mail → Credits put mail came → Answers put mail' came
+  same_places put mail mail' came handed outstanding f c =
+      subst (λ m. Answers put m came) (λ i. record { capacity = mail'.capacity; closed = mail'.closed; handed = sym handed i; outstanding = sym outstanding i })
+      (record {
+        fits = record { numbered = f.numbered; count = f.count; works = f.works; running = f.running; due = f.due };
+        credits = record { credited = c.credited; accounted = c.accounted; few = c.few };
+      })
+
   -- one that is not kept
   unkept : (put : List (Ticketed W)) (mail : Mail W O) (came : List (Ticketed W)) (x : Ticketed W) → Fits put mail → Credits put mail came → IsCredited request put mail x → Answers put mail (x ∷ came)
   unkept put mail came x f c is = record {

@@ -38,6 +38,11 @@ one_job held.Nothing = omega arith
 one_job (held.Job job) = omega arith
 one_job (held.Done done) = omega arith
 
+-- a list without members
+pub no_items : {T : Type 0} (xs : List T) → length xs ≡ 0 → xs ≡ []
+no_items [] h = refl
+no_items (x ∷ xs) h = absurd (omega (arith, h))
+
 module _ {T : Type 0} where
   same_book : (live : ℕ) (put : List T) (m n : ℕ) (xs ys : List T) → m ≡ n → xs ≡ ys → book live m put xs ≡ book live n put ys
   same_book live put m n xs ys e f = λ i. book live (e i) put (f i)
@@ -141,6 +146,16 @@ module _ {W R O : Type 0} (request : W → R) (result_of : R → O) where
         others : List Link → List Link
         others [] = []
         others (l ∷ ls) = ls
+
+    -- No port is left: all that were there came to this.
+    pub joined_all : (deque : (ℕ × ℕ) × Global) (ports0 ports : List (Port W O g)) (rings0 rings : List (Consumer (Ticketed W) Global AnyItems)) (v w : Book (Ticketed W)) (mail0 mail : Mail W O) (left0 left : List (Ticketed W))
+        → ports ≡ [] → Joining deque ports0 ports rings0 rings v w mail0 mail left0 left
+        → (answers : List (Ticketed W)) × (jobs : List (Ticketed W)) × TakenIn request result_of mail0 answers mail × (left ≡ left0 ++ jobs) × Joins ports0 rings0 v w answers jobs
+    joined_all deque ports0 ports rings0 rings v w mail0 mail left0 left e h =
+        let none : rings ≡ [] = no_items rings (sym (links_length deque ports rings h.links) ∙ ap length e) in
+        let ports_are : h.ended ≡ ports0 = sym (h.ports_are ∙ ap (λ l. l ++ h.ended) e) in
+        let rings_are : h.drained ≡ rings0 = sym (h.rings_are ∙ ap (λ l. l ++ h.drained) none) in
+        (h.answers, h.jobs, h.taken_in, h.jobs_are, subst (λ p. Joins p rings0 v w h.answers h.jobs) ports_are (subst (λ r. Joins h.ended r v w h.answers h.jobs) rings_are h.joins))
 
     -- there is a ring for each port
     pub rings_left : (deque : (ℕ × ℕ) × Global) (ports0 ports ports' : List (Port W O g)) (rings0 rings : List (Consumer (Ticketed W) Global AnyItems)) (v w : Book (Ticketed W)) (mail0 mail : Mail W O) (left0 left : List (Ticketed W)) (p : Port W O g)

@@ -1,3 +1,4 @@
+pub mod Beginning
 pub mod Carried
 pub mod Serving
 pub mod Mails

@@ -1,14 +1,10 @@
 -- Lanes are made, one after another.
-use Rattle.std.proofs.Common.{◌≡◌, ◌≢◌, ℕ, zero, suc, ◌+◌, ◌<◌, ◌≤◌, All, List, [], ◌∷◌, ◌++◌, length, map, get_or, set, refl, ap, sym, ◌∙◌, subst, arith, get_or-set_same, get_or-set_other}
+use Rattle.std.proofs.Common.{◌≡◌, ℕ, zero, suc, ◌<◌, All, List, [], ◌∷◌, ◌++◌, length, map, get_or, set, refl, ap, sym, ◌∙◌, subst, arith}
 use Rattle.std.proofs.lemmas.List.Elements.{All-cons, All-tail, All-head, All-append}
 use Rattle.std.proofs.lemmas.List.{map-append}
-use lib.ListN.{length-append, length-set}
-use mathlib.Core.Logic.{dite}
-use native.Mathlib.Decide.{ℕ_discrete}
 use Rattle.std.specs.Prelude.{flat_map}
 use Rattle.std.proofs.lemmas.List.Concat.{flat_map-append}
-use Rattle.std.proofs.Common.{append-nil}
-use Rattle.lanes.specs.Links.{Link, empties, add_each, AreOfOneCall, transposed}
+use Rattle.lanes.specs.Links.{Link, empties, add_each, AreOfOneCall}
 use Rattle.std.specs.declared.alloc.Global.{Global}
 use Rattle.rtrb.specs.declared.consumer.Consumer.{Consumer}
 use Rattle.rtrb.specs.declared.AnyItems.{AnyItems}
@@ -24,7 +20,7 @@ use Rattle.box_core.specs.Mail.{fresh}
 use Rattle.lanes.specs.Ports.{taken_at, held_at}
 use Rattle.lanes.specs.Workers.{ports_of, port_link, port_links, worker_links, SameEnds}
 use Rattle.lanes.proofs.Serving.{same_map}
-use Rattle.lanes.proofs.Crossing.{none, high, length_add, one_call_more}
+use Rattle.lanes.proofs.Crossing.{none, high, one_call_more}
 
 module _ {A : Type 0} where
   add_none : (rows : List (List A)) → add_each rows [] ≡ rows
@@ -96,7 +92,7 @@ links_snoc : {T : Type 0} (deque : (ℕ × ℕ) × Global) (rs : List (Consumer 
 links_snoc deque [] r = refl
 links_snoc deque (x ∷ rs) r = ap (λ l. record { deque = deque; ring = ring_of x } ∷ l) (links_snoc deque rs r)
 
-links_length : {T : Type 0} (deque : (ℕ × ℕ) × Global) (rs : List (Consumer T Global AnyItems)) → length (links_of deque rs) ≡ length rs
+pub links_length : {T : Type 0} (deque : (ℕ × ℕ) × Global) (rs : List (Consumer T Global AnyItems)) → length (links_of deque rs) ≡ length rs
 links_length deque [] = refl
 links_length deque (x ∷ rs) = ap suc (links_length deque rs)
 

@@ -46,6 +46,31 @@ module _ {W O : Type 0} {g : Ghosts W O} where
   steps_of stepped.NoMemory p q old new f j s = s
   steps_of stepped.RingFull p q old new f j s = s
 
+  -- no port changed before the first was looked at
+  pub unchanged : (ports : List (Port W O g)) → Unchanged ports ports
+  unchanged ports = record {
+    count = refl;
+    rests = λ c d h. ((refl, refl, ((refl, refl, refl, refl), refl)), (refl, refl, refl));
+  }
+
+  -- a port of which no book changed stands in its place again
+  pub rested : (old ports : List (Port W O g)) (lane : ℕ) (p q : Port W O g) → Unchanged old ports → lane < length ports → p ≡ get_or ports lane p → SamePort p q → SameBooks p q → Unchanged old (set ports lane q)
+  rested old ports lane p q un within is same books = record {
+    count = length-set ports lane q ∙ un.count;
+    rests = λ c d h. dite (ℕ_discrete c lane)
+        (λ e. subst (λ i. Rests (get_or old i d) (get_or (set ports lane q) i d)) (sym e) (here d))
+        (λ apart. subst (λ x. Rests (get_or old c d) x) (sym (get_or-set_other ports lane c q d apart)) (un.rests c d h));
+  }
+    where
+      here : (d : Port W O g) → Rests (get_or old lane d) (get_or (set ports lane q) lane d)
+      here d =
+          let n : length ports ≡ length old = un.count in
+          let p0 : Port W O g = get_or old lane d in
+          let was : get_or ports lane d ≡ p = same_default ports lane d p within ∙ sym is in
+          let before : Rests p0 p = subst (λ x. Rests p0 x) was (un.rests lane d (omega arith)) in
+          let after : Rests p0 q = (same_port p0 p q before.0 same, (books.0 ∙ before.1.0, books.1 ∙ before.1.1, books.2 ∙ before.1.2)) in
+          subst (λ x. Rests p0 x) (sym (get_or-set_same ports lane q d within)) after
+
   pub served : (old ports : List (Port W O g)) (lane : ℕ) (p p1 q : Port W O g) (result : Stepped) → HoldNothing old → Unchanged old ports → lane < length ports → p ≡ get_or ports lane p
       → SamePort p p1 → sent_at p1 ≡ sent_at p → HoldsJob p1.held → taken_at p1 ≡ taken_at p ++ held_at p1
       → SamePort p1 q → taken_at q ≡ taken_at p1 → Finishes p1 result q

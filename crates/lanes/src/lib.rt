@@ -20,6 +20,3 @@ pub use open::lanes;
 pub use settled::Settled;
 pub use settling::settle;
 pub use worker::Worker;
-
-#[cfg(test)]
-mod tests;

@@ -5,6 +5,7 @@ ghost use Rattle.rtrb.specs.Ring.{received, IsPair};
 ghost use Rattle.box_core.specs.Mail.{fresh, IsCapacity};
 ghost use Rattle.lanes.specs.Books.{book};
 ghost use Rattle.lanes.specs.Clients.{put_of, mail_of, came_to, client_links};
+ghost use Rattle.lanes.specs.Joined.{received_of};
 ghost use Rattle.lanes.specs.Links.{AreOfOneCall, add_each, empties, links_of, ring_of};
 ghost use Rattle.lanes.specs.Made.{fault_in, AreNew, AreIdle};
 ghost use Rattle.lanes.specs.Ports.{taken_at, held_at};
@@ -104,17 +105,35 @@ fn open_lane<W: Work>(
 {
     let mailbox = empty_mailbox(alloc, capacity)?;
     let mut owner = Owner::fifo_as(alloc, FIRST_SLOTS)?;
-    let mut rings = Vec::with_capacity(alloc, crew.len())?;
-    for index in 0..crew.len() {
-        let (port, ring) = open_port(alloc, &mut owner)?;
-        crew[index].add(port)?;
-        rings.push_reserved(ring);
-    }
+    let rings = open_ports(alloc, &mut owner, crew)?;
     Ok(Client {
         owner,
         mailbox,
         rings,
     })
+}
+
+// A port of a new lane for each worker, and the other ends of their rings.
+fn open_ports<W: Work>(
+    alloc: Global,
+    owner: &mut Owner<W>,
+    crew: &mut Vec<Worker<W>>,
+) -> Result<Vec<Consumer<Done<W>>>, AllocError>
+    requires owner { (worker_port owner.old ≡ 0) × (worker_flavor owner.old ≡ 0) × (worker_view owner.old ≡ book 1 0 [] []) }
+    requires few { All (λ ports. length ports < 64) (map ports_of crew.old.items) }
+    ensures owner { IfOk result (λ rings. (worker_port owner.new ≡ 0) × (worker_flavor owner.new ≡ 0) × (worker_view owner.new ≡ book 1 (vec_len rings) [] [])) }
+    ensures links { IfOk result (λ rings. map worker_links crew.new.items ≡ add_each (map worker_links crew.old.items) (links_of (worker_deque owner.new) rings.items)) }
+    ensures rings { IfOk result (λ rings. (vec_len rings ≡ vec_len crew.old) × (received_of rings.items ≡ [])) }
+    ensures idle { OnOk result (AreIdle crew.old.items → AreIdle crew.new.items) }
+    ensures len { vec_len crew.new ≡ vec_len crew.old }
+{
+    let mut rings = Vec::with_capacity(alloc, crew.len())?;
+    for index in 0..crew.len() {
+        let (port, ring) = open_port(alloc, owner)?;
+        crew[index].add(port)?;
+        rings.push_reserved(ring);
+    }
+    Ok(rings)
 }
 
 fn empty_mailbox<W: Work>(alloc: Global, capacity: u32) -> Result<Mailbox<W>, AllocError>

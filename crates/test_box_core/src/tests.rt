@@ -40,160 +40,206 @@ fn work(alloc: Global, asked: u32) -> Result<Arc<Successor>, AllocError> {
 }
 
 fn done(alloc: Global, ticket: u64, asked: u32) -> Result<Done<Successor>, AllocError> {
-    match Done::of(alloc, ticket, work(alloc, asked)?) {
-        Ok(done) => Ok(done),
-        Err((refused, _)) => Err(refused),
-    }
+    Done::of(alloc, ticket, work(alloc, asked)?).map_err(|(refused, _)| refused)
 }
 
 fn admitted(mailbox: &mut Mailbox<Successor>, work: Arc<Successor>) -> Result<u64, Refusal> {
-    match mailbox.admit(work) {
-        Ok(ticket) => Ok(ticket),
-        Err((why, _)) => Err(why),
+    mailbox.admit(work).map_err(|(why, _)| why)
+}
+
+/// What is asked of a broker, by client; an answer has the result of some request.
+#[derive(Clone, Copy)]
+enum Ask {
+    Add(u32),
+    Submit(u32, u32),
+    Take(u32, u64),
+    Answer(u32, u64, u32),
+    Release(u32),
+    Close(u32),
+    Resize(u32, u32),
+}
+
+/// What is reported: a job by its ticket, a result by its ticket and outcome.
+#[derive(Clone, Copy)]
+enum Said {
+    Added(u32),
+    NotAdded(AddRefusal),
+    Accepted(u64),
+    Taken(u64),
+    Kept,
+    Strange,
+    Repeated,
+    Handed(u64, u64),
+    Nothing,
+    Closed,
+    Resized(u32),
+    Refused(Refusal),
+}
+
+fn event(alloc: Global, ask: Ask) -> Result<Event<Successor>, AllocError> {
+    Ok(match ask {
+        Ask::Add(capacity) => Event::AddClient(capacity),
+        Ask::Submit(client, asked) => Event::Submit(client, work(alloc, asked)?),
+        Ask::Take(client, ticket) => Event::Take(client, ticket),
+        Ask::Answer(client, ticket, asked) => Event::Answer(client, done(alloc, ticket, asked)?),
+        Ask::Release(client) => Event::Release(client),
+        Ask::Close(client) => Event::Close(client),
+        Ask::Resize(client, capacity) => Event::Resize(client, capacity),
+    })
+}
+
+fn is_said(report: &Report<Successor>, said: Said) -> bool {
+    match (report, said) {
+        (Report::Added(client), Said::Added(wanted)) => *client == wanted,
+        (Report::NotAdded(why), Said::NotAdded(wanted)) => *why == wanted,
+        (Report::Accepted(ticket), Said::Accepted(wanted)) => *ticket == wanted,
+        (Report::Taken(job), Said::Taken(wanted)) => job.ticket() == wanted,
+        (Report::Handed(reply), Said::Handed(ticket, outcome)) => {
+            reply.ticket == ticket && reply.outcome == outcome
+        }
+        (Report::Resized(capacity), Said::Resized(wanted)) => *capacity == wanted,
+        (Report::Refused(why), Said::Refused(wanted)) => *why == wanted,
+        (Report::Kept, Said::Kept)
+        | (Report::Strange, Said::Strange)
+        | (Report::Repeated, Said::Repeated)
+        | (Report::Nothing, Said::Nothing)
+        | (Report::Closed, Said::Closed) => true,
+        _ => false,
     }
 }
 
-fn submitted(
-    broker: &mut Broker<Successor>,
-    client: u32,
-    work: Arc<Successor>,
-) -> Result<u64, Refusal> {
-    match broker.submit(client, work) {
-        Ok(ticket) => Ok(ticket),
-        Err((why, _)) => Err(why),
-    }
-}
-
-fn word(report: &Report<Successor>) -> &'static str {
-    match report {
-        Report::Added(_) => "added",
-        Report::NotAdded(_) => "not added",
-        Report::Accepted(_) => "accepted",
-        Report::Taken(_) => "taken",
-        Report::Kept => "kept",
-        Report::Strange => "strange",
-        Report::Repeated => "repeated",
-        Report::Handed(_) => "handed",
-        Report::Nothing => "nothing",
-        Report::Closed => "closed",
-        Report::Resized(_) => "resized",
-        Report::Refused(_) => "refused",
-    }
-}
+/// What is asked of a new broker, each with what it reports.
+const HISTORIES: &[&[(Ask, Said)]] = &[
+    // Answers out of order are handed in order.
+    &[
+        (Ask::Add(2), Said::Added(0)),
+        (Ask::Submit(0, 1), Said::Accepted(0)),
+        (Ask::Submit(0, 2), Said::Accepted(1)),
+        (Ask::Take(0, 0), Said::Taken(0)),
+        (Ask::Take(0, 1), Said::Taken(1)),
+        (Ask::Answer(0, 1, 2), Said::Kept),
+        (Ask::Release(0), Said::Nothing),
+        (Ask::Answer(0, 0, 1), Said::Kept),
+        (Ask::Release(0), Said::Handed(0, 2)),
+        (Ask::Release(0), Said::Handed(1, 3)),
+        (Ask::Release(0), Said::Nothing),
+    ],
+    // A full mailbox refuses.
+    &[
+        (Ask::Add(1), Said::Added(0)),
+        (Ask::Submit(0, 1), Said::Accepted(0)),
+        (Ask::Submit(0, 1), Said::Refused(Refusal::Full)),
+        (Ask::Take(0, 0), Said::Taken(0)),
+        (Ask::Answer(0, 0, 1), Said::Kept),
+        (Ask::Release(0), Said::Handed(0, 2)),
+        (Ask::Submit(0, 1), Said::Accepted(1)),
+    ],
+    // A closed client is handed what was accepted.
+    &[
+        (Ask::Add(2), Said::Added(0)),
+        (Ask::Submit(0, 1), Said::Accepted(0)),
+        (Ask::Submit(0, 2), Said::Accepted(1)),
+        (Ask::Close(0), Said::Closed),
+        (Ask::Submit(0, 3), Said::Refused(Refusal::Closed)),
+        (Ask::Take(0, 0), Said::Taken(0)),
+        (Ask::Take(0, 1), Said::Taken(1)),
+        (Ask::Answer(0, 1, 2), Said::Kept),
+        (Ask::Release(0), Said::Nothing),
+        (Ask::Answer(0, 0, 1), Said::Kept),
+        (Ask::Release(0), Said::Handed(0, 2)),
+        (Ask::Release(0), Said::Handed(1, 3)),
+        (Ask::Release(0), Said::Nothing),
+        (Ask::Close(0), Said::Refused(Refusal::Closed)),
+    ],
+    // A taken ticket, one that was never given, a client that isn't there, and capacities past the limits.
+    &[
+        (Ask::Add(1), Said::Added(0)),
+        (Ask::Submit(0, 1), Said::Accepted(0)),
+        (Ask::Take(0, 0), Said::Taken(0)),
+        (Ask::Take(0, 0), Said::Refused(Refusal::NotWaiting)),
+        (Ask::Take(0, 1), Said::Refused(Refusal::NotWaiting)),
+        (Ask::Release(1), Said::Refused(Refusal::NoClient)),
+        (Ask::Submit(1, 1), Said::Refused(Refusal::NoClient)),
+        (Ask::Resize(1, 0), Said::Refused(Refusal::NoClient)),
+        (Ask::Resize(1, 1), Said::Refused(Refusal::NoClient)),
+        (Ask::Add(0), Said::NotAdded(AddRefusal::Capacity)),
+        (Ask::Add(4097), Said::NotAdded(AddRefusal::Capacity)),
+    ],
+    // A capacity changes, but to no fewer than are outstanding, and not once the client is closed.
+    &[
+        (Ask::Add(1), Said::Added(0)),
+        (Ask::Submit(0, 1), Said::Accepted(0)),
+        (Ask::Submit(0, 2), Said::Refused(Refusal::Full)),
+        (Ask::Resize(0, 2), Said::Resized(2)),
+        (Ask::Submit(0, 2), Said::Accepted(1)),
+        (Ask::Resize(0, 1), Said::Refused(Refusal::Small)),
+        (Ask::Resize(0, 0), Said::Refused(Refusal::Capacity)),
+        (Ask::Resize(0, 4097), Said::Refused(Refusal::Capacity)),
+        (Ask::Take(0, 0), Said::Taken(0)),
+        (Ask::Answer(0, 0, 1), Said::Kept),
+        (Ask::Release(0), Said::Handed(0, 2)),
+        (Ask::Resize(0, 1), Said::Resized(1)),
+        (Ask::Submit(0, 3), Said::Refused(Refusal::Full)),
+        (Ask::Close(0), Said::Closed),
+        (Ask::Resize(0, 3), Said::Refused(Refusal::Closed)),
+        (Ask::Resize(0, 0), Said::Refused(Refusal::Closed)),
+        (Ask::Take(0, 1), Said::Taken(1)),
+        (Ask::Answer(0, 1, 2), Said::Kept),
+        (Ask::Release(0), Said::Handed(1, 3)),
+    ],
+    // Strange and repeated answers change nothing.
+    &[
+        (Ask::Add(2), Said::Added(0)),
+        (Ask::Submit(0, 1), Said::Accepted(0)),
+        (Ask::Submit(0, 2), Said::Accepted(1)),
+        (Ask::Take(0, 0), Said::Taken(0)),
+        (Ask::Answer(0, 0, 9), Said::Strange),
+        (Ask::Answer(0, 1, 2), Said::Strange),
+        (Ask::Answer(0, 7, 1), Said::Strange),
+        (Ask::Answer(0, 0, 1), Said::Kept),
+        (Ask::Answer(0, 0, 1), Said::Repeated),
+        (Ask::Answer(0, 0, 9), Said::Repeated),
+        (Ask::Release(0), Said::Handed(0, 2)),
+        (Ask::Answer(0, 0, 1), Said::Repeated),
+    ],
+];
 
 #[test]
-fn answers_out_of_order_are_handed_in_order(rt: HostRuntime) -> Result<(), Fail> {
+fn histories_event_by_event(rt: HostRuntime) -> Result<(), Fail> {
     let alloc = rt.alloc();
-    let mut broker = Broker::new(alloc);
-    let mut events = Vec::new(alloc);
-    events.push(Event::AddClient(2)).map_err(AllocError::from)?;
-    events
-        .push(Event::Submit(0, work(alloc, 1)?))
-        .map_err(AllocError::from)?;
-    events
-        .push(Event::Submit(0, work(alloc, 2)?))
-        .map_err(AllocError::from)?;
-    events.push(Event::Take(0, 0)).map_err(AllocError::from)?;
-    events.push(Event::Take(0, 1)).map_err(AllocError::from)?;
-    events
-        .push(Event::Answer(0, done(alloc, 1, 2)?))
-        .map_err(AllocError::from)?;
-    events.push(Event::Release(0)).map_err(AllocError::from)?;
-    events
-        .push(Event::Answer(0, done(alloc, 0, 1)?))
-        .map_err(AllocError::from)?;
-    events.push(Event::Release(0)).map_err(AllocError::from)?;
-    events.push(Event::Release(0)).map_err(AllocError::from)?;
-    events.push(Event::Release(0)).map_err(AllocError::from)?;
-    let reports = match broker.run(events) {
-        Ok(reports) => reports,
-        Err((refused, _)) => return Err(refused.into()),
-    };
-    let wanted = [
-        "added", "accepted", "accepted", "taken", "taken", "kept", "nothing", "kept", "handed",
-        "handed", "nothing",
-    ];
-    assert_eq!(rt; reports.len(), wanted.len());
-    for (report, wanted) in reports.iter().zip(wanted.iter()) {
-        assert_eq!(rt; word(report), *wanted);
+    for (number, history) in HISTORIES.iter().enumerate() {
+        let mut broker = Broker::new(alloc);
+        for (place, (ask, said)) in history.iter().enumerate() {
+            let report = broker.apply(event(alloc, *ask)?);
+            assert!(rt; is_said(&report, *said), "{number}, {place}");
+        }
     }
-    assert!(rt;
-        matches!(&reports[8], Report::Handed(reply) if reply.ticket == 0 && reply.outcome == 2)
-    );
-    assert!(rt;
-        matches!(&reports[9], Report::Handed(reply) if reply.ticket == 1 && reply.outcome == 3)
-    );
     Ok(())
 }
 
 #[test]
-fn a_full_mailbox_refuses(rt: HostRuntime) -> Result<(), Fail> {
+fn histories_in_one_run(rt: HostRuntime) -> Result<(), Fail> {
     let alloc = rt.alloc();
-    let mut broker = Broker::new(alloc);
-    assert_eq!(rt; broker.add_client(1), Ok(0));
-    assert_eq!(rt; submitted(&mut broker, 0, work(alloc, 1)?), Ok(0));
-    assert_eq!(rt;
-        submitted(&mut broker, 0, work(alloc, 1)?),
-        Err(Refusal::Full)
-    );
-    assert!(rt; broker.take(0, 0).is_ok());
-    assert_eq!(rt; broker.answer(0, done(alloc, 0, 1)?), Ok(Answered::Kept));
-    assert!(rt; matches!(broker.release(0), Ok(Some(reply)) if reply.outcome == 2));
-    assert_eq!(rt; submitted(&mut broker, 0, work(alloc, 1)?), Ok(1));
-    Ok(())
-}
-
-#[test]
-fn a_closed_client_is_handed_what_was_accepted(rt: HostRuntime) -> Result<(), Fail> {
-    let alloc = rt.alloc();
-    let mut broker = Broker::new(alloc);
-    assert_eq!(rt; broker.add_client(2), Ok(0));
-    assert_eq!(rt; submitted(&mut broker, 0, work(alloc, 1)?), Ok(0));
-    assert_eq!(rt; submitted(&mut broker, 0, work(alloc, 2)?), Ok(1));
-    assert_eq!(rt; broker.close(0), Ok(()));
-    assert_eq!(rt;
-        submitted(&mut broker, 0, work(alloc, 3)?),
-        Err(Refusal::Closed)
-    );
-    for ticket in 0..2u32 {
-        let Ok(job) = broker.take(0, u64::from(ticket)) else {
+    for history in HISTORIES {
+        let mut events = Vec::new(alloc);
+        for (ask, _) in *history {
+            events.push(event(alloc, *ask)?).map_err(AllocError::from)?;
+        }
+        let Ok(reports) = Broker::new(alloc).run(events) else {
             return Err(AllocError.into());
         };
-        assert_eq!(rt; job.ticket(), u64::from(ticket));
-        let Ok(done) = job.run(alloc) else {
-            return Err(AllocError.into());
-        };
-        assert_eq!(rt; broker.answer(0, done), Ok(Answered::Kept));
+        assert_eq!(rt; reports.len(), history.len());
+        for (report, (_, said)) in reports.iter().zip(*history) {
+            assert!(rt; is_said(report, *said));
+        }
     }
-    assert!(rt;
-        matches!(broker.release(0), Ok(Some(reply)) if reply.ticket == 0 && reply.outcome == 2)
-    );
-    assert!(rt;
-        matches!(broker.release(0), Ok(Some(reply)) if reply.ticket == 1 && reply.outcome == 3)
-    );
-    assert!(rt; matches!(broker.release(0), Ok(None)));
-    assert_eq!(rt; broker.close(0), Err(Refusal::Closed));
     Ok(())
 }
 
 #[test]
-fn refusals_of_takes_and_clients(rt: HostRuntime) -> Result<(), Fail> {
-    let alloc = rt.alloc();
-    let mut broker = Broker::new(alloc);
-    assert_eq!(rt; broker.add_client(1), Ok(0));
-    assert_eq!(rt; submitted(&mut broker, 0, work(alloc, 1)?), Ok(0));
-    assert!(rt; broker.take(0, 0).is_ok());
-    assert_eq!(rt; broker.take(0, 0).err(), Some(Refusal::NotWaiting));
-    assert_eq!(rt; broker.take(0, 1).err(), Some(Refusal::NotWaiting));
-    assert!(rt; matches!(broker.release(1), Err(Refusal::NoClient)));
-    assert_eq!(rt;
-        submitted(&mut broker, 1, work(alloc, 1)?),
-        Err(Refusal::NoClient)
-    );
-    assert_eq!(rt; broker.resize(1, 0), Err(Refusal::NoClient));
-    assert_eq!(rt; broker.add_client(0), Err(AddRefusal::Capacity));
-    assert_eq!(rt; broker.add_client(4097), Err(AddRefusal::Capacity));
-    for client in 1..64u32 {
+fn clients_up_to_the_limit(rt: HostRuntime) -> Result<(), Fail> {
+    let mut broker: Broker<Successor> = Broker::new(rt.alloc());
+    for client in 0..64u32 {
         assert_eq!(rt; broker.add_client(1), Ok(client));
     }
     assert_eq!(rt; broker.add_client(1), Err(AddRefusal::Many));
@@ -201,70 +247,8 @@ fn refusals_of_takes_and_clients(rt: HostRuntime) -> Result<(), Fail> {
     Ok(())
 }
 
-#[test]
-fn a_capacity_changes(rt: HostRuntime) -> Result<(), Fail> {
-    let alloc = rt.alloc();
-    let mut mailbox = Mailbox::new(alloc, 1).map_err(|_| AllocError)?;
-    assert_eq!(rt; admitted(&mut mailbox, work(alloc, 1)?), Ok(0));
-    assert_eq!(rt; admitted(&mut mailbox, work(alloc, 2)?), Err(Refusal::Full));
-    assert_eq!(rt; mailbox.resize(2), Ok(()));
-    assert_eq!(rt; admitted(&mut mailbox, work(alloc, 2)?), Ok(1));
-    assert_eq!(rt; mailbox.resize(1), Err(Refusal::Small));
-    assert_eq!(rt; mailbox.resize(0), Err(Refusal::Capacity));
-    assert_eq!(rt; mailbox.resize(4097), Err(Refusal::Capacity));
-    assert_eq!(rt; mailbox.answer(done(alloc, 0, 1)?), Answered::Kept);
-    assert!(rt; matches!(mailbox.release(), Some(reply) if reply.ticket == 0));
-    assert_eq!(rt; mailbox.resize(1), Ok(()));
-    assert_eq!(rt; admitted(&mut mailbox, work(alloc, 3)?), Err(Refusal::Full));
-    assert!(rt; mailbox.close());
-    assert_eq!(rt; mailbox.resize(3), Err(Refusal::Closed));
-    assert_eq!(rt; mailbox.resize(0), Err(Refusal::Closed));
-    assert_eq!(rt; mailbox.answer(done(alloc, 1, 2)?), Answered::Kept);
-    assert!(rt;
-        matches!(mailbox.release(), Some(reply) if reply.ticket == 1 && reply.outcome == 3)
-    );
-    assert!(rt; mailbox.is_whole());
-    Ok(())
-}
-
-#[test]
-fn a_resize_is_reported(rt: HostRuntime) -> Result<(), Fail> {
-    let alloc = rt.alloc();
-    let mut broker = Broker::new(alloc);
-    assert!(rt; matches!(broker.apply(Event::AddClient(1)), Report::Added(0)));
-    assert!(rt;
-        matches!(
-            broker.apply(Event::Submit(0, work(alloc, 1)?)),
-            Report::Accepted(0)
-        )
-    );
-    assert!(rt;
-        matches!(
-            broker.apply(Event::Submit(0, work(alloc, 1)?)),
-            Report::Refused(Refusal::Full)
-        )
-    );
-    assert!(rt; matches!(broker.apply(Event::Resize(0, 2)), Report::Resized(2)));
-    assert!(rt;
-        matches!(
-            broker.apply(Event::Submit(0, work(alloc, 1)?)),
-            Report::Accepted(1)
-        )
-    );
-    assert!(rt;
-        matches!(
-            broker.apply(Event::Resize(0, 1)),
-            Report::Refused(Refusal::Small)
-        )
-    );
-    assert!(rt;
-        matches!(
-            broker.apply(Event::Resize(1, 1)),
-            Report::Refused(Refusal::NoClient)
-        )
-    );
-    Ok(())
-}
+/// From where the first open ticket is looked for, and which it is; its request has the same number.
+const OPEN: &[(u64, Option<u64>)] = &[(0, Some(1)), (2, Some(3)), (4, None)];
 
 #[test]
 fn the_first_open_ticket(rt: HostRuntime) -> Result<(), Fail> {
@@ -280,16 +264,16 @@ fn the_first_open_ticket(rt: HostRuntime) -> Result<(), Fail> {
     assert_eq!(rt; mailbox.answer(done(alloc, 0, 0)?), Answered::Kept);
     assert_eq!(rt; mailbox.answer(done(alloc, 2, 2)?), Answered::Kept);
     assert!(rt; mailbox.release().is_some());
-    assert!(rt;
-        matches!(mailbox.first_open(0), Some((ticket, work)) if ticket == 1 && work.asked == 1)
-    );
-    assert!(rt;
-        matches!(mailbox.first_open(2), Some((ticket, work)) if ticket == 3 && work.asked == 3)
-    );
-    assert!(rt; mailbox.first_open(4).is_none());
+    for (from, ticket) in OPEN {
+        let found = mailbox.first_open(*from);
+        let numbers = found.map(|(found, work)| (found, u64::from(work.asked)));
+        assert_eq!(rt; numbers, ticket.map(|ticket| (ticket, ticket)));
+    }
     Ok(())
 }
 
+/// Thirty requests go through a ring of three places, of which one or two are in use. A mailbox is whole where nothing is
+/// outstanding.
 #[test]
 fn a_small_ring_goes_round(rt: HostRuntime) -> Result<(), Fail> {
     let alloc = rt.alloc();
@@ -297,63 +281,13 @@ fn a_small_ring_goes_round(rt: HostRuntime) -> Result<(), Fail> {
     for asked in 0..30u32 {
         let ticket = u64::from(asked);
         assert_eq!(rt; admitted(&mut mailbox, work(alloc, asked)?), Ok(ticket));
+        assert!(rt; !mailbox.is_whole());
         assert_eq!(rt; mailbox.answer(done(alloc, ticket, asked)?), Answered::Kept);
-        assert!(rt;
-            matches!(mailbox.release(), Some(reply) if reply.ticket == ticket && reply.outcome == ticket + 1)
-        );
+        let reply = mailbox.release().map(|reply| (reply.ticket, reply.outcome));
+        assert_eq!(rt; reply, Some((ticket, ticket + 1)));
+        assert!(rt; mailbox.is_whole());
     }
-    assert!(rt; mailbox.is_whole());
-    Ok(())
-}
-
-#[test]
-fn strange_and_repeated_answers_change_nothing(rt: HostRuntime) -> Result<(), Fail> {
-    let alloc = rt.alloc();
-    let mut broker = Broker::new(alloc);
-    assert_eq!(rt; broker.add_client(2), Ok(0));
-    assert_eq!(rt; submitted(&mut broker, 0, work(alloc, 1)?), Ok(0));
-    assert_eq!(rt; submitted(&mut broker, 0, work(alloc, 2)?), Ok(1));
-    assert!(rt; broker.take(0, 0).is_ok());
-    assert_eq!(rt; broker.answer(0, done(alloc, 0, 9)?), Ok(Answered::Strange));
-    assert_eq!(rt; broker.answer(0, done(alloc, 1, 2)?), Ok(Answered::Strange));
-    assert_eq!(rt; broker.answer(0, done(alloc, 7, 1)?), Ok(Answered::Strange));
-    assert_eq!(rt; broker.answer(0, done(alloc, 0, 1)?), Ok(Answered::Kept));
-    assert_eq!(rt;
-        broker.answer(0, done(alloc, 0, 1)?),
-        Ok(Answered::Repeated)
-    );
-    assert_eq!(rt;
-        broker.answer(0, done(alloc, 0, 9)?),
-        Ok(Answered::Repeated)
-    );
-    assert!(rt;
-        matches!(broker.release(0), Ok(Some(reply)) if reply.outcome == 2 && reply.ticket == 0)
-    );
-    assert_eq!(rt;
-        broker.answer(0, done(alloc, 0, 1)?),
-        Ok(Answered::Repeated)
-    );
-    Ok(())
-}
-
-#[test]
-fn a_closed_client_keeps_what_was_accepted(rt: HostRuntime) -> Result<(), Fail> {
-    let alloc = rt.alloc();
-    let mut mailbox = Mailbox::new(alloc, 2).map_err(|_| AllocError)?;
-    assert_eq!(rt; admitted(&mut mailbox, work(alloc, 1)?), Ok(0));
-    assert_eq!(rt; admitted(&mut mailbox, work(alloc, 2)?), Ok(1));
     assert!(rt; mailbox.close());
-    assert_eq!(rt;
-        admitted(&mut mailbox, work(alloc, 3)?),
-        Err(Refusal::Closed)
-    );
-    assert_eq!(rt; mailbox.answer(done(alloc, 1, 2)?), Answered::Kept);
-    assert!(rt; mailbox.release().is_none());
-    assert_eq!(rt; mailbox.answer(done(alloc, 0, 1)?), Answered::Kept);
-    assert!(rt; matches!(mailbox.release(), Some(reply) if reply.outcome == 2));
-    assert!(rt; !mailbox.is_whole());
-    assert!(rt; matches!(mailbox.release(), Some(reply) if reply.outcome == 3));
-    assert!(rt; mailbox.is_whole());
     assert!(rt; !mailbox.close());
     Ok(())
 }
@@ -393,10 +327,9 @@ fn a_large_ring_hands_in_order(rt: HostRuntime) -> Result<(), Fail> {
             Answered::Kept
         );
     }
-    for asked in 0..4096u32 {
-        assert!(rt;
-            matches!(mailbox.release(), Some(reply) if reply.ticket == u64::from(asked) && reply.outcome == u64::from(asked) + 1)
-        );
+    for ticket in 0..4096u64 {
+        let reply = mailbox.release().map(|reply| (reply.ticket, reply.outcome));
+        assert_eq!(rt; reply, Some((ticket, ticket + 1)));
     }
     assert!(rt; mailbox.release().is_none());
     Ok(())

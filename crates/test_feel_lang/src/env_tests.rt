@@ -1,14 +1,9 @@
 //! Bindings that hide one another.
 use feel_lang::Env;
 use feel_value::{Feel, Value};
-use std::process::Abort;
 use std::test::Fail;
 
-fn number(rt: &impl Abort, n: i64) -> Feel {
-    Feel::of(Value::Number(n)).expect(rt, "a number within the limits")
-}
-
-// The number that the name is bound to.
+/// The number that the name is bound to.
 fn found(env: &Env, name: &str) -> Option<i64> {
     match env.find(name)?.value() {
         Value::Number(n) => Some(*n),
@@ -16,41 +11,41 @@ fn found(env: &Env, name: &str) -> Option<i64> {
     }
 }
 
-#[test]
-fn the_last_binding_counts(rt: HostRuntime) -> Result<(), Fail> {
-    let alloc = rt.alloc();
-    let mut env = Env::new(alloc);
-    assert!(rt; found(&env, "a").is_none());
-    env.bind("a", number(&rt, 1))?;
-    env.bind("a", number(&rt, 2))?;
-    assert_eq!(rt; found(&env, "a"), Some(2));
-    assert_eq!(rt; env.len(), 2);
-    env.cut(1);
-    assert_eq!(rt; found(&env, "a"), Some(1));
-    env.cut(0);
-    assert!(rt; found(&env, "a").is_none());
+/// Bindings that are made, how many are there then, how many are left of them, and what a, b and c are bound to.
+const STEPS: &[(&[(&str, i64)], usize, usize, [Option<i64>; 3])] = &[
+    (&[], 0, 0, [None, None, None]),
+    (&[("a", 1), ("a", 2)], 2, 2, [Some(2), None, None]),
+    (&[], 2, 1, [Some(1), None, None]),
+    (&[], 1, 0, [None, None, None]),
+    (
+        &[("a", 1), ("b", 2), ("a", 3), ("c", 4), ("b", 5), ("a", 6)],
+        6,
+        6,
+        [Some(6), Some(5), Some(4)],
+    ),
+    (&[], 6, 4, [Some(3), Some(2), Some(4)]),
+    (&[("c", 7)], 5, 2, [Some(1), Some(2), None]),
+];
+
+/// Makes these bindings.
+fn bind(env: &mut Env, bindings: &[(&str, i64)]) -> Result<(), Fail> {
+    for (name, n) in bindings {
+        env.bind(name, Feel::of(Value::Number(*n)).ok_or("no number")?)?;
+    }
     Ok(())
 }
 
+/// The last binding counts, and what it hid counts again when it is dropped.
 #[test]
-fn what_was_hidden_counts_again(rt: HostRuntime) -> Result<(), Fail> {
-    let alloc = rt.alloc();
-    let mut env = Env::new(alloc);
-    for (name, n) in [("a", 1), ("b", 2), ("a", 3), ("c", 4), ("b", 5), ("a", 6)] {
-        env.bind(name, number(&rt, n))?;
+fn bindings_that_hide_one_another(rt: HostRuntime) -> Result<(), Fail> {
+    let mut env = Env::new(rt.alloc());
+    for (bindings, there, left, want) in STEPS {
+        bind(&mut env, bindings)?;
+        assert_eq!(rt; env.len(), *there);
+        assert!(rt; *left <= env.len());
+        env.cut(*left);
+        let bound = [found(&env, "a"), found(&env, "b"), found(&env, "c")];
+        assert_eq!(rt; bound, *want);
     }
-    assert_eq!(rt; env.len(), 6);
-    env.cut(4);
-    assert_eq!(rt;
-        (found(&env, "a"), found(&env, "b"), found(&env, "c")),
-        (Some(3), Some(2), Some(4))
-    );
-    env.bind("c", number(&rt, 7))?;
-    assert_eq!(rt; env.len(), 5);
-    env.cut(2);
-    assert_eq!(rt;
-        (found(&env, "a"), found(&env, "b"), found(&env, "c")),
-        (Some(1), Some(2), None)
-    );
     Ok(())
 }

@@ -1,67 +1,48 @@
 //! Readers while the heap refuses requests for memory.
 use feel_lang::{ReadFault, is_name, read_expr, read_literal, read_tests};
 use full_heap::FullHeap;
+use std::alloc::Global;
 use std::test::Fail;
 
 /// Sizes of what the heap still gives, from nothing to more than enough.
-const SPARES: [usize; 7] = [0, 1040, 1600, 2080, 4096, 16384, 65536];
+const SPARES: &[usize] = &[0, 1040, 1600, 2080, 4096, 16384, 65536];
 
-#[test]
-fn an_expression_is_read_whole_or_refused(rt: HostRuntime) -> Result<(), Fail> {
-    let alloc = rt.alloc();
-    let text = "[a.b, -\"c\", if 1 < 2 then modulo(3, 4) else not(d between 5 and 6)]";
-    for spare in SPARES {
-        let full = FullHeap::but(alloc, spare)?;
-        let fault = read_expr(alloc, text).err();
-        let taken = full.blocks();
-        drop(full);
-        assert!(rt; taken > 0);
-        assert!(rt; spare > 0 || fault == Some(ReadFault::Memory));
-        assert!(rt; spare < 65536 || fault.is_none());
-        assert!(rt;
-            fault.is_none() || fault == Some(ReadFault::Memory),
-            "at {spare}"
-        );
-        assert_eq!(rt; read_expr(alloc, text).err(), None);
+/// Why one of the three readers doesn't read the text.
+fn fault(alloc: Global, reader: &str, text: &str) -> Option<ReadFault> {
+    match reader {
+        "expression" => read_expr(alloc, text).err(),
+        "tests" => read_tests(alloc, text).err(),
+        _ => read_literal(alloc, text).err(),
     }
-    Ok(())
 }
 
-#[test]
-fn unary_tests_are_read_whole_or_refused(rt: HostRuntime) -> Result<(), Fail> {
-    let alloc = rt.alloc();
-    for spare in SPARES {
-        for text in ["not(< 1, [2..a], \"b\", (3))", "(1..5], \"a\", not(2), > b"] {
-            let full = FullHeap::but(alloc, spare)?;
-            let fault = read_tests(alloc, text).err();
-            drop(full);
-            assert!(rt; spare > 0 || fault == Some(ReadFault::Memory));
-            assert!(rt; spare < 65536 || fault.is_none());
-            assert!(rt;
-                fault.is_none() || fault == Some(ReadFault::Memory),
-                "at {spare}"
-            );
-            assert_eq!(rt; read_tests(alloc, text).err(), None);
-        }
-    }
-    Ok(())
-}
+/// Readers with texts that they read.
+const TEXTS: &[(&str, &str)] = &[
+    (
+        "expression",
+        "[a.b, -\"c\", if 1 < 2 then modulo(3, 4) else not(d between 5 and 6)]",
+    ),
+    ("tests", "not(< 1, [2..a], \"b\", (3))"),
+    ("tests", "(1..5], \"a\", not(2), > b"),
+    ("literal", "\"a long enough text\""),
+    ("literal", "-5"),
+];
 
+/// With so much that the heap still gives, a reading is whole, or says that it found no memory; it is whole once the heap
+/// gives again.
 #[test]
-fn a_literal_is_read_whole_or_refused(rt: HostRuntime) -> Result<(), Fail> {
+fn a_text_is_read_whole_or_refused(rt: HostRuntime) -> Result<(), Fail> {
     let alloc = rt.alloc();
-    for spare in SPARES {
-        for text in ["\"a long enough text\"", "-5"] {
-            let full = FullHeap::but(alloc, spare)?;
-            let fault = read_literal(alloc, text).err();
+    for (reader, text) in TEXTS {
+        for spare in SPARES {
+            let full = FullHeap::but(alloc, *spare)?;
+            let found = fault(alloc, reader, text);
+            assert!(rt; full.blocks() > 0);
             drop(full);
-            assert!(rt; spare > 0 || fault == Some(ReadFault::Memory));
-            assert!(rt; spare < 65536 || fault.is_none());
-            assert!(rt;
-                fault.is_none() || fault == Some(ReadFault::Memory),
-                "at {spare}"
-            );
-            assert_eq!(rt; read_literal(alloc, text).err(), None);
+            assert!(rt; *spare > 0 || found == Some(ReadFault::Memory));
+            assert!(rt; *spare < 65536 || found.is_none());
+            assert!(rt; found != Some(ReadFault::Syntax), "at {spare}");
+            assert_eq!(rt; fault(alloc, reader, text), None);
         }
     }
     Ok(())

@@ -1,7 +1,7 @@
 //! Calls whose requests for memory are refused. With ample memory each test prints that nothing was refused.
 use feel_lang::{Env, Held, eval, holds, read_expr, read_tests};
 use feel_value::{Feel, Outcome, Value};
-use std::alloc::Global;
+use std::alloc::{AllocError, Global};
 use std::process::Abort;
 use std::test::Fail;
 
@@ -9,36 +9,35 @@ fn number(rt: &impl Abort, n: i64) -> Feel {
     Feel::of(Value::Number(n)).expect(rt, "a number within the limits")
 }
 
-fn found(env: &Env, name: &str) -> Option<i64> {
-    match env.find(name)?.value() {
-        Value::Number(n) => Some(*n),
-        _ => None,
-    }
+/// The number that is this value.
+fn is_number(value: Option<&Feel>, n: i64) -> bool {
+    value.is_some_and(|value| matches!(value.value(), Value::Number(m) if *m == n))
 }
 
+/// Numbers that a is bound to in turn.
+const NUMBERS: &[i64] = &[1, 2];
+
+/// A binding that is refused leaves as many as before, and the name as it was bound before.
 #[test]
 fn a_refused_binding_changes_nothing(rt: HostRuntime) -> Result<(), Fail> {
-    let alloc = rt.alloc();
-    let mut env = Env::new(alloc);
-    let first = env.bind("a", number(&rt, 1)).is_err();
-    if first {
-        assert_eq!(rt; env.len(), 0);
-        assert!(rt; found(&env, "a").is_none());
-        env.bind("a", number(&rt, 1))?;
+    let mut env = Env::new(rt.alloc());
+    for n in NUMBERS {
+        let before = env.len();
+        let refused = env.bind("a", number(&rt, *n)).is_err();
+        if refused {
+            assert_eq!(rt; env.len(), before);
+            assert!(rt; before == 0 || is_number(env.find("a"), n - 1));
+            env.bind("a", number(&rt, *n))?;
+        }
+        assert_eq!(rt; env.len(), before + 1);
+        assert!(rt; is_number(env.find("a"), *n));
+        println!(rt; "refused: {refused}")?;
     }
-    let second = env.bind("a", number(&rt, 2)).is_err();
-    if second {
-        assert_eq!(rt; env.len(), 1);
-        assert_eq!(rt; found(&env, "a"), Some(1));
-        env.bind("a", number(&rt, 2))?;
-    }
-    assert_eq!(rt; env.len(), 2);
-    assert_eq!(rt; found(&env, "a"), Some(2));
-    println!(rt; "refused: {first} {second}")?;
     Ok(())
 }
 
-fn bound(rt: &impl Abort, alloc: Global) -> Result<Env, Fail> {
+/// An environment in which a is 1.
+fn bound(rt: &impl Abort, alloc: Global) -> Result<Env, AllocError> {
     let mut env = Env::new(alloc);
     env.bind("a", number(rt, 1))?;
     Ok(env)
@@ -50,19 +49,12 @@ fn a_refused_evaluation_answers_nothing_else(rt: HostRuntime) -> Result<(), Fail
     let env = bound(&rt, alloc)?;
     let expr = read_expr(alloc, "count([[a], \"b\"])")?;
     let first = eval(alloc, &expr, &env);
-    let refused = first.is_err();
+    println!(rt; "refused: {}", first.is_err())?;
     let outcome = match first {
         Ok(outcome) => outcome,
-        Err(_) => eval(alloc, &expr, &env)?,
+        Err(AllocError) => eval(alloc, &expr, &env)?,
     };
-    match outcome {
-        Outcome::Is(value) => match value.value() {
-            Value::Number(n) => assert_eq!(rt; *n, 2),
-            _ => panic!(rt; "no number"),
-        },
-        Outcome::Limit => panic!(rt; "a limit"),
-    }
-    println!(rt; "refused: {refused}")?;
+    assert!(rt; matches!(&outcome, Outcome::Is(value) if is_number(Some(value), 2)));
     Ok(())
 }
 
@@ -70,10 +62,9 @@ fn a_refused_evaluation_answers_nothing_else(rt: HostRuntime) -> Result<(), Fail
 #[test]
 fn looking_at_a_value_takes_no_memory(rt: HostRuntime) -> Result<(), Fail> {
     let alloc = rt.alloc();
+    let list = Value::List(vec![in alloc; Value::Number(1), Value::Number(2)]?);
     let mut env = Env::new(alloc);
-    let list = Value::List(Vec::from_array(alloc, [Value::Number(1), Value::Number(2)])?);
-    let list = Feel::of(list).expect(&rt, "a value within the limits");
-    env.bind("a", list)?;
+    env.bind("a", Feel::of(list).ok_or("no list")?)?;
     let expr = read_expr(alloc, "if a = a then count(a) + sum((a)) else 0")?;
     let refused = eval(alloc, &expr, &env).is_err();
     assert!(rt; !refused);
@@ -88,12 +79,11 @@ fn a_refused_test_answers_nothing_else(rt: HostRuntime) -> Result<(), Fail> {
     let tests = read_tests(alloc, "[a]")?;
     let input = number(&rt, 1);
     let first = holds(alloc, &tests, &input, &env);
-    let refused = first.is_err();
+    println!(rt; "refused: {}", first.is_err())?;
     let held = match first {
         Ok(held) => held,
-        Err(_) => holds(alloc, &tests, &input, &env)?,
+        Err(AllocError) => holds(alloc, &tests, &input, &env)?,
     };
     assert_eq!(rt; held, Held::Yes);
-    println!(rt; "refused: {refused}")?;
     Ok(())
 }

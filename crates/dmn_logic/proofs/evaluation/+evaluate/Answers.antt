@@ -9,7 +9,7 @@ use Rattle.dmn_form.specs.Model.{context}
 use Rattle.dmn_logic.specs.Boxed.{boxed}
 use Rattle.dmn_logic.specs.LogicView.{logic_view, entries_view}
 use Rattle.dmn_logic.specs.ValueView.{pairs_view}
-use Rattle.dmn_logic.proofs.Boxes.{logic_view-Context, entry_turn, from_bound, from_none, with_result}
+use Rattle.dmn_logic.proofs.Boxes.{logic_view-Context, entry_turn, bind_turn, from_bound, from_none, with_result}
 use Rattle.dmn_logic.proofs.evaluation.+evaluate.Goals as goal
 use Rattle.dmn_logic.proofs.evaluation.+evaluate.Goals.{evaluate-in-Ok-true, evaluate-in-Ok-false, evaluate-in-Err}
 
@@ -48,3 +48,8 @@ evaluate-returns-after-bind_entries-clause-value t c =
           subst (λ r. IfOk r (λ o. o ≡ meant)) (sym w.outcome-is) (sym (whole ∙ from_none (boxed (logic_view c.in-ContextWith.last.value)) outer _ bound))
       | evaluate-in-Err w ↦ subst (λ r. IfOk r (λ o. o ≡ meant)) (sym w.outcome-is) tt
     ]
+
+pub bind_entries-loop-name-preserved : goal.bind_entries-loop-name-preserved
+bind_entries-loop-name-preserved t c =
+    bind_turn _ c.args.env.now c.loop-name.env c.evaluate.new.env c.bind.new.self c.args.entries.now c.loop-name.name-index c.loop-name-item.result c.as_str.result.now c.in-Is.value
+    c.loop-name.invariant c.loop-name-item.is c.loop-name-test.true (sym c.in-Is.is ∙ c.in_ok-value.ensures.value) c.in_ok-value.ensures.same c.in_ok-bind.ensures c.as_str.ensures.value

@@ -1,4 +1,4 @@
-use Rattle.std.proofs.Common.{◌≡◌, ◌∷◌, [], ◌++◌, ◌<◌, refl, sym, ap, ◌∙◌, subst, append_assoc, arith, rules}
+use Rattle.std.proofs.Common.{◌≡◌, ◌∷◌, [], ◌++◌, ◌<◌, refl, sym, ap, ◌∙◌, subst, append_assoc, arith, rules, append-nil}
 use Rattle.std.proofs.lemmas.List.Elements.{All-cons, All-append}
 use Rattle.box_core.specs.Mail.{accepted_in}
 use Rattle.rtrb.specs.Ring.{received, known_items}
@@ -21,3 +21,18 @@ loop-ring-preserved g c =
       );
       count = taken_count g.W.Work.request g.W.Work.result_of c.loop-ring.mailbox c.answer.new.self (c.pop_known.result ∷ []) (taken_one g.W.Work.request g.W.Work.result_of c.loop-ring.mailbox c.answer.new.self c.pop_known.result c.answer.result told.answered told.kept told.dropped) ∙ inv.count;
     }
+
+pub loop-ring-init : goal.loop-ring-init
+loop-ring-init g c =
+    let looked = c.slots.ensures.looked in
+    record {
+      ring = looked.0;
+      taken = ([], looked.1 ∙ sym (append-nil (received c.args.ring.now)), refl, none (λ x. x.ticket < accepted_in c.args.mailbox.now));
+      count = refl;
+    }
+
+pub returns-then-ticket-accepted : goal.returns-then-ticket-accepted
+returns-then-ticket-accepted g c = let inv = c.loop-ring.invariant in record { ring = inv.ring; taken = inv.taken; count = inv.count }
+
+pub returns : goal.returns
+returns g c = let inv = c.loop-ring.invariant in record { ring = inv.ring; taken = inv.taken; count = inv.count }

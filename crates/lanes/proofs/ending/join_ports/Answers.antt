@@ -1,7 +1,7 @@
 use Rattle.std.proofs.Common.{refl, sym, ap, ◌∙◌, subst, arith, rules}
 use Rattle.crossbeam_deque.specs.Handles.{worker_deque}
 use Rattle.rtrb.specs.Ring.{IsPair}
-use Rattle.lanes.proofs.Joining.{joining_none, joining_step, last_link, is_pair}
+use Rattle.lanes.proofs.Joining.{joining_none, joining_step, last_link, is_pair, joined_all, no_items}
 use Rattle.lanes.proofs.ending.join_ports.Goals as goal
 
 pub loop-port-init : goal.loop-port-init
@@ -31,4 +31,14 @@ loop-port-preserved g c =
       joining = joining_step g.W.Work.request g.W.Work.result_of _ _ _ _ _ _ _ _ _ _ _ _ _ _ _ _ _ _ _ _ _ drained.0 inv.joining c.in-Some.ensures.items c.in-Some-pop.ensures.items joined.joined joined.rest.0 joined.rest.1 drained.1 drained.2 held.answers held.jobs;
       capacity = search rules;
       room = (let a = inv.room in let b = held.len in let e = c.in-Some.ensures.len in let f = held.room in omega arith);
+    }
+
+pub returns : goal.returns
+returns g c =
+    let inv = c.loop-port.invariant in let popped = c.in_default.ensures in
+    record {
+      same = inv.same;
+      joins = joined_all g.W.Work.request g.W.Work.result_of _ _ _ _ _ _ _ _ _ _ _ (no_items c.loop-port.ports.items (omega (arith, popped.cases.0, c.loop-port.ports.ok.0))) inv.joining;
+      room = inv.capacity.0;
+      ports = (no_items c.pop.new.self.items (omega (arith, popped.cases.1, c.pop.new.self.ok.0)), popped.capacity ∙ inv.capacity.1);
     }

@@ -1,4 +1,5 @@
-use Rattle.std.proofs.Common.{◌≡◌, suc, ◌+◌, sym, ap, ◌∙◌, arith, rules, map, ◌++◌, ◌∷◌, []}
+use Rattle.std.proofs.lemmas.Result.{err_from_is_err_and}
+use Rattle.std.proofs.Common.{◌≡◌, suc, ◌+◌, ap, ◌∙◌, arith, rules, map, ◌++◌, ◌∷◌, []}
 use Rattle.std.proofs.lemmas.List.{map-append}
 use Rattle.lanes.specs.Links.{empties}
 use Rattle.lanes.specs.Workers.{ports_of}
@@ -12,4 +13,12 @@ loop-preserved g c =
     record {
       empty = ap (map ports_of) c.in_ok-push.ensures.items ∙ map-append ports_of c.loop.crew.items (c.without_lanes.result ∷ []) ∙ (λ i. inv.empty i ++ c.without_lanes.ensures i ∷ []) ∙ empties_more c.loop.counter ∙ ap (λ n. empties n) next;
       len = search rules;
+    }
+
+pub returns-in_err-push : goal.returns-in_err-push
+returns-in_err-push g c =
+    let e = (err_from_is_err_and c.from_residual.result c.from_residual.ensures.1).1 in
+    record {
+      empty = rw e tt;
+      len = rw e tt;
     }

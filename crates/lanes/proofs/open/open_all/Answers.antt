@@ -1,9 +1,10 @@
-use Rattle.std.proofs.Common.{◌≡◌, ◌∷◌, [], ◌++◌, ◌+◌, ◌<◌, map, length, refl, sym, ap, ◌∙◌, subst, arith, rules}
+use Rattle.std.proofs.lemmas.Result.{err_from_is_err_and}
+use Rattle.std.proofs.Common.{◌≡◌, map, length, sym, ap, ◌∙◌, subst, arith, rules}
 use Rattle.lanes.specs.Links.{empties, AreOfOneCall}
 use Rattle.lanes.specs.Made.{AreNew}
 use Rattle.lanes.specs.Clients.{client_links}
-use Rattle.lanes.specs.Workers.{ports_of, worker_links}
-use Rattle.lanes.proofs.Crossing.{none, one_call_none}
+use Rattle.lanes.specs.Workers.{worker_links}
+use Rattle.lanes.proofs.Crossing.{one_call_none}
 use Rattle.lanes.proofs.Making.{few_lanes, lanes_more, new_none, new_more, worker_links_none, idle_none, map_length}
 use Rattle.lanes.proofs.open.open_all.Goals as goal
 
@@ -28,4 +29,31 @@ loop-preserved g c =
       count = search rules;
       one_call = lanes_more c.loop.ends.items c.push.new.self.items c.loop.crew.items c.open_lane.new.crew.items c.in_ok-client.client inv.one_call pushed.items (let n = opened.links.0 in omega (arith, n, c.loop.crew.ok.0)) opened.links.1;
       new = (new_more c.args.capacity c.loop.ends.items c.push.new.self.items c.in_ok-client.client inv.new.0 pushed.items opened.new, opened.idle inv.new.1);
+    }
+
+pub returns-in_err-crew : goal.returns-in_err-crew
+returns-in_err-crew g c =
+    let e = (err_from_is_err_and c.from_residual.result c.from_residual.ensures.1).1 in
+    record {
+      count = rw e tt;
+      one_call = rw e tt;
+      new = rw e tt;
+    }
+
+pub returns-in_err-client : goal.returns-in_err-client
+returns-in_err-client g c =
+    let e = (err_from_is_err_and c.from_residual-in_err-client.result c.from_residual-in_err-client.ensures.1).1 in
+    record {
+      count = rw e tt;
+      one_call = rw e tt;
+      new = rw e tt;
+    }
+
+pub returns-in_err-push : goal.returns-in_err-push
+returns-in_err-push g c =
+    let e = (err_from_is_err_and c.from_residual-in_err-push.result c.from_residual-in_err-push.ensures.1).1 in
+    record {
+      count = rw e tt;
+      one_call = rw e tt;
+      new = rw e tt;
     }

@@ -1,42 +1,62 @@
-use Rattle.std.proofs.Common.{◌≡◌, ◌∷◌, [], ◌++◌, ◌+◌, ◌<◌, map, length, set, refl, sym, ap, ◌∙◌, subst, arith, rules, get_or-set_other}
-use Rattle.crossbeam_deque.specs.Handles.{worker_deque}
-use Rattle.rtrb.specs.Ring.{received}
-use Rattle.lanes.specs.Links.{add_each, links_of}
-use Rattle.lanes.specs.Workers.{ports_of, worker_links}
+use Rattle.std.proofs.lemmas.Result.{err_from_is_err_and}
+use Rattle.std.proofs.Common.{ap, ◌∙◌, arith, length, vec_len, ◌≡◌}
+use Rattle.crossbeam_deque.specs.Handles.{worker_view, worker_deque}
 use Rattle.lanes.specs.Joined.{received_of}
-use Rattle.lanes.proofs.Making.{add_empty, few_at, flat_snoc, crew_linked, crew_idle}
+use Rattle.lanes.proofs.Beginning.{fits_new, credits_new}
+use Rattle.lanes.proofs.Making.{links_length}
 use Rattle.lanes.proofs.open.open_lane.Goals as goal
 
-pub loop-index-init : goal.loop-index-init
-loop-index-init g c =
-    let made = c.in_ok-owner.ensures in
+pub invariant_of-result : goal.invariant_of-result
+invariant_of-result g c =
+    let made = c.in_ok-rings.ensures in let view = made.owner.2 in let put = ap (λ b. b.put) view in
+    let owner = c.open_ports.new.owner in let mailbox = c.in_ok-mailbox.mailbox in let rings = c.in_ok-rings.rings in
+    let fits = fits_new g.W.Work.request g.W.Work.result_of (worker_view owner).put mailbox c.args.capacity put c.in_ok-mailbox.ensures in
+    let credits = credits_new g.W.Work.request g.W.Work.result_of (worker_view owner).put mailbox (received_of rings.items) c.args.capacity put c.in_ok-mailbox.ensures made.rings.1 in
     record {
-      owner = (made.2, made.1, made.4);
-      links = subst (λ l. map worker_links c.args.crew.now.items ≡ add_each (map worker_links c.args.crew.now.items) (links_of (worker_deque c.in_ok-owner.owner) l)) (sym c.in_ok-rings.ensures.items) (add_empty (map worker_links c.args.crew.now.items));
-      rings = (c.in_ok-rings.ensures.len, ap (λ l. received_of l) c.in_ok-rings.ensures.items, c.in_ok-rings.ensures.exact ∙ c.len.ensures);
-      crew = refl;
-      few = λ k d h le. few_at c.args.crew.now.items 64 c.requires.few k d (omega (arith, h, c.args.crew.now.ok.0));
-      idle = λ i. i;
+      owns = (made.owner.0, made.owner.1);
+      lent = (ap (λ b. b.out) view, ap (λ b. b.taken) view);
+      numbered = fits.numbered;
+      count = fits.count;
+      works = fits.works;
+      running = fits.running;
+      due = fits.due;
+      credited = credits.credited;
+      accounted = credits.accounted;
+      few = credits.few;
     }
 
-pub add-requires-clause-few : goal.add-requires-clause-few
-add-requires-clause-few g c =
-    let inv = c.loop-index.invariant in let w = c.index_mut.result.now in
-    let f = inv.few c.loop-index.index w (omega (arith, c.loop-index-test.true, c.len-index-end.ensures, inv.crew)) (omega arith) in
-    let e = ap (λ x. length (ports_of x)) c.index_mut.ensures.value in
-    omega (arith, f, e, w.ports.ok.0)
+pub returns-clause-new : goal.returns-clause-new
+returns-clause-new g c = (ap (λ b. b.put) c.in_ok-rings.ensures.owner.2, c.in_ok-rings.ensures.rings.1, c.in_ok-mailbox.ensures)
 
-pub loop-index-preserved : goal.loop-index-preserved
-loop-index-preserved g c =
-    let inv = c.loop-index.invariant in let opened = c.in_ok-port.ensures in let added = c.in_ok-add.ensures in let pushed = c.push_reserved.ensures in
-    let inside : c.loop-index.index < length c.loop-index.crew.items = omega (arith, c.loop-index-test.true, c.len-index-end.ensures, inv.crew, c.loop-index.crew.ok.0) in
-    record {
-      owner = search rules;
-      links = subst (λ l. map worker_links (set c.loop-index.crew.items c.loop-index.index c.add.new.self) ≡ add_each (map worker_links c.args.crew.now.items) (links_of (worker_deque c.open_port.new.owner) l)) (sym pushed.items)
-          (crew_linked c.loop-index.crew.items c.args.crew.now.items (worker_deque c.loop-index.owner) (worker_deque c.open_port.new.owner) c.loop-index.rings.items c.in_ok-port.ring c.loop-index.index c.index_mut.result.now c.add.new.self c.in_ok-port.port
-          inv.links opened.same.0 (omega (arith, inv.rings.0, c.loop-index.rings.ok.0)) inside (omega (arith, inv.crew, c.loop-index.crew.ok.0, c.args.crew.now.ok.0)) c.index_mut.ensures.value added opened.link);
-      rings = (search rules, ap (λ l. received_of l) pushed.items ∙ flat_snoc (λ r. received r) c.loop-index.rings.items c.in_ok-port.ring inv.rings.1 opened.fresh.2, pushed.capacity ∙ inv.rings.2);
-      crew = inv.crew;
-      few = λ k d h le. subst (λ w. length (ports_of w) < 64) (sym (get_or-set_other c.loop-index.crew.items c.loop-index.index k c.add.new.self d (λ e. omega (arith, e, le)))) (inv.few k d h (omega (arith, le)));
-      idle = λ i. crew_idle c.loop-index.crew.items c.loop-index.index c.index_mut.result.now c.add.new.self c.in_ok-port.port (inv.idle i) inside c.index_mut.ensures.value added (opened.fresh.0, opened.fresh.1);
-    }
+pub returns-clause-links : goal.returns-clause-links
+returns-clause-links g c =
+    let made = c.in_ok-rings.ensures in let rings = c.in_ok-rings.rings in
+    let many : length rings.items ≡ vec_len c.args.crew.now = omega (arith, made.rings.0, rings.ok.0) in
+    (links_length (worker_deque c.open_ports.new.owner) rings.items ∙ many, made.links)
+
+pub returns-in_err-mailbox-clause-new : goal.returns-in_err-mailbox-clause-new
+returns-in_err-mailbox-clause-new g c = rw (err_from_is_err_and c.from_residual.result c.from_residual.ensures.1).1 tt
+
+pub returns-in_err-mailbox-clause-links : goal.returns-in_err-mailbox-clause-links
+returns-in_err-mailbox-clause-links g c = rw (err_from_is_err_and c.from_residual.result c.from_residual.ensures.1).1 tt
+
+pub returns-in_err-mailbox-clause-idle : goal.returns-in_err-mailbox-clause-idle
+returns-in_err-mailbox-clause-idle g c = rw (err_from_is_err_and c.from_residual.result c.from_residual.ensures.1).1 tt
+
+pub returns-in_err-owner-clause-new : goal.returns-in_err-owner-clause-new
+returns-in_err-owner-clause-new g c = rw (err_from_is_err_and c.from_residual-in_err-owner.result c.from_residual-in_err-owner.ensures.1).1 tt
+
+pub returns-in_err-owner-clause-links : goal.returns-in_err-owner-clause-links
+returns-in_err-owner-clause-links g c = rw (err_from_is_err_and c.from_residual-in_err-owner.result c.from_residual-in_err-owner.ensures.1).1 tt
+
+pub returns-in_err-owner-clause-idle : goal.returns-in_err-owner-clause-idle
+returns-in_err-owner-clause-idle g c = rw (err_from_is_err_and c.from_residual-in_err-owner.result c.from_residual-in_err-owner.ensures.1).1 tt
+
+pub returns-in_err-rings-clause-new : goal.returns-in_err-rings-clause-new
+returns-in_err-rings-clause-new g c = rw (err_from_is_err_and c.from_residual-in_err-rings.result c.from_residual-in_err-rings.ensures.1).1 tt
+
+pub returns-in_err-rings-clause-links : goal.returns-in_err-rings-clause-links
+returns-in_err-rings-clause-links g c = rw (err_from_is_err_and c.from_residual-in_err-rings.result c.from_residual-in_err-rings.ensures.1).1 tt
+
+pub returns-in_err-rings-clause-idle : goal.returns-in_err-rings-clause-idle
+returns-in_err-rings-clause-idle g c = rw (err_from_is_err_and c.from_residual-in_err-rings.result c.from_residual-in_err-rings.ensures.1).1 tt

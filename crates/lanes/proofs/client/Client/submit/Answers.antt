@@ -1,4 +1,4 @@
-use Rattle.std.proofs.Common.{◌≡◌, ◌∷◌, [], ◌++◌, ◌+◌, length, sym, ap, ◌∙◌, subst, arith}
+use Rattle.std.proofs.Common.{◌≡◌, ◌∷◌, [], ◌++◌, ◌+◌, length, sym, ap, ◌∙◌, subst, arith, inl, inr, refl}
 use Rattle.crossbeam_deque.specs.Handles.{worker_view}
 use Rattle.lanes.specs.Books.{ticket_of, work_of}
 use Rattle.lanes.specs.Joined.{received_of}
@@ -30,3 +30,30 @@ invariant_of-self g c =
       accounted = made.credits.accounted;
       few = made.credits.few;
     }
+
+pub returns-in-Err : goal.returns-in-Err
+returns-in-Err g c = record {
+  same = refl;
+  put = tt;
+  accepted = tt;
+  admitted = tt;
+  refused = inl c.in-Err.ensures.refused;
+  back = refl;
+  unchanged = (refl, refl);
+  came = refl;
+}
+
+pub returns-in_default : goal.returns-in_default
+returns-in_default g c = record {
+  same = refl;
+  put = tt;
+  accepted = tt;
+  admitted = tt;
+  refused = inr (c.in-Ok.ensures.admitted, refl);
+  back = refl;
+  unchanged = (refl, refl);
+  came = refl;
+}
+
+pub push_as-requires-clause-full : goal.push_as-requires-clause-full
+push_as-requires-clause-full g c = λ items views full carried at. tt

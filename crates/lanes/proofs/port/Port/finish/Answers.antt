@@ -1,0 +1,39 @@
+use Rattle.lanes.specs.declared.port.Held.TheVariants as held
+use Rattle.lanes.specs.Held.{held_in, HoldsJob}
+use Rattle.rtrb.specs.Ring.{sent}
+use Rattle.std.proofs.Common.{refl, sym, ap, subst, ◌∙◌, ◌++◌}
+use Rattle.lanes.proofs.port.Port.finish.Goals as goal
+
+pub invariant_of-self : goal.invariant_of-self
+invariant_of-self g c =
+    let self = c.args.self.now in
+    record {
+      seated = self.seated;
+      live = self.live;
+      rises = self.rises;
+      carried = ap (λ h. sent self.sender ++ held_in h) (c.in-Nothing.ensures.after ∙ c.in-Nothing.ensures.value) ∙ self.carried;
+    }
+
+pub returns-in-Nothing : goal.returns-in-Nothing
+returns-in-Nothing g c =
+    let told = c.in-Nothing.ensures in
+    record {
+      same = ((refl, refl, ((refl, refl, refl, refl), refl)), refl);
+      finishes = ((refl, refl, ap (λ h. held_in h) (told.after ∙ told.value)), ap (λ h. held_in h) (sym told.value));
+    }
+
+pub invariant_of-self-in-Err : goal.invariant_of-self-in-Err
+invariant_of-self-in-Err g c =
+    let self = c.args.self.now in
+    record {
+      seated = self.seated;
+      live = self.live;
+      rises = self.rises;
+      carried = ap (λ h. sent self.sender ++ held_in h) (ap held.Job c.in-Err.ensures ∙ c.in-Job.ensures.value) ∙ self.carried;
+    }
+
+pub returns-in-Err : goal.returns-in-Err
+returns-in-Err g c = record {
+  same = ((refl, refl, ((refl, refl, refl, refl), refl)), refl);
+  finishes = ((refl, refl, ap (λ h. held_in h) (ap held.Job c.in-Err.ensures ∙ c.in-Job.ensures.value)), subst (λ h. HoldsJob h) c.in-Job.ensures.value tt, tt);
+}

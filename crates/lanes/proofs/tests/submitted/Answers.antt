@@ -1,8 +1,0 @@
-use Rattle.lanes.specs.Clients.{client_links}
-use Rattle.lanes.proofs.Making.{links_kept}
-use Rattle.lanes.proofs.tests.submitted.Goals as goal
-
-pub returns : goal.returns
-returns c =
-    links_kept client_links c.args.clients.now.items c.args.client c.in-Some.end.now c.submit.new.self
-    c.in-Some.ensures.value c.submit.ensures.same

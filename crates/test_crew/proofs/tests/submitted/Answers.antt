@@ -1,0 +1,13 @@
+use Rattle.lanes.specs.Clients.{client_links}
+use Rattle.lanes.proofs.Making.{links_kept}
+use Rattle.test_crew.proofs.tests.submitted.Goals as goal
+
+pub returns-in-Ok : goal.returns-in-Ok
+returns-in-Ok c =
+    links_kept client_links c.args.clients.now.items c.args.client c.in-Some.end.now c.submit.new.self
+    c.in-Some.ensures.value c.submit.ensures.same
+
+pub returns-in-Err : goal.returns-in-Err
+returns-in-Err c =
+    links_kept client_links c.args.clients.now.items c.args.client c.in-Some.end.now c.submit.new.self
+    c.in-Some.ensures.value c.submit.ensures.same

@@ -1,0 +1,185 @@
+use dmn_form::{WrittenModel, WrittenService, read_form};
+use dmn_names::{Places, has_bad_name, has_name_twice};
+use dmn_plan::{ModelFault, Plan};
+use serde_json::Value;
+use std::alloc::{AllocError, Global};
+use std::test::Fail;
+
+// Every place that a name may have, each with a name of its own; so some need is unknown.
+const EVERYWHERE: &str = r#"{"inputs":["input_a","input_b"],
+    "decisions":[
+        {"name":"decision_a","needs":["need_a","need_b"],"expr":{"list":["1",{"context":[
+            {"name":"entry_a","expr":"1"},
+            {"name":"entry_b","expr":{"context":[{"name":"inner_a","expr":"1"},{"name":"inner_b","expr":"2"}]}}],
+            "result":{"table":{"hit":"U","inputs":[],"outputs":[{"name":"output_a"},{"name":"output_b"}],"rules":[]}}}]}},
+        {"name":"decision_b","needs":[],"expr":{"context":[{"name":"last_a","expr":"1"},{"name":"last_b","expr":"1"}]}}],
+    "services":[
+        {"name":"service_a","outputs":["given_a","given_b"],"encapsulated":["within_a","within_b"],
+            "inputDecisions":["taken_a","taken_b"],"inputData":["data_a","data_b"]},
+        {"name":"service_b","outputs":[],"encapsulated":[],"inputDecisions":[],"inputData":[]}]}"#;
+
+/// The two names of each list.
+const LISTS: &[(&str, &str)] = &[
+    ("input_a", "input_b"),
+    ("decision_a", "decision_b"),
+    ("need_a", "need_b"),
+    ("entry_a", "entry_b"),
+    ("inner_a", "inner_b"),
+    ("output_a", "output_b"),
+    ("last_a", "last_b"),
+    ("service_a", "service_b"),
+    ("given_a", "given_b"),
+    ("within_a", "within_b"),
+    ("taken_a", "taken_b"),
+    ("data_a", "data_b"),
+];
+
+const BAD_NAMES: &[&str] = &["", "1a", "a b", "if"];
+
+/// The fault of the model with one name put in the place of another.
+fn fault_with(alloc: Global, old: &str, new: &str) -> Result<Option<ModelFault>, AllocError> {
+    let text = EVERYWHERE.replace(alloc, old, new)?;
+    Ok(Plan::read(alloc, text.as_bytes()).err())
+}
+
+/// Bad names in the place of each, and each first name in the place of the second.
+#[test]
+fn a_wrong_name_is_found_everywhere(rt: HostRuntime) -> Result<(), Fail> {
+    let alloc = rt.alloc();
+    for (first, second) in LISTS {
+        for bad in BAD_NAMES {
+            assert_eq!(rt;
+                fault_with(alloc, first, bad)?,
+                Some(ModelFault::Name),
+                "{first}"
+            );
+            assert_eq!(rt;
+                fault_with(alloc, second, bad)?,
+                Some(ModelFault::Name),
+                "{second}"
+            );
+        }
+        assert_eq!(rt;
+            fault_with(alloc, second, first)?,
+            Some(ModelFault::Twice),
+            "{second}"
+        );
+    }
+    Ok(())
+}
+
+/// A name, and one in its place: an input's for a decision, and those of two lists, in which a name may stand.
+const OF_TWO_LISTS: &[(&str, &str, ModelFault)] = &[
+    ("decision_b", "input_a", ModelFault::Twice),
+    ("need_a", "need_a", ModelFault::Unknown),
+    ("need_a", "input_a", ModelFault::Unknown),
+    ("inner_a", "entry_a", ModelFault::Unknown),
+    ("output_a", "last_a", ModelFault::Unknown),
+    ("service_a", "decision_a", ModelFault::Unknown),
+    ("within_a", "given_a", ModelFault::Unknown),
+];
+
+#[test]
+fn a_name_may_stand_in_two_lists(rt: HostRuntime) -> Result<(), Fail> {
+    for (old, new, fault) in OF_TWO_LISTS {
+        let found = fault_with(rt.alloc(), old, new)?;
+        assert_eq!(rt; found, Some(*fault), "{new} in the place of {old}");
+    }
+    Ok(())
+}
+
+const OFFERS: &str = r#"{"inputs":["age","region"],"decisions":[
+    {"name":"risk","needs":["age","region"],"expr":"1"},{"name":"offer","needs":["risk","age"],"expr":"1"}],
+    "services":[
+        {"name":"all","outputs":["offer"],"encapsulated":["risk"],"inputDecisions":[],"inputData":["age","region"]},
+        {"name":"last","outputs":["offer"],"encapsulated":[],"inputDecisions":["risk"],"inputData":["age"]},
+        {"name":"wrong","outputs":["age"],"encapsulated":[],"inputDecisions":[],"inputData":[]},
+        {"name":"other","outputs":["risk"],"encapsulated":[],"inputDecisions":[],"inputData":["offer"]}]}"#;
+
+/// The model of offers.
+fn offers(alloc: Global) -> Result<WrittenModel, Fail> {
+    let json = Value::from_str(alloc, OFFERS)?;
+    Ok(read_form(alloc, &json)?.ok_or("no model")?)
+}
+
+const PLACES: &[(&str, Option<usize>)] = &[
+    ("age", Some(0)),
+    ("region", Some(1)),
+    ("risk", Some(2)),
+    ("offer", Some(3)),
+    ("all", None),
+];
+
+#[test]
+fn places_of_names_and_needs(rt: HostRuntime) -> Result<(), Fail> {
+    let alloc = rt.alloc();
+    let model = offers(alloc)?;
+    let places = Places::new(alloc, &model)?;
+    for (name, place) in PLACES {
+        assert_eq!(rt; places.of(name), *place, "{name}");
+    }
+    assert!(rt; places.input("risk").is_none());
+    assert!(rt; places.decision("age").is_none());
+    let needs = format!(in alloc; "{:?}", places.needs(alloc)?)?;
+    assert_eq!(rt; needs.as_str(), "Some([[], [], [0, 1], [2, 0]])");
+    Ok(())
+}
+
+/// The places of a service's four lists, or `none`.
+fn listed(
+    alloc: Global,
+    places: &Places<'_>,
+    service: &WrittenService,
+) -> Result<String, AllocError> {
+    match places.service(alloc, service)? {
+        Some(s) => format!(in alloc;
+            "{:?} {:?} {:?} {:?}",
+            s.outputs, s.encapsulated, s.input_decisions, s.input_data
+        ),
+        None => String::from_str(alloc, "none"),
+    }
+}
+
+const LISTED: &[&str] = &["[3] [2] [] [0, 1]", "[3] [] [2] [0]", "none", "none"];
+
+#[test]
+fn places_of_services(rt: HostRuntime) -> Result<(), Fail> {
+    let alloc = rt.alloc();
+    let model = offers(alloc)?;
+    let places = Places::new(alloc, &model)?;
+    assert_eq!(rt; model.services.len(), LISTED.len());
+    for (service, expected) in model.services.iter().zip(LISTED) {
+        assert_eq!(rt; listed(alloc, &places, service)?.as_str(), *expected);
+    }
+    Ok(())
+}
+
+/// A model of 20,000 inputs, whose names differ only at their ends.
+fn with_inputs(alloc: Global) -> Result<WrittenModel, AllocError> {
+    let mut inputs = Vec::new(alloc);
+    for i in 0..20_000 {
+        inputs.push(format!(in alloc;
+            "a_name_that_begins_like_all_the_others_and_then_ends_in_{i}"
+        )?)?;
+    }
+    Ok(WrittenModel {
+        inputs,
+        decisions: Vec::new(alloc),
+        services: Vec::new(alloc),
+    })
+}
+
+const LAST_NAME: &str = "a_name_that_begins_like_all_the_others_and_then_ends_in_19999";
+
+#[test]
+fn many_names_with_a_long_prefix(rt: HostRuntime) -> Result<(), Fail> {
+    let alloc = rt.alloc();
+    let mut model = with_inputs(alloc)?;
+    assert!(rt; !has_bad_name(&model));
+    assert!(rt; !has_name_twice(alloc, &model)?);
+    assert_eq!(rt; Places::new(alloc, &model)?.of(LAST_NAME), Some(19_999));
+    model.inputs.push(String::from_str(alloc, LAST_NAME)?)?;
+    assert!(rt; has_name_twice(alloc, &model)?);
+    assert_eq!(rt; Places::new(alloc, &model)?.of(LAST_NAME), Some(19_999));
+    Ok(())
+}

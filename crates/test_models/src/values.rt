@@ -1,0 +1,110 @@
+//! What no clause says: that the definitions are the ones meant, at values worked out by hand, and that the calls succeed.
+mod refused;
+
+use feel_value::{Feel, Truth, Value, ValueFault, equal};
+use std::alloc::{AllocError, Global};
+use std::test::Fail;
+
+/// What is told of a JSON text: the value as text, which its copy has too, or why it is none.
+fn told(alloc: Global, text: &str) -> Result<String, Fail> {
+    let json = serde_json::Value::from_str(alloc, text)?;
+    let value = match Feel::from_json(alloc, &json) {
+        Ok(value) => value,
+        Err(ValueFault::Number) => return Ok(String::from_str(alloc, "number")?),
+        Err(ValueFault::Size) => return Ok(String::from_str(alloc, "size")?),
+        Err(ValueFault::Memory) => return Err(AllocError.into()),
+    };
+    let copy = value.try_clone(alloc)?;
+    if equal(&value, &copy) != Truth::Yes || value.to_json(alloc)? != copy.to_json(alloc)? {
+        return Ok(String::from_str(alloc, "another copy")?);
+    }
+    Ok(copy.to_json(alloc)?.to_string(alloc)?)
+}
+
+const TEXTS: &[(&str, &str)] = &[
+    ("9223372036854775807", "9223372036854775807"),
+    ("-9223372036854775807", "-9223372036854775807"),
+    ("9223372036854775808", "number"),
+    ("-9223372036854775808", "number"),
+    ("18446744073709551615", "number"),
+    ("1.5", "number"),
+    ("1.0", "number"),
+    ("1e2", "number"),
+    ("-0", "number"),
+    ("0", "0"),
+    ("{\"a\":[1,{\"b\":1.5}]}", "number"),
+    ("null", "null"),
+    ("true", "true"),
+    ("-7", "-7"),
+    ("\"text\"", "\"text\""),
+    ("[1,[],\"a\"]", "[1,[],\"a\"]"),
+    (
+        "{\"b\":1,\"a\":{\"c\":[null]}}",
+        "{\"a\":{\"c\":[null]},\"b\":1}",
+    ),
+];
+
+#[test]
+fn values_from_json(rt: HostRuntime) -> Result<(), Fail> {
+    for (text, want) in TEXTS {
+        assert_eq!(rt; told(rt.alloc(), text)?.as_str(), *want, "at {text}");
+    }
+    Ok(())
+}
+
+/// Texts of JSON, as so many of one text, so many of another behind it, and an end; and what is told, where that isn't the
+/// text itself. A number that is out of range counts before the size, and each size is told at its limit.
+const SIZES: &[(&str, usize, &str, usize, &str, Option<&str>)] = &[
+    ("[null", 1, ",null", 9_998, "]", None),
+    ("[null", 1, ",null", 9_999, "]", Some("size")),
+    ("[", 100, "]", 100, "", None),
+    ("[", 101, "]", 101, "", Some("size")),
+    ("[", 111, "]", 110, ",1.5]", Some("number")),
+];
+
+#[test]
+fn sizes_from_json(rt: HostRuntime) -> Result<(), Fail> {
+    let alloc = rt.alloc();
+    for (open, before, close, behind, end, want) in SIZES {
+        let mut text = open.repeat(alloc, *before)?;
+        text.push_str(close.repeat(alloc, *behind)?.as_str())?;
+        text.push_str(end)?;
+        let found = told(alloc, text.as_str())?;
+        assert_eq!(rt; found.as_str(), want.unwrap_or(text.as_str()));
+    }
+    Ok(())
+}
+
+/// A context with null at each of the names.
+fn named(alloc: Global, names: &[&str]) -> Result<Value, AllocError> {
+    let mut entries = Vec::new(alloc);
+    for name in names {
+        entries.push((String::from_str(alloc, name)?, Value::Null))?;
+    }
+    Ok(Value::Context(entries))
+}
+
+const LISTS_OF_NAMES: &[(&[&str], bool)] = &[
+    (&[], true),
+    (&["a", "b", "c"], true),
+    (&["c", "b", "a"], true),
+    (&["b", "a", "c"], true),
+    (&["a", "a"], false),
+    (&["a", "b", "a"], false),
+    (&["c", "a", "c"], false),
+];
+
+// Values made by hand: with names in several orders, and numbers at the limit and past it.
+#[test]
+fn values_by_hand(rt: HostRuntime) -> Result<(), Fail> {
+    let alloc = rt.alloc();
+    for (names, distinct) in LISTS_OF_NAMES {
+        let context = Feel::of(named(alloc, names)?);
+        assert_eq!(rt; context.is_some(), *distinct, "at {names:?}");
+    }
+    let inside = Value::List(vec![in alloc; named(alloc, &["a", "a"])?]?);
+    assert!(rt; Feel::of(inside).is_none());
+    assert!(rt; Feel::of(Value::Number(i64::MIN)).is_none());
+    assert!(rt; Feel::of(Value::Number(-i64::MAX)).is_some());
+    Ok(())
+}
