@@ -16,6 +16,13 @@ some_is_not_none : (o : Option ℕ) → o ≡ None → IsSome o → ⊥
 some_is_not_none None e h = cc
 some_is_not_none (Some i) e h = cc
 
+-- a key takes its new place
+pub takes_place : (old new : BTreeMap (String Global) ℕ) (key : String Global) (name : List ℕ) (place at : ℕ) → Updates string_cmp old new key (Some place) → string_bytes key ≡ name → place ≡ at
+    → (q : List ℕ) → get_by_text new q ≡ (if bytes_eq name q then Some at else get_by_text old q)
+takes_place old new key name place at updates named is q =
+    btree_map_updates_text (string_bytes key) old new (Some place) updates q
+    ∙ ap (λ n. if bytes_eq (string_bytes key) q then Some n else get_by_text old q) is ∙ ap (λ n. if bytes_eq n q then Some at else get_by_text old q) named
+
 -- a key that is there takes its new value
 pub replaced : {E : Type 0} (r : Result (Option ℕ) E) (old new : BTreeMap (String Global) ℕ) (name : String Global) (place : ℕ) → OnOk r (Updates string_cmp old new name (Some place)) → OnErr r (get string_cmp old name ≡ None)
     → IsSome (get_by_text old (string_bytes name)) → (q : List ℕ) → get_by_text new q ≡ (if bytes_eq (string_bytes name) q then Some place else get_by_text old q)
@@ -37,16 +44,16 @@ turned a b false true p q = sym (sym (ap (λ x. bytes_eq x b) (sym (same_text b 
 bytes_eq-turned : (a b : List ℕ) → bytes_eq a b ≡ bytes_eq b a
 bytes_eq-turned a b = turned a b (bytes_eq a b) (bytes_eq b a) refl refl
 
-placed : (t : Bool) (n : ℕ) (o p : Option ℕ) → place_after (if t then Some n else o) p ≡ (if t then Some (suc n) else place_after o p)
-placed true n o p = refl
-placed false n o p = refl
+one_on : (t : Bool) (n : ℕ) (o p : Option ℕ) → place_after (if t then Some n else o) p ≡ (if t then Some (suc n) else place_after o p)
+one_on true n o p = refl
+one_on false n o p = refl
 
 -- the last binding of the name is the last one, or it is among the others
 last_place-push : (name : List ℕ) (bs : Bindings) (b : List ℕ × Datum) → last_place name (bs ++ b ∷ []) ≡ (if bytes_eq name b.0 then Some (length bs) else last_place name bs)
 last_place-push name [] b = refl
 last_place-push name (c ∷ bs) b =
     ap (λ o. place_after o (if bytes_eq name c.0 then Some 0 else None)) (last_place-push name bs b)
-    ∙ placed (bytes_eq name b.0) (length bs) (last_place name bs) (if bytes_eq name c.0 then Some 0 else None)
+    ∙ one_on (bytes_eq name b.0) (length bs) (last_place name bs) (if bytes_eq name c.0 then Some 0 else None)
 
 -- the same, one binding of the code after the other
 last_place-more : (name : List ℕ) (xs : List Binding) (x : Binding) → last_place name (bindings_of (xs ++ x ∷ [])) ≡ (if bytes_eq (string_bytes x.name) name then Some (length xs) else last_place name (bindings_of xs))
@@ -85,15 +92,12 @@ hides_last xs x i b h e =
     ∙ ap (λ (y : Binding). last_place (string_bytes y.name) (take i (bindings_of (xs ++ x ∷ [])))) (sym (get_or_push xs x b i (sym h)))
 
 -- one more binding
-pub bound_more : (xs : List Binding) (x : Binding) (old new : BTreeMap (String Global) ℕ) (key : String Global) (place : ℕ) → IsIndexed xs old → place ≡ length xs
-    → Updates string_cmp old new key (Some place) → string_bytes key ≡ string_bytes x.name → x.hidden ≡ get string_cmp old key → IsIndexed (xs ++ x ∷ []) new
-bound_more xs x old new key place h at_end updates named hides =
-    let bs : Bindings = bindings_of xs in
+pub bound_more : (xs : List Binding) (x : Binding) (old new : BTreeMap (String Global) ℕ) → IsIndexed xs old
+    → ((q : List ℕ) → get_by_text new q ≡ (if bytes_eq (string_bytes x.name) q then Some (length xs) else get_by_text old q)) → x.hidden ≡ get_by_text old (string_bytes x.name) → IsIndexed (xs ++ x ∷ []) new
+bound_more xs x old new h placed hides =
     let at : (q : List ℕ) → get_by_text new q ≡ last_place q (bindings_of (xs ++ x ∷ [])) =
-    λ q. btree_map_updates_text (string_bytes key) old new (Some place) updates q
-    ∙ ap (λ n. if bytes_eq (string_bytes key) q then Some n else get_by_text old q) at_end ∙ ap (λ o. if bytes_eq (string_bytes key) q then Some (length xs) else o) (h.last q)
-    ∙ ap (λ n. if bytes_eq n q then Some (length xs) else last_place q bs) named ∙ sym (last_place-more q xs x) in
-    let first : x.hidden ≡ last_place (string_bytes x.name) bs = hides ∙ ap (get_by_text old) named ∙ h.last (string_bytes x.name) in
+    λ q. placed q ∙ ap (λ o. if bytes_eq (string_bytes x.name) q then Some (length xs) else o) (h.last q) ∙ sym (last_place-more q xs x) in
+    let first : x.hidden ≡ last_place (string_bytes x.name) (bindings_of xs) = hides ∙ h.last (string_bytes x.name) in
     record {
       last = at;
       hidden = λ i b within. elim (cases_lt i (length xs)) [ inl less ↦ hides_more xs x i b less (h.hidden i b less) | inr more ↦ hides_last xs x i b (omega (arith, length_push xs x)) first ];

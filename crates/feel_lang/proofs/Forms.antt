@@ -1,5 +1,5 @@
 -- What is read of a form, from what is read of its parts.
-use Rattle.std.proofs.Common.{◌≡◌, ◌≤◌, ◌+◌, ℕ, max, List, Option, None, Some, refl, ap, ◌∙◌, if◌then◌else◌}
+use Rattle.std.proofs.Common.{◌≡◌, ◌≤◌, ◌+◌, ℕ, Bool, max, List, Option, None, Some, refl, ap, ◌∙◌, if◌then◌else◌}
 use Rattle.std.proofs.lemmas.Bool.{le-leb}
 use Rattle.feel_lang.specs.declared.line.Line.{Line}
 use Rattle.feel_lang.specs.declared.line.Line.TheVariants as line
@@ -9,8 +9,10 @@ use Rattle.feel_lang.specs.Token.{Token}
 use Rattle.feel_lang.specs.Expr as expr
 use Rattle.feel_lang.specs.Expr.{Expr}
 use Rattle.feel_lang.specs.Gives.{Fails}
-use Rattle.feel_lang.specs.Parts.{then_at, else_at, high_at, branches_at, bounds_at}
-use Rattle.feel_lang.specs.Reading.{Read, Reader, ◌>>=◌, after_then, after_else, after_and, after_comma, closed_at, conditional_at, between_at, modulo_at}
+use Rattle.feel_lang.specs.Parts.{then_at, else_at, high_at, branches_at, bounds_at, high_part_at}
+use Rattle.feel_lang.specs.Reading.{Read, Reader, ◌>>=◌, after_then, after_else, after_and, after_comma, closed_at, conditional_at, between_at, modulo_at, read_at}
+use Rattle.feel_lang.specs.TestReading.{after_dots, high_end_at, interval_at, low_end_of}
+use Rattle.feel_lang.specs.Tests.{Test, Interval, most_depth}
 
 bind_bind : {A B C : Type 0} (o : Option A) (f : A → Option B) (g : B → Option C) → (o >>= λ a. f a >>= g) ≡ (o >>= f >>= g)
 bind_bind None f g = refl
@@ -103,3 +105,36 @@ pub modulo_found : (inner : Line → Reader) (ts us vs ws : List Token) (a b : E
     → modulo_at inner ts ≡ Some (expr.Modulo a b, 1 + max i j, ws)
 unfolding modulo_at
 modulo_found inner ts us vs ws a b i j left comma right = rw (left, comma, right) refl
+
+-- ---- intervals
+
+-- what is read after the high end
+abbrev after_end : Bool → Expr → Expr × Bool × List Token → Option (Test × List Token)
+after_end closed low p = Some (Interval closed low p.0 p.1, p.2)
+
+abbrev high_of : Expr × ℕ × List Token → Bool × List Token → Expr × Bool × List Token
+high_of x y = (x.0, y.0, y.1)
+
+abbrev high_read : List Token → Option (Expr × Bool × List Token)
+high_read vs = read_at most_depth line.Sum vs >>= λ x. high_end_at x.2 >>= λ y. Some (high_of x y)
+
+by_high : (closed : Bool) (low : Expr) (us : List Token)
+    → (after_dots us >>= λ vs. read_at most_depth line.Sum vs >>= λ x. high_end_at x.2 >>= λ y. after_end closed low (high_of x y)) ≡ (high_part_at us >>= after_end closed low)
+unfolding high_part_at
+by_high closed low us =
+    bind_same (after_dots us) (λ vs. read_at most_depth line.Sum vs >>= λ x. high_end_at x.2 >>= λ y. after_end closed low (high_of x y)) (λ vs. high_read vs >>= after_end closed low)
+    (λ vs. paired (read_at most_depth line.Sum vs) (λ x. high_end_at x.2) high_of (after_end closed low))
+    ∙ bind_bind (after_dots us) high_read (after_end closed low)
+
+by_low : (t : Token) (closed : Bool) (ts us : List Token) (low : Expr) (d : ℕ) → low_end_of t ≡ Some closed → read_at most_depth line.Sum ts ≡ Some (low, d, us) → interval_at t ts ≡ (high_part_at us >>= after_end closed low)
+unfolding interval_at
+by_low t closed ts us low d opens read = rw (opens, read) (by_high closed low us)
+
+pub interval_found : (t : Token) (closed end : Bool) (ts us vs : List Token) (low high : Expr) (d : ℕ)
+    → low_end_of t ≡ Some closed → read_at most_depth line.Sum ts ≡ Some (low, d, us) → high_part_at us ≡ Some (high, end, vs) → interval_at t ts ≡ Some (Interval closed low high end, vs)
+interval_found t closed end ts us vs low high d opens read ends = by_low t closed ts us low d opens read ∙ ap (λ o. o >>= after_end closed low) ends
+
+pub high_fails : (f : ReadFault) (t : Token) (closed : Bool) (ts us : List Token) (low : Expr) (d : ℕ)
+    → low_end_of t ≡ Some closed → read_at most_depth line.Sum ts ≡ Some (low, d, us) → Fails f (high_part_at us) → Fails f (interval_at t ts)
+high_fails Memory t closed ts us low d opens read fails = tt
+high_fails Syntax t closed ts us low d opens read fails = by_low t closed ts us low d opens read ∙ ap (λ o. o >>= after_end closed low) fails

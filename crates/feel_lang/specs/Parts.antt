@@ -1,12 +1,18 @@
 -- Internal: no public contract cites these words. Reading parts of a form.
-use Rattle.std.specs.Prelude.{ℕ, ◌+◌, max, List, [], ◌∷◌, Option, Some, None, nat_le, if◌then◌else◌}
+use Rattle.std.specs.Prelude.{ℕ, Bool, ◌+◌, max, List, [], ◌∷◌, Option, Some, None, nat_le, if◌then◌else◌}
 use Rattle.feel_lang.specs.declared.expr.Operator.{Operator}
 use Rattle.feel_lang.specs.Token.{Token}
 use Rattle.feel_lang.specs.Expr as expr
 use Rattle.feel_lang.specs.Expr.{Expr}
 use Rattle.feel_lang.specs.declared.line.Line.{Line}
 use Rattle.feel_lang.specs.declared.line.Line.TheVariants as line
-use Rattle.feel_lang.specs.Reading.{Reader, ◌>>=◌, operator_at, after_then, after_else, after_and}
+use Rattle.feel_lang.specs.Reading.{Read, Reader, ◌>>=◌, operator_at, after_then, after_else, after_and, read_at}
+use Rattle.feel_lang.specs.Tests.{most_depth}
+use Rattle.feel_lang.specs.TestReading.{after_dots, high_end_at}
+
+-- an expression of depth 1, and the tokens after it
+abbrev pub leaf_at : Expr → List Token → Read
+leaf_at e ts = Some (e, 1, ts)
 
 -- the branches of a conditional, each with the keyword before it
 abbrev pub then_at : (Line → Reader) → Reader
@@ -47,3 +53,11 @@ first_operator l [] = None
 first_operator l (t ∷ ts) = do
   op ← operator_at l t
   Some (op, ts)
+
+-- the high end of an interval, with the dots before it: its value, whether it is closed, and the tokens after it
+unfoldable pub high_part_at : List Token → Option (Expr × Bool × List Token)
+high_part_at ts = do
+  us ← after_dots ts
+  high ← read_at most_depth line.Sum us
+  end ← high_end_at high.2
+  Some (high.0, end.0, end.1)

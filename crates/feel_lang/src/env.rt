@@ -1,6 +1,6 @@
 //! Names with values.
-ghost use Rattle.std.specs.Prelude.{◌≡◌, ◌≤◌, [], ◌∷◌, ◌++◌, List, ℕ, length, take, option_map, MatchResult, IsSome, bytes_eq, string_bytes, if◌then◌else◌};
-ghost use Rattle.std.specs.BTreeMap.{get_by_text};
+ghost use Rattle.std.specs.Prelude.{◌≡◌, ◌≤◌, ◌<◌, [], ◌∷◌, ◌++◌, List, ℕ, length, take, option_map, MatchResult, IfOk, OnOk, OnErr, IsSome, Some, vec_len, vec_capacity, bytes_eq, string_bytes, if◌then◌else◌};
+ghost use Rattle.std.specs.BTreeMap.{IsUnchanged, get_by_text};
 ghost use Rattle.feel_lang.specs.Meaning.{bound};
 
 use feel_value::Feel;
@@ -60,11 +60,7 @@ impl Env {
     pub fn bind(&mut self, name: &str, value: Feel) -> Result<(), AllocError>
         ensures { MatchResult result (λ _. self.new ≡ self.old ++ (name.now, value) ∷ []) (λ _. self.new ≡ self.old) }
     {
-        let alloc = *self.bindings.allocator();
-        let key = String::from_str(alloc, name)?;
-        let name = String::from_str(alloc, name)?;
-        self.bindings.reserve(1)?;
-        let hidden = self.places.insert(key, self.bindings.len())?;
+        let (name, hidden) = placed(&mut self.bindings, &mut self.places, name)?;
         self.bindings.push(Binding {
             name,
             value,
@@ -105,6 +101,27 @@ impl Env {
             }
         }
     }
+}
+
+// Gives the name the place behind the bindings, where there is then room. Tells a copy of the name, and the place that it had.
+fn placed(
+    bindings: &mut Vec<Binding>,
+    places: &mut BTreeMap<String, usize>,
+    name: &str,
+) -> Result<(String, Option<usize>), AllocError>
+    ensures items { bindings.new.items ≡ bindings.old.items }
+    ensures room { OnOk result (vec_len bindings.new < vec_capacity bindings.new) }
+    ensures name { IfOk result (λ p. string_bytes p.0 ≡ name.now) }
+    ensures hidden { IfOk result (λ p. p.1 ≡ get_by_text places.old name.now) }
+    ensures place { OnOk result ((other : List ℕ) → get_by_text places.new other ≡ (if bytes_eq name.now other then Some (length bindings.old.items) else get_by_text places.old other)) }
+    ensures refused { OnErr result (IsUnchanged places.old places.new) }
+{
+    let alloc = *bindings.allocator();
+    let key = String::from_str(alloc, name)?;
+    let name = String::from_str(alloc, name)?;
+    bindings.reserve(1)?;
+    let hidden = places.insert(key, bindings.len())?;
+    Ok((name, hidden))
 }
 
 // Gives the name the place that its last binding has hidden, where there is one.

@@ -15,7 +15,7 @@ use crate::eval_operators::{between, inverted, modulo, negated, operation};
 use crate::eval_outcome::{null, number};
 use crate::eval_paths::{path, place};
 use crate::expr::Tree;
-use crate::operands::Operand;
+use crate::operands::{Operand, Operands};
 use feel_value::{Outcome, Truth, Value};
 use std::alloc::{AllocError, Global};
 
@@ -35,16 +35,12 @@ pub(crate) fn eval(alloc: Global, expr: &Tree, env: &Env) -> Result<Outcome, All
         Tree::Group(inner) => eval(alloc, inner, env),
         Tree::List(exprs) => list(alloc, exprs, env),
         Tree::Call(function, argument) => Ok(call(*function, operand(alloc, argument, env)?)),
-        Tree::Modulo(left, right) => {
-            let (left, right) = operands(alloc, left, right, env)?;
-            Ok(modulo(left, right))
-        }
+        Tree::Modulo(left, right) => Ok(modulo(operands(alloc, left, right, env)?)),
         Tree::Not(inner) => Ok(inverted(operand(alloc, inner, env)?)),
         Tree::Negate(inner) => Ok(negated(operand(alloc, inner, env)?)),
         Tree::Path(inner, name) => entry(alloc, inner, name.as_str(), env),
         Tree::Binary(operator, left, right) => {
-            let (left, right) = operands(alloc, left, right, env)?;
-            Ok(operation(*operator, left, right))
+            Ok(operation(*operator, operands(alloc, left, right, env)?))
         }
         Tree::Between(value, low, high) => lies_between(alloc, value, low, high, env),
         Tree::If(test, yes, no) => match is_met(alloc, test, env)? {
@@ -98,7 +94,7 @@ fn operands<'a>(
     left: &Tree,
     right: &Tree,
     env: &'a Env,
-) -> Result<(Option<Operand<'a>>, Option<Operand<'a>>), AllocError>
+) -> Result<Operands<'a>, AllocError>
     ensures left { IfOk result (λ o. outcome_of o.0 ≡ den (view left.now) env.now) }
     ensures right { IfOk result (λ o. outcome_of o.1 ≡ den (view right.now) env.now) }
 {
@@ -118,8 +114,8 @@ fn lies_between(
     ensures { IfOk result (λ o. o ≡ den (expr_specs.Between (view value.now) (view low.now) (view high.now)) env.now) }
 {
     let value = operand(alloc, value, env)?;
-    let (low, high) = operands(alloc, low, high, env)?;
-    Ok(between(value, low, high))
+    let bounds = operands(alloc, low, high, env)?;
+    Ok(between(value, bounds))
 }
 
 // The value of a name; null where it has none.

@@ -11,21 +11,19 @@ ghost use Rattle.feel_lang.specs.declared.expr.Operator.TheVariants.{Add, Subtra
 
 use crate::eval_outcome::{null, number, told, whole};
 use crate::expr::Operator;
-use crate::operands::Operand;
+use crate::operands::{Operand, Operands};
 use feel_value::{Outcome, Value, and3, not3, or3};
 
 // An operator between two operands. None stands for an operand that breaks a limit, here and below.
-pub(crate) fn operation(
-    operator: Operator,
-    left: Option<Operand<'_>>,
-    right: Option<Operand<'_>>,
-) -> Outcome
-    ensures { result ≡ with_values (outcome_of left.entry) (outcome_of right.entry) (λ d e. held (operation_of operator d e)) }
+pub(crate) fn operation(operator: Operator, operands: Operands<'_>) -> Outcome
+    ensures { result ≡ with_values (outcome_of operands.entry.0) (outcome_of operands.entry.1) (λ d e. held (operation_of operator d e)) }
 {
-    match (left, right) {
+    let outcome = match &operands {
         (Some(left), Some(right)) => applied(operator, left.value(), right.value()),
         _ => Outcome::Limit,
-    }
+    };
+    drop(operands);
+    outcome
 }
 
 fn applied(operator: Operator, left: &Value, right: &Value) -> Outcome
@@ -102,13 +100,15 @@ fn opposite_number(value: &Value) -> Outcome
 }
 
 // What is left of one number by another, with the sign of the divisor; null where the divisor is 0 or an operand is no number.
-pub(crate) fn modulo(left: Option<Operand<'_>>, right: Option<Operand<'_>>) -> Outcome
-    ensures { result ≡ with_values (outcome_of left.entry) (outcome_of right.entry) (λ d e. held (modulo_of d e)) }
+pub(crate) fn modulo(operands: Operands<'_>) -> Outcome
+    ensures { result ≡ with_values (outcome_of operands.entry.0) (outcome_of operands.entry.1) (λ d e. held (modulo_of d e)) }
 {
-    match (left, right) {
+    let outcome = match &operands {
         (Some(left), Some(right)) => modulo_of_values(left.value(), right.value()),
         _ => Outcome::Limit,
-    }
+    };
+    drop(operands);
+    outcome
 }
 
 fn modulo_of_values(left: &Value, right: &Value) -> Outcome
@@ -135,22 +135,31 @@ fn remainder(x: i64, y: i64) -> Outcome
 }
 
 // Whether a value lies between two others.
-pub(crate) fn between(
-    value: Option<Operand<'_>>,
-    low: Option<Operand<'_>>,
-    high: Option<Operand<'_>>,
-) -> Outcome
-    ensures { result ≡ with_value (outcome_of value.entry) (λ d. with_values (outcome_of low.entry) (outcome_of high.entry) (λ l h. Is (between_of d l h))) }
+pub(crate) fn between(value: Option<Operand<'_>>, bounds: Operands<'_>) -> Outcome
+    ensures { result ≡ with_value (outcome_of value.entry) (λ d. with_values (outcome_of bounds.entry.0) (outcome_of bounds.entry.1) (λ l h. Is (between_of d l h))) }
 {
-    match (value, low, high) {
-        (Some(value), Some(low), Some(high)) => {
-            let value = value.value();
-            let reaches_low = not3(value.less(low.value()));
-            let reaches_high = not3(high.value().less(value));
-            told(and3(reaches_low, reaches_high))
+    let outcome = lies_between(&value, &bounds);
+    drop((value, bounds));
+    outcome
+}
+
+fn lies_between(value: &Option<Operand<'_>>, bounds: &Operands<'_>) -> Outcome
+    ensures { result ≡ with_value (outcome_of value.now) (λ d. with_values (outcome_of bounds.now.0) (outcome_of bounds.now.1) (λ l h. Is (between_of d l h))) }
+{
+    match (value, bounds) {
+        (Some(value), (Some(low), Some(high))) => {
+            within(value.value(), low.value(), high.value())
         }
         _ => Outcome::Limit,
     }
+}
+
+fn within(value: &Value, low: &Value, high: &Value) -> Outcome
+    ensures { result ≡ Is (between_of (datum_of value.now) (datum_of low.now) (datum_of high.now)) }
+{
+    let reaches_low = not3(value.less(low));
+    let reaches_high = not3(high.less(value));
+    told(and3(reaches_low, reaches_high))
 }
 
 // Whether the operand isn't true.

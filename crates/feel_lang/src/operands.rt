@@ -12,6 +12,9 @@ pub(crate) enum Operand<'a> {
     Formed(Feel),
 }
 
+/// Two operands, the left one first. None stands for one that breaks a limit.
+pub(crate) type Operands<'a> = (Option<Operand<'a>>, Option<Operand<'a>>);
+
 impl Operand<'_> {
     pub(crate) fn value(&self) -> &Value
         ensures { datum_of result.now ≡ operand_value self.now }

@@ -8,7 +8,7 @@ ghost use Rattle.feel_lang.specs.Token as token_specs;
 ghost use Rattle.feel_lang.specs.View.{view, exprs_of};
 ghost use Rattle.feel_lang.specs.Expr.{none, more};
 ghost use Rattle.feel_lang.specs.Grammar.{rank, tighter};
-ghost use Rattle.feel_lang.specs.Parts.{bounds_at, branches_at, else_at, first_operator, high_at, step_at, then_at};
+ghost use Rattle.feel_lang.specs.Parts.{bounds_at, branches_at, else_at, first_operator, high_at, leaf_at, step_at, then_at};
 ghost use Rattle.feel_lang.specs.Reading.{after_and, after_bracket, after_close, after_comma, after_else, after_open, after_then, between_at, chain_at, closed_at, compared_at, comparison_at, conditional_at, disjunction_at, function_of, group_at, joined, line_at, list_at, listed_at, members_at, modulo_at, named_at, negated_at, negation_at, operator_at, path_at, paths_at, primary_at, read_at, steps_at, sum_at, whole_at};
 
 use crate::expr::{Function, Operator, Tree};
@@ -22,10 +22,10 @@ use std::alloc::Global;
 pub(crate) const MOST_DEPTH: usize = 64;
 
 /// What was read: an expression, its depth, and the tokens after it.
-pub(crate) type Found<'a> = (Tree, usize, &'a [Token]);
+pub(crate) type Found<'a> = (Box<Tree>, usize, &'a [Token]);
 
 /// Two expressions, the depth of the deeper one, and the tokens after them.
-type Pair<'a> = (Tree, Tree, usize, &'a [Token]);
+type Pair<'a> = (Box<Tree>, Box<Tree>, usize, &'a [Token]);
 
 // The tokens after a closing parenthesis.
 pub(crate) fn after_close(tokens: &[Token]) -> Result<&[Token], ReadFault>
@@ -140,20 +140,28 @@ fn function_of(name: &str) -> Option<Function>
     }
 }
 
+// An expression of depth 1, and the tokens after it.
+fn leaf<'a>(alloc: Global, tree: Tree, rest: &'a [Token]) -> Result<Found<'a>, ReadFault>
+    ensures found { Gives (λ x. (view x.0.value, x.1, views x.2.now)) result (leaf_at (view tree) (views rest.now)) }
+    ensures depth { IfOk result (λ x. x.1 ≡ 1) }
+{
+    Ok((Box::new(alloc, tree)?, 1, rest))
+}
+
 // The names of entries after a first part, fewer than left. Each is one deeper.
 #[tactic(auto, unfolding(crate::specs::Reading::paths_at))]
 fn paths<'a>(
     alloc: Global,
     left: usize,
     inner: usize,
-    first: Tree,
+    first: Box<Tree>,
     depth: usize,
     tokens: &'a [Token],
 ) -> Result<Found<'a>, ReadFault>
     requires limit { inner < 64 }
     requires depth { depth ≤ inner + 1 }
-    ensures found { Gives (λ x. (view x.0, x.1, views x.2.now)) result
-        (paths_at left inner (view first) depth (views tokens.now)) }
+    ensures found { Gives (λ x. (view x.0.value, x.1, views x.2.now)) result
+        (paths_at left inner (view first.value) depth (views tokens.now)) }
     ensures depth { IfOk result (λ x. x.1 ≤ inner + 1) }
 {
     if left == 0 {
@@ -182,7 +190,7 @@ pub(crate) fn read<'a>(
     tokens: &'a [Token],
 ) -> Result<Found<'a>, ReadFault>
     requires { limit ≤ 64 }
-    ensures found { Gives (λ x. (view x.0, x.1, views x.2.now)) result
+    ensures found { Gives (λ x. (view x.0.value, x.1, views x.2.now)) result
         (read_at limit line (views tokens.now)) }
     ensures depth { IfOk result (λ x. x.1 ≤ limit) }
 {
@@ -202,7 +210,7 @@ fn read_line<'a>(
     tokens: &'a [Token],
 ) -> Result<Found<'a>, ReadFault>
     requires { inner < 64 }
-    ensures found { Gives (λ x. (view x.0, x.1, views x.2.now)) result
+    ensures found { Gives (λ x. (view x.0.value, x.1, views x.2.now)) result
         (line_at (read_at inner) inner line (views tokens.now)) }
     ensures depth { IfOk result (λ x. x.1 ≤ inner + 1) }
 {
@@ -223,7 +231,7 @@ fn read_line<'a>(
 #[tactic(auto, unfolding(crate::specs::Reading::whole_at, crate::specs::Reading::line_at))]
 fn whole<'a>(alloc: Global, inner: usize, tokens: &'a [Token]) -> Result<Found<'a>, ReadFault>
     requires { inner < 64 }
-    ensures found { Gives (λ x. (view x.0, x.1, views x.2.now)) result
+    ensures found { Gives (λ x. (view x.0.value, x.1, views x.2.now)) result
         (whole_at (disjunction_at (read_at inner) inner) (read_at inner) (views tokens.now)) }
     ensures depth { IfOk result (λ x. x.1 ≤ inner + 1) }
 {
@@ -238,7 +246,7 @@ fn whole<'a>(alloc: Global, inner: usize, tokens: &'a [Token]) -> Result<Found<'
 #[tactic(auto, unfolding(crate::specs::Reading::conditional_at))]
 fn conditional<'a>(alloc: Global, inner: usize, tokens: &'a [Token]) -> Result<Found<'a>, ReadFault>
     requires { inner < 64 }
-    ensures found { Gives (λ x. (view x.0, x.1, views x.2.now)) result
+    ensures found { Gives (λ x. (view x.0.value, x.1, views x.2.now)) result
         (conditional_at (read_at inner) (views tokens.now)) }
     ensures depth { IfOk result (λ x. x.1 ≤ inner + 1) }
 {
@@ -253,7 +261,7 @@ fn conditional<'a>(alloc: Global, inner: usize, tokens: &'a [Token]) -> Result<F
 #[tactic(auto, unfolding(crate::specs::Parts::branches_at))]
 fn branches<'a>(alloc: Global, inner: usize, tokens: &'a [Token]) -> Result<Pair<'a>, ReadFault>
     requires { inner < 64 }
-    ensures found { Gives (λ x. (view x.0, view x.1, x.2, views x.3.now)) result
+    ensures found { Gives (λ x. (view x.0.value, view x.1.value, x.2, views x.3.now)) result
         (branches_at (read_at inner) (views tokens.now)) }
     ensures depth { IfOk result (λ x. x.2 ≤ inner) }
 {
@@ -266,7 +274,7 @@ fn branches<'a>(alloc: Global, inner: usize, tokens: &'a [Token]) -> Result<Pair
 #[cycle(reader)]
 fn then_branch<'a>(alloc: Global, inner: usize, tokens: &'a [Token]) -> Result<Found<'a>, ReadFault>
     requires { inner < 64 }
-    ensures found { Gives (λ x. (view x.0, x.1, views x.2.now)) result
+    ensures found { Gives (λ x. (view x.0.value, x.1, views x.2.now)) result
         (then_at (read_at inner) (views tokens.now)) }
     ensures depth { IfOk result (λ x. x.1 ≤ inner) }
 {
@@ -278,7 +286,7 @@ fn then_branch<'a>(alloc: Global, inner: usize, tokens: &'a [Token]) -> Result<F
 #[cycle(reader)]
 fn else_branch<'a>(alloc: Global, inner: usize, tokens: &'a [Token]) -> Result<Found<'a>, ReadFault>
     requires { inner < 64 }
-    ensures found { Gives (λ x. (view x.0, x.1, views x.2.now)) result
+    ensures found { Gives (λ x. (view x.0.value, x.1, views x.2.now)) result
         (else_at (read_at inner) (views tokens.now)) }
     ensures depth { IfOk result (λ x. x.1 ≤ inner) }
 {
@@ -298,7 +306,7 @@ fn chain<'a>(
 ) -> Result<Found<'a>, ReadFault>
     requires limit { inner < 64 }
     requires tighter { rank line < rank (tighter line) }
-    ensures found { Gives (λ x. (view x.0, x.1, views x.2.now)) result
+    ensures found { Gives (λ x. (view x.0.value, x.1, views x.2.now)) result
         (chain_at (line_at (read_at inner) inner (tighter line)) (read_at inner) inner line (views tokens.now)) }
     ensures depth { IfOk result (λ x. x.1 ≤ inner + 1) }
 {
@@ -313,14 +321,14 @@ fn steps<'a>(
     alloc: Global,
     line: Line,
     inner: usize,
-    first: Tree,
+    first: Box<Tree>,
     first_depth: usize,
     tokens: &'a [Token],
 ) -> Result<Found<'a>, ReadFault>
     requires limit { inner < 64 }
     requires depth { first_depth ≤ inner + 1 }
-    ensures found { Gives (λ x. (view x.0, x.1, views x.2.now)) result
-        (steps_at (inner + 1) (read_at inner) inner line (view first) first_depth (views tokens.now)) }
+    ensures found { Gives (λ x. (view x.0.value, x.1, views x.2.now)) result
+        (steps_at (inner + 1) (read_at inner) inner line (view first.value) first_depth (views tokens.now)) }
     ensures depth { IfOk result (λ x. x.1 ≤ inner + 1) }
 {
     let mut expr = first;
@@ -354,13 +362,13 @@ fn step<'a>(
     operator: Operator,
     line: Line,
     inner: usize,
-    left: Tree,
+    left: Box<Tree>,
     depth: usize,
     tokens: &'a [Token],
 ) -> Result<Found<'a>, ReadFault>
     requires { inner < 64 }
-    ensures found { Gives (λ x. (view x.0, x.1, views x.2.now)) result
-        (step_at operator (read_at inner line) inner (view left) depth (views tokens.now)) }
+    ensures found { Gives (λ x. (view x.0.value, x.1, views x.2.now)) result
+        (step_at operator (read_at inner line) inner (view left.value) depth (views tokens.now)) }
     ensures depth { IfOk result (λ x. x.1 ≤ inner + 1) }
 {
     if depth > inner {
@@ -376,7 +384,7 @@ fn step<'a>(
 #[tactic(auto, unfolding(crate::specs::Reading::comparison_at, crate::specs::Reading::line_at))]
 fn comparison<'a>(alloc: Global, inner: usize, tokens: &'a [Token]) -> Result<Found<'a>, ReadFault>
     requires { inner < 64 }
-    ensures found { Gives (λ x. (view x.0, x.1, views x.2.now)) result
+    ensures found { Gives (λ x. (view x.0.value, x.1, views x.2.now)) result
         (comparison_at (sum_at (read_at inner) inner) (read_at inner) inner (views tokens.now)) }
     ensures depth { IfOk result (λ x. x.1 ≤ inner + 1) }
 {
@@ -390,14 +398,14 @@ fn comparison<'a>(alloc: Global, inner: usize, tokens: &'a [Token]) -> Result<Fo
 fn compared<'a>(
     alloc: Global,
     inner: usize,
-    left: Tree,
+    left: Box<Tree>,
     depth: usize,
     tokens: &'a [Token],
 ) -> Result<Found<'a>, ReadFault>
     requires limit { inner < 64 }
     requires depth { depth ≤ inner + 1 }
-    ensures found { Gives (λ x. (view x.0, x.1, views x.2.now)) result
-        (compared_at (read_at inner) inner (view left) depth (views tokens.now)) }
+    ensures found { Gives (λ x. (view x.0.value, x.1, views x.2.now)) result
+        (compared_at (read_at inner) inner (view left.value) depth (views tokens.now)) }
     ensures depth { IfOk result (λ x. x.1 ≤ inner + 1) }
 {
     let Some((token, rest)) = tokens.split_first() else {
@@ -418,13 +426,13 @@ fn compared<'a>(
 fn between<'a>(
     alloc: Global,
     inner: usize,
-    left: Tree,
+    left: Box<Tree>,
     depth: usize,
     tokens: &'a [Token],
 ) -> Result<Found<'a>, ReadFault>
     requires { inner < 64 }
-    ensures found { Gives (λ x. (view x.0, x.1, views x.2.now)) result
-        (between_at (read_at inner) inner (view left) depth (views tokens.now)) }
+    ensures found { Gives (λ x. (view x.0.value, x.1, views x.2.now)) result
+        (between_at (read_at inner) inner (view left.value) depth (views tokens.now)) }
     ensures depth { IfOk result (λ x. x.1 ≤ inner + 1) }
 {
     if depth > inner {
@@ -440,7 +448,7 @@ fn between<'a>(
 #[tactic(auto, unfolding(crate::specs::Parts::bounds_at))]
 fn bounds<'a>(alloc: Global, inner: usize, tokens: &'a [Token]) -> Result<Pair<'a>, ReadFault>
     requires { inner < 64 }
-    ensures found { Gives (λ x. (view x.0, view x.1, x.2, views x.3.now)) result
+    ensures found { Gives (λ x. (view x.0.value, view x.1.value, x.2, views x.3.now)) result
         (bounds_at (read_at inner) (views tokens.now)) }
     ensures depth { IfOk result (λ x. x.2 ≤ inner) }
 {
@@ -453,7 +461,7 @@ fn bounds<'a>(alloc: Global, inner: usize, tokens: &'a [Token]) -> Result<Pair<'
 #[cycle(reader)]
 fn high_bound<'a>(alloc: Global, inner: usize, tokens: &'a [Token]) -> Result<Found<'a>, ReadFault>
     requires { inner < 64 }
-    ensures found { Gives (λ x. (view x.0, x.1, views x.2.now)) result
+    ensures found { Gives (λ x. (view x.0.value, x.1, views x.2.now)) result
         (high_at (read_at inner) (views tokens.now)) }
     ensures depth { IfOk result (λ x. x.1 ≤ inner) }
 {
@@ -466,7 +474,7 @@ fn high_bound<'a>(alloc: Global, inner: usize, tokens: &'a [Token]) -> Result<Fo
 #[tactic(auto, unfolding(crate::specs::Reading::negation_at))]
 fn negation<'a>(alloc: Global, inner: usize, tokens: &'a [Token]) -> Result<Found<'a>, ReadFault>
     requires { inner < 64 }
-    ensures found { Gives (λ x. (view x.0, x.1, views x.2.now)) result
+    ensures found { Gives (λ x. (view x.0.value, x.1, views x.2.now)) result
         (negation_at (read_at inner) inner (views tokens.now)) }
     ensures depth { IfOk result (λ x. x.1 ≤ inner + 1) }
 {
@@ -474,7 +482,7 @@ fn negation<'a>(alloc: Global, inner: usize, tokens: &'a [Token]) -> Result<Foun
         return path(alloc, inner, tokens);
     };
     let (expr, depth, rest) = read(alloc, Line::Negation, inner, rest)?;
-    Ok((Tree::Negate(Box::new(alloc, expr)?), 1 + depth, rest))
+    Ok((Box::new(alloc, Tree::Negate(expr))?, 1 + depth, rest))
 }
 
 // A primary, and the names of entries after it.
@@ -482,7 +490,7 @@ fn negation<'a>(alloc: Global, inner: usize, tokens: &'a [Token]) -> Result<Foun
 #[tactic(auto, unfolding(crate::specs::Reading::path_at))]
 fn path<'a>(alloc: Global, inner: usize, tokens: &'a [Token]) -> Result<Found<'a>, ReadFault>
     requires { inner < 64 }
-    ensures found { Gives (λ x. (view x.0, x.1, views x.2.now)) result
+    ensures found { Gives (λ x. (view x.0.value, x.1, views x.2.now)) result
         (path_at (read_at inner) inner (views tokens.now)) }
     ensures depth { IfOk result (λ x. x.1 ≤ inner + 1) }
 {
@@ -495,7 +503,7 @@ fn path<'a>(alloc: Global, inner: usize, tokens: &'a [Token]) -> Result<Found<'a
 #[tactic(auto, unfolding(crate::specs::Reading::primary_at))]
 fn primary<'a>(alloc: Global, inner: usize, tokens: &'a [Token]) -> Result<Found<'a>, ReadFault>
     requires { inner < 64 }
-    ensures found { Gives (λ x. (view x.0, x.1, views x.2.now)) result
+    ensures found { Gives (λ x. (view x.0.value, x.1, views x.2.now)) result
         (primary_at (read_at inner) (views tokens.now)) }
     ensures depth { IfOk result (λ x. x.1 ≤ inner + 1) }
 {
@@ -503,15 +511,12 @@ fn primary<'a>(alloc: Global, inner: usize, tokens: &'a [Token]) -> Result<Found
         return Err(ReadFault::Syntax);
     };
     match token {
-        Token::Number(n) => Ok((Tree::Number(*n), 1, rest)),
-        Token::Text(text) => {
-            let text = text.clone()?;
-            Ok((Tree::Text(text), 1, rest))
-        }
+        Token::Number(n) => leaf(alloc, Tree::Number(*n), rest),
+        Token::Text(text) => leaf(alloc, Tree::Text(text.clone()?), rest),
         Token::Name(name) => named(alloc, inner, name, rest),
-        Token::Keyword(Word::Null) => Ok((Tree::Null, 1, rest)),
-        Token::Keyword(Word::True) => Ok((Tree::Boolean(true), 1, rest)),
-        Token::Keyword(Word::False) => Ok((Tree::Boolean(false), 1, rest)),
+        Token::Keyword(Word::Null) => leaf(alloc, Tree::Null, rest),
+        Token::Keyword(Word::True) => leaf(alloc, Tree::Boolean(true), rest),
+        Token::Keyword(Word::False) => leaf(alloc, Tree::Boolean(false), rest),
         Token::Keyword(Word::Not) => negated(alloc, inner, rest),
         Token::Symbol(Sign::OpenParen) => group(alloc, inner, rest),
         Token::Symbol(Sign::OpenBracket) => list(alloc, inner, rest),
@@ -529,13 +534,12 @@ fn named<'a>(
     tokens: &'a [Token],
 ) -> Result<Found<'a>, ReadFault>
     requires { inner < 64 }
-    ensures found { Gives (λ x. (view x.0, x.1, views x.2.now)) result
+    ensures found { Gives (λ x. (view x.0.value, x.1, views x.2.now)) result
         (named_at (string_bytes name.now) (read_at inner) (views tokens.now)) }
     ensures depth { IfOk result (λ x. x.1 ≤ inner + 1) }
 {
     let [Token::Symbol(Sign::OpenParen), rest @ ..] = tokens else {
-        let name = name.clone()?;
-        return Ok((Tree::Name(name), 1, tokens));
+        return leaf(alloc, Tree::Name(name.clone()?), tokens);
     };
     if name.as_str() == "modulo" {
         return modulo(alloc, inner, rest);
@@ -544,11 +548,8 @@ fn named<'a>(
         return Err(ReadFault::Syntax);
     };
     let (expr, depth, rest) = closed(alloc, inner, rest)?;
-    Ok((
-        Tree::Call(function, Box::new(alloc, expr)?),
-        1 + depth,
-        rest,
-    ))
+    let tree = Box::new(alloc, Tree::Call(function, expr))?;
+    Ok((tree, 1 + depth, rest))
 }
 
 // The two arguments of `modulo`, after their parenthesis.
@@ -556,7 +557,7 @@ fn named<'a>(
 #[tactic(auto, unfolding(crate::specs::Reading::modulo_at))]
 fn modulo<'a>(alloc: Global, inner: usize, tokens: &'a [Token]) -> Result<Found<'a>, ReadFault>
     requires { inner < 64 }
-    ensures found { Gives (λ x. (view x.0, x.1, views x.2.now)) result
+    ensures found { Gives (λ x. (view x.0.value, x.1, views x.2.now)) result
         (modulo_at (read_at inner) (views tokens.now)) }
     ensures depth { IfOk result (λ x. x.1 ≤ inner + 1) }
 {
@@ -572,13 +573,13 @@ fn modulo<'a>(alloc: Global, inner: usize, tokens: &'a [Token]) -> Result<Found<
 #[tactic(auto, unfolding(crate::specs::Reading::negated_at))]
 fn negated<'a>(alloc: Global, inner: usize, tokens: &'a [Token]) -> Result<Found<'a>, ReadFault>
     requires { inner < 64 }
-    ensures found { Gives (λ x. (view x.0, x.1, views x.2.now)) result
+    ensures found { Gives (λ x. (view x.0.value, x.1, views x.2.now)) result
         (negated_at (read_at inner) (views tokens.now)) }
     ensures depth { IfOk result (λ x. x.1 ≤ inner + 1) }
 {
     let rest = after_open(tokens)?;
     let (expr, depth, rest) = closed(alloc, inner, rest)?;
-    Ok((Tree::Not(Box::new(alloc, expr)?), 1 + depth, rest))
+    Ok((Box::new(alloc, Tree::Not(expr))?, 1 + depth, rest))
 }
 
 // An expression in parentheses, after the first.
@@ -586,12 +587,12 @@ fn negated<'a>(alloc: Global, inner: usize, tokens: &'a [Token]) -> Result<Found
 #[tactic(auto, unfolding(crate::specs::Reading::group_at))]
 fn group<'a>(alloc: Global, inner: usize, tokens: &'a [Token]) -> Result<Found<'a>, ReadFault>
     requires { inner < 64 }
-    ensures found { Gives (λ x. (view x.0, x.1, views x.2.now)) result
+    ensures found { Gives (λ x. (view x.0.value, x.1, views x.2.now)) result
         (group_at (read_at inner) (views tokens.now)) }
     ensures depth { IfOk result (λ x. x.1 ≤ inner + 1) }
 {
     let (expr, depth, rest) = closed(alloc, inner, tokens)?;
-    Ok((Tree::Group(Box::new(alloc, expr)?), 1 + depth, rest))
+    Ok((Box::new(alloc, Tree::Group(expr))?, 1 + depth, rest))
 }
 
 // An expression, and the parenthesis after it.
@@ -599,7 +600,7 @@ fn group<'a>(alloc: Global, inner: usize, tokens: &'a [Token]) -> Result<Found<'
 #[tactic(auto, unfolding(crate::specs::Reading::closed_at))]
 fn closed<'a>(alloc: Global, inner: usize, tokens: &'a [Token]) -> Result<Found<'a>, ReadFault>
     requires { inner < 64 }
-    ensures found { Gives (λ x. (view x.0, x.1, views x.2.now)) result
+    ensures found { Gives (λ x. (view x.0.value, x.1, views x.2.now)) result
         (closed_at (read_at inner) (views tokens.now)) }
     ensures depth { IfOk result (λ x. x.1 ≤ inner) }
 {
@@ -613,14 +614,14 @@ fn closed<'a>(alloc: Global, inner: usize, tokens: &'a [Token]) -> Result<Found<
 #[tactic(auto, unfolding(crate::specs::Reading::list_at))]
 fn list<'a>(alloc: Global, inner: usize, tokens: &'a [Token]) -> Result<Found<'a>, ReadFault>
     requires { inner < 64 }
-    ensures found { Gives (λ x. (view x.0, x.1, views x.2.now)) result
+    ensures found { Gives (λ x. (view x.0.value, x.1, views x.2.now)) result
         (list_at (read_at inner) (views tokens.now)) }
     ensures depth { IfOk result (λ x. x.1 ≤ inner + 1) }
 {
     let [Token::Symbol(Sign::CloseBracket), rest @ ..] = tokens else {
         return listed(alloc, inner, tokens);
     };
-    Ok((Tree::List(Vec::new(alloc)), 1, rest))
+    leaf(alloc, Tree::List(Vec::new(alloc)), rest)
 }
 
 // A list that isn't empty, after its bracket.
@@ -628,13 +629,14 @@ fn list<'a>(alloc: Global, inner: usize, tokens: &'a [Token]) -> Result<Found<'a
 #[tactic(auto, unfolding(crate::specs::Reading::listed_at))]
 fn listed<'a>(alloc: Global, inner: usize, tokens: &'a [Token]) -> Result<Found<'a>, ReadFault>
     requires { inner < 64 }
-    ensures found { Gives (λ x. (view x.0, x.1, views x.2.now)) result
+    ensures found { Gives (λ x. (view x.0.value, x.1, views x.2.now)) result
         (listed_at (read_at inner) (views tokens.now)) }
     ensures depth { IfOk result (λ x. x.1 ≤ inner + 1) }
 {
     let (first, depth, rest) = read(alloc, Line::Whole, inner, tokens)?;
     let (members, deepest, rest) = members(alloc, inner, first, depth, rest)?;
-    Ok((Tree::List(members), 1 + deepest, rest))
+    let tree = Box::new(alloc, Tree::List(members))?;
+    Ok((tree, 1 + deepest, rest))
 }
 
 // The members after the first one, and the bracket after them. They are fewer than the tokens.
@@ -642,18 +644,18 @@ fn listed<'a>(alloc: Global, inner: usize, tokens: &'a [Token]) -> Result<Found<
 fn members<'a>(
     alloc: Global,
     inner: usize,
-    first: Tree,
+    first: Box<Tree>,
     first_depth: usize,
     tokens: &'a [Token],
 ) -> Result<(Vec<Tree>, usize, &'a [Token]), ReadFault>
     requires limit { inner < 64 }
     requires depth { first_depth ≤ inner }
     ensures found { Gives (λ x. (exprs_of (map view x.0.items), x.1, views x.2.now)) result
-        (joined (more (view first) none) first_depth (members_at (length (views tokens.now)) (read_at inner) (views tokens.now))) }
+        (joined (more (view first.value) none) first_depth (members_at (length (views tokens.now)) (read_at inner) (views tokens.now))) }
     ensures depth { IfOk result (λ x. x.1 ≤ inner) }
 {
     let mut members = Vec::new(alloc);
-    members.push(first)?;
+    members.push(Box::into_inner(first))?;
     let mut deepest = first_depth;
     let mut rest = tokens;
     for _ in 0..tokens.len() {
@@ -662,7 +664,7 @@ fn members<'a>(
         }
         let after = after_comma(rest)?;
         let (member, depth, after) = read(alloc, Line::Whole, inner, after)?;
-        members.push(member)?;
+        members.push(Box::into_inner(member))?;
         deepest = deepest.max(depth);
         rest = after;
     }
@@ -676,7 +678,7 @@ pub(crate) fn expression(alloc: Global, tokens: &[Token]) -> Result<Tree, ReadFa
 {
     let (tree, _, rest) = read(alloc, Line::Whole, MOST_DEPTH, tokens)?;
     if rest.is_empty() {
-        Ok(tree)
+        Ok(Box::into_inner(tree))
     } else {
         Err(ReadFault::Syntax)
     }

@@ -11,50 +11,53 @@ use std::alloc::{AllocError, Global};
 pub(crate) fn binary(
     alloc: Global,
     operator: Operator,
-    left: Tree,
-    right: Tree,
-) -> Result<Tree, AllocError>
-    ensures { IfOk result (λ t. view t ≡ expr_specs.Binary operator (view left) (view right)) }
+    left: Box<Tree>,
+    right: Box<Tree>,
+) -> Result<Box<Tree>, AllocError>
+    ensures { IfOk result (λ t. view t.value ≡ expr_specs.Binary operator (view left.value) (view right.value)) }
 {
-    let left = Box::new(alloc, left)?;
-    Ok(Tree::Binary(operator, left, Box::new(alloc, right)?))
+    Ok(Box::new(alloc, Tree::Binary(operator, left, right))?)
 }
 
 /// The two arguments of `modulo`.
-pub(crate) fn modulo(alloc: Global, left: Tree, right: Tree) -> Result<Tree, AllocError>
-    ensures { IfOk result (λ t. view t ≡ expr_specs.Modulo (view left) (view right)) }
+pub(crate) fn modulo(
+    alloc: Global,
+    left: Box<Tree>,
+    right: Box<Tree>,
+) -> Result<Box<Tree>, AllocError>
+    ensures { IfOk result (λ t. view t.value ≡ expr_specs.Modulo (view left.value) (view right.value)) }
 {
-    let left = Box::new(alloc, left)?;
-    Ok(Tree::Modulo(left, Box::new(alloc, right)?))
+    Ok(Box::new(alloc, Tree::Modulo(left, right))?)
 }
 
 /// A value between two bounds.
-pub(crate) fn between(alloc: Global, value: Tree, low: Tree, high: Tree) -> Result<Tree, AllocError>
-    ensures { IfOk result (λ t. view t ≡ expr_specs.Between (view value) (view low) (view high)) }
+pub(crate) fn between(
+    alloc: Global,
+    value: Box<Tree>,
+    low: Box<Tree>,
+    high: Box<Tree>,
+) -> Result<Box<Tree>, AllocError>
+    ensures { IfOk result (λ t. view t.value ≡ expr_specs.Between (view value.value) (view low.value) (view high.value)) }
 {
-    let value = Box::new(alloc, value)?;
-    let low = Box::new(alloc, low)?;
-    Ok(Tree::Between(value, low, Box::new(alloc, high)?))
+    Ok(Box::new(alloc, Tree::Between(value, low, high))?)
 }
 
 /// A test and the two branches of a conditional.
 pub(crate) fn conditional(
     alloc: Global,
-    test: Tree,
-    yes: Tree,
-    no: Tree,
-) -> Result<Tree, AllocError>
-    ensures { IfOk result (λ t. view t ≡ expr_specs.If (view test) (view yes) (view no)) }
+    test: Box<Tree>,
+    yes: Box<Tree>,
+    no: Box<Tree>,
+) -> Result<Box<Tree>, AllocError>
+    ensures { IfOk result (λ t. view t.value ≡ expr_specs.If (view test.value) (view yes.value) (view no.value)) }
 {
-    let test = Box::new(alloc, test)?;
-    let yes = Box::new(alloc, yes)?;
-    Ok(Tree::If(test, yes, Box::new(alloc, no)?))
+    Ok(Box::new(alloc, Tree::If(test, yes, no))?)
 }
 
 /// The entry of that name of a value.
-pub(crate) fn path(alloc: Global, whole: Tree, name: &String) -> Result<Tree, AllocError>
-    ensures { IfOk result (λ t. view t ≡ expr_specs.Path (view whole) (string_bytes name.now)) }
+pub(crate) fn path(alloc: Global, whole: Box<Tree>, name: &String) -> Result<Box<Tree>, AllocError>
+    ensures { IfOk result (λ t. view t.value ≡ expr_specs.Path (view whole.value) (string_bytes name.now)) }
 {
     let name = name.clone()?;
-    Ok(Tree::Path(Box::new(alloc, whole)?, name))
+    Ok(Box::new(alloc, Tree::Path(whole, name))?)
 }

@@ -3,12 +3,15 @@
 
 ghost use Rattle.std.specs.Prelude.{◌≡◌, length, option_map};
 ghost use Rattle.feel_lang.specs.Gives.{Gives};
+ghost use Rattle.feel_lang.specs.Parts.{high_part_at};
 ghost use Rattle.feel_lang.specs.Reading.{after_comma};
 ghost use Rattle.feel_lang.specs.TestReading.{after_dots, after_not, bound_of, compares_at, high_end_at, high_end_of, interval_at, is_dash, list_at, listed_at, low_end_of, none_of_at, one_of_at, plain_at, test_at, tests_at};
 ghost use Rattle.feel_lang.specs.TestsView.{bound_view, test_view, test_views, tests_view};
 ghost use Rattle.feel_lang.specs.Token as token_specs;
 ghost use Rattle.feel_lang.specs.Token.{views};
+ghost use Rattle.feel_lang.specs.View.{view};
 
+use crate::expr::Tree;
 use crate::fault::ReadFault;
 use crate::line::Line;
 use crate::reader::{MOST_DEPTH, after_close, read};
@@ -85,6 +88,20 @@ fn high_end(tokens: &[Token]) -> Result<(bool, &[Token]), ReadFault>
     Ok((closed, rest))
 }
 
+// The high end of an interval, with the dots before it: its value, whether it is closed, and the tokens after it.
+#[tactic(auto, unfolding(crate::specs::Parts::high_part_at))]
+fn high_part<'a>(
+    alloc: Global,
+    tokens: &'a [Token],
+) -> Result<(Box<Tree>, bool, &'a [Token]), ReadFault>
+    ensures { Gives (λ x. (view x.0.value, x.1, views x.2.now)) result (high_part_at (views tokens.now)) }
+{
+    let rest = after_dots(tokens)?;
+    let (high, _, rest) = read(alloc, Line::Sum, MOST_DEPTH, rest)?;
+    let (closed, rest) = high_end(rest)?;
+    Ok((high, closed, rest))
+}
+
 // An interval after its first token.
 #[tactic(auto, unfolding(crate::specs::TestReading::interval_at))]
 fn interval<'a>(
@@ -99,9 +116,8 @@ fn interval<'a>(
         return Err(ReadFault::Syntax);
     };
     let (low, _, rest) = read(alloc, Line::Sum, MOST_DEPTH, tokens)?;
-    let rest = after_dots(rest)?;
-    let (high, _, rest) = read(alloc, Line::Sum, MOST_DEPTH, rest)?;
-    let (closed_high, rest) = high_end(rest)?;
+    let (high, closed_high, rest) = high_part(alloc, rest)?;
+    let (low, high) = (Box::into_inner(low), Box::into_inner(high));
     Ok((Test::Interval(closed_low, low, high, closed_high), rest))
 }
 
@@ -116,7 +132,7 @@ fn compares<'a>(
         (compares_at (bound_view bound) (views tokens.now)) }
 {
     let (tree, _, rest) = read(alloc, Line::Sum, MOST_DEPTH, tokens)?;
-    Ok((Test::Compares(bound, tree), rest))
+    Ok((Test::Compares(bound, Box::into_inner(tree)), rest))
 }
 
 // One test, and the tokens after it.
@@ -131,7 +147,7 @@ fn test<'a>(alloc: Global, tokens: &'a [Token]) -> Result<(Test, &'a [Token]), R
         return compares(alloc, bound, rest);
     }
     match read(alloc, Line::Whole, MOST_DEPTH, tokens) {
-        Ok((tree, _, rest)) => Ok((Test::Equals(tree), rest)),
+        Ok((tree, _, rest)) => Ok((Test::Equals(Box::into_inner(tree)), rest)),
         Err(ReadFault::Syntax) => interval(alloc, first, rest),
         Err(ReadFault::Memory) => Err(ReadFault::Memory),
     }

@@ -4,6 +4,7 @@ use box_core::{
     AddRefusal, Answered, BoxFault, Broker, Done, Event, Mailbox, Refusal, Report, Work,
 };
 use std::alloc::{AllocError, Global};
+use std::process::Abort;
 use std::sync::Arc;
 use std::test::Fail;
 
@@ -43,8 +44,57 @@ fn done(alloc: Global, ticket: u64, asked: u32) -> Result<Done<Successor>, Alloc
     Done::of(alloc, ticket, work(alloc, asked)?).map_err(|(refused, _)| refused)
 }
 
+fn mailbox_of(alloc: Global, capacity: u32) -> Result<Mailbox<Successor>, AllocError> {
+    Mailbox::new(alloc, capacity).map_err(|_| AllocError)
+}
+
 fn admitted(mailbox: &mut Mailbox<Successor>, work: Arc<Successor>) -> Result<u64, Refusal> {
     mailbox.admit(work).map_err(|(why, _)| why)
+}
+
+// The mailbox gives the request this ticket, or refuses it so.
+fn admits(
+    rt: &impl Abort,
+    alloc: Global,
+    mailbox: &mut Mailbox<Successor>,
+    asked: u32,
+    due: Result<u64, Refusal>,
+) -> Result<(), AllocError> {
+    let work = work(alloc, asked)?;
+    assert_eq!(rt; admitted(mailbox, work), due);
+    Ok(())
+}
+
+// The mailbox keeps the answer.
+fn keeps(
+    rt: &impl Abort,
+    alloc: Global,
+    mailbox: &mut Mailbox<Successor>,
+    ticket: u64,
+    asked: u32,
+) -> Result<(), AllocError> {
+    let done = done(alloc, ticket, asked)?;
+    assert_eq!(rt; mailbox.answer(done), Answered::Kept);
+    Ok(())
+}
+
+// The mailbox hands this ticket's result next, or none.
+fn hands(rt: &impl Abort, mailbox: &mut Mailbox<Successor>, due: Option<(u64, u64)>) {
+    let handed = mailbox.release().map(|reply| (reply.ticket, reply.outcome));
+    assert_eq!(rt; handed, due);
+}
+
+// The mailbox admits so many requests, whose numbers are their tickets.
+fn fill(
+    rt: &impl Abort,
+    alloc: Global,
+    mailbox: &mut Mailbox<Successor>,
+    count: u32,
+) -> Result<(), AllocError> {
+    for asked in 0..count {
+        admits(rt, alloc, mailbox, asked, Ok(u64::from(asked)))?;
+    }
+    Ok(())
 }
 
 /// What is asked of a broker, by client; an answer has the result of some request.
@@ -204,133 +254,246 @@ const HISTORIES: &[&[(Ask, Said)]] = &[
     ],
 ];
 
-#[test]
-fn histories_event_by_event(rt: HostRuntime) -> Result<(), Fail> {
-    let alloc = rt.alloc();
-    for (number, history) in HISTORIES.iter().enumerate() {
-        let mut broker = Broker::new(alloc);
-        for (place, (ask, said)) in history.iter().enumerate() {
-            let report = broker.apply(event(alloc, *ask)?);
-            assert!(rt; is_said(&report, *said), "{number}, {place}");
-        }
+// What the broker reports to this is right.
+fn is_right(
+    alloc: Global,
+    broker: &mut Broker<Successor>,
+    ask: Ask,
+    said: Said,
+) -> Result<bool, AllocError> {
+    let event = event(alloc, ask)?;
+    let report = broker.apply(event);
+    Ok(is_said(&report, said))
+}
+
+// The broker reports what it should to one event after another.
+fn follows(
+    rt: &impl Abort,
+    alloc: Global,
+    broker: &mut Broker<Successor>,
+    number: usize,
+    history: &[(Ask, Said)],
+) -> Result<(), Fail> {
+    for (place, (ask, said)) in history.iter().enumerate() {
+        assert!(rt; is_right(alloc, broker, *ask, *said)?, "{number}, {place}");
     }
     Ok(())
+}
+
+// A new broker does.
+fn new_follows(
+    rt: &impl Abort,
+    alloc: Global,
+    number: usize,
+    history: &[(Ask, Said)],
+) -> Result<(), Fail> {
+    let mut broker = Broker::new(alloc);
+    follows(rt, alloc, &mut broker, number, history)
+}
+
+#[test]
+fn histories_event_by_event(rt: HostRuntime) -> Result<(), Fail> {
+    for (number, history) in HISTORIES.iter().enumerate() {
+        new_follows(&rt, rt.alloc(), number, history)?;
+    }
+    Ok(())
+}
+
+fn events(alloc: Global, history: &[(Ask, Said)]) -> Result<Vec<Event<Successor>>, AllocError> {
+    let mut events = Vec::new(alloc);
+    for (ask, _) in history {
+        events.push(event(alloc, *ask)?).map_err(AllocError::from)?;
+    }
+    Ok(events)
+}
+
+// What the broker reports to these events, in one run.
+fn reports(
+    broker: &mut Broker<Successor>,
+    events: Vec<Event<Successor>>,
+) -> Result<Vec<Report<Successor>>, AllocError> {
+    broker.run(events).map_err(|(refused, _)| refused)
+}
+
+// What a new broker reports in one run.
+fn reported(alloc: Global, history: &[(Ask, Said)]) -> Result<Vec<Report<Successor>>, AllocError> {
+    let events = events(alloc, history)?;
+    let mut broker = Broker::new(alloc);
+    reports(&mut broker, events)
+}
+
+// The reports are those of this history.
+fn are_said(rt: &impl Abort, reports: &[Report<Successor>], history: &[(Ask, Said)]) {
+    assert_eq!(rt; reports.len(), history.len());
+    for (report, (_, said)) in reports.iter().zip(history) {
+        assert!(rt; is_said(report, *said));
+    }
 }
 
 #[test]
 fn histories_in_one_run(rt: HostRuntime) -> Result<(), Fail> {
-    let alloc = rt.alloc();
     for history in HISTORIES {
-        let mut events = Vec::new(alloc);
-        for (ask, _) in *history {
-            events.push(event(alloc, *ask)?).map_err(AllocError::from)?;
-        }
-        let Ok(reports) = Broker::new(alloc).run(events) else {
-            return Err(AllocError.into());
-        };
-        assert_eq!(rt; reports.len(), history.len());
-        for (report, (_, said)) in reports.iter().zip(*history) {
-            assert!(rt; is_said(report, *said));
-        }
+        let reports = reported(rt.alloc(), history)?;
+        are_said(&rt, &reports, history);
     }
     Ok(())
 }
 
+// The broker adds this client, or says why not.
+fn adds(
+    rt: &impl Abort,
+    broker: &mut Broker<Successor>,
+    capacity: u32,
+    due: Result<u32, AddRefusal>,
+) {
+    assert_eq!(rt; broker.add_client(capacity), due);
+}
+
 #[test]
 fn clients_up_to_the_limit(rt: HostRuntime) -> Result<(), Fail> {
-    let mut broker: Broker<Successor> = Broker::new(rt.alloc());
+    let mut broker = Broker::new(rt.alloc());
     for client in 0..64u32 {
-        assert_eq!(rt; broker.add_client(1), Ok(client));
+        adds(&rt, &mut broker, 1, Ok(client));
     }
-    assert_eq!(rt; broker.add_client(1), Err(AddRefusal::Many));
-    assert_eq!(rt; broker.add_client(0), Err(AddRefusal::Capacity));
+    adds(&rt, &mut broker, 1, Err(AddRefusal::Many));
+    adds(&rt, &mut broker, 0, Err(AddRefusal::Capacity));
     Ok(())
 }
 
 /// From where the first open ticket is looked for, and which it is; its request has the same number.
 const OPEN: &[(u64, Option<u64>)] = &[(0, Some(1)), (2, Some(3)), (4, None)];
 
-#[test]
-fn the_first_open_ticket(rt: HostRuntime) -> Result<(), Fail> {
-    let alloc = rt.alloc();
-    let mut mailbox = Mailbox::new(alloc, 4).map_err(|_| AllocError)?;
-    assert!(rt; mailbox.first_open(0).is_none());
-    for asked in 0..4u32 {
-        assert_eq!(rt;
-            admitted(&mut mailbox, work(alloc, asked)?),
-            Ok(u64::from(asked))
-        );
-    }
-    assert_eq!(rt; mailbox.answer(done(alloc, 0, 0)?), Answered::Kept);
-    assert_eq!(rt; mailbox.answer(done(alloc, 2, 2)?), Answered::Kept);
-    assert!(rt; mailbox.release().is_some());
+// These are the first open tickets.
+fn are_open(rt: &impl Abort, mailbox: &Mailbox<Successor>) {
     for (from, ticket) in OPEN {
         let found = mailbox.first_open(*from);
         let numbers = found.map(|(found, work)| (found, u64::from(work.asked)));
         assert_eq!(rt; numbers, ticket.map(|ticket| (ticket, ticket)));
     }
+}
+
+// Two of four requests stay open, the second and the last.
+fn two_are_open(
+    rt: &impl Abort,
+    alloc: Global,
+    mailbox: &mut Mailbox<Successor>,
+) -> Result<(), Fail> {
+    assert!(rt; mailbox.first_open(0).is_none());
+    fill(rt, alloc, mailbox, 4)?;
+    keeps(rt, alloc, mailbox, 0, 0)?;
+    keeps(rt, alloc, mailbox, 2, 2)?;
+    assert!(rt; mailbox.release().is_some());
+    are_open(rt, mailbox);
     Ok(())
 }
 
-/// Thirty requests go through a ring of three places, of which one or two are in use. A mailbox is whole where nothing is
-/// outstanding.
 #[test]
-fn a_small_ring_goes_round(rt: HostRuntime) -> Result<(), Fail> {
-    let alloc = rt.alloc();
-    let mut mailbox = Mailbox::new(alloc, 3).map_err(|_| AllocError)?;
+fn the_first_open_ticket(rt: HostRuntime) -> Result<(), Fail> {
+    let mut mailbox = mailbox_of(rt.alloc(), 4)?;
+    two_are_open(&rt, rt.alloc(), &mut mailbox)
+}
+
+// A request goes through a mailbox, which is whole where nothing is outstanding.
+fn goes_through(
+    rt: &impl Abort,
+    alloc: Global,
+    mailbox: &mut Mailbox<Successor>,
+    asked: u32,
+) -> Result<(), AllocError> {
+    let ticket = u64::from(asked);
+    admits(rt, alloc, mailbox, asked, Ok(ticket))?;
+    assert!(rt; !mailbox.is_whole());
+    keeps(rt, alloc, mailbox, ticket, asked)?;
+    hands(rt, mailbox, Some((ticket, ticket + 1)));
+    assert!(rt; mailbox.is_whole());
+    Ok(())
+}
+
+// Thirty requests go through the mailbox, and then it closes once.
+fn thirty_go_through(
+    rt: &impl Abort,
+    alloc: Global,
+    mailbox: &mut Mailbox<Successor>,
+) -> Result<(), Fail> {
     for asked in 0..30u32 {
-        let ticket = u64::from(asked);
-        assert_eq!(rt; admitted(&mut mailbox, work(alloc, asked)?), Ok(ticket));
-        assert!(rt; !mailbox.is_whole());
-        assert_eq!(rt; mailbox.answer(done(alloc, ticket, asked)?), Answered::Kept);
-        let reply = mailbox.release().map(|reply| (reply.ticket, reply.outcome));
-        assert_eq!(rt; reply, Some((ticket, ticket + 1)));
-        assert!(rt; mailbox.is_whole());
+        goes_through(rt, alloc, mailbox, asked)?;
     }
     assert!(rt; mailbox.close());
     assert!(rt; !mailbox.close());
     Ok(())
 }
 
+/// A ring of three places, of which one or two are in use.
+#[test]
+fn a_small_ring_goes_round(rt: HostRuntime) -> Result<(), Fail> {
+    let mut mailbox = mailbox_of(rt.alloc(), 3)?;
+    thirty_go_through(&rt, rt.alloc(), &mut mailbox)
+}
+
+// Why there is no mailbox of this capacity.
+fn fault_of(alloc: Global, capacity: u32) -> Option<BoxFault> {
+    let made: Result<Mailbox<Successor>, BoxFault> = Mailbox::new(alloc, capacity);
+    made.err()
+}
+
+/// The last ticket that is given.
+const LAST: u64 = 1152921504606846975;
+
+// The mailbox gives the last ticket, and no more.
+fn gives_the_last(
+    rt: &impl Abort,
+    alloc: Global,
+    mailbox: &mut Mailbox<Successor>,
+) -> Result<(), Fail> {
+    admits(rt, alloc, mailbox, 1, Ok(LAST))?;
+    admits(rt, alloc, mailbox, 2, Err(Refusal::Spent))?;
+    Ok(())
+}
+
 #[test]
 fn tickets_end(rt: HostRuntime) -> Result<(), Fail> {
-    let alloc = rt.alloc();
-    let mut mailbox = Mailbox::starting_at(alloc, 1152921504606846975, 2).map_err(|_| AllocError)?;
-    assert_eq!(rt;
-        admitted(&mut mailbox, work(alloc, 1)?),
-        Ok(1152921504606846975)
-    );
-    assert_eq!(rt;
-        admitted(&mut mailbox, work(alloc, 2)?),
-        Err(Refusal::Spent)
-    );
-    let none: Result<Mailbox<Successor>, BoxFault> = Mailbox::new(alloc, 0);
-    assert!(rt; matches!(none, Err(BoxFault::Capacity)));
+    assert!(rt; matches!(fault_of(rt.alloc(), 0), Some(BoxFault::Capacity)));
+    let mut mailbox = Mailbox::starting_at(rt.alloc(), LAST, 2).map_err(|_| AllocError)?;
+    gives_the_last(&rt, rt.alloc(), &mut mailbox)
+}
+
+// The mailbox keeps so many answers, the last one first, and hands none before the first is there.
+fn answer_backwards(
+    rt: &impl Abort,
+    alloc: Global,
+    mailbox: &mut Mailbox<Successor>,
+    count: u32,
+) -> Result<(), AllocError> {
+    for asked in (0..count).rev() {
+        hands(rt, mailbox, None);
+        keeps(rt, alloc, mailbox, u64::from(asked), asked)?;
+    }
+    Ok(())
+}
+
+// The mailbox hands so many results in the order of their tickets, and no more.
+fn hands_in_order(rt: &impl Abort, mailbox: &mut Mailbox<Successor>, count: u64) {
+    for ticket in 0..count {
+        hands(rt, mailbox, Some((ticket, ticket + 1)));
+    }
+    hands(rt, mailbox, None);
+}
+
+// The mailbox is filled, and hands out all that it kept.
+fn is_filled_and_emptied(
+    rt: &impl Abort,
+    alloc: Global,
+    mailbox: &mut Mailbox<Successor>,
+) -> Result<(), Fail> {
+    fill(rt, alloc, mailbox, 4096)?;
+    admits(rt, alloc, mailbox, 0, Err(Refusal::Full))?;
+    answer_backwards(rt, alloc, mailbox, 4096)?;
+    hands_in_order(rt, mailbox, 4096);
     Ok(())
 }
 
 #[test]
 fn a_large_ring_hands_in_order(rt: HostRuntime) -> Result<(), Fail> {
-    let alloc = rt.alloc();
-    let mut mailbox = Mailbox::new(alloc, 4096).map_err(|_| AllocError)?;
-    for asked in 0..4096u32 {
-        assert_eq!(rt;
-            admitted(&mut mailbox, work(alloc, asked)?),
-            Ok(u64::from(asked))
-        );
-    }
-    assert_eq!(rt; admitted(&mut mailbox, work(alloc, 0)?), Err(Refusal::Full));
-    for asked in (0..4096u32).rev() {
-        assert!(rt; mailbox.release().is_none());
-        assert_eq!(rt;
-            mailbox.answer(done(alloc, u64::from(asked), asked)?),
-            Answered::Kept
-        );
-    }
-    for ticket in 0..4096u64 {
-        let reply = mailbox.release().map(|reply| (reply.ticket, reply.outcome));
-        assert_eq!(rt; reply, Some((ticket, ticket + 1)));
-    }
-    assert!(rt; mailbox.release().is_none());
-    Ok(())
+    let mut mailbox = mailbox_of(rt.alloc(), 4096)?;
+    is_filled_and_emptied(&rt, rt.alloc(), &mut mailbox)
 }

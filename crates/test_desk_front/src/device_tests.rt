@@ -1,6 +1,7 @@
 use desk_front::{Counted, FrontFault, replay};
 use std::alloc::Global;
 use std::io;
+use std::process::Abort;
 use std::sync::atomic::{AtomicU64, Ordering};
 use std::test::Fail;
 
@@ -125,24 +126,63 @@ const THEIR_REPORTS: &[u8] = b"\
 {\"client\":\"a\",\"result\":3,\"ticket\":1}\n\
 {\"client\":\"a\",\"line\":12,\"nothing\":true}\n";
 
+/// Whether all was reported, or the reader failed and there are the reports to the lines that came whole with so many bytes.
+fn is_right_reading(run: &Ending, came: usize) -> bool {
+    let whole = lines_in(&TWO_REQUESTS[..came.min(TWO_REQUESTS.len())]);
+    match run.ended {
+        Ok(()) => run.output.as_slice() == THEIR_REPORTS,
+        Err(FrontFault::Read) => {
+            THEIR_REPORTS.starts_with(&run.output)
+                && lines_in(&run.output) == whole
+                && matches!(run.output.last(), None | Some(b'\n'))
+        }
+        Err(_) => false,
+    }
+}
+
+/// Whether all was reported, or the writer failed and there are so many bytes of the reports.
+fn is_right_writing(run: &Ending, taken: usize) -> bool {
+    match run.ended {
+        Ok(()) => run.output.as_slice() == THEIR_REPORTS,
+        Err(FrontFault::Write) => {
+            THEIR_REPORTS.starts_with(&run.output) && run.output.len() == taken
+        }
+        Err(_) => false,
+    }
+}
+
+/// Whether all is read before the reader fails, behind so many bytes.
+fn ends_reading(rt: &impl Abort, alloc: Global, way: Way, came: usize) -> bool {
+    let run = replayed(alloc, TWO_REQUESTS, way, WELL);
+    assert!(rt;
+        is_right_reading(&run, came),
+        "{} {}",
+        way.most,
+        way.fails_at
+    );
+    run.ended == Ok(())
+}
+
+/// Whether all is written before the writer fails, behind so many bytes.
+fn ends_writing(rt: &impl Abort, alloc: Global, way: Way, taken: usize) -> bool {
+    let run = replayed(alloc, TWO_REQUESTS, WELL, way);
+    assert!(rt;
+        is_right_writing(&run, taken),
+        "{} {}",
+        way.most,
+        way.fails_at
+    );
+    run.ended == Ok(())
+}
+
 #[test]
 fn a_reader_may_fail_at_any_call(rt: HostRuntime) -> Result<(), Fail> {
     for most in [1, 7, 100] {
         for fails_at in 1..1000 {
-            let run = replayed(rt.alloc(), TWO_REQUESTS, Way { most, fails_at }, WELL);
-            if run.ended == Ok(()) {
-                assert!(rt; run.output.as_slice() == THEIR_REPORTS, "{most} {fails_at}");
+            let came = (fails_at as usize - 1).saturating_mul(most);
+            if ends_reading(&rt, rt.alloc(), Way { most, fails_at }, came) {
                 break;
             }
-            let came = (fails_at as usize - 1).saturating_mul(most);
-            let whole = lines_in(&TWO_REQUESTS[..came.min(TWO_REQUESTS.len())]);
-            assert!(rt; run.ended == Err(FrontFault::Read), "{most} {fails_at}");
-            assert!(rt; THEIR_REPORTS.starts_with(&run.output), "{most} {fails_at}");
-            assert!(rt; lines_in(&run.output) == whole, "{most} {fails_at}");
-            assert!(rt;
-                matches!(run.output.last(), None | Some(b'\n')),
-                "{most} {fails_at}"
-            );
         }
     }
     Ok(())
@@ -152,15 +192,10 @@ fn a_reader_may_fail_at_any_call(rt: HostRuntime) -> Result<(), Fail> {
 fn a_writer_may_fail_at_any_call(rt: HostRuntime) -> Result<(), Fail> {
     for most in [1, 7, 100] {
         for fails_at in 1..1000 {
-            let run = replayed(rt.alloc(), TWO_REQUESTS, WELL, Way { most, fails_at });
-            if run.ended == Ok(()) {
-                assert!(rt; run.output.as_slice() == THEIR_REPORTS, "{most} {fails_at}");
+            let taken = (fails_at as usize - 1).saturating_mul(most);
+            if ends_writing(&rt, rt.alloc(), Way { most, fails_at }, taken) {
                 break;
             }
-            let taken = (fails_at as usize - 1).saturating_mul(most);
-            assert!(rt; run.ended == Err(FrontFault::Write), "{most} {fails_at}");
-            assert!(rt; THEIR_REPORTS.starts_with(&run.output), "{most} {fails_at}");
-            assert!(rt; run.output.len() == taken, "{most} {fails_at}");
         }
     }
     Ok(())
@@ -219,31 +254,34 @@ const ONE_BYTE: Way = Way {
     fails_at: 0,
 };
 
+/// How the devices give and take, what is written then, and how the run ends.
+const DEVICES: &[(Way, Way, &[u8], Result<(), FrontFault>)] = &[
+    (WELL, WELL, ITS_REPORTS, Ok(())),
+    (ONE_BYTE, ONE_BYTE, ITS_REPORTS, Ok(())),
+    (
+        WELL,
+        AFTER_THIRTY_BYTES,
+        THIRTY_BYTES,
+        Err(FrontFault::Write),
+    ),
+    (AFTER_TWO_LINES, WELL, TWO_REPORTS, Err(FrontFault::Read)),
+    (IN_THE_THIRD_LINE, WELL, TWO_REPORTS, Err(FrontFault::Read)),
+    (AT_ONCE, WELL, b"", Err(FrontFault::Read)),
+    (
+        AFTER_TWO_LINES,
+        AFTER_THIRTY_BYTES,
+        THIRTY_BYTES,
+        Err(FrontFault::Write),
+    ),
+    (WELL, NOTHING, b"", Err(FrontFault::Write)),
+];
+
 #[test]
 fn a_device_that_fails_leaves_the_lines_before(rt: HostRuntime) -> Result<(), Fail> {
-    for (reads, writes, output, ended) in [
-        (WELL, WELL, ITS_REPORTS, Ok(())),
-        (ONE_BYTE, ONE_BYTE, ITS_REPORTS, Ok(())),
-        (
-            WELL,
-            AFTER_THIRTY_BYTES,
-            THIRTY_BYTES,
-            Err(FrontFault::Write),
-        ),
-        (AFTER_TWO_LINES, WELL, TWO_REPORTS, Err(FrontFault::Read)),
-        (IN_THE_THIRD_LINE, WELL, TWO_REPORTS, Err(FrontFault::Read)),
-        (AT_ONCE, WELL, b"".as_slice(), Err(FrontFault::Read)),
-        (
-            AFTER_TWO_LINES,
-            AFTER_THIRTY_BYTES,
-            THIRTY_BYTES,
-            Err(FrontFault::Write),
-        ),
-        (WELL, NOTHING, b"".as_slice(), Err(FrontFault::Write)),
-    ] {
-        let run = replayed(rt.alloc(), ONE_REQUEST, reads, writes);
-        assert!(rt; run.output.as_slice() == output);
-        assert!(rt; run.ended == ended);
+    for (reads, writes, output, ended) in DEVICES {
+        let run = replayed(rt.alloc(), ONE_REQUEST, *reads, *writes);
+        assert!(rt; run.output.as_slice() == *output);
+        assert!(rt; run.ended == *ended);
     }
     Ok(())
 }

@@ -1,6 +1,7 @@
 //! Bindings that hide one another.
 use feel_lang::Env;
 use feel_value::{Feel, Value};
+use std::process::Abort;
 use std::test::Fail;
 
 /// The number that the name is bound to.
@@ -27,10 +28,36 @@ const STEPS: &[(&[(&str, i64)], usize, usize, [Option<i64>; 3])] = &[
     (&[("c", 7)], 5, 2, [Some(1), Some(2), None]),
 ];
 
+fn number(n: i64) -> Result<Feel, Fail> {
+    Ok(Feel::of(Value::Number(n)).ok_or("no number")?)
+}
+
 /// Makes these bindings.
 fn bind(env: &mut Env, bindings: &[(&str, i64)]) -> Result<(), Fail> {
     for (name, n) in bindings {
-        env.bind(name, Feel::of(Value::Number(*n)).ok_or("no number")?)?;
+        env.bind(name, number(*n)?)?;
+    }
+    Ok(())
+}
+
+/// What a, b and c are bound to.
+fn all_found(env: &Env) -> [Option<i64>; 3] {
+    [found(env, "a"), found(env, "b"), found(env, "c")]
+}
+
+/// Leaves so many bindings.
+fn cut(rt: &impl Abort, env: &mut Env, left: usize) {
+    assert!(rt; left <= env.len());
+    env.cut(left);
+}
+
+/// Goes through all steps.
+fn go_through(rt: &impl Abort, env: &mut Env) -> Result<(), Fail> {
+    for (bindings, there, left, want) in STEPS {
+        bind(env, bindings)?;
+        assert_eq!(rt; env.len(), *there);
+        cut(rt, env, *left);
+        assert_eq!(rt; all_found(env), *want);
     }
     Ok(())
 }
@@ -39,13 +66,5 @@ fn bind(env: &mut Env, bindings: &[(&str, i64)]) -> Result<(), Fail> {
 #[test]
 fn bindings_that_hide_one_another(rt: HostRuntime) -> Result<(), Fail> {
     let mut env = Env::new(rt.alloc());
-    for (bindings, there, left, want) in STEPS {
-        bind(&mut env, bindings)?;
-        assert_eq!(rt; env.len(), *there);
-        assert!(rt; *left <= env.len());
-        env.cut(*left);
-        let bound = [found(&env, "a"), found(&env, "b"), found(&env, "c")];
-        assert_eq!(rt; bound, *want);
-    }
-    Ok(())
+    go_through(&rt, &mut env)
 }

@@ -1,5 +1,7 @@
 //! The trees that texts are read as, and texts of a megabyte.
-use feel_lang::{ReadFault, read_expr, read_tests};
+use feel_lang::{Expr, ReadFault, read_expr, read_tests};
+use std::alloc::Global;
+use std::process::Abort;
 use std::test::Fail;
 
 /// Expressions, and the trees that they are read as.
@@ -66,13 +68,36 @@ const GROUPINGS: &[(&str, &str)] = &[
     ("\"a\u{e9}b\"", "Text(\"a\u{e9}b\")"),
 ];
 
+/// How the expression is shown.
+fn shown(alloc: Global, expr: &Expr) -> Result<String, Fail> {
+    Ok(format!(in alloc; "{expr:?}")?)
+}
+
+/// How the text's expression is shown.
+fn shown_expr(alloc: Global, text: &str) -> Result<String, Fail> {
+    let expr = read_expr(alloc, text)?;
+    shown(alloc, &expr)
+}
+
+/// What is shown of the text is this type's name with this tree.
+fn is_shown(
+    rt: &impl Abort,
+    alloc: Global,
+    text: &str,
+    shown: &str,
+    name: &str,
+    tree: &str,
+) -> Result<(), Fail> {
+    let want = format!(in alloc; "{name} {{ tree: {tree} }}")?;
+    assert_eq!(rt; shown, want.as_str(), "at {text}");
+    Ok(())
+}
+
 #[test]
 fn expressions_group_as_the_grammar_says(rt: HostRuntime) -> Result<(), Fail> {
-    let alloc = rt.alloc();
     for (text, tree) in GROUPINGS {
-        let shown = format!(in alloc; "{:?}", read_expr(alloc, text)?)?;
-        let want = format!(in alloc; "Expr {{ tree: {tree} }}")?;
-        assert_eq!(rt; shown.as_str(), want.as_str(), "at {text}");
+        let shown = shown_expr(rt.alloc(), text)?;
+        is_shown(&rt, rt.alloc(), text, &shown, "Expr", tree)?;
     }
     Ok(())
 }
@@ -158,13 +183,17 @@ const FORMS: &[(&str, &str)] = &[
     ),
 ];
 
+/// How the unary tests are shown.
+fn shown_tests(alloc: Global, text: &str) -> Result<String, Fail> {
+    let tests = read_tests(alloc, text)?;
+    Ok(format!(in alloc; "{tests:?}")?)
+}
+
 #[test]
 fn unary_tests_have_one_form(rt: HostRuntime) -> Result<(), Fail> {
-    let alloc = rt.alloc();
     for (text, tree) in FORMS {
-        let shown = format!(in alloc; "{:?}", read_tests(alloc, text)?)?;
-        let want = format!(in alloc; "Tests {{ tree: {tree} }}")?;
-        assert_eq!(rt; shown.as_str(), want.as_str(), "at {text}");
+        let shown = shown_tests(rt.alloc(), text)?;
+        is_shown(&rt, rt.alloc(), text, &shown, "Tests", tree)?;
     }
     Ok(())
 }
@@ -186,16 +215,26 @@ const MEGABYTES: &[(usize, &str, &str, &str, &str, Option<ReadFault>)] = &[
     (1 << 19, "", "[1", ",1", "]", None),
 ];
 
+/// So many of a text before another, so many of a third behind it, and an end.
+fn wrapped(
+    alloc: Global,
+    count: usize,
+    open: &str,
+    text: &str,
+    close: &str,
+    end: &str,
+) -> Result<String, Fail> {
+    let before = open.repeat(alloc, count)?;
+    let behind = close.repeat(alloc, count)?;
+    Ok(format!(in alloc; "{before}{text}{behind}{end}")?)
+}
+
 /// A text of a megabyte is read, or refused, as fast as it is scanned.
 #[test]
 fn a_megabyte_ends(rt: HostRuntime) -> Result<(), Fail> {
-    let alloc = rt.alloc();
     for (count, open, text, close, end, want) in MEGABYTES {
-        let mut whole = open.repeat(alloc, *count)?;
-        whole.push_str(text)?;
-        whole.push_str(close.repeat(alloc, *count)?.as_str())?;
-        whole.push_str(end)?;
-        let fault = read_expr(alloc, &whole).err();
+        let whole = wrapped(rt.alloc(), *count, open, text, close, end)?;
+        let fault = read_expr(rt.alloc(), &whole).err();
         assert_eq!(rt; fault, *want, "at {open}{text}{close}{end}");
     }
     Ok(())
@@ -203,8 +242,7 @@ fn a_megabyte_ends(rt: HostRuntime) -> Result<(), Fail> {
 
 #[test]
 fn unary_tests_of_a_megabyte_end(rt: HostRuntime) -> Result<(), Fail> {
-    let more = ",1".repeat(rt.alloc(), 1 << 19)?;
-    let tests = format!(in rt.alloc(); "not(1{more}")?;
+    let tests = wrapped(rt.alloc(), 1 << 19, "", "not(1", ",1", "")?;
     let fault = read_tests(rt.alloc(), &tests).err();
     assert_eq!(rt; fault, Some(ReadFault::Syntax));
     Ok(())

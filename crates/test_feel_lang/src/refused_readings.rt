@@ -1,7 +1,8 @@
 //! Readers while the heap refuses requests for memory.
 use feel_lang::{ReadFault, is_name, read_expr, read_literal, read_tests};
 use full_heap::FullHeap;
-use std::alloc::Global;
+use std::alloc::{AllocError, Global};
+use std::process::Abort;
 use std::test::Fail;
 
 /// Sizes of what the heap still gives, from nothing to more than enough.
@@ -28,21 +29,41 @@ const TEXTS: &[(&str, &str)] = &[
     ("literal", "-5"),
 ];
 
-/// With so much that the heap still gives, a reading is whole, or says that it found no memory; it is whole once the heap
-/// gives again.
+/// Why the reader doesn't read the text while the heap gives no more than this.
+fn fault_within(
+    rt: &impl Abort,
+    alloc: Global,
+    spare: usize,
+    reader: &str,
+    text: &str,
+) -> Result<Option<ReadFault>, AllocError> {
+    let full = FullHeap::but(alloc, spare)?;
+    let found = fault(alloc, reader, text);
+    assert!(rt; full.blocks() > 0);
+    Ok(found)
+}
+
+/// A reading is whole, or says that it found no memory; it is whole once the heap gives again.
+fn is_whole_or_refused(
+    rt: &impl Abort,
+    alloc: Global,
+    spare: usize,
+    reader: &str,
+    text: &str,
+) -> Result<(), AllocError> {
+    let found = fault_within(rt, alloc, spare, reader, text)?;
+    assert!(rt; spare > 0 || found == Some(ReadFault::Memory));
+    assert!(rt; spare < 65536 || found.is_none());
+    assert!(rt; found != Some(ReadFault::Syntax), "at {spare}");
+    assert_eq!(rt; fault(alloc, reader, text), None);
+    Ok(())
+}
+
 #[test]
 fn a_text_is_read_whole_or_refused(rt: HostRuntime) -> Result<(), Fail> {
-    let alloc = rt.alloc();
     for (reader, text) in TEXTS {
         for spare in SPARES {
-            let full = FullHeap::but(alloc, *spare)?;
-            let found = fault(alloc, reader, text);
-            assert!(rt; full.blocks() > 0);
-            drop(full);
-            assert!(rt; *spare > 0 || found == Some(ReadFault::Memory));
-            assert!(rt; *spare < 65536 || found.is_none());
-            assert!(rt; found != Some(ReadFault::Syntax), "at {spare}");
-            assert_eq!(rt; fault(alloc, reader, text), None);
+            is_whole_or_refused(&rt, rt.alloc(), *spare, reader, text)?;
         }
     }
     Ok(())

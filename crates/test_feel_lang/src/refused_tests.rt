@@ -1,5 +1,5 @@
 //! Calls whose requests for memory are refused. With ample memory each test prints that nothing was refused.
-use feel_lang::{Env, Held, eval, holds, read_expr, read_tests};
+use feel_lang::{Env, Expr, Held, Tests, eval, holds, read_expr, read_tests};
 use feel_value::{Feel, Outcome, Value};
 use std::alloc::{AllocError, Global};
 use std::process::Abort;
@@ -10,80 +10,146 @@ fn number(rt: &impl Abort, n: i64) -> Feel {
 }
 
 /// The number that is this value.
-fn is_number(value: Option<&Feel>, n: i64) -> bool {
-    value.is_some_and(|value| matches!(value.value(), Value::Number(m) if *m == n))
+fn number_in(value: &Feel) -> Option<i64> {
+    match value.value() {
+        Value::Number(n) => Some(*n),
+        _ => None,
+    }
 }
 
-/// Numbers that a is bound to in turn.
-const NUMBERS: &[i64] = &[1, 2];
+/// How many bindings there are, and the number that a is bound to.
+fn bindings(env: &Env) -> (usize, Option<i64>) {
+    (env.len(), env.find("a").and_then(number_in))
+}
+
+/// Binds a to the number, once more where that is refused, and answers whether it was.
+fn bind(rt: &impl Abort, env: &mut Env, n: i64) -> Result<bool, AllocError> {
+    let before = bindings(env);
+    let refused = env.bind("a", number(rt, n)).is_err();
+    if refused {
+        assert!(rt; bindings(env) == before);
+        env.bind("a", number(rt, n))?;
+    }
+    Ok(refused)
+}
+
+/// Binds a to 1 and then to 2, and answers which of them was refused.
+fn bind_both(rt: &impl Abort, env: &mut Env) -> Result<(bool, bool), AllocError> {
+    let first = bind(rt, env, 1)?;
+    assert!(rt; bindings(env) == (1, Some(1)));
+    let second = bind(rt, env, 2)?;
+    assert!(rt; bindings(env) == (2, Some(2)));
+    Ok((first, second))
+}
+
+/// The same, with new bindings.
+fn bound_both(rt: &impl Abort, alloc: Global) -> Result<(bool, bool), AllocError> {
+    let mut env = Env::new(alloc);
+    bind_both(rt, &mut env)
+}
 
 /// A binding that is refused leaves as many as before, and the name as it was bound before.
 #[test]
 fn a_refused_binding_changes_nothing(rt: HostRuntime) -> Result<(), Fail> {
-    let mut env = Env::new(rt.alloc());
-    for n in NUMBERS {
-        let before = env.len();
-        let refused = env.bind("a", number(&rt, *n)).is_err();
-        if refused {
-            assert_eq!(rt; env.len(), before);
-            assert!(rt; before == 0 || is_number(env.find("a"), n - 1));
-            env.bind("a", number(&rt, *n))?;
-        }
-        assert_eq!(rt; env.len(), before + 1);
-        assert!(rt; is_number(env.find("a"), *n));
-        println!(rt; "refused: {refused}")?;
-    }
+    let (first, second) = bound_both(&rt, rt.alloc())?;
+    println!(rt; "refused: {first}")?;
+    println!(rt; "refused: {second}")?;
     Ok(())
 }
 
-/// An environment in which a is 1.
-fn bound(rt: &impl Abort, alloc: Global) -> Result<Env, AllocError> {
+/// An environment in which a is this value.
+fn bound(alloc: Global, value: Feel) -> Result<Env, AllocError> {
     let mut env = Env::new(alloc);
-    env.bind("a", number(rt, 1))?;
+    env.bind("a", value)?;
     Ok(env)
+}
+
+/// The number that the expression gives.
+fn evaluated(alloc: Global, expr: &Expr, env: &Env) -> Result<Option<i64>, AllocError> {
+    match eval(alloc, expr, env)? {
+        Outcome::Is(value) => Ok(number_in(&value)),
+        _ => Ok(None),
+    }
+}
+
+/// The same, once more where that is refused, and whether it was.
+fn evaluated_at_last(alloc: Global, expr: &Expr, env: &Env) -> Result<(bool, Option<i64>), Fail> {
+    match evaluated(alloc, expr, env) {
+        Ok(found) => Ok((false, found)),
+        Err(AllocError) => Ok((true, evaluated(alloc, expr, env)?)),
+    }
+}
+
+/// The same, for an expression's text.
+fn read_and_evaluated(alloc: Global, text: &str, env: &Env) -> Result<(bool, Option<i64>), Fail> {
+    let expr = read_expr(alloc, text)?;
+    evaluated_at_last(alloc, &expr, env)
+}
+
+/// Whether counting is refused memory at first, where a is 1, and what it gives.
+fn counted(rt: &impl Abort, alloc: Global) -> Result<(bool, Option<i64>), Fail> {
+    let env = bound(alloc, number(rt, 1))?;
+    read_and_evaluated(alloc, "count([[a], \"b\"])", &env)
 }
 
 #[test]
 fn a_refused_evaluation_answers_nothing_else(rt: HostRuntime) -> Result<(), Fail> {
-    let alloc = rt.alloc();
-    let env = bound(&rt, alloc)?;
-    let expr = read_expr(alloc, "count([[a], \"b\"])")?;
-    let first = eval(alloc, &expr, &env);
-    println!(rt; "refused: {}", first.is_err())?;
-    let outcome = match first {
-        Ok(outcome) => outcome,
-        Err(AllocError) => eval(alloc, &expr, &env)?,
-    };
-    assert!(rt; matches!(&outcome, Outcome::Is(value) if is_number(Some(value), 2)));
+    let (refused, found) = counted(&rt, rt.alloc())?;
+    println!(rt; "refused: {refused}")?;
+    assert_eq!(rt; found, Some(2));
     Ok(())
+}
+
+/// The list of 1 and 2.
+fn one_and_two(alloc: Global) -> Result<Feel, Fail> {
+    let numbers = vec![in alloc; Value::Number(1), Value::Number(2)]?;
+    Ok(Feel::of(Value::List(numbers)).ok_or("no list")?)
+}
+
+/// Whether an expression that only looks at a list is refused memory at first, and what it gives.
+fn looked_at(alloc: Global) -> Result<(bool, Option<i64>), Fail> {
+    let env = bound(alloc, one_and_two(alloc)?)?;
+    read_and_evaluated(alloc, "if a = a then count(a) + sum((a)) else 0", &env)
 }
 
 // Nothing is copied of a bound value that is only looked at, so there is no request that could be refused.
 #[test]
 fn looking_at_a_value_takes_no_memory(rt: HostRuntime) -> Result<(), Fail> {
-    let alloc = rt.alloc();
-    let list = Value::List(vec![in alloc; Value::Number(1), Value::Number(2)]?);
-    let mut env = Env::new(alloc);
-    env.bind("a", Feel::of(list).ok_or("no list")?)?;
-    let expr = read_expr(alloc, "if a = a then count(a) + sum((a)) else 0")?;
-    let refused = eval(alloc, &expr, &env).is_err();
+    let (refused, _) = looked_at(rt.alloc())?;
     assert!(rt; !refused);
     println!(rt; "refused: {refused}")?;
     Ok(())
 }
 
+/// Whether the input meets the tests, once more where that is refused, and whether it was.
+fn held_at_last(
+    alloc: Global,
+    tests: &Tests,
+    input: &Feel,
+    env: &Env,
+) -> Result<(bool, Held), Fail> {
+    match holds(alloc, tests, input, env) {
+        Ok(held) => Ok((false, held)),
+        Err(AllocError) => Ok((true, holds(alloc, tests, input, env)?)),
+    }
+}
+
+/// The same, for the tests' text.
+fn read_and_held(alloc: Global, text: &str, input: &Feel, env: &Env) -> Result<(bool, Held), Fail> {
+    let tests = read_tests(alloc, text)?;
+    held_at_last(alloc, &tests, input, env)
+}
+
+/// Whether asking is refused memory at first if 1 is in a list of a, which is 1, and what it gives.
+fn listed(rt: &impl Abort, alloc: Global) -> Result<(bool, Held), Fail> {
+    let env = bound(alloc, number(rt, 1))?;
+    read_and_held(alloc, "[a]", &number(rt, 1), &env)
+}
+
 #[test]
 fn a_refused_test_answers_nothing_else(rt: HostRuntime) -> Result<(), Fail> {
-    let alloc = rt.alloc();
-    let env = bound(&rt, alloc)?;
-    let tests = read_tests(alloc, "[a]")?;
-    let input = number(&rt, 1);
-    let first = holds(alloc, &tests, &input, &env);
-    println!(rt; "refused: {}", first.is_err())?;
-    let held = match first {
-        Ok(held) => held,
-        Err(AllocError) => holds(alloc, &tests, &input, &env)?,
-    };
+    let (refused, held) = listed(&rt, rt.alloc())?;
+    println!(rt; "refused: {refused}")?;
     assert_eq!(rt; held, Held::Yes);
     Ok(())
 }

@@ -198,23 +198,37 @@ fn seen_of(
     seen_by(alloc, &mut clients, &mut workers, &runs, calls)
 }
 
-// The same, and then all ends are settled.
+// Settles the ends, once more where memory is refused, and says whether it was.
+fn settled(
+    clients: Vec<Client<Task>>,
+    workers: Vec<Worker<Task>>,
+) -> Result<(bool, Vec<Settled<Task>>), AllocError>
+    requires { AreOfOneCall (map client_links clients.items) (map worker_links workers.items) }
+{
+    match settle(clients, workers) {
+        Ok(ends) => Ok((false, ends)),
+        Err((_, clients, workers)) => match settle(clients, workers) {
+            Ok(ends) => Ok((true, ends)),
+            Err((refused, _, _)) => Err(refused),
+        },
+    }
+}
+
+// The calls answer this on the ends of new lanes, which are settled then.
 fn settled_after(
+    rt: &impl Abort,
     alloc: Global,
     clients: u32,
     workers: u32,
     runs: &Arc<AtomicU64>,
     calls: &[Call],
-) -> Result<(Vec<Seen>, Vec<Settled<Task>>), AllocError> {
+    due: &[Seen],
+) -> Result<Vec<Settled<Task>>, AllocError> {
     let (mut clients, mut workers) = ends_of(alloc, clients, workers, 4)?;
     let seen = seen_by(alloc, &mut clients, &mut workers, runs, calls)?;
-    match settle(clients, workers) {
-        Ok(ends) => Ok((seen, ends)),
-        Err((_, clients, workers)) => match settle(clients, workers) {
-            Ok(ends) => Ok((seen, ends)),
-            Err((refused, _, _)) => Err(refused),
-        },
-    }
+    are_seen(rt, &seen, due);
+    let (_, ends) = settled(clients, workers)?;
+    Ok(ends)
 }
 
 // The results that are handed out until there is none.
@@ -262,6 +276,19 @@ fn hands_out(
     Ok(())
 }
 
+// Each end has two jobs left, and hands out the results of all three once these have run.
+fn all_hand_out(
+    rt: &impl Abort,
+    alloc: Global,
+    ends: &mut Vec<Settled<Task>>,
+) -> Result<(), AllocError> {
+    for end in ends.iter_mut() {
+        assert_eq!(rt; run_left(alloc, end), 2);
+        hands_out(rt, alloc, end, &[10, 11, 12])?;
+    }
+    Ok(())
+}
+
 const HELD_CALLS: &[Call] = &[
     Call::Submit(0, 10),
     Call::Refusing(0, 11, 1),
@@ -282,12 +309,8 @@ const HELD_DUE: &[Seen] = &[
 fn a_job_that_is_held_and_one_that_waits_are_left(rt: HostRuntime) -> Result<(), Fail> {
     let alloc = rt.alloc();
     let runs = Arc::new(alloc, AtomicU64::new(0))?;
-    let (seen, mut ends) = settled_after(alloc, 1, 2, &runs, HELD_CALLS)?;
-    are_seen(&rt, &seen, HELD_DUE);
-    for end in ends.iter_mut() {
-        assert_eq!(rt; run_left(alloc, end), 2);
-        hands_out(&rt, alloc, end, &[10, 11, 12])?;
-    }
+    let mut ends = settled_after(&rt, alloc, 1, 2, &runs, HELD_CALLS, HELD_DUE)?;
+    all_hand_out(&rt, alloc, &mut ends)?;
     Ok(())
 }
 
@@ -348,13 +371,19 @@ fn fault_of(alloc: Global, clients: u32, workers: u32, capacity: u32) -> Option<
     }
 }
 
+/// Numbers of clients, of workers and of places, and why there are no such lanes.
+const LIMITS: &[(u32, u32, u32, Option<LaneFault>)] = &[
+    (0, 1, 8, Some(LaneFault::Count)),
+    (1, 9, 8, Some(LaneFault::Count)),
+    (1, 1, 4097, Some(LaneFault::Capacity)),
+    (64, 8, 1, None),
+];
+
 #[test]
 fn numbers_beyond_the_limits_are_refused(rt: HostRuntime) -> Result<(), Fail> {
-    let alloc = rt.alloc();
-    assert_eq!(rt; fault_of(alloc, 0, 1, 8), Some(LaneFault::Count));
-    assert_eq!(rt; fault_of(alloc, 1, 9, 8), Some(LaneFault::Count));
-    assert_eq!(rt; fault_of(alloc, 1, 1, 4097), Some(LaneFault::Capacity));
-    assert_eq!(rt; fault_of(alloc, 64, 8, 1), None);
+    for (clients, workers, capacity, fault) in LIMITS {
+        assert_eq!(rt; fault_of(rt.alloc(), *clients, *workers, *capacity), *fault);
+    }
     Ok(())
 }
 
@@ -376,21 +405,28 @@ const SENT_DUE: &[Seen] = &[
     ANSWERED,
 ];
 
+const SENT_RESULTS: &[&[u64]] = &[&[10, 11], &[20]];
+
+// No job is left, and each end hands out its results.
+fn all_were_sent(
+    rt: &impl Abort,
+    alloc: Global,
+    ends: &mut Vec<Settled<Task>>,
+) -> Result<(), AllocError> {
+    assert_eq!(rt; ends.len(), 2);
+    for (end, due) in ends.iter_mut().zip(SENT_RESULTS) {
+        assert!(rt; end.next_left().is_none());
+        hands_out(rt, alloc, end, due)?;
+    }
+    Ok(())
+}
+
 #[test]
 fn what_was_sent_is_taken_in_when_settled(rt: HostRuntime) -> Result<(), Fail> {
     let alloc = rt.alloc();
     let runs = Arc::new(alloc, AtomicU64::new(0))?;
-    let (seen, mut ends) = settled_after(alloc, 2, 2, &runs, SENT_CALLS)?;
-    are_seen(&rt, &seen, SENT_DUE);
-    let mut lists = Vec::new(alloc);
-    for end in ends.iter_mut() {
-        assert!(rt; end.next_left().is_none());
-        lists.push(handed_out(alloc, end)?)?;
-        assert!(rt; end.is_whole());
-    }
-    assert_eq!(rt; lists.len(), 2);
-    assert_eq!(rt; lists[0].as_slice(), [10, 11].as_slice());
-    assert_eq!(rt; lists[1].as_slice(), [20].as_slice());
+    let mut ends = settled_after(&rt, alloc, 2, 2, &runs, SENT_CALLS, SENT_DUE)?;
+    all_were_sent(&rt, alloc, &mut ends)?;
     assert_eq!(rt; runs.load(Ordering::SeqCst), 3);
     Ok(())
 }
@@ -480,6 +516,17 @@ fn work_off_all<R: Threads + Sync>(rt: &R, workers: &mut [Worker<Task>])
     thread::for_each_mut(rt, workers, 8, &|_, worker| work_off(worker));
 }
 
+// So many requests of each of three clients.
+fn requests_of_three(alloc: Global, requests: u64) -> Result<Vec<Call>, AllocError> {
+    let mut calls = Vec::new(alloc);
+    for number in 0..requests {
+        for client in 0..3 {
+            calls.push(Call::Submit(client, number))?;
+        }
+    }
+    Ok(calls)
+}
+
 // Three clients put so many requests each, eight threads step until nothing waits, and all ends are settled.
 fn settled_after_threads<R: Threads + Sync>(
     rt: &R,
@@ -489,12 +536,7 @@ fn settled_after_threads<R: Threads + Sync>(
     requests: u64,
 ) -> Result<Vec<Settled<Task>>, AllocError> {
     let (mut clients, mut workers) = ends_of(alloc, 3, 8, capacity)?;
-    let mut calls = Vec::new(alloc);
-    for number in 0..requests {
-        for client in 0..3 {
-            calls.push(Call::Submit(client, number))?;
-        }
-    }
+    let calls = requests_of_three(alloc, requests)?;
     seen_by(alloc, &mut clients, &mut workers, runs, &calls)?;
     work_off_all(rt, workers.as_mut_slice());
     match settle(clients, workers) {
@@ -503,43 +545,60 @@ fn settled_after_threads<R: Threads + Sync>(
     }
 }
 
-// Whether each end hands out the results of so many requests, once what is left has run.
+// Whether the end hands out these outcomes, once what is left has run, and is whole then.
+fn is_whole_with(alloc: Global, end: &mut Settled<Task>, due: &[u64]) -> Result<bool, AllocError> {
+    run_left(alloc, end);
+    let outcomes = handed_out(alloc, end)?;
+    Ok(outcomes.as_slice() == due && end.is_whole())
+}
+
+// The numbers below this one.
+fn numbers(alloc: Global, count: u64) -> Result<Vec<u64>, AllocError> {
+    let mut numbers = Vec::new(alloc);
+    for number in 0..count {
+        numbers.push(number)?;
+    }
+    Ok(numbers)
+}
+
+// Whether each end hands out the results of so many requests.
 fn each_is_whole(
     alloc: Global,
     ends: &mut Vec<Settled<Task>>,
     requests: u64,
 ) -> Result<bool, AllocError> {
-    let mut due = Vec::new(alloc);
-    for number in 0..requests {
-        due.push(number)?;
-    }
+    let due = numbers(alloc, requests)?;
     let mut all_are = true;
     for end in ends.iter_mut() {
-        run_left(alloc, end);
-        let outcomes = handed_out(alloc, end)?;
-        all_are = all_are && outcomes.as_slice() == due.as_slice() && end.is_whole();
+        all_are = is_whole_with(alloc, end, &due)? && all_are;
     }
     Ok(all_are)
 }
 
+// Each of so many requests of three clients is run once by eight threads, and its result handed out.
+fn each_runs_once<R: Threads + Sync + Abort>(
+    rt: &R,
+    alloc: Global,
+    capacity: u32,
+    requests: u64,
+) -> Result<(), AllocError> {
+    let runs = Arc::new(alloc, AtomicU64::new(0))?;
+    let mut ends = settled_after_threads(rt, alloc, &runs, capacity, requests)?;
+    assert!(rt; each_is_whole(alloc, &mut ends, requests)?);
+    assert_eq!(rt; runs.load(Ordering::SeqCst), requests.wrapping_mul(3));
+    Ok(())
+}
+
 #[test]
 fn eight_threads_give_each_job_once(rt: HostRuntime) -> Result<(), Fail> {
-    let alloc = rt.alloc();
-    let runs = Arc::new(alloc, AtomicU64::new(0))?;
-    let mut ends = settled_after_threads(&rt, alloc, &runs, 16, 10)?;
-    assert!(rt; each_is_whole(alloc, &mut ends, 10)?);
-    assert_eq!(rt; runs.load(Ordering::SeqCst), 30);
+    each_runs_once(&rt, rt.alloc(), 16, 10)?;
     Ok(())
 }
 
 #[test]
 fn eight_threads_give_each_of_many_jobs_once(rt: HostRuntime) -> Result<(), Fail> {
-    let alloc = rt.alloc();
     for _ in 0..20 {
-        let runs = Arc::new(alloc, AtomicU64::new(0))?;
-        let mut ends = settled_after_threads(&rt, alloc, &runs, 256, 200)?;
-        assert!(rt; each_is_whole(alloc, &mut ends, 200)?);
-        assert_eq!(rt; runs.load(Ordering::SeqCst), 600);
+        each_runs_once(&rt, rt.alloc(), 256, 200)?;
     }
     Ok(())
 }

@@ -1,5 +1,5 @@
 //! Boxed contexts in which a name stands twice, which are no part of a model.
-use dmn_form::read_form;
+use crate::form::{form_of, model_text};
 use dmn_logic::{Logic, evaluate, read_decision_logic};
 use feel_lang::Env;
 use feel_value::{Feel, Outcome, Value};
@@ -8,11 +8,7 @@ use std::test::Fail;
 
 /// The logic of a decision with this expression, which is JSON.
 pub fn logic(alloc: Global, expression: &str) -> Result<Logic, Fail> {
-    let text = format!(in alloc;
-        r#"{{"inputs":[],"services":[],"decisions":[{{"name":"d","needs":[],"expr":{expression}}}]}}"#
-    )?;
-    let json = serde_json::Value::from_str(alloc, text.as_str())?;
-    let model = read_form(alloc, &json)?.ok_or("no model")?;
+    let model = form_of(alloc, model_text(alloc, expression)?.as_str())?;
     let mut logics = read_decision_logic(alloc, &model.decisions)?;
     Ok(logics.pop().ok_or("no logic")?)
 }
@@ -47,14 +43,20 @@ pub fn shown(alloc: Global, outcome: &Outcome) -> Result<String, AllocError> {
     }
 }
 
+/// What an expression, which is JSON, comes to.
+fn outcome_of(alloc: Global, expression: &str, env: &mut Env) -> Result<String, Fail> {
+    let logic = logic(alloc, expression)?;
+    let outcome = evaluate(alloc, &logic, env)?;
+    Ok(shown(alloc, &outcome)?)
+}
+
 /// Behind an evaluation no more names are bound than before.
 #[test]
 fn contexts_with_a_name_twice(rt: HostRuntime) -> Result<(), Fail> {
-    let alloc = rt.alloc();
-    let mut env = env_of(alloc, 3)?;
+    let mut env = env_of(rt.alloc(), 3)?;
     for (expression, want) in OUTCOMES {
-        let outcome = evaluate(alloc, &logic(alloc, expression)?, &mut env)?;
-        assert_eq!(rt; shown(alloc, &outcome)?.as_str(), *want, "{expression}");
+        let found = outcome_of(rt.alloc(), expression, &mut env)?;
+        assert_eq!(rt; found.as_str(), *want, "{expression}");
     }
     assert_eq!(rt; env.len(), 1);
     Ok(())

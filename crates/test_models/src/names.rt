@@ -1,7 +1,7 @@
-use dmn_form::{WrittenModel, WrittenService, read_form};
+use crate::form::form_of;
+use dmn_form::{WrittenModel, WrittenService};
 use dmn_names::{Places, has_bad_name, has_name_twice};
 use dmn_plan::{ModelFault, Plan};
-use serde_json::Value;
 use std::alloc::{AllocError, Global};
 use std::test::Fail;
 
@@ -42,28 +42,24 @@ fn fault_with(alloc: Global, old: &str, new: &str) -> Result<Option<ModelFault>,
     Ok(Plan::read(alloc, text.as_bytes()).err())
 }
 
+/// Whether each bad name in the place of this one is found.
+fn are_bad_names_found(alloc: Global, name: &str) -> Result<bool, AllocError> {
+    for bad in BAD_NAMES {
+        if fault_with(alloc, name, bad)? != Some(ModelFault::Name) {
+            return Ok(false);
+        }
+    }
+    Ok(true)
+}
+
 /// Bad names in the place of each, and each first name in the place of the second.
 #[test]
 fn a_wrong_name_is_found_everywhere(rt: HostRuntime) -> Result<(), Fail> {
-    let alloc = rt.alloc();
     for (first, second) in LISTS {
-        for bad in BAD_NAMES {
-            assert_eq!(rt;
-                fault_with(alloc, first, bad)?,
-                Some(ModelFault::Name),
-                "{first}"
-            );
-            assert_eq!(rt;
-                fault_with(alloc, second, bad)?,
-                Some(ModelFault::Name),
-                "{second}"
-            );
-        }
-        assert_eq!(rt;
-            fault_with(alloc, second, first)?,
-            Some(ModelFault::Twice),
-            "{second}"
-        );
+        assert!(rt; are_bad_names_found(rt.alloc(), first)?, "{first}");
+        assert!(rt; are_bad_names_found(rt.alloc(), second)?, "{second}");
+        let found = fault_with(rt.alloc(), second, first)?;
+        assert_eq!(rt; found, Some(ModelFault::Twice), "{second}");
     }
     Ok(())
 }
@@ -96,12 +92,6 @@ const OFFERS: &str = r#"{"inputs":["age","region"],"decisions":[
         {"name":"wrong","outputs":["age"],"encapsulated":[],"inputDecisions":[],"inputData":[]},
         {"name":"other","outputs":["risk"],"encapsulated":[],"inputDecisions":[],"inputData":["offer"]}]}"#;
 
-/// The model of offers.
-fn offers(alloc: Global) -> Result<WrittenModel, Fail> {
-    let json = Value::from_str(alloc, OFFERS)?;
-    Ok(read_form(alloc, &json)?.ok_or("no model")?)
-}
-
 const PLACES: &[(&str, Option<usize>)] = &[
     ("age", Some(0)),
     ("region", Some(1)),
@@ -110,17 +100,28 @@ const PLACES: &[(&str, Option<usize>)] = &[
     ("all", None),
 ];
 
+/// The places of each decision's needs, as text.
+fn needs_text(alloc: Global, places: &Places<'_>) -> Result<String, AllocError> {
+    format!(in alloc; "{:?}", places.needs(alloc)?)
+}
+
+/// The first name that has another place.
+fn misplaced(places: &Places<'_>) -> Option<&'static str> {
+    for (name, place) in PLACES {
+        if places.of(name) != *place {
+            return Some(name);
+        }
+    }
+    None
+}
+
 #[test]
 fn places_of_names_and_needs(rt: HostRuntime) -> Result<(), Fail> {
-    let alloc = rt.alloc();
-    let model = offers(alloc)?;
-    let places = Places::new(alloc, &model)?;
-    for (name, place) in PLACES {
-        assert_eq!(rt; places.of(name), *place, "{name}");
-    }
-    assert!(rt; places.input("risk").is_none());
-    assert!(rt; places.decision("age").is_none());
-    let needs = format!(in alloc; "{:?}", places.needs(alloc)?)?;
+    let model = form_of(rt.alloc(), OFFERS)?;
+    let places = Places::new(rt.alloc(), &model)?;
+    assert_eq!(rt; misplaced(&places), None);
+    assert!(rt; places.input("risk").is_none() && places.decision("age").is_none());
+    let needs = needs_text(rt.alloc(), &places)?;
     assert_eq!(rt; needs.as_str(), "Some([[], [], [0, 1], [2, 0]])");
     Ok(())
 }
@@ -144,26 +145,31 @@ const LISTED: &[&str] = &["[3] [2] [] [0, 1]", "[3] [] [2] [0]", "none", "none"]
 
 #[test]
 fn places_of_services(rt: HostRuntime) -> Result<(), Fail> {
-    let alloc = rt.alloc();
-    let model = offers(alloc)?;
-    let places = Places::new(alloc, &model)?;
-    assert_eq!(rt; model.services.len(), LISTED.len());
+    let model = form_of(rt.alloc(), OFFERS)?;
+    let places = Places::new(rt.alloc(), &model)?;
+    assert!(rt; model.services.len() == LISTED.len());
     for (service, expected) in model.services.iter().zip(LISTED) {
-        assert_eq!(rt; listed(alloc, &places, service)?.as_str(), *expected);
+        let found = listed(rt.alloc(), &places, service)?;
+        assert!(rt; found.as_str() == *expected, "{expected}");
     }
     Ok(())
 }
 
-/// A model of 20,000 inputs, whose names differ only at their ends.
-fn with_inputs(alloc: Global) -> Result<WrittenModel, AllocError> {
-    let mut inputs = Vec::new(alloc);
-    for i in 0..20_000 {
-        inputs.push(format!(in alloc;
+/// Names that differ only at their ends, so many.
+fn long_names(alloc: Global, count: usize) -> Result<Vec<String>, AllocError> {
+    let mut names = Vec::new(alloc);
+    for i in 0..count {
+        names.push(format!(in alloc;
             "a_name_that_begins_like_all_the_others_and_then_ends_in_{i}"
         )?)?;
     }
+    Ok(names)
+}
+
+/// A model of 20,000 such inputs.
+fn with_inputs(alloc: Global) -> Result<WrittenModel, AllocError> {
     Ok(WrittenModel {
-        inputs,
+        inputs: long_names(alloc, 20_000)?,
         decisions: Vec::new(alloc),
         services: Vec::new(alloc),
     })
@@ -171,15 +177,18 @@ fn with_inputs(alloc: Global) -> Result<WrittenModel, AllocError> {
 
 const LAST_NAME: &str = "a_name_that_begins_like_all_the_others_and_then_ends_in_19999";
 
+/// The place of the last name.
+fn last_place(alloc: Global, model: &WrittenModel) -> Result<Option<usize>, AllocError> {
+    Ok(Places::new(alloc, model)?.of(LAST_NAME))
+}
+
 #[test]
 fn many_names_with_a_long_prefix(rt: HostRuntime) -> Result<(), Fail> {
-    let alloc = rt.alloc();
-    let mut model = with_inputs(alloc)?;
-    assert!(rt; !has_bad_name(&model));
-    assert!(rt; !has_name_twice(alloc, &model)?);
-    assert_eq!(rt; Places::new(alloc, &model)?.of(LAST_NAME), Some(19_999));
-    model.inputs.push(String::from_str(alloc, LAST_NAME)?)?;
-    assert!(rt; has_name_twice(alloc, &model)?);
-    assert_eq!(rt; Places::new(alloc, &model)?.of(LAST_NAME), Some(19_999));
+    let mut model = with_inputs(rt.alloc())?;
+    assert!(rt; !has_bad_name(&model) && !has_name_twice(rt.alloc(), &model)?);
+    assert_eq!(rt; last_place(rt.alloc(), &model)?, Some(19_999));
+    model.inputs.push(String::from_str(rt.alloc(), LAST_NAME)?)?;
+    assert!(rt; has_name_twice(rt.alloc(), &model)?);
+    assert_eq!(rt; last_place(rt.alloc(), &model)?, Some(19_999));
     Ok(())
 }

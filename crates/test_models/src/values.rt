@@ -5,20 +5,37 @@ use feel_value::{Feel, Truth, Value, ValueFault, equal};
 use std::alloc::{AllocError, Global};
 use std::test::Fail;
 
+/// The word for why a text is no value; want of memory has none.
+fn word_of(fault: ValueFault) -> Result<&'static str, AllocError> {
+    match fault {
+        ValueFault::Number => Ok("number"),
+        ValueFault::Size => Ok("size"),
+        ValueFault::Memory => Err(AllocError),
+    }
+}
+
+/// Whether both are the same JSON.
+fn is_same_json(alloc: Global, value: &Feel, other: &Feel) -> Result<bool, AllocError> {
+    Ok(value.to_json(alloc)? == other.to_json(alloc)?)
+}
+
+/// The value's copy as text, and `another copy` where that isn't equal.
+fn text_of_copy(alloc: Global, value: &Feel) -> Result<String, AllocError> {
+    let copy = value.try_clone(alloc)?;
+    if equal(value, &copy) == Truth::Yes && is_same_json(alloc, value, &copy)? {
+        copy.to_json(alloc)?.to_string(alloc)
+    } else {
+        String::from_str(alloc, "another copy")
+    }
+}
+
 /// What is told of a JSON text: the value as text, which its copy has too, or why it is none.
 fn told(alloc: Global, text: &str) -> Result<String, Fail> {
     let json = serde_json::Value::from_str(alloc, text)?;
-    let value = match Feel::from_json(alloc, &json) {
-        Ok(value) => value,
-        Err(ValueFault::Number) => return Ok(String::from_str(alloc, "number")?),
-        Err(ValueFault::Size) => return Ok(String::from_str(alloc, "size")?),
-        Err(ValueFault::Memory) => return Err(AllocError.into()),
-    };
-    let copy = value.try_clone(alloc)?;
-    if equal(&value, &copy) != Truth::Yes || value.to_json(alloc)? != copy.to_json(alloc)? {
-        return Ok(String::from_str(alloc, "another copy")?);
+    match Feel::from_json(alloc, &json) {
+        Ok(value) => Ok(text_of_copy(alloc, &value)?),
+        Err(fault) => Ok(String::from_str(alloc, word_of(fault)?)?),
     }
-    Ok(copy.to_json(alloc)?.to_string(alloc)?)
 }
 
 const TEXTS: &[(&str, &str)] = &[
@@ -62,14 +79,24 @@ const SIZES: &[(&str, usize, &str, usize, &str, Option<&str>)] = &[
     ("[", 111, "]", 110, ",1.5]", Some("number")),
 ];
 
+/// So many of one text, so many of another behind it, and an end.
+fn repeated(
+    alloc: Global,
+    (open, before): (&str, usize),
+    (close, behind): (&str, usize),
+    end: &str,
+) -> Result<String, AllocError> {
+    let mut text = open.repeat(alloc, before)?;
+    text.push_str(close.repeat(alloc, behind)?.as_str())?;
+    text.push_str(end)?;
+    Ok(text)
+}
+
 #[test]
 fn sizes_from_json(rt: HostRuntime) -> Result<(), Fail> {
-    let alloc = rt.alloc();
     for (open, before, close, behind, end, want) in SIZES {
-        let mut text = open.repeat(alloc, *before)?;
-        text.push_str(close.repeat(alloc, *behind)?.as_str())?;
-        text.push_str(end)?;
-        let found = told(alloc, text.as_str())?;
+        let text = repeated(rt.alloc(), (open, *before), (close, *behind), end)?;
+        let found = told(rt.alloc(), text.as_str())?;
         assert_eq!(rt; found.as_str(), want.unwrap_or(text.as_str()));
     }
     Ok(())
@@ -94,15 +121,25 @@ const LISTS_OF_NAMES: &[(&[&str], bool)] = &[
     (&["c", "a", "c"], false),
 ];
 
-// Values made by hand: with names in several orders, and numbers at the limit and past it.
+/// Whether a context with null at each of the names is a value.
+fn is_value(alloc: Global, names: &[&str]) -> Result<bool, AllocError> {
+    Ok(Feel::of(named(alloc, names)?).is_some())
+}
+
+/// Contexts made by hand, with names in several orders.
+#[test]
+fn contexts_by_hand(rt: HostRuntime) -> Result<(), Fail> {
+    for (names, distinct) in LISTS_OF_NAMES {
+        assert_eq!(rt; is_value(rt.alloc(), names)?, *distinct, "at {names:?}");
+    }
+    Ok(())
+}
+
+/// A repeated name inside a list, and numbers at the limit and past it.
 #[test]
 fn values_by_hand(rt: HostRuntime) -> Result<(), Fail> {
-    let alloc = rt.alloc();
-    for (names, distinct) in LISTS_OF_NAMES {
-        let context = Feel::of(named(alloc, names)?);
-        assert_eq!(rt; context.is_some(), *distinct, "at {names:?}");
-    }
-    let inside = Value::List(vec![in alloc; named(alloc, &["a", "a"])?]?);
+    let twice = named(rt.alloc(), &["a", "a"])?;
+    let inside = Value::List(vec![in rt.alloc(); twice]?);
     assert!(rt; Feel::of(inside).is_none());
     assert!(rt; Feel::of(Value::Number(i64::MIN)).is_none());
     assert!(rt; Feel::of(Value::Number(-i64::MAX)).is_some());

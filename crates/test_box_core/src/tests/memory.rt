@@ -1,65 +1,143 @@
 //! Calls while the heap refuses every request.
-use super::{Successor, admitted, work};
-use box_core::{AddRefusal, Answered, Broker, Done, Event, Mailbox, Refusal, Report};
+use super::{Successor, admits, admitted, mailbox_of, reports, work};
+use box_core::{AddRefusal, Answered, Broker, Done, Event, Job, Mailbox, Refusal, Report};
 use full_heap::FullHeap;
 use std::alloc::{AllocError, Global};
 use std::process::Abort;
 use std::sync::Arc;
 use std::test::Fail;
 
-#[test]
-fn a_mailbox_admits_answers_and_releases_without_memory(rt: HostRuntime) -> Result<(), Fail> {
-    let alloc = rt.alloc();
-    let asked = work(alloc, 1)?;
-    let mut mailbox = Mailbox::new(alloc, 4096).map_err(|_| AllocError)?;
-    let Ok(same) = Arc::try_clone(&asked) else {
-        return Err(AllocError.into());
-    };
-    let Ok(done) = Done::of(alloc, 0, same) else {
-        return Err(AllocError.into());
-    };
-    let full = FullHeap::but(alloc, 0)?;
-    assert!(rt; full.blocks() > 0);
-    assert!(rt; work(alloc, 0).is_err());
+fn done_of(
+    alloc: Global,
+    ticket: u64,
+    asked: Arc<Successor>,
+) -> Result<Done<Successor>, AllocError> {
+    Done::of(alloc, ticket, asked).map_err(|(refused, _)| refused)
+}
+
+// The mailbox admits this work 4096 times, and no more.
+fn admits_all(
+    rt: &impl Abort,
+    mailbox: &mut Mailbox<Successor>,
+    asked: Arc<Successor>,
+) -> Result<(), AllocError> {
     for ticket in 0..4096u64 {
-        let Ok(same) = Arc::try_clone(&asked) else {
-            return Err(AllocError.into());
-        };
-        assert_eq!(rt; admitted(&mut mailbox, same), Ok(ticket));
+        let same = Arc::try_clone(&asked)?;
+        assert_eq!(rt; admitted(mailbox, same), Ok(ticket));
     }
-    assert_eq!(rt; admitted(&mut mailbox, asked), Err(Refusal::Full));
+    assert_eq!(rt; admitted(mailbox, asked), Err(Refusal::Full));
+    Ok(())
+}
+
+// The mailbox keeps the first answer, hands its result, and closes.
+fn ends(rt: &impl Abort, mailbox: &mut Mailbox<Successor>, done: Done<Successor>) {
     assert_eq!(rt; mailbox.answer(done), Answered::Kept);
     assert!(rt;
         matches!(mailbox.release(), Some(reply) if reply.ticket == 0 && reply.outcome == 2)
     );
     assert!(rt; mailbox.close());
+}
+
+// All this while there is no memory, before and after.
+fn goes_on_without_memory(
+    rt: &impl Abort,
+    alloc: Global,
+    mailbox: &mut Mailbox<Successor>,
+    asked: Arc<Successor>,
+    done: Done<Successor>,
+) -> Result<(), AllocError> {
     assert!(rt; work(alloc, 0).is_err());
+    admits_all(rt, mailbox, asked)?;
+    ends(rt, mailbox, done);
+    assert!(rt; work(alloc, 0).is_err());
+    Ok(())
+}
+
+// The heap is full for that.
+fn goes_on_beside_a_full_heap(
+    rt: &impl Abort,
+    alloc: Global,
+    mailbox: &mut Mailbox<Successor>,
+    asked: Arc<Successor>,
+    done: Done<Successor>,
+) -> Result<(), AllocError> {
+    let full = FullHeap::but(alloc, 0)?;
+    assert!(rt; full.blocks() > 0);
+    goes_on_without_memory(rt, alloc, mailbox, asked, done)
+}
+
+// The work and its answer are there before.
+fn goes_on(
+    rt: &impl Abort,
+    alloc: Global,
+    mailbox: &mut Mailbox<Successor>,
+) -> Result<(), AllocError> {
+    let asked = work(alloc, 1)?;
+    let same = Arc::try_clone(&asked)?;
+    let done = done_of(alloc, 0, same)?;
+    goes_on_beside_a_full_heap(rt, alloc, mailbox, asked, done)
+}
+
+#[test]
+fn a_mailbox_admits_answers_and_releases_without_memory(rt: HostRuntime) -> Result<(), Fail> {
+    let mut mailbox = mailbox_of(rt.alloc(), 4096)?;
+    goes_on(&rt, rt.alloc(), &mut mailbox)?;
+    Ok(())
+}
+
+/// What was said to a client that was added, and to its closing.
+type Added = (Result<u32, AddRefusal>, Result<(), Refusal>);
+
+// Adds a client and closes it while the heap gives no more than this.
+fn added_within(
+    alloc: Global,
+    spare: usize,
+    broker: &mut Broker<Successor>,
+) -> Result<Added, AllocError> {
+    let full = FullHeap::but(alloc, spare)?;
+    let added = broker.add_client(64);
+    let left = broker.close(0);
     drop(full);
+    Ok((added, left))
+}
+
+// A client that was not added for want of memory was not there, and is added later.
+fn is_added_later(
+    rt: &impl Abort,
+    broker: &mut Broker<Successor>,
+    why: AddRefusal,
+    left: Result<(), Refusal>,
+) {
+    assert_eq!(rt; why, AddRefusal::Memory);
+    assert_eq!(rt; left, Err(Refusal::NoClient));
+    assert_eq!(rt; broker.add_client(64), Ok(0));
+}
+
+// With so much that the heap still gives, a client is added, or nothing changes.
+fn is_added_or_not(
+    rt: &impl Abort,
+    alloc: Global,
+    spare: usize,
+    broker: &mut Broker<Successor>,
+) -> Result<(), AllocError> {
+    match added_within(alloc, spare, broker)? {
+        (Ok(client), left) => {
+            assert!(rt; spare > 0);
+            assert_eq!(rt; (client, left), (0, Ok(())));
+        }
+        (Err(why), left) => {
+            assert!(rt; spare < 16384);
+            is_added_later(rt, broker, why, left);
+        }
+    }
     Ok(())
 }
 
 #[test]
 fn a_client_is_added_whole_or_not_at_all(rt: HostRuntime) -> Result<(), Fail> {
-    let alloc = rt.alloc();
     for spare in [0, 1040, 1600, 2080, 2600, 4096, 16384] {
-        let mut broker: Broker<Successor> = Broker::new(alloc);
-        let full = FullHeap::but(alloc, spare)?;
-        let added = broker.add_client(64);
-        let left = broker.close(0);
-        drop(full);
-        match added {
-            Ok(client) => {
-                assert!(rt; spare > 0);
-                assert_eq!(rt; client, 0);
-                assert_eq!(rt; left, Ok(()));
-            }
-            Err(why) => {
-                assert!(rt; spare < 16384);
-                assert_eq!(rt; why, AddRefusal::Memory);
-                assert_eq!(rt; left, Err(Refusal::NoClient));
-                assert_eq!(rt; broker.add_client(64), Ok(0));
-            }
-        }
+        let mut broker = Broker::new(rt.alloc());
+        is_added_or_not(&rt, rt.alloc(), spare, &mut broker)?;
     }
     Ok(())
 }
@@ -74,13 +152,22 @@ fn releases(alloc: Global) -> Result<Vec<Event<Successor>>, AllocError> {
     Ok(events)
 }
 
+// Whether a client was added, where it was, or not for want of memory.
+fn is_added(report: Option<&Report<Successor>>) -> Option<bool> {
+    match report? {
+        Report::Added(0) => Some(true),
+        Report::NotAdded(AddRefusal::Memory) => Some(false),
+        _ => None,
+    }
+}
+
 // The client was added, or not for want of memory, and each later report says the same.
 fn are_alike(rt: &impl Abort, reports: &[Report<Successor>]) {
-    assert_eq!(rt; reports.len(), 40);
-    let is_added = matches!(&reports[0], Report::Added(0));
-    assert!(rt; is_added || matches!(&reports[0], Report::NotAdded(AddRefusal::Memory)));
+    assert!(rt; reports.len() == 40);
+    let added = is_added(reports.first());
+    assert!(rt; added.is_some());
     for report in &reports[1..] {
-        assert_eq!(rt; matches!(report, Report::Nothing), is_added);
+        assert!(rt; Some(matches!(report, Report::Nothing)) == added);
     }
 }
 
@@ -90,97 +177,168 @@ fn run_later(
     broker: &mut Broker<Successor>,
     events: Vec<Event<Successor>>,
 ) -> Result<(), AllocError> {
-    assert_eq!(rt; events.len(), 40);
-    assert_eq!(rt; broker.close(0), Err(Refusal::NoClient));
-    let Ok(reports) = broker.run(events) else {
-        return Err(AllocError);
-    };
-    assert_eq!(rt; reports.len(), 40);
-    assert!(rt; matches!(&reports[0], Report::Added(0)));
+    assert!(rt; events.len() == 40);
+    assert!(rt; broker.close(0) == Err(Refusal::NoClient));
+    let reports = reports(broker, events)?;
+    assert!(rt; reports.len() == 40);
+    assert!(rt; is_added(reports.as_slice().first()) == Some(true));
     Ok(())
 }
 
-#[test]
-fn a_run_is_refused_whole_or_done(rt: HostRuntime) -> Result<(), Fail> {
-    let alloc = rt.alloc();
-    let list = 40 * size_of::<Report<Successor>>();
-    for spare in [0, list, list + 2080, list + 16384] {
-        let mut broker: Broker<Successor> = Broker::new(alloc);
-        let events = releases(alloc)?;
-        let full = FullHeap::but(alloc, spare)?;
-        let ran = broker.run(events);
-        drop(full);
-        match ran {
-            Ok(reports) => {
-                assert!(rt; spare > 0);
-                are_alike(&rt, &reports);
-            }
-            Err((_, events)) => {
-                assert!(rt; spare < list + 16384);
-                run_later(&rt, &mut broker, events)?;
-            }
+// The reports of a run, or its events, where the heap gives no more than this.
+fn ran_within(
+    alloc: Global,
+    spare: usize,
+    broker: &mut Broker<Successor>,
+) -> Result<Result<Vec<Report<Successor>>, Vec<Event<Successor>>>, AllocError> {
+    let events = releases(alloc)?;
+    let full = FullHeap::but(alloc, spare)?;
+    let ran = broker.run(events);
+    drop(full);
+    Ok(ran.map_err(|(_, events)| events))
+}
+
+// With so much that the heap still gives a run is done, or refused where that is too little.
+fn is_done_or_refused(
+    rt: &impl Abort,
+    alloc: Global,
+    spare: usize,
+    enough: usize,
+    broker: &mut Broker<Successor>,
+) -> Result<(), AllocError> {
+    match ran_within(alloc, spare, broker)? {
+        Ok(reports) => {
+            assert!(rt; spare > 0);
+            are_alike(rt, &reports);
+        }
+        Err(events) => {
+            assert!(rt; spare < enough);
+            run_later(rt, broker, events)?;
         }
     }
     Ok(())
 }
 
 #[test]
-fn a_work_that_finds_no_memory_comes_back(rt: HostRuntime) -> Result<(), Fail> {
-    let alloc = rt.alloc();
-    let asked = work(alloc, 1)?;
-    let full = FullHeap::but(alloc, 0)?;
-    let made = Done::of(alloc, 3, asked);
-    drop(full);
-    let Err((_, asked)) = made else {
-        return Err(AllocError.into());
-    };
-    assert_eq!(rt; asked.asked, 1);
-    let Ok(done) = Done::of(alloc, 3, asked) else {
-        return Err(AllocError.into());
-    };
-    assert_eq!(rt; done.ticket(), 3);
-    assert_eq!(rt; *done.outcome(), 2);
+fn a_run_is_refused_whole_or_done(rt: HostRuntime) -> Result<(), Fail> {
+    let list = 40 * size_of::<Report<Successor>>();
+    for spare in [0, list, list + 2080, list + 16384] {
+        let mut broker = Broker::new(rt.alloc());
+        is_done_or_refused(&rt, rt.alloc(), spare, list + 16384, &mut broker)?;
+    }
     Ok(())
 }
 
-/// A job is taken without memory, comes back where its run finds none, and runs where there is some.
-#[test]
-fn a_job_that_finds_no_memory_comes_back(rt: HostRuntime) -> Result<(), Fail> {
-    let alloc = rt.alloc();
-    let mut broker = Broker::new(alloc);
-    assert_eq!(rt; broker.add_client(1), Ok(0));
-    assert!(rt; broker.submit(0, work(alloc, 6)?).is_ok());
+// The work, which came back since there was no memory for its run.
+fn unmade(alloc: Global, asked: Arc<Successor>) -> Result<Arc<Successor>, AllocError> {
     let full = FullHeap::but(alloc, 0)?;
-    let Ok(job) = broker.take(0, 0) else {
-        return Err(AllocError.into());
-    };
+    let made = Done::of(alloc, 3, asked);
+    drop(full);
+    match made {
+        Ok(_) => Err(AllocError),
+        Err((_, asked)) => Ok(asked),
+    }
+}
+
+#[test]
+fn a_work_that_finds_no_memory_comes_back(rt: HostRuntime) -> Result<(), Fail> {
+    let alloc = rt.alloc();
+    let asked = unmade(alloc, work(alloc, 1)?)?;
+    assert_eq!(rt; asked.asked, 1);
+    let done = done_of(alloc, 3, asked)?;
+    assert_eq!(rt; (done.ticket(), *done.outcome()), (3, 2));
+    Ok(())
+}
+
+// The job, which was taken and came back since there was no memory for its run.
+fn unrun(alloc: Global, broker: &mut Broker<Successor>) -> Result<Job<Successor>, AllocError> {
+    let full = FullHeap::but(alloc, 0)?;
+    let job = broker.take(0, 0).map_err(|_| AllocError)?;
     let ran = job.run(alloc);
     drop(full);
-    let Err((_, job)) = ran else {
-        return Err(AllocError.into());
-    };
+    match ran {
+        Ok(_) => Err(AllocError),
+        Err((_, job)) => Ok(job),
+    }
+}
+
+// The job runs, and its result is handed out.
+fn runs_later(
+    rt: &impl Abort,
+    alloc: Global,
+    broker: &mut Broker<Successor>,
+    job: Job<Successor>,
+) -> Result<(), AllocError> {
     assert_eq!(rt; job.ticket(), 0);
-    let Ok(done) = job.run(alloc) else {
-        return Err(AllocError.into());
-    };
+    let done = job.run(alloc).map_err(|(refused, _)| refused)?;
     assert_eq!(rt; broker.answer(0, done), Ok(Answered::Kept));
     assert!(rt; matches!(broker.release(0), Ok(Some(reply)) if reply.outcome == 7));
     Ok(())
 }
 
+// A job is taken, comes back and runs.
+fn job_comes_back(
+    rt: &impl Abort,
+    alloc: Global,
+    broker: &mut Broker<Successor>,
+) -> Result<(), AllocError> {
+    assert_eq!(rt; broker.add_client(1), Ok(0));
+    let asked = work(alloc, 6)?;
+    assert!(rt; broker.submit(0, asked).is_ok());
+    let job = unrun(alloc, broker)?;
+    runs_later(rt, alloc, broker, job)
+}
+
+/// A job is taken without memory, comes back where its run finds none, and runs where there is some.
+#[test]
+fn a_job_that_finds_no_memory_comes_back(rt: HostRuntime) -> Result<(), Fail> {
+    let mut broker = Broker::new(rt.alloc());
+    job_comes_back(&rt, rt.alloc(), &mut broker)?;
+    Ok(())
+}
+
+// What the mailbox says to a resize.
+fn resizes(
+    rt: &impl Abort,
+    mailbox: &mut Mailbox<Successor>,
+    capacity: u32,
+    due: Result<(), Refusal>,
+) {
+    assert_eq!(rt; mailbox.resize(capacity), due);
+}
+
+// A full mailbox of one place gets no second one while there is no memory.
+fn stays_full(
+    rt: &impl Abort,
+    alloc: Global,
+    mailbox: &mut Mailbox<Successor>,
+    next: Arc<Successor>,
+) -> Result<(), AllocError> {
+    let full = FullHeap::but(alloc, 0)?;
+    resizes(rt, mailbox, 2, Err(Refusal::Memory));
+    resizes(rt, mailbox, 1, Ok(()));
+    assert_eq!(rt; (mailbox.capacity(), mailbox.accepted()), (1, 1));
+    assert_eq!(rt; admitted(mailbox, next), Err(Refusal::Full));
+    drop(full);
+    Ok(())
+}
+
+// It gets the second place where there is memory.
+fn gets_a_place_later(
+    rt: &impl Abort,
+    alloc: Global,
+    mailbox: &mut Mailbox<Successor>,
+) -> Result<(), AllocError> {
+    admits(rt, alloc, mailbox, 1, Ok(0))?;
+    let next = work(alloc, 2)?;
+    stays_full(rt, alloc, mailbox, next)?;
+    resizes(rt, mailbox, 2, Ok(()));
+    admits(rt, alloc, mailbox, 2, Ok(1))
+}
+
 #[test]
 fn a_resize_without_memory_changes_nothing(rt: HostRuntime) -> Result<(), Fail> {
-    let alloc = rt.alloc();
-    let mut mailbox = Mailbox::new(alloc, 1).map_err(|_| AllocError)?;
-    assert_eq!(rt; admitted(&mut mailbox, work(alloc, 1)?), Ok(0));
-    let next = work(alloc, 2)?;
-    let full = FullHeap::but(alloc, 0)?;
-    assert_eq!(rt; mailbox.resize(2), Err(Refusal::Memory));
-    assert_eq!(rt; mailbox.resize(1), Ok(()));
-    assert_eq!(rt; (mailbox.capacity(), mailbox.accepted()), (1, 1));
-    assert_eq!(rt; admitted(&mut mailbox, next), Err(Refusal::Full));
-    drop(full);
-    assert_eq!(rt; mailbox.resize(2), Ok(()));
-    assert_eq!(rt; admitted(&mut mailbox, work(alloc, 2)?), Ok(1));
+    let mut mailbox = mailbox_of(rt.alloc(), 1)?;
+    gets_a_place_later(&rt, rt.alloc(), &mut mailbox)?;
     Ok(())
 }

@@ -1,30 +1,43 @@
 //! Calls while the heap refuses requests.
-use super::rule;
+use super::{inputs, rules};
 use crate::logic::{env_of, logic, shown};
 use dmn_logic::Logic;
 use dmn_table::{Output, Table, decide};
-use feel_lang::{read_expr, read_literal};
+use feel_lang::{Env, read_expr, read_literal};
+use feel_value::{Feel, Outcome};
 use full_heap::FullHeap;
 use std::alloc::{AllocError, Global};
 use std::test::Fail;
 
+/// The one value of an output column.
+fn values(alloc: Global) -> Result<Vec<Feel>, Fail> {
+    Ok(vec![in alloc; read_literal(alloc, "1")?]?)
+}
+
+/// Output columns, of which the one has values and a default.
+fn full_columns(alloc: Global) -> Result<Vec<Output>, Fail> {
+    let values = values(alloc)?;
+    let fallback = Some(read_expr(alloc, "3")?);
+    let name = String::from_str(alloc, "r")?;
+    Ok(vec![in alloc;
+        Output {
+            name,
+            values,
+            fallback
+        },
+    ]?)
+}
+
 #[test]
 fn a_table_is_made_without_memory(rt: HostRuntime) -> Result<(), Fail> {
-    let alloc = rt.alloc();
-    let outputs = vec![in alloc;
-        Output {
-            name: String::from_str(alloc, "r")?,
-            values: vec![in alloc; read_literal(alloc, "1")?]?,
-            fallback: Some(read_expr(alloc, "3")?),
-        },
-    ]?;
-    let rules = vec![in alloc; rule(alloc, 1, 1)?]?;
-    let inputs = vec![in alloc; read_expr(alloc, "a")?]?;
-    let full = FullHeap::but(alloc, 0)?;
-    assert!(rt; full.blocks() > 0);
+    let outputs = full_columns(rt.alloc())?;
+    let rules = rules(rt.alloc(), &[(1, 1)])?;
+    let inputs = inputs(rt.alloc())?;
+    let full = FullHeap::but(rt.alloc(), 0)?;
+    let is_full = full.blocks() > 0;
     let made = Table::new("P", inputs, outputs, rules);
     drop(full);
-    assert!(rt; made.is_ok());
+    assert!(rt; is_full && made.is_ok());
     Ok(())
 }
 
@@ -32,15 +45,32 @@ fn a_table_is_made_without_memory(rt: HostRuntime) -> Result<(), Fail> {
 const RULES: &str =
     r#"{"when":["> 0"],"then":["1"]},{"when":["-"],"then":["2"]},{"when":["1"],"then":["1"]}"#;
 
-/// A table of this hit policy whose rules are these, so often.
-fn table(alloc: Global, hit: &str, times: usize) -> Result<Table, Fail> {
+/// The text of a table of this hit policy whose rules are these, and so often again.
+fn table_text(alloc: Global, hit: &str, times: usize) -> Result<String, AllocError> {
     let more = format!(in alloc; ",{RULES}")?.repeat(alloc, times)?;
-    let text = format!(in alloc;
+    format!(in alloc;
         r#"{{"table":{{"hit":"{hit}","inputs":["a"],"outputs":[{{"name":"r","values":["2","1"]}}],"rules":[{RULES}{more}]}}}}"#
-    )?;
-    match logic(alloc, text.as_str())? {
+    )
+}
+
+/// The table of that text.
+fn table(alloc: Global, hit: &str, times: usize) -> Result<Table, Fail> {
+    match logic(alloc, table_text(alloc, hit, times)?.as_str())? {
         Logic::Table(table) => Ok(table),
         _ => Err("no table".into()),
+    }
+}
+
+/// What a decision came to; one that was refused memory is made again.
+fn settled(
+    alloc: Global,
+    table: &Table,
+    env: &Env,
+    first: Result<Outcome, AllocError>,
+) -> Result<String, AllocError> {
+    match first {
+        Ok(found) => shown(alloc, &found),
+        Err(AllocError) => shown(alloc, &decide(alloc, table, env)?),
     }
 }
 
@@ -58,25 +88,47 @@ const OF_THIRTY: &[(&str, &str)] = &[
 /// Sizes of what the heap still gives, from nothing to more than enough.
 const SPARES: &[usize] = &[0, 1040, 1600, 2080, 4096, 8192, 16384, 65536];
 
-/// With each of these blocks left, a decision is refused memory, and is right when it is made again, or is right at once.
+/// A decision while the heap gives no more than this.
+fn decided(
+    alloc: Global,
+    table: &Table,
+    env: &Env,
+    spare: usize,
+) -> Result<Result<Outcome, AllocError>, AllocError> {
+    let full = FullHeap::but(alloc, spare)?;
+    let first = decide(alloc, table, env);
+    drop(full);
+    Ok(first)
+}
+
+/// The first of these sizes with which a decision is neither refused memory nor right at once, or isn't right when it is made
+/// again; with nothing left it has to be refused, and with the most it must not.
+fn wrong_spare(
+    alloc: Global,
+    table: &Table,
+    env: &Env,
+    want: &str,
+) -> Result<Option<usize>, AllocError> {
+    for spare in SPARES {
+        let first = decided(alloc, table, env, *spare)?;
+        let is_lawful = if first.is_ok() {
+            *spare > 0
+        } else {
+            *spare < 65536
+        };
+        if !is_lawful || settled(alloc, table, env, first)?.as_str() != want {
+            return Ok(Some(*spare));
+        }
+    }
+    Ok(None)
+}
+
 #[test]
 fn a_decision_is_right_or_finds_no_memory(rt: HostRuntime) -> Result<(), Fail> {
-    let alloc = rt.alloc();
-    let env = env_of(alloc, 1)?;
+    let env = env_of(rt.alloc(), 1)?;
     for (hit, want) in OF_THIRTY {
-        let table = table(alloc, hit, 9)?;
-        for spare in SPARES {
-            let full = FullHeap::but(alloc, *spare)?;
-            let first = decide(alloc, &table, &env);
-            drop(full);
-            assert!(rt; first.is_err() || *spare > 0);
-            assert!(rt; first.is_ok() || *spare < 65536);
-            let found = match first {
-                Ok(found) => found,
-                Err(AllocError) => decide(alloc, &table, &env)?,
-            };
-            assert_eq!(rt; shown(alloc, &found)?.as_str(), *want, "{hit}, {spare}");
-        }
+        let table = table(rt.alloc(), hit, 9)?;
+        assert_eq!(rt; wrong_spare(rt.alloc(), &table, &env, want)?, None, "{hit}");
     }
     Ok(())
 }
@@ -84,25 +136,38 @@ fn a_decision_is_right_or_finds_no_memory(rt: HostRuntime) -> Result<(), Fail> {
 /// What each hit policy makes of three rules that all hit.
 const OF_THREE: &[(&str, &str)] = &[("F", "1"), ("P", "2"), ("O", "[2,1,1]"), ("C+", "4")];
 
+/// The tables of three rules.
+fn tables_of_three(alloc: Global) -> Result<Vec<Table>, Fail> {
+    let mut tables = Vec::with_capacity(alloc, OF_THREE.len())?;
+    for (hit, _) in OF_THREE {
+        tables.push(table(alloc, hit, 0)?)?;
+    }
+    Ok(tables)
+}
+
+/// Says whether a request of the first decision was refused, and tells what it came to in the end.
+fn told(
+    rt: &HostRuntime,
+    hit: &str,
+    table: &Table,
+    env: &Env,
+    first: Result<Outcome, AllocError>,
+) -> Result<String, Fail> {
+    println!(rt; "{hit} refused: {}", first.is_err())?;
+    Ok(settled(rt.alloc(), table, env, first)?)
+}
+
 /// Decisions whose requests are refused one after another, by hand: each says whether one of its own was. One that was
 /// refused is right when it is made again.
 #[test]
 fn a_refused_decision_answers_nothing_else(rt: HostRuntime) -> Result<(), Fail> {
-    let alloc = rt.alloc();
-    let env = env_of(alloc, 1)?;
-    let mut tables = Vec::with_capacity(alloc, 4)?;
-    for (hit, want) in OF_THREE {
-        tables.push((*hit, table(alloc, hit, 0)?, *want))?;
-    }
+    let env = env_of(rt.alloc(), 1)?;
+    let tables = tables_of_three(rt.alloc())?;
     println!(rt; "made")?;
-    for (hit, table, want) in &tables {
-        let first = decide(alloc, table, &env);
-        println!(rt; "{hit} refused: {}", first.is_err())?;
-        let found = match first {
-            Ok(found) => found,
-            Err(AllocError) => decide(alloc, table, &env)?,
-        };
-        assert_eq!(rt; shown(alloc, &found)?.as_str(), *want, "{hit}");
+    for (table, (hit, want)) in tables.iter().zip(OF_THREE) {
+        let first = decide(rt.alloc(), table, &env);
+        let found = told(&rt, hit, table, &env, first)?;
+        assert!(rt; found.as_str() == *want, "{hit}");
     }
     Ok(())
 }

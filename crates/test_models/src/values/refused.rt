@@ -2,55 +2,83 @@
 //! gives the value. In a plain run nothing is refused. A run that refuses the Nth request of each test shows the rest: past the
 //! requests of the set-up a test then ends well with "refused: true", once for each request of its call, and later with "refused: false".
 use feel_value::{Feel, Truth, ValueFault, equal};
-use std::alloc::AllocError;
+use std::alloc::{AllocError, Global};
 use std::test::Fail;
 
 const TEXT: &str = "{\"a\":[1,\"b\"],\"c\":null}";
 
-#[test]
-fn a_refused_copy(rt: HostRuntime) -> Result<(), Fail> {
-    let alloc = rt.alloc();
+/// The JSON of the text, and the value that it is.
+fn json_and_value(alloc: Global) -> Result<(serde_json::Value, Feel), Fail> {
     let json = serde_json::Value::from_str(alloc, TEXT)?;
     let value = Feel::from_json(alloc, &json)?;
-    let first = value.try_clone(alloc);
+    Ok((json, value))
+}
+
+/// The copy, made again where its first making was refused.
+fn copy_of(
+    alloc: Global,
+    value: &Feel,
+    first: Result<Feel, AllocError>,
+) -> Result<Feel, AllocError> {
+    match first {
+        Ok(copy) => Ok(copy),
+        Err(AllocError) => value.try_clone(alloc),
+    }
+}
+
+#[test]
+fn a_refused_copy(rt: HostRuntime) -> Result<(), Fail> {
+    let (_, value) = json_and_value(rt.alloc())?;
+    let first = value.try_clone(rt.alloc());
     let refused = first.is_err();
-    let copy = match first {
-        Ok(copy) => copy,
-        Err(AllocError) => value.try_clone(alloc)?,
-    };
+    let copy = copy_of(rt.alloc(), &value, first)?;
     assert!(rt; equal(&value, &copy) == Truth::Yes);
     println!(rt; "refused: {refused}")?;
     Ok(())
 }
 
+/// The value, read again where its first reading was refused.
+fn reading_of(
+    alloc: Global,
+    json: &serde_json::Value,
+    first: Result<Feel, ValueFault>,
+) -> Result<Feel, Fail> {
+    match first {
+        Ok(value) => Ok(value),
+        Err(ValueFault::Memory) => Ok(Feel::from_json(alloc, json)?),
+        Err(_) => Err("a refused request is no fault of the value".into()),
+    }
+}
+
 #[test]
 fn a_refused_reading(rt: HostRuntime) -> Result<(), Fail> {
-    let alloc = rt.alloc();
-    let json = serde_json::Value::from_str(alloc, TEXT)?;
-    let first = Feel::from_json(alloc, &json);
+    let json = serde_json::Value::from_str(rt.alloc(), TEXT)?;
+    let first = Feel::from_json(rt.alloc(), &json);
     let refused = first.is_err();
-    let value = match first {
-        Ok(value) => value,
-        Err(ValueFault::Memory) => Feel::from_json(alloc, &json)?,
-        Err(_) => panic!(rt; "a refused request is no fault of the value"),
-    };
-    assert!(rt; value.to_json(alloc)? == json);
+    let value = reading_of(rt.alloc(), &json, first)?;
+    assert!(rt; value.to_json(rt.alloc())? == json);
     println!(rt; "refused: {refused}")?;
     Ok(())
 }
 
+/// The JSON, written again where its first writing was refused.
+fn writing_of(
+    alloc: Global,
+    value: &Feel,
+    first: Result<serde_json::Value, AllocError>,
+) -> Result<serde_json::Value, AllocError> {
+    match first {
+        Ok(written) => Ok(written),
+        Err(AllocError) => value.to_json(alloc),
+    }
+}
+
 #[test]
 fn a_refused_writing(rt: HostRuntime) -> Result<(), Fail> {
-    let alloc = rt.alloc();
-    let json = serde_json::Value::from_str(alloc, TEXT)?;
-    let value = Feel::from_json(alloc, &json)?;
-    let first = value.to_json(alloc);
+    let (json, value) = json_and_value(rt.alloc())?;
+    let first = value.to_json(rt.alloc());
     let refused = first.is_err();
-    let written = match first {
-        Ok(written) => written,
-        Err(AllocError) => value.to_json(alloc)?,
-    };
-    assert!(rt; written == json);
+    assert!(rt; writing_of(rt.alloc(), &value, first)? == json);
     println!(rt; "refused: {refused}")?;
     Ok(())
 }

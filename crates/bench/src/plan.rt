@@ -1,7 +1,5 @@
-//! How long models take to be read or refused, by their shape, and how long requests take. With the word `whole` the models are as
-//! large as a line may be; otherwise they are small.
-#![tactic(auto)]
-
+//! How long models take to be read or refused, by their shape, and how long requests take. Whole models are as
+//! large as a line may be; the others are small.
 mod shapes;
 
 use anyhow::Error;
@@ -10,7 +8,6 @@ use dmn_plan::{Plan, Task};
 use feel_value::Outcome;
 use shapes::{graph, largest, small};
 use std::alloc::Global;
-use std::env;
 use std::sync::Arc;
 use std::time::{Clock, Instant};
 
@@ -22,11 +19,6 @@ const TASKS: [u32; 2] = [200, 10_000];
 
 /// How many layers of two decisions a graph has.
 const LAYERS: [usize; 2] = [50, 500];
-
-fn is_whole(rt: &HostRuntime) -> Result<bool, Error> {
-    let is_whole = env::args(rt)?.any(|word| word.as_str() == "whole");
-    Ok(is_whole)
-}
 
 /// The microseconds that reading a text takes, and whether it is a model.
 fn reading<R: Clock>(rt: &R, alloc: Global, text: &str) -> Result<(u128, bool), Error> {
@@ -89,12 +81,16 @@ fn time_small<R: Clock + Eprint>(rt: &R, alloc: Global, tasks: u32) -> Result<()
     Ok(())
 }
 
-fn main(rt: HostRuntime) -> Result<(), Error> {
-    let alloc = rt.alloc();
-    let scale = usize::from(is_whole(&rt)?);
-    time_largest(&rt, alloc, BYTES[scale])?;
+/// Tells how long models and requests take, at full size or at the small one.
+pub(crate) fn time_all<R: Clock + Eprint>(
+    rt: &R,
+    alloc: Global,
+    is_whole: bool,
+) -> Result<(), Error> {
+    let scale = usize::from(is_whole);
+    time_largest(rt, alloc, BYTES[scale])?;
     for needed in [1, 2, 10] {
-        time_graph(&rt, alloc, LAYERS[scale], needed)?;
+        time_graph(rt, alloc, LAYERS[scale], needed)?;
     }
-    time_small(&rt, alloc, TASKS[scale])
+    time_small(rt, alloc, TASKS[scale])
 }

@@ -1,8 +1,6 @@
 //! How long `replay` takes, beside a bare loop that only reads each line as JSON and prints it back.
 //!
-//! With the word `whole` the inputs have their full size, and else a hundredth of it.
-#![tactic(auto)]
-
+//! Whole inputs have their full size, and the others a hundredth of it.
 mod inputs;
 
 use anyhow::Error;
@@ -10,7 +8,6 @@ use desk_front::{Counted, replay};
 use inputs::{Lines, graph_requests, small_requests, table_requests};
 use serde_json::Value;
 use std::alloc::Global;
-use std::env;
 use std::io::{self, Write};
 use std::time::{Clock, Instant};
 
@@ -90,16 +87,6 @@ fn time<R: Clock + Eprint>(rt: &R, alloc: Global, name: &str, lines: &Lines) -> 
     Ok(())
 }
 
-/// Whether the inputs are to have their full size.
-fn asks_whole(rt: &HostRuntime) -> io::Result<bool> {
-    let mut words = env::args(rt)?;
-    let _ = words.next();
-    match words.next() {
-        Some(word) => Ok(word.as_str() == "whole"),
-        None => Ok(false),
-    }
-}
-
 fn time_small<R: Clock + Eprint>(rt: &R, alloc: Global, requests: u64) -> Result<(), Error> {
     let lines = small_requests(alloc, requests)?;
     time(rt, alloc, "small requests", &lines)
@@ -115,12 +102,16 @@ fn time_graph<R: Clock + Eprint>(rt: &R, alloc: Global, requests: u64) -> Result
     time(rt, alloc, "400 shared decisions", &lines)
 }
 
-fn main(rt: HostRuntime) -> Result<(), Error> {
-    let alloc = rt.alloc();
-    let part = if asks_whole(&rt)? { 1 } else { 100 };
+/// Tells how long each input takes, at full size or at the small one.
+pub(crate) fn time_all<R: Clock + Eprint>(
+    rt: &R,
+    alloc: Global,
+    is_whole: bool,
+) -> Result<(), Error> {
+    let part = if is_whole { 1 } else { 100 };
     for requests in [50_000 / part, 100_000 / part, 200_000 / part] {
-        time_small(&rt, alloc, requests)?;
+        time_small(rt, alloc, requests)?;
     }
-    time_table(&rt, alloc, 50_000 / part)?;
-    time_graph(&rt, alloc, 5_000 / part)
+    time_table(rt, alloc, 50_000 / part)?;
+    time_graph(rt, alloc, 5_000 / part)
 }

@@ -1,5 +1,5 @@
 //! Requests and results over lanes.
-use crate::number::Number;
+use crate::passing::number::Number;
 use anyhow::Error;
 use lanes::{Client, OpenGate, Stepped, Worker, lanes};
 use std::alloc::Global;

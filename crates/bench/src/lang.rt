@@ -1,11 +1,9 @@
 //! How long the language takes: three expressions that are read and evaluated, and 10,000 names that are bound and found.
-#![tactic(auto)]
-
 use feel_lang::{Env, Expr, eval, read_expr};
 use feel_value::{Feel, Outcome, Value};
 use std::alloc::{AllocError, Global};
 use std::io;
-use std::time::Instant;
+use std::time::{Clock, Instant};
 
 const NAMES: u64 = 10_000;
 
@@ -53,16 +51,27 @@ struct Rounds {
 }
 
 impl Rounds {
-    fn read(&mut self, rt: &HostRuntime, text: &str) -> io::Result<Option<Expr>> {
+    fn read<R: Clock + Eprint>(
+        &mut self,
+        rt: &R,
+        alloc: Global,
+        text: &str,
+    ) -> io::Result<Option<Expr>> {
         let start = Instant::now(rt)?;
-        let read = read_expr(rt.alloc(), text);
+        let read = read_expr(alloc, text);
         self.reading = self.reading.wrapping_add(start.elapsed(rt)?.as_nanos());
         Ok(read.ok())
     }
 
-    fn evaluate(&mut self, rt: &HostRuntime, expr: &Expr, env: &Env) -> io::Result<()> {
+    fn evaluate<R: Clock + Eprint>(
+        &mut self,
+        rt: &R,
+        alloc: Global,
+        expr: &Expr,
+        env: &Env,
+    ) -> io::Result<()> {
         let start = Instant::now(rt)?;
-        let outcome = eval(rt.alloc(), expr, env);
+        let outcome = eval(alloc, expr, env);
         self.evaluating = self.evaluating.wrapping_add(start.elapsed(rt)?.as_nanos());
         if let Ok(Outcome::Is(_)) = outcome {
             self.values = self.values.wrapping_add(1);
@@ -70,19 +79,31 @@ impl Rounds {
         Ok(())
     }
 
-    fn add(&mut self, rt: &HostRuntime, text: &str, env: &Env) -> io::Result<()> {
-        match self.read(rt, text)? {
-            Some(expr) => self.evaluate(rt, &expr, env),
+    fn add<R: Clock + Eprint>(
+        &mut self,
+        rt: &R,
+        alloc: Global,
+        text: &str,
+        env: &Env,
+    ) -> io::Result<()> {
+        match self.read(rt, alloc, text)? {
+            Some(expr) => self.evaluate(rt, alloc, &expr, env),
             None => Ok(()),
         }
     }
 }
 
 // Reads and evaluates a text many times, and tells how long one round takes.
-fn run(rt: &HostRuntime, name: &str, text: &str, env: &Env) -> io::Result<()> {
+fn run<R: Clock + Eprint>(
+    rt: &R,
+    alloc: Global,
+    name: &str,
+    text: &str,
+    env: &Env,
+) -> io::Result<()> {
     let mut rounds = Rounds::default();
     for _ in 0..ROUNDS {
-        rounds.add(rt, text, env)?;
+        rounds.add(rt, alloc, text, env)?;
     }
     let (values, read, evaluated) = (
         rounds.values,
@@ -118,8 +139,7 @@ fn find(alloc: Global, env: &Env) -> Result<u64, AllocError> {
 }
 
 // Binds as many names, finds each, and cuts all of them off.
-fn names(rt: &HostRuntime) -> io::Result<()> {
-    let alloc = rt.alloc();
+fn names<R: Clock + Eprint>(rt: &R, alloc: Global) -> io::Result<()> {
     let mut env = Env::new(alloc);
     let start = Instant::now(rt)?;
     bind(alloc, &mut env)?;
@@ -134,18 +154,18 @@ fn names(rt: &HostRuntime) -> io::Result<()> {
 }
 
 // The texts, over an environment with one name.
-fn texts(rt: &HostRuntime) -> io::Result<()> {
-    let alloc = rt.alloc();
+fn texts<R: Clock + Eprint>(rt: &R, alloc: Global) -> io::Result<()> {
     let mut env = Env::new(alloc);
     if let Some(value) = number(4) {
         env.bind("a", value)?;
     }
-    run(rt, "short", short(alloc)?.as_str(), &env)?;
-    run(rt, "64 deep", deep(alloc)?.as_str(), &env)?;
-    run(rt, "5,000 members", long(alloc)?.as_str(), &env)
+    run(rt, alloc, "short", short(alloc)?.as_str(), &env)?;
+    run(rt, alloc, "64 deep", deep(alloc)?.as_str(), &env)?;
+    run(rt, alloc, "5,000 members", long(alloc)?.as_str(), &env)
 }
 
-fn main(rt: HostRuntime) -> io::Result<()> {
-    texts(&rt)?;
-    names(&rt)
+/// Tells how long the texts and the names take.
+pub(crate) fn time_all<R: Clock + Eprint>(rt: &R, alloc: Global) -> io::Result<()> {
+    texts(rt, alloc)?;
+    names(rt, alloc)
 }

@@ -1,7 +1,5 @@
 //! How long it takes to pass requests from one client to workers in other threads, and their results back in order: over lanes,
-//! and through queues under a lock. With the word `whole` a million are passed each time, and else ten thousand.
-#![tactic(auto)]
-
+//! and through queues under a lock. At full size a million are passed each time, and else ten thousand.
 mod locked;
 mod number;
 mod over_lanes;
@@ -11,19 +9,12 @@ use std::alloc::Global;
 use std::sync::Wait;
 use std::thread::Threads;
 use std::time::{Clock, Instant};
-use std::{env, io};
 
 /// How many requests pass at a time that is not whole, and at one that is.
 const COUNTS: [u64; 2] = [10_000, 1_000_000];
 
 /// How many requests may be outstanding.
 const CAPACITY: u32 = 4096;
-
-/// Whether the program was asked for full size.
-fn is_whole(rt: &HostRuntime) -> io::Result<bool> {
-    let is_whole = env::args(rt)?.any(|word| word.as_str() == "whole");
-    Ok(is_whole)
-}
 
 /// The milliseconds that it takes over lanes.
 fn time_lanes<R: Clock + Threads + Wait + Sync>(
@@ -53,13 +44,17 @@ fn time_locked<R: Clock + Threads + Wait + Sync>(
     Ok(start.elapsed(rt)?.as_millis())
 }
 
-fn main(rt: HostRuntime) -> Result<(), Error> {
-    let alloc = rt.alloc();
-    let count = COUNTS[usize::from(is_whole(&rt)?)];
+/// Tells how long both ways take, at full size or at the small one.
+pub(crate) fn time_all<R: Clock + Eprint + Threads + Wait + Sync>(
+    rt: &R,
+    alloc: Global,
+    is_whole: bool,
+) -> Result<(), Error> {
+    let count = COUNTS[usize::from(is_whole)];
     for workers in [1, 2, 4] {
-        let lanes = time_lanes(&rt, alloc, workers, count)?;
-        let lock = time_locked(&rt, alloc, workers, count)?;
-        eprintln!(&rt;
+        let lanes = time_lanes(rt, alloc, workers, count)?;
+        let lock = time_locked(rt, alloc, workers, count)?;
+        eprintln!(rt;
             "{count} requests, {workers} workers: over lanes {lanes} ms, through a lock {lock} ms"
         )?;
     }

@@ -1,7 +1,5 @@
 //! How long a decision over 200 rules and 6 inputs takes, by the hit policy and by how many rules hit. Each line is the
 //! average of a thousand decisions.
-#![tactic(auto)]
-
 use anyhow::Error;
 use dmn_table::{Output, Rule, Table, decide};
 use feel_lang::{Env, Expr, Tests, read_expr, read_tests};
@@ -144,14 +142,19 @@ fn time_decisions<R: Clock + Eprint>(rt: &R, alloc: Global, hit: &str) -> Result
     Ok(())
 }
 
-fn main(rt: HostRuntime) -> Result<(), Error> {
-    let alloc = rt.alloc();
-    for hit in ["U", "F", "P", "O", "C", "C+"] {
-        time_decisions(&rt, alloc, hit)?;
-    }
+/// Tells how long tables of so many output columns take to be made.
+fn time_making<R: Clock + Eprint>(rt: &R, alloc: Global) -> Result<(), Error> {
     for columns in [10, 100, 1_000, 10_000] {
-        let micros = making(&rt, alloc, columns)?;
-        eprintln!(&rt; "a table of {columns} output columns: {micros} us")?;
+        let micros = making(rt, alloc, columns)?;
+        eprintln!(rt; "a table of {columns} output columns: {micros} us")?;
     }
     Ok(())
+}
+
+/// Tells how long decisions take, and how long the making of tables.
+pub(crate) fn time_all<R: Clock + Eprint>(rt: &R, alloc: Global) -> Result<(), Error> {
+    for hit in ["U", "F", "P", "O", "C", "C+"] {
+        time_decisions(rt, alloc, hit)?;
+    }
+    time_making(rt, alloc)
 }

@@ -1,5 +1,5 @@
 //! Requests and results through two queues, each under a lock.
-use crate::number::Number;
+use crate::passing::number::Number;
 use anyhow::Error;
 use box_core::{Done, Job, Mailbox};
 use std::alloc::Global;

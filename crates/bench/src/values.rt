@@ -1,7 +1,5 @@
 //! How long reading, copying, writing and comparing take at the largest values, on standard error. Each line is the average of a
 //! hundred calls.
-#![tactic(auto)]
-
 use anyhow::Error;
 use feel_value::{Feel, Truth, Value, equal};
 use serde_json::{Map, Number};
@@ -137,9 +135,9 @@ fn time_falling<R: Clock + Eprint>(rt: &R, alloc: Global) -> Result<(), Error> {
     time(rt, alloc, Call::CopyAndCompare, &case)
 }
 
-fn main(rt: HostRuntime) -> Result<(), Error> {
-    let alloc = rt.alloc();
-    time_list(&rt, alloc)?;
-    time_context(&rt, alloc)?;
-    time_falling(&rt, alloc)
+/// Tells how long each call takes.
+pub(crate) fn time_all<R: Clock + Eprint>(rt: &R, alloc: Global) -> Result<(), Error> {
+    time_list(rt, alloc)?;
+    time_context(rt, alloc)?;
+    time_falling(rt, alloc)
 }

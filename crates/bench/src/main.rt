@@ -1,0 +1,100 @@
+//! How long the libraries take, on standard error.
+//!
+//! Without words all are timed at their small size; with a name the library of that name; with the name and `whole` the same at
+//! full size, where it has two.
+#![tactic(auto)]
+
+mod desk;
+mod lang;
+mod passing;
+mod plan;
+mod read;
+mod tables;
+mod values;
+
+use anyhow::Error;
+use std::alloc::Global;
+use std::env;
+use std::sync::Wait;
+use std::thread::Threads;
+use std::time::Clock;
+
+/// What can be timed.
+const NAMES: [&str; 7] = ["values", "read", "lang", "tables", "plan", "lanes", "desk"];
+
+/// Times what has this name among the values and the language, if one has.
+fn time_low<R: Clock + Eprint>(rt: &R, alloc: Global, name: &str) -> Result<bool, Error> {
+    match name {
+        "values" => values::time_all(rt, alloc)?,
+        "read" => read::time_all(rt, alloc)?,
+        "lang" => lang::time_all(rt, alloc)?,
+        "tables" => tables::time_all(rt, alloc)?,
+        _ => return Ok(false),
+    }
+    Ok(true)
+}
+
+/// Times what has this name among all, if one has.
+fn time_named<R: Clock + Eprint + Threads + Wait + Sync>(
+    rt: &R,
+    alloc: Global,
+    name: &str,
+    is_whole: bool,
+) -> Result<(), Error> {
+    match name {
+        "plan" => plan::time_all(rt, alloc, is_whole),
+        "lanes" => passing::time_all(rt, alloc, is_whole),
+        "desk" => desk::time_all(rt, alloc, is_whole),
+        _ => {
+            if time_low(rt, alloc, name)? {
+                Ok(())
+            } else {
+                Err(unknown())
+            }
+        }
+    }
+}
+
+/// What is said of words that ask for nothing.
+fn unknown() -> Error {
+    Error::msg(
+        "expected: nothing, or one of values, read, lang, tables, plan, lanes, desk, and `whole` after it",
+    )
+}
+
+/// Times all at their small size.
+fn time_each<R: Clock + Eprint + Threads + Wait + Sync>(
+    rt: &R,
+    alloc: Global,
+) -> Result<(), Error> {
+    for name in NAMES {
+        time_named(rt, alloc, name, false)?;
+    }
+    Ok(())
+}
+
+/// Whether the word behind a name asks for full size. None asks for the small one.
+fn asks_whole(word: Option<&str>) -> Result<bool, Error> {
+    match word {
+        None => Ok(false),
+        Some("whole") => Ok(true),
+        Some(_) => Err(unknown()),
+    }
+}
+
+fn main(rt: HostRuntime) -> Result<(), Error> {
+    let alloc = rt.alloc();
+    let mut words = env::args(&rt)?;
+    let _ = words.next();
+    let (name, size, more) = (words.next(), words.next(), words.next());
+    if more.is_some() {
+        return Err(unknown());
+    }
+    match name {
+        None => time_each(&rt, alloc),
+        Some(name) => {
+            let is_whole = asks_whole(size.as_ref().map(|word| word.as_str()))?;
+            time_named(&rt, alloc, name.as_str(), is_whole)
+        }
+    }
+}
