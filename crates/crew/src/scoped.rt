@@ -24,6 +24,7 @@ pub fn beside<R: Threads + Wait + Sync, G: Gate + Sync, W: Work + Send + Sync, F
 ) -> Result<(F::Out, Vec<Worker<W>>), AllocError>
 where
     W::Out: Send,
+    requires ready { F.ready front.old }
     ensures done { IfOk result (λ r. F.done front.old front.new r.0) }
     ensures ends { IfOk result (λ r. map worker_links r.1.items ≡ map worker_links workers.items) }
     ensures refused { OnErr result (front.new ≡ front.old) }
@@ -52,7 +53,8 @@ fn run_beside<'a, R: Threads + Wait + Sync, G: Gate + Sync, W: Work + Send + Syn
 ) -> (&'a mut F, Result<(F::Out, Vec<Worker<W>>), AllocError>)
 where
     W::Out: Send,
-    requires { (joined.items ≡ []) × (vec_len workers ≤ vec_capacity joined) }
+    requires room { (joined.items ≡ []) × (vec_len workers ≤ vec_capacity joined) }
+    requires ready { F.ready lent.front.now }
     ensures same { result.0.ghost_name ≡ lent.entry.front.ghost_name }
     ensures done { IfOk result.1 (λ r. F.done lent.entry.front.now result.0.now r.0) }
     ensures ends { IfOk result.1 (λ r. map worker_links r.1.items ≡ map worker_links workers.items) }
@@ -62,7 +64,8 @@ where
         thread::scope_env(),
         rt,
         move |scope| -> (Lent<F>, Result<(F::Out, Vec<Worker<W>>), AllocError>)
-            requires { (joined.items ≡ []) × (vec_len workers ≤ vec_capacity joined) }
+            requires room { (joined.items ≡ []) × (vec_len workers ≤ vec_capacity joined) }
+            requires ready { F.ready lent.front.now }
             ensures same { result.0.front.ghost_name ≡ lent.entry.front.ghost_name }
             ensures done { IfOk result.1 (λ r. F.done lent.entry.front.now result.0.front.now r.0) }
             ensures ends { IfOk result.1 (λ r. map worker_links r.1.items ≡ map worker_links workers.items) }
@@ -84,6 +87,7 @@ where
 
 // Runs a front that is lent, and gives it back.
 fn run<'a, R: Wait, F: Front>(rt: &R, crew: &Crew, lent: Lent<'a, F>) -> (Lent<'a, F>, F::Out)
+    requires { F.ready lent.front.now }
     ensures same { result.0.front.ghost_name ≡ lent.entry.front.ghost_name }
     ensures done { F.done lent.entry.front.now result.0.front.now result.1 }
 {

@@ -1,12 +1,33 @@
 -- The command line of the program.
-use Rattle.std.specs.Prelude.{◌≡◌, List, codes, true, []}
-use Rattle.clap.specs.Words.{App, Text, new_app, with_subcommand, takes}
+use Rattle.std.specs.Prelude.{◌≡◌, ◌≤◌, ℕ, List, [], ◌∷◌, Option, Some, None, IfSome, codes, option_and_then, true, if◌then◌else◌}
+use Rattle.std.specs.Str.{bytes_eq}
+use Rattle.clap.specs.Words.{App, Row, Rule, Text, IsUnsignedIn, first_of, new_app, new_rule, subcommand_of, takes, with_rule, with_subcommand}
 use Rattle.clap.specs.Faults.{fault_of}
 use Rattle.clap.specs.Kinds.{Kinds}
+use Rattle.clap.specs.declared.builder.action.ArgAction.TheVariants.{Set}
+use Rattle.clap.specs.declared.builder.value_parser.ValueParser.TheVariants.{Unsigned}
+use Rattle.std.specs.Str.Parse.{digits_value, without_leading_plus}
+use Rattle.desk_front.specs.declared.serving.options.Options.{Options}
 
--- `desk replay`: one of the subcommands has to be named
+-- an option that is a number from 1 to `most`, and `usual` where it is left out
+abbrev pub number_option : Text → Text → ℕ → Rule
+number_option name usual most = record (new_rule name) {
+  long = Some name;
+  action = Some Set;
+  value_names = 1;
+  defaults = usual ∷ [];
+  parser = Some (Unsigned 1 most);
+}
+
+-- `serve [--clients N] [--workers N] [--capacity N]`
+abbrev pub serve_app : App
+serve_app = with_rule (with_rule (with_rule (new_app (codes "serve")) (number_option (codes "clients") (codes "8") 64))
+    (number_option (codes "workers") (codes "4") 8)) (number_option (codes "capacity") (codes "64") 4096)
+
+-- `desk replay` and `desk serve`: one of the subcommands has to be named
 abbrev pub desk_command : App
-desk_command = with_subcommand (record { top = record (new_app (codes "desk")).top { subcommand_required = true }; subs = [] }) (new_app (codes "replay")).top
+desk_command = with_subcommand (with_subcommand (record { top = record (new_app (codes "desk")).top { subcommand_required = true }; subs = [] })
+    (new_app (codes "replay")).top) serve_app.top
 
 -- `clap` takes these words
 abbrev pub IsCommand : List Text → Type 0
@@ -15,3 +36,22 @@ IsCommand words = takes desk_command words ≡ true
 -- the kinds of error of which `clap` has one for these words; none where it takes them
 abbrev pub kinds_of : List Text → Kinds
 kinds_of words = fault_of desk_command words
+
+abbrev pub rows_under : Text → Text × List Row → Option (List Row)
+rows_under name found = if bytes_eq found.0 name then Some found.1 else None
+
+-- what the words say of the options of `serve`, where they name it
+abbrev pub serve_rows : List Text → Option (List Row)
+serve_rows words = option_and_then (rows_under (codes "serve")) (subcommand_of desk_command words)
+
+-- a number from 1 to `top`: the one that the text says, where it says one of these; `clap` takes no other text
+pub record IsNumberOf (top : ℕ) (text : Option Text) (number : ℕ) : Type 0 where
+  pub least : 1 ≤ number
+  pub most : number ≤ top
+  pub said : IfSome text (λ t. IsUnsignedIn 1 top t → number ≡ digits_value 10 (without_leading_plus t))
+
+-- the options of `serve` as the words give them
+pub record AreOptionsOf (rows : List Row) (options : Options) : Type 0 where
+  pub clients : IsNumberOf 64 (first_of (codes "clients") rows) options.clients
+  pub workers : IsNumberOf 8 (first_of (codes "workers") rows) options.workers
+  pub capacity : IsNumberOf 4096 (first_of (codes "capacity") rows) options.capacity

@@ -1,17 +1,22 @@
 //! What the program does with its words, as a function of them and of its streams.
-ghost use Rattle.std.specs.Prelude.{◌≡◌, ◌≢◌, ◌⊎◌, ◌<◌, ◌-◌, ◌^◌, ℕ, List, [], Result, map, string_bytes};
+ghost use Rattle.std.specs.Prelude.{◌≡◌, ◌≢◌, ◌⊎◌, ◌<◌, ◌-◌, ◌^◌, ℕ, List, [], None, Result, map, string_bytes};
 ghost use Rattle.std.specs.IoError.{error_kind};
 ghost use Rattle.clap.specs.Words.{kind_of};
 ghost use Rattle.desk_front.specs.declared.fault.FrontFault.{FrontFault};
-ghost use Rattle.desk.specs.CommandLine.{IsCommand, kinds_of};
-ghost use Rattle.desk.specs.Status.{Replayed, IsTold, IsStatusOf, status_of, status_of_kind, fault_line, no_utf8_line, end_text};
+ghost use Rattle.lanes.specs.Made.{fault_in};
+ghost use Rattle.desk.specs.CommandLine.{IsCommand, kinds_of, serve_rows};
+ghost use Rattle.desk.specs.Status.{RanAs, Replayed, ServedBy, IsTold, IsStatusOf, status_of, status_of_kind, fault_line, no_utf8_line, end_text};
 
 use crate::command::read_words;
+use crate::options::options_of;
 use clap::Error;
 use clap::error::ErrorKind;
-use desk_front::{FrontFault, Sink, Source, replay, write_all};
+use desk_front::{FrontFault, Options, Sink, Source, replay, serve, write_all};
+use lanes::OpenGate;
 use std::alloc::Global;
 use std::io::{self, ErrorKind as IoKind};
+use std::sync::Wait;
+use std::thread::Threads;
 
 /// The status of a run that came to its end.
 const DONE: u8 = 0;
@@ -71,6 +76,27 @@ fn run_replay<R: Source, W: Sink, F: Sink>(
     }
 }
 
+/// Serves the lines of the reader, and tells the fault that ends it, if one does.
+fn run_serve<T: Threads + Wait + Sync, R: Source, W: Sink, F: Sink>(
+    alloc: Global,
+    rt: &T,
+    options: Options,
+    reader: &mut R,
+    writer: &mut W,
+    faults: &mut F,
+) -> u8
+    requires lawful { fault_in options.clients options.workers options.capacity ≡ None }
+    requires read_counts { R.faults reader.old < 2 ^ 64 - 1 }
+    requires write_counts { W.faults writer.old < 2 ^ 64 - 1 }
+    requires fault_counts { F.faults faults.old < 2 ^ 64 - 1 }
+    ensures { (end : Result (Unit {0}) FrontFault) × ServedBy R.remaining R.faults R.came reader.old reader.new W.contents W.faults writer.old writer.new options.clients end × (result ≡ status_of end) × IsTold F.contents F.faults faults.old faults.new (end_text end) }
+{
+    let Err(fault) = serve(alloc, rt, reader, writer, &OpenGate, options) else {
+        return DONE;
+    };
+    tell_fault(fault, faults)
+}
+
 /// Tells why the words name no command, or the help that they ask for.
 fn explain<W: Sink, F: Sink>(alloc: Global, error: &Error, writer: &mut W, faults: &mut F) -> u8
     requires write_counts { W.faults writer.old < 2 ^ 64 - 1 }
@@ -102,8 +128,9 @@ fn explain<W: Sink, F: Sink>(alloc: Global, error: &Error, writer: &mut W, fault
 /// The status is 0 where the command came to its end or help was asked for, 1 where a fault ended it or no memory was
 /// found for the words, and 2 where they name no command. A fault is told on `faults` by its word, and a wrong command line by
 /// the text of `clap`; help goes to the writer. A text that can't be written changes no status.
-pub fn run_desk<R: Source, W: Sink, F: Sink>(
-    rt: &HostRuntime,
+pub fn run_desk<T: Threads + Wait + Sync, R: Source, W: Sink, F: Sink>(
+    alloc: Global,
+    rt: &T,
     words: Vec<String>,
     reader: &mut R,
     writer: &mut W,
@@ -114,7 +141,7 @@ pub fn run_desk<R: Source, W: Sink, F: Sink>(
     requires fault_counts { F.faults faults.old < 2 ^ 64 - 1 }
     ensures taken { IsCommand (map string_bytes words.items) →
         ((result ≡ 1) × (reader.new ≡ reader.old) × (writer.new ≡ writer.old) × IsTold F.contents F.faults faults.old faults.new (fault_line FrontFault.Memory))
-        ⊎ ((end : Result (Unit {0}) FrontFault) × Replayed R.remaining R.faults R.came reader.old reader.new W.contents W.faults writer.old writer.new end × (result ≡ status_of end) × IsTold F.contents F.faults faults.old faults.new (end_text end)) }
+        ⊎ ((end : Result (Unit {0}) FrontFault) × RanAs R.remaining R.faults R.came reader.old reader.new W.contents W.faults writer.old writer.new (serve_rows (map string_bytes words.items)) end × (result ≡ status_of end) × IsTold F.contents F.faults faults.old faults.new (end_text end)) }
     ensures refused { kinds_of (map string_bytes words.items) ≢ [] → IsStatusOf (kinds_of (map string_bytes words.items)) result × (reader.new ≡ reader.old) }
     ensures memory { kinds_of (map string_bytes words.items) ≢ [] → result ≡ 1 → IsTold F.contents F.faults faults.old faults.new (fault_line FrontFault.Memory) }
     ensures wrong { kinds_of (map string_bytes words.items) ≢ [] → result ≡ 2 → (text : List ℕ) × IsTold F.contents F.faults faults.old faults.new text }
@@ -122,9 +149,11 @@ pub fn run_desk<R: Source, W: Sink, F: Sink>(
     ensures silent { kinds_of (map string_bytes words.items) ≢ [] → result ≢ 0 → writer.new ≡ writer.old }
     ensures no_fault { kinds_of (map string_bytes words.items) ≢ [] → result ≡ 0 → faults.new ≡ faults.old }
 {
-    let alloc = rt.alloc();
     match read_words(alloc, words.as_slice()) {
-        Ok(_) => run_replay(alloc, reader, writer, faults),
+        Ok(matches) => match matches.subcommand_matches("serve") {
+            Some(found) => run_serve(alloc, rt, options_of(found), reader, writer, faults),
+            None => run_replay(alloc, reader, writer, faults),
+        },
         Err(error) => explain(alloc, &error, writer, faults),
     }
 }

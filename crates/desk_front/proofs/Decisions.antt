@@ -9,7 +9,8 @@ use Rattle.std.proofs.lemmas.Slice.Eq.{bytes_eq-Decides}
 use Rattle.serde_json.specs.Data.{Data, null, boolean, number, string, array, object, Members, no_members, member, Num, unsigned, negative, float}
 use Rattle.serde_json.specs.Read.{read}
 use Rattle.desk_front.specs.Lines.{max_line}
-use Rattle.desk_front.specs.Line.{Line, Model, Open, Submit, Take, Answer, AnswerWith, Release, Close, Resize, object_of, IsName, IsTicket, IsObject, IsLawful, Reading, Blank, Long, Syntax, Shape, Says, Reads, is_blank}
+use Rattle.desk_front.specs.Line.{Line, Model, Open, Submit, Take, Answer, AnswerWith, Release, Close, Resize, object_of, IsName, IsTicket, IsObject, IsLawful, Reads}
+use Rattle.desk_front.specs.Reading.{Reading, Blank, Long, Syntax, Shape, Says, is_blank}
 
 -- it is so, or it is not
 abbrev pub Decision : Type 0 → Type 0
@@ -275,26 +276,26 @@ line_or_none d =
 
 -- ---- how a line is read
 
-read_as : (text : List ℕ) (o : Option Data) → read text ≡ o → length text ≤ max_line → is_blank text ≢ true → IsUtf8 text → (reading : Reading) × Reads text reading
+read_as : (text : List ℕ) (o : Option Data) → read text ≡ o → length text ≤ max_line → is_blank text ≢ true → IsUtf8 text → (reading : Reading Line) × Reads text reading
 read_as text None e short full utf8 = (Syntax, (short, full, inr e))
 read_as text (Some d) e short full utf8 = by_line (line_or_none d)
   where
-    by_line : IsSome d ⊎ IsNone d → (reading : Reading) × Reads text reading
+    by_line : IsSome d ⊎ IsNone d → (reading : Reading Line) × Reads text reading
     by_line (inl p) = (Says p.0, (short, full, utf8, e ∙ ap Some (sym p.1), p.2))
     by_line (inr n) = (Shape, (short, full, utf8, (d, e, n)))
 
 -- every text has a reading
-pub a_reading : (text : List ℕ) → (reading : Reading) × Reads text reading
+pub a_reading : (text : List ℕ) → (reading : Reading Line) × Reads text reading
 a_reading text = by_length (at_most (length text) max_line)
   where
-    by_bytes : length text ≤ max_line → is_blank text ≢ true → (b : Bool) → is_utf8 text ≡ b → (reading : Reading) × Reads text reading
+    by_bytes : length text ≤ max_line → is_blank text ≢ true → (b : Bool) → is_utf8 text ≡ b → (reading : Reading Line) × Reads text reading
     by_bytes short full true e = read_as text (read text) refl short full (IsUtf8-from_is_utf8 text e)
     by_bytes short full false e = (Syntax, (short, full, inl (λ utf8. true≢false (sym (is_utf8-from_IsUtf8 text utf8) ∙ e))))
 
-    by_blanks : length text ≤ max_line → (b : Bool) → is_blank text ≡ b → (reading : Reading) × Reads text reading
+    by_blanks : length text ≤ max_line → (b : Bool) → is_blank text ≡ b → (reading : Reading Line) × Reads text reading
     by_blanks short true e = (Blank, (short, e))
     by_blanks short false e = by_bytes short (λ blank. true≢false (sym blank ∙ e)) (is_utf8 text) refl
 
-    by_length : Decision (length text ≤ max_line) → (reading : Reading) × Reads text reading
+    by_length : Decision (length text ≤ max_line) → (reading : Reading Line) × Reads text reading
     by_length (inl short) = by_blanks short (is_blank text) refl
     by_length (inr long) = (Long, omega (arith, long))

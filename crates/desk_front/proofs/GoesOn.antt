@@ -9,7 +9,8 @@ use Rattle.box_core.proofs.Due.{report_for}
 use Rattle.dmn_plan.specs.Request.{Request, request_result}
 use Rattle.dmn_plan.proofs.Decided.{one_request}
 use Rattle.feel_value.specs.declared.feel.Outcome.{Outcome}
-use Rattle.desk_front.specs.Line.{Reading, Blank, Long, Syntax, Shape, Says}
+use Rattle.desk_front.specs.Line.{Line}
+use Rattle.desk_front.specs.Reading.{Reading, Blank, Long, Syntax, Shape, Says}
 use Rattle.desk_front.specs.Turns.{Deed, Skipped, Loaded, Faulty, Refused, Asked, Turn, history, opened, in_force}
 use Rattle.desk_front.specs.Due.{Due, Loads, Faults, Refuses, Asks, due_to, IsDone, IsDueAs, Follows}
 use Rattle.desk_front.specs.Said.{said_of}
@@ -24,7 +25,7 @@ deed_for past (Refuses why) = (Refused why, refl)
 deed_for past (Asks event) =
     let r = report_for (λ (q : Request). q) request_result one_request past event in (Asked event r.0, (r.0, r.1, refl))
 
-deed_as : (before : List Turn) (reading : Reading) → (deed : Deed) × IsDueAs before reading deed
+deed_as : (before : List Turn) (reading : Reading Line) → (deed : Deed) × IsDueAs before reading deed
 deed_as before Blank = (Skipped, refl)
 deed_as before Long = (Refused line.Long, refl)
 deed_as before Syntax = (Refused line.Syntax, refl)

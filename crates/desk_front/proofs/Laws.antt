@@ -13,7 +13,9 @@ use Rattle.box_core.specs.declared.faults.Refusal.TheVariants as refusal
 use Rattle.box_core.specs.declared.faults.AddRefusal.TheVariants as unadded
 use Rattle.dmn_plan.specs.Request.{Request, request_result}
 use Rattle.feel_value.specs.declared.feel.Outcome.{Outcome}
-use Rattle.desk_front.specs.Line.{Line, Model, Open, Submit, Take, Answer, AnswerWith, Release, Close, Resize, object_of, Reading, Blank, Long, Syntax, Shape, Says, Reads}
+use Rattle.desk_front.specs.Line.{Line, Model, Open, Submit, Take, Answer, AnswerWith, Release, Close, Resize, object_of, IsLawful, Reads}
+use Rattle.desk_front.specs.Reading.{Reading, Blank, Long, Syntax, Shape, Says}
+use Rattle.desk_front.proofs.ReadOnce.{some_same, read_once}
 use Rattle.desk_front.specs.Turns.{Deed, Skipped, Loaded, Faulty, Asked, Refused, Turn, pair_of, history}
 use Rattle.desk_front.specs.Due.{Due, Loads, Faults, Refuses, Asks, IsDone, IsDue, IsDueAs, Follows}
 use Rattle.desk_front.specs.Said.{said_of}
@@ -37,7 +39,7 @@ asked_due : (before : List Turn) (says : Line) (event : broker.Event Request) (t
 asked_due before says event told (inl done) = asked_done (history before) _ event told done
 asked_due before says event told (inr lack) = let e = lack.1 in let wrong : ⊥ = cc in absurd wrong
 
-asked_read : (before : List Turn) (reading : Reading) (event : broker.Event Request) (told : broker.Report Request Outcome)
+asked_read : (before : List Turn) (reading : Reading Line) (event : broker.Event Request) (told : broker.Report Request Outcome)
     → IsDueAs before reading (Asked event told) → Reports (λ request. request) request_result (history before) event told
 asked_read before Blank event told h = let wrong : ⊥ = cc in absurd wrong
 asked_read before Long event told h = let wrong : ⊥ = cc in absurd wrong
@@ -45,7 +47,7 @@ asked_read before Syntax event told h = let wrong : ⊥ = cc in absurd wrong
 asked_read before Shape event told h = let wrong : ⊥ = cc in absurd wrong
 asked_read before (Says says) event told h = asked_due before says event told h
 
-joined : (before : List Turn) (reading : Reading) (deed : Deed) (tail : broker.History Request Outcome) → IsDueAs before reading deed
+joined : (before : List Turn) (reading : Reading Line) (deed : Deed) (tail : broker.History Request Outcome) → IsDueAs before reading deed
     → LegalAfter (λ request. request) request_result (history before ++ pair_of deed) tail
     → LegalAfter (λ request. request) request_result (history before) (pair_of deed ++ tail)
 joined before reading Skipped tail due legal = rw append-nil at legal
@@ -108,44 +110,8 @@ line_of_object (Release name) = refl
 line_of_object (Close name) = refl
 line_of_object (Resize name n) = refl
 
-some_same : {A : Type 0} (x y : A) → Some x ≡ Some y → x ≡ y
-some_same x y e = cc
-
 pub one_line : (says other : Line) → object_of says ≡ object_of other → says ≡ other
 one_line says other e = some_same says other (sym (line_of_object says) ∙ ap line_of e ∙ line_of_object other)
-
--- ---- a line is read in one way
-
-unread : (text : List ℕ) (d : Data) → ¬ IsUtf8 text ⊎ (read text ≡ None) → IsUtf8 text → read text ≡ Some d → ⊥
-unread text d (inl bytes) utf8 is = bytes utf8
-unread text d (inr missing) utf8 is = let wrong : ⊥ = cc in wrong
-
-read_once : (text : List ℕ) (x y : Reading) → Reads text x → Reads text y → x ≡ y
-read_once text Long Long h k = refl
-read_once text Long Blank h k = let wrong : ⊥ = omega (arith, h, k.0) in absurd wrong
-read_once text Long Syntax h k = let wrong : ⊥ = omega (arith, h, k.0) in absurd wrong
-read_once text Long Shape h k = let wrong : ⊥ = omega (arith, h, k.0) in absurd wrong
-read_once text Long (Says m) h k = let wrong : ⊥ = omega (arith, h, k.0) in absurd wrong
-read_once text Blank Long h k = let wrong : ⊥ = omega (arith, k, h.0) in absurd wrong
-read_once text Blank Blank h k = refl
-read_once text Blank Syntax h k = absurd (k.1 h.1)
-read_once text Blank Shape h k = absurd (k.1 h.1)
-read_once text Blank (Says m) h k = absurd (k.1 h.1)
-read_once text Syntax Long h k = let wrong : ⊥ = omega (arith, k, h.0) in absurd wrong
-read_once text Syntax Blank h k = absurd (h.1 k.1)
-read_once text Syntax Syntax h k = refl
-read_once text Syntax Shape h k = absurd (unread text k.3.0 h.2 k.2 k.3.1)
-read_once text Syntax (Says m) h k = absurd (unread text (object_of m) h.2 k.2 k.3)
-read_once text Shape Long h k = let wrong : ⊥ = omega (arith, k, h.0) in absurd wrong
-read_once text Shape Blank h k = absurd (h.1 k.1)
-read_once text Shape Syntax h k = absurd (unread text h.3.0 k.2 h.2 h.3.1)
-read_once text Shape Shape h k = refl
-read_once text Shape (Says m) h k = absurd (h.3.2 m k.4 (some_same (object_of m) h.3.0 (sym k.3 ∙ h.3.1)))
-read_once text (Says l) Long h k = let wrong : ⊥ = omega (arith, k, h.0) in absurd wrong
-read_once text (Says l) Blank h k = absurd (h.1 k.1)
-read_once text (Says l) Syntax h k = absurd (unread text (object_of l) k.2 h.2 h.3)
-read_once text (Says l) Shape h k = absurd (k.3.2 l h.4 (some_same (object_of l) k.3.0 (sym h.3 ∙ k.3.1)))
-read_once text (Says l) (Says m) h k = ap Says (one_line l m (some_same (object_of l) (object_of m) (sym h.3 ∙ k.3)))
 
 -- ---- where no want of memory is told, what is due is one deed
 
@@ -218,7 +184,7 @@ due_once before says x y (inl h) (inl k) quiet silent = done_once (history befor
 due_once before says x y (inr lack) k quiet silent = absurd (memory_told tells_memory x (Refused line.Memory) lack.1 refl quiet)
 due_once before says x y (inl h) (inr lack) quiet silent = absurd (memory_told tells_memory y (Refused line.Memory) lack.1 refl silent)
 
-deed_once : (before : List Turn) (reading : Reading) (x y : Deed) → IsDueAs before reading x → IsDueAs before reading y
+deed_once : (before : List Turn) (reading : Reading Line) (x y : Deed) → IsDueAs before reading x → IsDueAs before reading y
     → tells_memory x ≡ false → tells_memory y ≡ false → x ≡ y
 deed_once before Blank x y h k quiet silent = h ∙ sym k
 deed_once before Long x y h k quiet silent = h ∙ sym k
@@ -232,7 +198,7 @@ turn_same : (t u : Turn) → t.number ≡ u.number → t.line ≡ u.line → t.r
 turn_same t u p q r d =
     let by_number : ℕ → Turn = λ x. record { number = x; line = t.line; reading = t.reading; deed = t.deed } in
     let by_line : List ℕ → Turn = λ x. record { number = u.number; line = x; reading = t.reading; deed = t.deed } in
-    let by_reading : Reading → Turn = λ x. record { number = u.number; line = u.line; reading = x; deed = t.deed } in
+    let by_reading : Reading Line → Turn = λ x. record { number = u.number; line = u.line; reading = x; deed = t.deed } in
     let by_deed : Deed → Turn = λ x. record { number = u.number; line = u.line; reading = u.reading; deed = x } in
     ap by_number p ∙ ap by_line q ∙ ap by_reading r ∙ ap by_deed d
 
@@ -240,7 +206,7 @@ turn_once : (before : List Turn) (t u : Turn) → Follows before t → Follows b
     → tells_memory t.deed ≡ false → tells_memory u.deed ≡ false → t ≡ u
 turn_once before t u f g same quiet silent =
     let reads : Reads t.line u.reading = rw same g.reads in
-    let reading : t.reading ≡ u.reading = read_once t.line t.reading u.reading f.reads reads in
+    let reading : t.reading ≡ u.reading = read_once object_of IsLawful one_line t.line t.reading u.reading f.reads reads in
     let due : IsDueAs before u.reading t.deed = rw reading at f.due in
     turn_same t u (f.number ∙ sym g.number) same reading (deed_once before u.reading t.deed u.deed due g.due quiet silent)
 

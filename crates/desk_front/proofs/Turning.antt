@@ -15,7 +15,8 @@ use Rattle.box_core.proofs.Bridge.{continues_one, continues_none, standing_of_hi
 use Rattle.dmn_plan.specs.Request.{Request, request_result}
 use Rattle.dmn_plan.specs.ReadModel.{read_model}
 use Rattle.feel_value.specs.declared.feel.Outcome.{Outcome}
-use Rattle.desk_front.specs.Line.{Line, Model, Open, Submit, Take, Answer, AnswerWith, Release, Close, Resize, Says}
+use Rattle.desk_front.specs.Line.{Line, Model, Open, Submit, Take, Answer, AnswerWith, Release, Close, Resize}
+use Rattle.desk_front.specs.Reading.{Says}
 use Rattle.desk_front.specs.Turns.{Deed, Loaded, Faulty, Asked, Refused, Turn, pair_of, history, opened_by, opened, newer, in_force_after, in_force, taken_work}
 use Rattle.desk_front.specs.Due.{Due, Loads, Faults, Refuses, Asks, due_to, due_to_model, due_to_open, due_to_work, due_to_answer, IsDone, IsDue, number_of, client_of, request_under, asks_with, MayLackMemory, Follows}
 use Rattle.desk_front.specs.Said.{said_of, report}

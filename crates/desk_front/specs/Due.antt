@@ -11,7 +11,8 @@ use Rattle.dmn_plan.specs.declared.fault.ModelFault.{ModelFault}
 use Rattle.dmn_plan.specs.declared.fault.TaskFault.{TaskFault}
 use Rattle.dmn_plan.specs.declared.fault.TaskFault.TheVariants as task
 use Rattle.feel_value.specs.declared.feel.Outcome.{Outcome}
-use Rattle.desk_front.specs.Line.{Line, Model, Open, Submit, Take, Answer, AnswerWith, Release, Close, Resize, Reading, Blank, Long, Syntax, Shape, Says, Reads}
+use Rattle.desk_front.specs.Line.{Line, Model, Open, Submit, Take, Answer, AnswerWith, Release, Close, Resize, Reads}
+use Rattle.desk_front.specs.Reading.{Reading, Blank, Long, Syntax, Shape, Says}
 use Rattle.desk_front.specs.Turns.{Deed, Skipped, Loaded, Faulty, Asked, Refused, Turn, history, opened, in_force, taken_work}
 use Rattle.desk_front.specs.declared.effect.LineRefusal.{LineRefusal}
 use Rattle.desk_front.specs.declared.effect.LineRefusal.TheVariants as line
@@ -106,7 +107,7 @@ IsDue before says deed =
     ⊎ (MayLackMemory says × (deed ≡ Refused line.Memory))
 
 -- the same, as the line is read
-abbrev pub IsDueAs : List Turn → Reading → Deed → Type 0
+abbrev pub IsDueAs : List Turn → Reading Line → Deed → Type 0
 IsDueAs before Blank deed = deed ≡ Skipped
 IsDueAs before Long deed = deed ≡ Refused line.Long
 IsDueAs before Syntax deed = deed ≡ Refused line.Syntax

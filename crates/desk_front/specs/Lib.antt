@@ -14,3 +14,14 @@ pub mod Said
 pub mod Script
 pub mod Desk
 pub mod Fault
+pub mod Reading
+pub mod Asked
+pub mod AskedView
+pub mod Served
+pub mod Owed
+pub mod Submits
+pub mod LanesView
+pub mod Serving
+pub mod Telling
+pub mod Ending
+pub mod Front

@@ -1,10 +1,7 @@
 -- What a line says.
-use Rattle.std.specs.Prelude.{◌≡◌, ◌≢◌, ◌⊎◌, ℕ, ◌^◌, ◌<◌, ◌≤◌, ◌==◌, ◌||◌, Bool, true, List, length, Some, None, codes}
-use Rattle.std.specs.List.{list_all}
-use Rattle.std.specs.Str.{IsUtf8}
+use Rattle.std.specs.Prelude.{◌≡◌, ℕ, ◌^◌, ◌<◌, ◌≤◌, List, length, codes}
 use Rattle.serde_json.specs.Data.{Data, string, number, unsigned, object, Members, member, no_members}
-use Rattle.serde_json.specs.Read.{read}
-use Rattle.desk_front.specs.Lines.{max_line}
+use Rattle.desk_front.specs.Reading.{Reading, ReadsAs}
 
 -- the lines of `replay`, by what they name
 pub data Line : Type 0 where
@@ -66,23 +63,5 @@ abbrev pub IsLine : Line → Data → Type 0
 IsLine line value = (object_of line ≡ value) × IsLawful line
 
 -- how a line of an input is read
-pub data Reading : Type 0 where
-  Blank : Reading
-  Long : Reading
-  Syntax : Reading
-  Shape : Reading
-  Says : (line : Line) → Reading
-
-abbrev pub is_blank : List ℕ → Bool
-is_blank text = list_all (λ b. (b == 32) || (b == 9) || (b == 13)) text
-
--- the first that applies: too long, blank, no JSON text nested at most 127 deep, no line, a line
-abbrev pub Reads : List ℕ → Reading → Type 0
-Reads text Long = max_line < length text
-Reads text Blank = (length text ≤ max_line) × (is_blank text ≡ true)
-Reads text Syntax = (length text ≤ max_line) × (is_blank text ≢ true) × (¬ IsUtf8 text ⊎ (read text ≡ None))
-Reads text Shape =
-    (length text ≤ max_line) × (is_blank text ≢ true) × IsUtf8 text
-    × ((data₁ : Data) × (read text ≡ Some data₁) × ((line : Line) → IsLawful line → object_of line ≢ data₁))
-Reads text (Says line) =
-    (length text ≤ max_line) × (is_blank text ≢ true) × IsUtf8 text × (read text ≡ Some (object_of line)) × IsLawful line
+abbrev pub Reads : List ℕ → Reading Line → Type 0
+Reads = ReadsAs object_of IsLawful

@@ -5,7 +5,8 @@ use Rattle.serde_json.specs.Written.{compact_text}
 use Rattle.box_core.specs.History as broker
 use Rattle.dmn_plan.specs.Request.{Request}
 use Rattle.feel_value.specs.declared.feel.Outcome.{Outcome}
-use Rattle.desk_front.specs.Line.{Line, Model, Open, Submit, Take, Answer, AnswerWith, Release, Close, Resize, Reading, Says, with_name, with_number}
+use Rattle.desk_front.specs.Line.{Line, Model, Open, Submit, Take, Answer, AnswerWith, Release, Close, Resize, with_name, with_number}
+use Rattle.desk_front.specs.Reading.{Reading, Says}
 use Rattle.desk_front.specs.Shown.{reply}
 use Rattle.desk_front.specs.Turns.{Deed, Skipped, Loaded, Faulty, Asked, Refused, Turn}
 use Rattle.desk_front.specs.Words.{line_word, refusal_word, unadded_word, fault_name}
@@ -43,7 +44,7 @@ named_refusal name k word =
     object (with_name (codes "client") name (with_number (codes "line") k (with_name (codes "refused") word no_members)))
 
 -- a refusal has the name where the line has one
-abbrev pub refused : Reading → ℕ → List ℕ → Data
+abbrev pub refused : Reading Line → ℕ → List ℕ → Data
 refused (Says (Model json)) k word = refusal k word
 refused (Says line) k word = named_refusal (name_on line) k word
 refused reading k word = refusal k word
@@ -79,14 +80,14 @@ reported k line (broker.Resized n) =
 reported k line (broker.Refused why) = named_refusal (name_on line) k (refusal_word why)
 
 -- the report on a line that is not blank; the broker is asked only on lines that say something
-abbrev pub report : ℕ → Reading → Deed → Data
+abbrev pub report : ℕ → Reading Line → Deed → Data
 report k reading (Loaded text) = loaded k
 report k reading (Faulty fault) = faulty k (fault_name fault)
 report k reading (Refused why) = refused reading k (line_word why)
 report k (Says line) (Asked event told) = reported k line told
 report k reading deed = null
 
-abbrev pub said_as : ℕ → Reading → Deed → List (List ℕ)
+abbrev pub said_as : ℕ → Reading Line → Deed → List (List ℕ)
 said_as k reading Skipped = []
 said_as k reading deed = compact_text (report k reading deed) ∷ []
 

@@ -5,7 +5,8 @@ use Rattle.box_core.specs.History as broker
 use Rattle.dmn_plan.specs.Request.{Request}
 use Rattle.dmn_plan.specs.declared.fault.ModelFault.{ModelFault}
 use Rattle.feel_value.specs.declared.feel.Outcome.{Outcome}
-use Rattle.desk_front.specs.Line.{Open, Reading, Says}
+use Rattle.desk_front.specs.Line.{Line, Open}
+use Rattle.desk_front.specs.Reading.{Reading, Says}
 use Rattle.desk_front.specs.declared.effect.LineRefusal.{LineRefusal}
 
 -- what is done with a line
@@ -25,7 +26,7 @@ pub data Deed : Type 0 where
 pub record Turn : Type 0 where
   pub number : ℕ
   pub line : List ℕ
-  pub reading : Reading
+  pub reading : Reading Line
   pub deed : Deed
 
 abbrev pub pair_of : Deed → broker.History Request Outcome
@@ -37,7 +38,7 @@ abbrev pub history : List Turn → broker.History Request Outcome
 history turns = flat_map (λ turn. pair_of turn.deed) turns
 
 -- the name that a line opens, where it does
-abbrev pub opened_by : Reading → Deed → List (List ℕ)
+abbrev pub opened_by : Reading Line → Deed → List (List ℕ)
 opened_by (Says (Open name n)) (Asked event (broker.Added client)) = name ∷ []
 opened_by reading deed = []
 

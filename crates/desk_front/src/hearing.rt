@@ -17,7 +17,8 @@ use serde_json::Value;
 use std::alloc::{AllocError, Global};
 use std::sync::Arc;
 
-fn refusal_of(fault: TaskFault) -> LineRefusal
+/// Why the front refuses a request for which there is no task.
+pub fn refusal_of(fault: TaskFault) -> LineRefusal
     ensures { result ≡ line_refusal fault }
 {
     match fault {

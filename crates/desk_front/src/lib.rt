@@ -10,11 +10,13 @@ mod line;
 mod lines;
 mod report;
 mod said;
+mod serving;
 mod session;
 mod talk;
 mod write;
 
 pub use device::{Counted, Sink, Source};
 pub use fault::FrontFault;
+pub use serving::{Options, serve};
 pub use session::replay;
 pub use write::write_all;

@@ -4,7 +4,8 @@ ghost use Rattle.std.specs.Str.{IsUtf8};
 ghost use Rattle.serde_json.specs.Data.{Data, string, number, unsigned, object};
 ghost use Rattle.serde_json.specs.View.{view};
 ghost use Rattle.serde_json.specs.Read.{read};
-ghost use Rattle.desk_front.specs.Line.{IsName, IsTicket, IsLine, is_blank};
+ghost use Rattle.desk_front.specs.Line.{IsName, IsTicket, IsLine};
+ghost use Rattle.desk_front.specs.Reading.{is_blank};
 ghost use Rattle.desk_front.specs.Line as said;
 ghost use Rattle.desk_front.specs.LineView.{line_view};
 
@@ -41,7 +42,7 @@ pub enum Line<'a> {
 }
 
 /// A name of 1 to 64 bytes.
-fn name_in(value: &Value) -> Option<&str>
+pub fn name_in(value: &Value) -> Option<&str>
     ensures found { IfSome result (λ name. (view value.now ≡ string name.now) × IsName name.now) }
     ensures other { IfNone result ((name : List ℕ) → IsName name → view value.now ≢ string name) }
 {
@@ -52,7 +53,7 @@ fn name_in(value: &Value) -> Option<&str>
     Some(name)
 }
 
-fn capacity_in(value: &Value) -> Option<u32>
+pub fn capacity_in(value: &Value) -> Option<u32>
     ensures found { IfSome result (λ n. (view value.now ≡ number (unsigned n)) × (n < 2 ^ 32)) }
     ensures other { IfNone result ((n : ℕ) → n < 2 ^ 32 → view value.now ≢ number (unsigned n)) }
 {

@@ -1,5 +1,5 @@
 //! Reports as JSON values, and their texts.
-ghost use Rattle.std.specs.Prelude.{◌≡◌, ◌++◌, ◌∷◌, [], codes, string_bytes, IfOk, false, true};
+ghost use Rattle.std.specs.Prelude.{◌≡◌, ◌++◌, ◌∷◌, [], codes, string_bytes, IfOk, OnOk, false, true};
 ghost use Rattle.serde_json.specs.Data.{number, unsigned, string, boolean, object, member, no_members};
 ghost use Rattle.serde_json.specs.View.{view};
 ghost use Rattle.serde_json.specs.Written.{compact_text, has_float};
@@ -163,4 +163,13 @@ pub fn report_line(alloc: Global, report: &Value) -> Result<Vec<u8>, AllocError>
     let mut text = report_text(alloc, report)?.into_bytes();
     text.push(b'\n')?;
     Ok(text)
+}
+
+/// Adds the line of a report without floats to a text.
+pub fn say(alloc: Global, report: &Value, text: &mut Vec<u8>) -> Result<(), AllocError>
+    requires { has_float (view report.now) ≡ false }
+    ensures { OnOk result (text.new.items ≡ text.old.items ++ ended (compact_text (view report.now))) }
+{
+    let line = report_line(alloc, report)?;
+    text.extend_from_slice(&line)
 }

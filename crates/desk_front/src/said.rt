@@ -3,7 +3,7 @@ ghost use Rattle.std.specs.Prelude.{◌≡◌, IfOk, false};
 ghost use Rattle.serde_json.specs.View.{view};
 ghost use Rattle.serde_json.specs.Written.{has_float};
 ghost use Rattle.box_core.specs.Views.{report_of};
-ghost use Rattle.desk_front.specs.Line.{Says};
+ghost use Rattle.desk_front.specs.Reading.{Says};
 ghost use Rattle.desk_front.specs.Words as words;
 ghost use Rattle.desk_front.specs.Said as said;
 ghost use Rattle.desk_front.specs.Desk.{told_of};
@@ -17,7 +17,7 @@ use dmn_plan::{ModelFault, Task};
 use serde_json::Value;
 use std::alloc::{AllocError, Global};
 
-fn refusal_word(why: Refusal) -> &'static str
+pub fn refusal_word(why: Refusal) -> &'static str
     ensures { result.now ≡ words.refusal_word why }
 {
     match why {
@@ -42,7 +42,7 @@ fn unadded_word(why: AddRefusal) -> &'static str
     }
 }
 
-fn model_word(fault: ModelFault) -> &'static str
+pub fn model_word(fault: ModelFault) -> &'static str
     ensures { result.now ≡ words.fault_name fault }
 {
     match fault {

@@ -134,6 +134,8 @@ impl Asking {
 impl Front for Asking {
     type Out = Result<(), AllocError>;
 
+    ghost ready = { λ _. Unit {0} };
+
     ghost done = { λ old new _. map client_links new.clients.items ≡ map client_links old.clients.items };
 
     fn run<R: Wait>(&mut self, rt: &R, crew: &Crew) -> Result<(), AllocError> {

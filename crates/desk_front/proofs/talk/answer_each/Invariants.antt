@@ -1,4 +1,4 @@
-use Rattle.std.proofs.Common.{◌≡◌, ℕ, ◌+◌, ◌-◌, length}
+use Rattle.std.proofs.Common.{◌≡◌, ℕ, ◌+◌, ◌-◌, List, length}
 use Rattle.desk_front.specs.Lines.{max_input}
 use Rattle.desk_front.specs.LineReader.{waiting, IsInStep}
 use Rattle.desk_front.proofs.Talking.{Progress}
@@ -11,6 +11,8 @@ invariant-lines g l = record {
   reads : g.R.Source.faults l.reader ≡ g.R.Source.faults l.initial.reader;
   writes : g.W.Sink.faults l.writer ≡ g.W.Sink.faults l.initial.writer;
   in_step : IsInStep (g.R.Source.came l.initial.reader) (g.R.Source.came l.reader) l.lines.came;
+  same : g.C.Clerk.kept l.clerk ≡ g.C.Clerk.kept l.initial.clerk;
+  keeps : (lines said : List (List ℕ)) → g.C.Clerk.Script l.clerk lines said → g.C.Clerk.Script l.initial.clerk lines said;
 }
 
 abbrev pub decreases-lines : goal.decreases-lines

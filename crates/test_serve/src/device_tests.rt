@@ -1,0 +1,250 @@
+//! Devices that give and take bytes in pieces, or fail at some call.
+use crate::runs::{Ended, FEW, is_begun, is_due, lines_in, serve_once, with_model};
+use desk_front::FrontFault;
+use lanes::OpenGate;
+use std::alloc::Global;
+use std::io;
+use std::sync::Wait;
+use std::test::Fail;
+use std::thread::Threads;
+
+/// Gives a text in pieces of at most so many bytes, and fails at one call, counted from 1.
+#[derive(Drop)]
+struct Pieces<'a> {
+    text: &'a [u8],
+    most: usize,
+    calls: u64,
+    fails_at: u64,
+}
+
+impl io::Read for Pieces<'_> {
+    fn read(&mut self, buf: &mut [u8]) -> io::Result<usize> {
+        self.calls = self.calls.saturating_add(1);
+        if self.calls == self.fails_at {
+            return Err(io::Error::from(io::ErrorKind::Other));
+        }
+        let n = self.text.len().min(self.most).min(buf.len());
+        buf[..n].copy_from_slice(&self.text[..n]);
+        self.text = &self.text[n..];
+        Ok(n)
+    }
+}
+
+/// Takes at most so many bytes at a call, and fails at one call, counted from 1.
+#[derive(Drop)]
+struct Sips {
+    taken: Vec<u8>,
+    most: usize,
+    calls: u64,
+    fails_at: u64,
+}
+
+impl io::Write for Sips {
+    fn write(&mut self, buf: &[u8]) -> io::Result<usize> {
+        self.calls = self.calls.saturating_add(1);
+        if self.calls == self.fails_at {
+            return Err(io::Error::from(io::ErrorKind::Other));
+        }
+        let n = buf.len().min(self.most);
+        if self.taken.extend_from_slice(&buf[..n]).is_err() {
+            return Err(io::Error::from(io::ErrorKind::OutOfMemory));
+        }
+        Ok(n)
+    }
+
+    fn flush(&mut self) -> io::Result<()> {
+        Ok(())
+    }
+}
+
+/// How a device gives or takes: the most bytes at a call, and the call at which it fails, if not 0.
+#[derive(Clone, Copy)]
+struct Way {
+    most: usize,
+    fails_at: u64,
+}
+
+const WELL: Way = Way {
+    most: 10_000,
+    fails_at: 0,
+};
+
+const ONE_BYTE: Way = Way {
+    most: 1,
+    fails_at: 0,
+};
+
+/// Lines behind the model, each of which has one answer.
+const TWO_LINES: &str = r#"{"client":"a","service":"s","inputs":{"a":1}}
+{"client":"a","close":true}
+"#;
+
+const THEIR_DUE: [(&str, &str); 3] = [
+    (
+        "a",
+        r#"{"client":"a","result":2,"ticket":0}
+{"client":"a","closed":true,"line":3}
+"#,
+    ),
+    ("b", ""),
+    ("", "{\"line\":1,\"model\":true}\n"),
+];
+
+/// More of them.
+const LINES: &str = r#"{"client":"a","service":"s","inputs":{"a":1}}
+{"client":"b","service":"s","inputs":{"a":10}}
+{"client":"a","service":"s","inputs":{"a":2}}
+{"client":"a","service":"s","inputs":{"a":1.5}}
+{"resize":"b","capacity":1}
+{"client":"b","service":"s","inputs":{"a":11}}
+{"client":"b","service":"s","inputs":{"a":12}}
+{"client":"a","close":true}
+{"client":"a","service":"s","inputs":{}}
+no json
+{"client":"b","service":"s","inputs":{}}
+"#;
+
+const DUE: [(&str, &str); 3] = [
+    (
+        "a",
+        r#"{"client":"a","result":2,"ticket":0}
+{"client":"a","result":3,"ticket":1}
+{"client":"a","line":5,"refused":"value"}
+{"client":"a","closed":true,"line":9}
+{"client":"a","line":10,"refused":"closed"}
+"#,
+    ),
+    (
+        "b",
+        r#"{"client":"b","result":11,"ticket":0}
+{"client":"b","line":6,"resized":1}
+{"client":"b","result":12,"ticket":1}
+{"client":"b","result":13,"ticket":2}
+{"client":"b","result":null,"ticket":3}
+"#,
+    ),
+    (
+        "",
+        r#"{"line":1,"model":true}
+{"line":11,"refused":"syntax"}
+"#,
+    ),
+];
+
+fn served_by<T: Threads + Wait + Sync>(
+    alloc: Global,
+    rt: &T,
+    text: &[u8],
+    reads: Way,
+    writes: Way,
+) -> (Ended, Vec<u8>) {
+    let reader = Pieces {
+        text,
+        most: reads.most,
+        calls: 0,
+        fails_at: reads.fails_at,
+    };
+    let writer = Sips {
+        taken: Vec::new(alloc),
+        most: writes.most,
+        calls: 0,
+        fails_at: writes.fails_at,
+    };
+    let (ended, writer) = serve_once(alloc, rt, reader, writer, &OpenGate, FEW);
+    (ended, writer.taken)
+}
+
+#[test]
+fn devices_may_give_and_take_in_pieces(rt: HostRuntime) -> Result<(), Fail> {
+    let text = with_model(rt.alloc(), LINES.as_bytes())?;
+    for (reads, writes) in [
+        (WELL, WELL),
+        (ONE_BYTE, WELL),
+        (WELL, ONE_BYTE),
+        (ONE_BYTE, ONE_BYTE),
+    ] {
+        let (ended, output) = served_by(rt.alloc(), &rt, &text, reads, writes);
+        assert_eq!(rt; ended, Ended::Whole(4));
+        assert!(rt; is_due(&output, &DUE));
+    }
+    Ok(())
+}
+
+/// An input, what is due to it, and the most bytes that a device gives or takes of it at a call.
+type Case = (&'static str, [(&'static str, &'static str); 3], usize);
+
+const CASES: [Case; 3] = [
+    (TWO_LINES, THEIR_DUE, 1),
+    (LINES, DUE, 7),
+    (LINES, DUE, 100),
+];
+
+/// The lines that came whole are answered, and no other.
+#[test]
+fn a_reader_may_fail_at_any_call(rt: HostRuntime) -> Result<(), Fail> {
+    for (lines, due, most) in CASES {
+        let text = with_model(rt.alloc(), lines.as_bytes())?;
+        for fails_at in 1..1000 {
+            let (ended, output) = served_by(rt.alloc(), &rt, &text, Way { most, fails_at }, WELL);
+            if ended == Ended::Whole(4) {
+                assert!(rt; is_due(&output, &due), "{most} {fails_at}");
+                break;
+            }
+            let came = (fails_at as usize - 1).saturating_mul(most);
+            let whole = lines_in(&text[..came.min(text.len())]);
+            assert_eq!(rt; ended, Ended::Failed(FrontFault::Read), "{most} {fails_at}");
+            assert!(rt; is_begun(&output, &due), "{most} {fails_at}");
+            assert_eq!(rt; lines_in(&output), whole, "{most} {fails_at}");
+            assert!(rt;
+                matches!(output.last(), None | Some(b'\n')),
+                "{most} {fails_at}"
+            );
+        }
+    }
+    Ok(())
+}
+
+/// A run that meets no fault is the last.
+#[test]
+fn a_writer_may_fail_at_any_call(rt: HostRuntime) -> Result<(), Fail> {
+    for reads in [WELL, ONE_BYTE] {
+        for (lines, due, most) in CASES {
+            let text = with_model(rt.alloc(), lines.as_bytes())?;
+            for fails_at in 1..1000 {
+                let writes = Way { most, fails_at };
+                let (ended, output) = served_by(rt.alloc(), &rt, &text, reads, writes);
+                if ended == Ended::Whole(4) {
+                    assert!(rt; is_due(&output, &due), "{most} {fails_at}");
+                    break;
+                }
+                assert_eq!(rt;
+                    ended,
+                    Ended::Failed(FrontFault::Write),
+                    "{most} {fails_at}"
+                );
+                assert!(rt; is_begun(&output, &due), "{most} {fails_at}");
+            }
+        }
+    }
+    Ok(())
+}
+
+/// Where both fail the writer's fault is told.
+#[test]
+fn a_fault_of_the_writer_is_told_before_one_of_the_reader(rt: HostRuntime) -> Result<(), Fail> {
+    let text = with_model(rt.alloc(), LINES.as_bytes())?;
+    for (most, fails_at) in [(0, 0), (5, 1), (5, 2)] {
+        let reads = Way {
+            most: 300,
+            fails_at: 2,
+        };
+        let (ended, output) = served_by(rt.alloc(), &rt, &text, reads, Way { most, fails_at });
+        assert_eq!(rt; ended, Ended::Failed(FrontFault::Write));
+        assert!(rt; is_begun(&output, &DUE));
+        assert_eq!(rt;
+            output.len(),
+            most.saturating_mul(fails_at.saturating_sub(1) as usize)
+        );
+    }
+    Ok(())
+}
