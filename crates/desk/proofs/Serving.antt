@@ -1,10 +1,10 @@
 -- What a run of `serve` comes to, by how it ended.
 use Rattle.std.proofs.Common.{◌≡◌, ◌<◌, ◌≤◌, ◌+◌, ◌-◌, ◌^◌, ◌∙◌, ap, ℕ, List, Option, Result, Ok, Err, OnOk, IfOk, IfErr}
-use Rattle.desk_front.specs.Lines.{lines_of, max_input}
-use Rattle.desk_front.specs.Served.{Served, ServedInPart}
-use Rattle.desk_front.specs.Talk.{EndsAs, Replays}
-use Rattle.desk_front.specs.declared.fault.FrontFault.{FrontFault}
-use Rattle.desk_front.specs.declared.fault.FrontFault.TheVariants as front
+use Rattle.desk_lines.specs.Lines.{lines_of, max_input}
+use Rattle.desk_serving.specs.Served.{Served, ServedInPart}
+use Rattle.desk_lines.specs.Talk.{EndsAs, Replays}
+use Rattle.desk_lines.specs.declared.fault.FrontFault.{FrontFault}
+use Rattle.desk_lines.specs.declared.fault.FrontFault.TheVariants as front
 use Rattle.desk.specs.Status.{ServedBy}
 
 weaker : {Said Less : List (List ℕ) → List (List ℕ) → Type 0} (left left' wrote wrote' : Option (List ℕ)) → ((lines output : List (List ℕ)) → Said lines output → Less lines output)

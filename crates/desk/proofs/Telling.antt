@@ -2,9 +2,9 @@
 use Rattle.std.proofs.Common.{◌≡◌, ◌<◌, ℕ, List, [], ◌++◌, take, drop, refl, sym, ap, ◌∙◌, append_assoc, append-nil, Option, Result, Ok, Err, OnOk, OnErr, IfErr, is_ok, true, false, true≢false}
 use Rattle.std.specs.Io.KnownBytes.{Appends}
 use Rattle.std.proofs.lemmas.List.{take-append-drop}
-use Rattle.desk_front.proofs.Coming.{Appends-then}
-use Rattle.desk_front.specs.declared.fault.FrontFault.{FrontFault}
-use Rattle.desk_front.specs.declared.fault.FrontFault.TheVariants.{Write}
+use Rattle.desk_lines.proofs.Coming.{Appends-then}
+use Rattle.desk_lines.specs.declared.fault.FrontFault.{FrontFault}
+use Rattle.desk_lines.specs.declared.fault.FrontFault.TheVariants.{Write}
 use Rattle.desk.specs.Status.{IsTold}
 
 module _ {W : Type 0} (contents : W → Option (List ℕ)) (failures : W → ℕ) where

@@ -7,7 +7,7 @@ use Rattle.clap.specs.Kinds.{Kinds}
 use Rattle.clap.specs.declared.builder.action.ArgAction.TheVariants.{Set}
 use Rattle.clap.specs.declared.builder.value_parser.ValueParser.TheVariants.{Unsigned}
 use Rattle.std.specs.Str.Parse.{digits_value, without_leading_plus}
-use Rattle.desk_front.specs.declared.serving.options.Options.{Options}
+use Rattle.desk_serving.specs.declared.options.Options.{Options}
 
 -- an option that is a number from 1 to `most`, and `usual` where it is left out
 abbrev pub number_option : Text → Text → ℕ → Rule

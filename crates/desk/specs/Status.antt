@@ -4,15 +4,15 @@ use Rattle.std.specs.Io.KnownBytes.{Appends}
 use Rattle.clap.specs.Kinds.{Kinds, IsAmong}
 use Rattle.clap.specs.declared.error.kind.ErrorKind.{ErrorKind}
 use Rattle.clap.specs.declared.error.kind.ErrorKind.TheVariants as kind
-use Rattle.desk_front.specs.Fault.{fault_word}
+use Rattle.desk_lines.specs.Fault.{fault_word}
 use Rattle.clap.specs.Words.{Row}
-use Rattle.desk_front.specs.Served.{Served, ServedInPart}
-use Rattle.desk_front.specs.Talk.{EndsAs, Replays}
+use Rattle.desk_serving.specs.Served.{Served, ServedInPart}
+use Rattle.desk_lines.specs.Talk.{EndsAs, Replays}
 use Rattle.desk_front.specs.Script.{Script}
-use Rattle.desk_front.specs.Lines.{ended, max_input}
-use Rattle.desk_front.specs.declared.fault.FrontFault.{FrontFault}
-use Rattle.desk_front.specs.declared.fault.FrontFault.TheVariants as front
-use Rattle.desk_front.specs.declared.serving.options.Options.{Options}
+use Rattle.desk_lines.specs.Lines.{ended, max_input}
+use Rattle.desk_lines.specs.declared.fault.FrontFault.{FrontFault}
+use Rattle.desk_lines.specs.declared.fault.FrontFault.TheVariants as front
+use Rattle.desk_serving.specs.declared.options.Options.{Options}
 use Rattle.desk.specs.CommandLine.{AreOptionsOf}
 
 -- 0 at the end of the input, 1 where a fault came before it

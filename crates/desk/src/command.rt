@@ -1,5 +1,5 @@
 //! The command line, as `clap` reads it.
-ghost use Rattle.std.specs.Prelude.{◌≡◌, IfOk, IfErr, codes, false, map, string_bytes};
+ghost use Rattle.std.specs.Prelude.{◌≡◌, IfOk, IfErr, Some, codes, false, map, string_bytes};
 ghost use Rattle.clap.specs.Words.{app_of, kind_of, new_app, rule_of, subcommand_of, subcommand_rows_of, with_subcommand};
 ghost use Rattle.clap.specs.Kinds.{FailsBy};
 ghost use Rattle.desk.specs.CommandLine.{desk_command, number_option, serve_app, IsCommand, kinds_of};
@@ -19,6 +19,7 @@ fn number_option<'a>(
 ) -> Arg<'a>
     ensures rule { rule_of result ≡ number_option name.entry.now usual.entry.now most }
     ensures local { result.global ≡ false }
+    ensures help { result.help ≡ Some help.entry }
 {
     Arg::new(alloc, name)
         .long(name)

@@ -2,7 +2,7 @@
 ghost use Rattle.std.specs.Prelude.{◌≡◌, ◌≢◌, ◌⊎◌, ◌<◌, ◌-◌, ◌^◌, ℕ, List, [], None, Result, map, string_bytes};
 ghost use Rattle.std.specs.IoError.{error_kind};
 ghost use Rattle.clap.specs.Words.{kind_of};
-ghost use Rattle.desk_front.specs.declared.fault.FrontFault.{FrontFault};
+ghost use Rattle.desk_lines.specs.declared.fault.FrontFault.{FrontFault};
 ghost use Rattle.lanes.specs.Made.{fault_in};
 ghost use Rattle.desk.specs.CommandLine.{IsCommand, kinds_of, serve_rows};
 ghost use Rattle.desk.specs.Status.{RanAs, Replayed, ServedBy, IsTold, IsStatusOf, status_of, status_of_kind, fault_line, no_utf8_line, end_text};

@@ -4,7 +4,7 @@ use Rattle.std.specs.Prelude.{codes}
 use Rattle.serde_json.specs.Data.{number, unsigned, object, no_members, member}
 use Rattle.serde_json.specs.Read.{read}
 use Rattle.serde_json.proofs.OnLiterals.{serde_json_on_literals}
-use Rattle.desk_front.specs.Lines.{lines_of, whole_lines_of}
+use Rattle.desk_lines.specs.Lines.{lines_of, whole_lines_of}
 use Rattle.desk_front.specs.Line.{Open, Submit, Take, AnswerWith, Resize, object_of}
 
 -- lines

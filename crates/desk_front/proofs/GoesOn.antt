@@ -1,6 +1,6 @@
 -- Every line that can come has a turn that is due, so a script goes on whatever lines come: an output for the first lines of
 -- an input is the beginning of one for all of them.
-use Rattle.std.proofs.Common.{◌≡◌, ◌≢◌, ◌⊎◌, inl, inr, ℕ, ◌+◌, List, [], ◌∷◌, ◌++◌, length, map, refl, sym, ap, ap₂, ◌∙◌, subst, append_assoc, append-nil}
+use Rattle.std.proofs.Common.{◌≡◌, inl, ℕ, ◌+◌, List, [], ◌∷◌, ◌++◌, length, map, refl, sym, ap, ap₂, ◌∙◌, subst, append_assoc, append-nil}
 use Rattle.std.specs.List.{flat_map}
 use Rattle.std.proofs.lemmas.Grind.{flat_map-append}
 use Rattle.std.proofs.lemmas.List.{map-append}
@@ -10,12 +10,12 @@ use Rattle.dmn_plan.specs.Request.{Request, request_result}
 use Rattle.dmn_plan.proofs.Decided.{one_request}
 use Rattle.feel_value.specs.declared.feel.Outcome.{Outcome}
 use Rattle.desk_front.specs.Line.{Line}
-use Rattle.desk_front.specs.Reading.{Reading, Blank, Long, Syntax, Shape, Says}
+use Rattle.desk_reports.specs.Reading.{Reading, Blank, Long, Syntax, Shape, Says}
 use Rattle.desk_front.specs.Turns.{Deed, Skipped, Loaded, Faulty, Refused, Asked, Turn, history, opened, in_force}
 use Rattle.desk_front.specs.Due.{Due, Loads, Faults, Refuses, Asks, due_to, IsDone, IsDueAs, Follows}
 use Rattle.desk_front.specs.Said.{said_of}
 use Rattle.desk_front.specs.Script.{AreInOrder, Script}
-use Rattle.desk_front.specs.declared.effect.LineRefusal.TheVariants as line
+use Rattle.desk_reports.specs.declared.refusal.LineRefusal.TheVariants as line
 use Rattle.desk_front.proofs.Decisions.{a_reading}
 
 deed_for : (past : broker.History Request Outcome) (due : Due) → (deed : Deed) × IsDone past due deed

@@ -1,10 +1,8 @@
 -- Laws of scripts.
-use Rattle.std.proofs.Common.{◌≡◌, ◌≢◌, ℕ, Bool, true, false, if◌then◌else◌, List, [], ◌∷◌, ◌++◌, length, map, Option, Some, None, option_map, true≢false, ◌⊎◌, inl, inr, refl, ap, sym, ◌∙◌, subst, arith, append-nil, codes, bytes_eq}
+use Rattle.std.proofs.Common.{◌≡◌, ◌≢◌, ℕ, Bool, true, false, if◌then◌else◌, List, [], ◌∷◌, ◌++◌, length, map, Option, Some, None, option_map, true≢false, inl, inr, refl, ap, sym, ◌∙◌, subst, append-nil, codes, bytes_eq}
 use Rattle.std.specs.List.{flat_map, list_any}
 use Rattle.std.proofs.lemmas.Grind.{flat_map-append}
 use Rattle.std.proofs.lemmas.Bool.{or_parts}
-use Rattle.std.specs.Str.{IsUtf8}
-use Rattle.serde_json.specs.Read.{read}
 use Rattle.serde_json.specs.Data.{Data, number, string, object, unsigned, Members, no_members, member}
 use Rattle.box_core.specs.History as broker
 use Rattle.box_core.specs.Mail.{Status, Unknown, Waiting, Running, Settled, refusal_by, resize_refusal_by}
@@ -14,13 +12,13 @@ use Rattle.box_core.specs.declared.faults.AddRefusal.TheVariants as unadded
 use Rattle.dmn_plan.specs.Request.{Request, request_result}
 use Rattle.feel_value.specs.declared.feel.Outcome.{Outcome}
 use Rattle.desk_front.specs.Line.{Line, Model, Open, Submit, Take, Answer, AnswerWith, Release, Close, Resize, object_of, IsLawful, Reads}
-use Rattle.desk_front.specs.Reading.{Reading, Blank, Long, Syntax, Shape, Says}
-use Rattle.desk_front.proofs.ReadOnce.{some_same, read_once}
+use Rattle.desk_reports.specs.Reading.{Reading, Blank, Long, Syntax, Shape, Says}
+use Rattle.desk_reports.proofs.ReadOnce.{some_same, read_once}
 use Rattle.desk_front.specs.Turns.{Deed, Skipped, Loaded, Faulty, Asked, Refused, Turn, pair_of, history}
 use Rattle.desk_front.specs.Due.{Due, Loads, Faults, Refuses, Asks, IsDone, IsDue, IsDueAs, Follows}
 use Rattle.desk_front.specs.Said.{said_of}
 use Rattle.desk_front.specs.Script.{AreInOrder, Script, told_memory, tells_memory}
-use Rattle.desk_front.specs.declared.effect.LineRefusal.TheVariants as line
+use Rattle.desk_reports.specs.declared.refusal.LineRefusal.TheVariants as line
 
 -- ---- a script's history is legal
 

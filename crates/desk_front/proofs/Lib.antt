@@ -1,27 +1,8 @@
-pub mod Splitting
-pub mod Coming
-pub mod Gathering
-pub mod Talking
 mod Examples
 pub mod Counting
 pub mod Finding
 pub mod Turning
 pub mod Answering
-pub mod ReadOnce
 pub mod Laws
-pub mod ServedLaws
-pub mod Floats
 pub mod Decisions
 pub mod GoesOn
-pub mod Owing
-pub mod Standing
-pub mod Replying
-pub mod Asking
-pub mod Saying
-pub mod Ending
-pub mod Fronting
-pub mod Finishing
-pub mod Laning
-pub mod Putting
-pub mod Running
-pub mod Sendable

@@ -16,7 +16,7 @@ use Rattle.dmn_plan.specs.Request.{Request, request_result}
 use Rattle.dmn_plan.specs.ReadModel.{read_model}
 use Rattle.feel_value.specs.declared.feel.Outcome.{Outcome}
 use Rattle.desk_front.specs.Line.{Line, Model, Open, Submit, Take, Answer, AnswerWith, Release, Close, Resize}
-use Rattle.desk_front.specs.Reading.{Says}
+use Rattle.desk_reports.specs.Reading.{Says}
 use Rattle.desk_front.specs.Turns.{Deed, Loaded, Faulty, Asked, Refused, Turn, pair_of, history, opened_by, opened, newer, in_force_after, in_force, taken_work}
 use Rattle.desk_front.specs.Due.{Due, Loads, Faults, Refuses, Asks, due_to, due_to_model, due_to_open, due_to_work, due_to_answer, IsDone, IsDue, number_of, client_of, request_under, asks_with, MayLackMemory, Follows}
 use Rattle.desk_front.specs.Said.{said_of, report}
@@ -26,8 +26,8 @@ use Rattle.dmn_plan.specs.declared.fault.ModelFault.{ModelFault}
 use Rattle.desk_front.specs.declared.desk.Desk.{Desk}
 use Rattle.desk_front.specs.declared.effect.Effect.{Effect}
 use Rattle.desk_front.specs.declared.effect.Effect.TheVariants as effect
-use Rattle.desk_front.specs.declared.effect.LineRefusal.{LineRefusal}
-use Rattle.desk_front.specs.declared.effect.LineRefusal.TheVariants as line
+use Rattle.desk_reports.specs.declared.refusal.LineRefusal.{LineRefusal}
+use Rattle.desk_reports.specs.declared.refusal.LineRefusal.TheVariants as line
 
 -- ---- what is read off the turns
 

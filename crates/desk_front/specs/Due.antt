@@ -9,13 +9,13 @@ use Rattle.dmn_plan.specs.ReadModel.{read_model}
 use Rattle.dmn_plan.specs.Request.{Request, request_of, request_result}
 use Rattle.dmn_plan.specs.declared.fault.ModelFault.{ModelFault}
 use Rattle.dmn_plan.specs.declared.fault.TaskFault.{TaskFault}
-use Rattle.dmn_plan.specs.declared.fault.TaskFault.TheVariants as task
 use Rattle.feel_value.specs.declared.feel.Outcome.{Outcome}
 use Rattle.desk_front.specs.Line.{Line, Model, Open, Submit, Take, Answer, AnswerWith, Release, Close, Resize, Reads}
-use Rattle.desk_front.specs.Reading.{Reading, Blank, Long, Syntax, Shape, Says}
+use Rattle.desk_reports.specs.Reading.{Reading, Blank, Long, Syntax, Shape, Says}
+use Rattle.desk_reports.specs.Words.{line_refusal}
 use Rattle.desk_front.specs.Turns.{Deed, Skipped, Loaded, Faulty, Asked, Refused, Turn, history, opened, in_force, taken_work}
-use Rattle.desk_front.specs.declared.effect.LineRefusal.{LineRefusal}
-use Rattle.desk_front.specs.declared.effect.LineRefusal.TheVariants as line
+use Rattle.desk_reports.specs.declared.refusal.LineRefusal.{LineRefusal}
+use Rattle.desk_reports.specs.declared.refusal.LineRefusal.TheVariants as line
 
 -- the number of an opened name's client
 abbrev pub number_of : List (List ℕ) → List ℕ → Option ℕ
@@ -24,11 +24,6 @@ number_of names name = position (λ opened. bytes_eq opened name) names
 -- the same; the first number that isn't given yet for a name that was never opened
 abbrev pub client_of : List (List ℕ) → List ℕ → ℕ
 client_of names name = unwrap_or (number_of names name) (length names)
-
-abbrev pub line_refusal : TaskFault → LineRefusal
-line_refusal task.Service = line.Service
-line_refusal task.Value = line.Value
-line_refusal task.Memory = line.Memory
 
 abbrev pub or_refusal : Result Request TaskFault → Result Request LineRefusal
 or_refusal (Ok request) = Ok request

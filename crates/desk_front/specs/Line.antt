@@ -1,7 +1,8 @@
 -- What a line says.
-use Rattle.std.specs.Prelude.{◌≡◌, ℕ, ◌^◌, ◌<◌, ◌≤◌, List, length, codes}
-use Rattle.serde_json.specs.Data.{Data, string, number, unsigned, object, Members, member, no_members}
-use Rattle.desk_front.specs.Reading.{Reading, ReadsAs}
+use Rattle.std.specs.Prelude.{◌≡◌, ℕ, ◌^◌, ◌<◌, List, codes}
+use Rattle.serde_json.specs.Data.{Data, object, member, no_members}
+use Rattle.desk_reports.specs.Parts.{with_name, with_number, IsName, IsTicket, IsObject}
+use Rattle.desk_reports.specs.Reading.{Reading, ReadsAs}
 
 -- the lines of `replay`, by what they name
 pub data Line : Type 0 where
@@ -14,13 +15,6 @@ pub data Line : Type 0 where
   Release : (name : List ℕ) → Line
   Close : (name : List ℕ) → Line
   Resize : (name : List ℕ) → (capacity : ℕ) → Line
-
--- an object of these members, which stand in the order of their keys
-abbrev pub with_name : List ℕ → List ℕ → Members → Members
-with_name key name rest = member key (string name) rest
-
-abbrev pub with_number : List ℕ → ℕ → Members → Members
-with_number key n rest = member key (number (unsigned n)) rest
 
 -- the object that a line is
 abbrev pub object_of : Line → Data
@@ -36,15 +30,6 @@ object_of (AnswerWith name ticket service inputs) =
 object_of (Release name) = object (with_name (codes "release") name no_members)
 object_of (Close name) = object (with_name (codes "close") name no_members)
 object_of (Resize name capacity) = object (with_number (codes "capacity") capacity (with_name (codes "resize") name no_members))
-
-abbrev pub IsName : List ℕ → Type 0
-IsName name = (1 ≤ length name) × (length name ≤ 64)
-
-abbrev pub IsTicket : ℕ → Type 0
-IsTicket ticket = ticket < 2 ^ 63
-
-abbrev pub IsObject : Data → Type 0
-IsObject value = (members : Members) × (value ≡ object members)
 
 -- names have 1 to 64 bytes, capacities fit 32 bits, tickets 63, and inputs are objects
 abbrev pub IsLawful : Line → Type 0

@@ -5,11 +5,12 @@ use Rattle.serde_json.specs.Written.{compact_text}
 use Rattle.box_core.specs.History as broker
 use Rattle.dmn_plan.specs.Request.{Request}
 use Rattle.feel_value.specs.declared.feel.Outcome.{Outcome}
-use Rattle.desk_front.specs.Line.{Line, Model, Open, Submit, Take, Answer, AnswerWith, Release, Close, Resize, with_name, with_number}
-use Rattle.desk_front.specs.Reading.{Reading, Says}
-use Rattle.desk_front.specs.Shown.{reply}
+use Rattle.desk_reports.specs.Parts.{with_name, with_number}
+use Rattle.desk_front.specs.Line.{Line, Model, Open, Submit, Take, Answer, AnswerWith, Release, Close, Resize}
+use Rattle.desk_reports.specs.Reading.{Reading, Says}
+use Rattle.desk_reports.specs.Shown.{reply, refusal, named_refusal, loaded, faulty}
 use Rattle.desk_front.specs.Turns.{Deed, Skipped, Loaded, Faulty, Asked, Refused, Turn}
-use Rattle.desk_front.specs.Words.{line_word, refusal_word, unadded_word, fault_name}
+use Rattle.desk_reports.specs.Words.{line_word, refusal_word, unadded_word, fault_name}
 
 -- the name on a line; a model line has none
 abbrev pub name_on : Line → List ℕ
@@ -34,28 +35,11 @@ ticket_on (Answer name t) = t
 ticket_on (AnswerWith name t service inputs) = t
 ticket_on line = 0
 
--- `{"line":k,"refused":word}`
-abbrev pub refusal : ℕ → List ℕ → Data
-refusal k word = object (with_number (codes "line") k (with_name (codes "refused") word no_members))
-
--- `{"client":name,"line":k,"refused":word}`
-abbrev pub named_refusal : List ℕ → ℕ → List ℕ → Data
-named_refusal name k word =
-    object (with_name (codes "client") name (with_number (codes "line") k (with_name (codes "refused") word no_members)))
-
 -- a refusal has the name where the line has one
 abbrev pub refused : Reading Line → ℕ → List ℕ → Data
 refused (Says (Model json)) k word = refusal k word
 refused (Says line) k word = named_refusal (name_on line) k word
 refused reading k word = refusal k word
-
--- `{"line":k,"model":true}`
-abbrev pub loaded : ℕ → Data
-loaded k = object (with_number (codes "line") k (member (codes "model") (boolean true) no_members))
-
--- `{"fault":word,"line":k,"refused":"model"}`
-abbrev pub faulty : ℕ → List ℕ → Data
-faulty k word = object (with_name (codes "fault") word (with_number (codes "line") k (with_name (codes "refused") (codes "model") no_members)))
 
 -- the broker's report to a line
 abbrev pub reported : ℕ → Line → broker.Report Request Outcome → Data

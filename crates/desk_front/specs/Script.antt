@@ -9,7 +9,7 @@ use Rattle.feel_value.specs.declared.feel.Outcome.{Outcome}
 use Rattle.desk_front.specs.Turns.{Deed, Asked, Refused, Turn}
 use Rattle.desk_front.specs.Due.{Follows}
 use Rattle.desk_front.specs.Said.{said_of}
-use Rattle.desk_front.specs.declared.effect.LineRefusal.TheVariants as line
+use Rattle.desk_reports.specs.declared.refusal.LineRefusal.TheVariants as line
 
 -- each of the turns follows the turns before it
 abbrev pub AreInOrder : List Turn → List Turn → Type 0

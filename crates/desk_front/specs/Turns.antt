@@ -6,8 +6,8 @@ use Rattle.dmn_plan.specs.Request.{Request}
 use Rattle.dmn_plan.specs.declared.fault.ModelFault.{ModelFault}
 use Rattle.feel_value.specs.declared.feel.Outcome.{Outcome}
 use Rattle.desk_front.specs.Line.{Line, Open}
-use Rattle.desk_front.specs.Reading.{Reading, Says}
-use Rattle.desk_front.specs.declared.effect.LineRefusal.{LineRefusal}
+use Rattle.desk_reports.specs.Reading.{Reading, Says}
+use Rattle.desk_reports.specs.declared.refusal.LineRefusal.{LineRefusal}
 
 -- what is done with a line
 pub data Deed : Type 0 where

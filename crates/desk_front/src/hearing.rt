@@ -4,29 +4,20 @@ ghost use Rattle.std.specs.Arc.{arc_value};
 ghost use Rattle.serde_json.specs.View.{view};
 ghost use Rattle.box_core.specs.History as broker;
 ghost use Rattle.box_core.specs.Views.{event_of, status_of_standing};
-ghost use Rattle.desk_front.specs.Due.{request_under, asks_with, line_refusal, Asks};
+ghost use Rattle.desk_reports.specs.Words.{line_refusal};
+ghost use Rattle.desk_front.specs.Due.{request_under, asks_with, Asks};
 ghost use Rattle.desk_front.specs.Desk.{Stands, Heard, IsUnmade, LoadsModel, AsksFor, Answers, AnswersAt, AnswersBy, Opens, number_in, client_in, model_of};
 ghost use Rattle.desk_front.specs.LineView.{line_view};
 
 use crate::desk::Desk;
-use crate::effect::{Effect, LineRefusal};
+use crate::effect::Effect;
 use crate::line::Line;
 use box_core::{Broker, Done, Event, Report, Standing};
+use desk_reports::{LineRefusal, refusal_of};
 use dmn_plan::{ModelFault, Plan, Task, TaskFault};
 use serde_json::Value;
 use std::alloc::{AllocError, Global};
 use std::sync::Arc;
-
-/// Why the front refuses a request for which there is no task.
-pub fn refusal_of(fault: TaskFault) -> LineRefusal
-    ensures { result ≡ line_refusal fault }
-{
-    match fault {
-        TaskFault::Service => LineRefusal::Service,
-        TaskFault::Value => LineRefusal::Value,
-        TaskFault::Memory => LineRefusal::Memory,
-    }
-}
 
 impl Desk {
     /// A desk at which nothing was said.

@@ -4,19 +4,16 @@ ghost use Rattle.std.specs.Str.{IsUtf8};
 ghost use Rattle.serde_json.specs.Data.{Data, string, number, unsigned, object};
 ghost use Rattle.serde_json.specs.View.{view};
 ghost use Rattle.serde_json.specs.Read.{read};
-ghost use Rattle.desk_front.specs.Line.{IsName, IsTicket, IsLine};
-ghost use Rattle.desk_front.specs.Reading.{is_blank};
+ghost use Rattle.desk_reports.specs.Parts.{IsName, IsTicket};
+ghost use Rattle.desk_front.specs.Line.{IsLine};
+ghost use Rattle.desk_reports.specs.Reading.{is_blank};
 ghost use Rattle.desk_front.specs.Line as said;
 ghost use Rattle.desk_front.specs.LineView.{line_view};
 
+use desk_reports::{capacity_in, name_in, ticket_in};
 use json_fields::{four_fields, one_field, three_fields, two_fields};
 use serde_json::Value;
 use std::alloc::{AllocError, Global};
-
-/// The most bytes of a name.
-const MAX_NAME: usize = 64;
-/// The most that a ticket may be.
-const MAX_TICKET: u64 = 9_223_372_036_854_775_807;
 
 /// What a line says.
 #[derive(Drop)]
@@ -39,40 +36,6 @@ pub enum Line<'a> {
     Close(&'a str),
     /// A client is given a capacity.
     Resize(&'a str, u32),
-}
-
-/// A name of 1 to 64 bytes.
-pub fn name_in(value: &Value) -> Option<&str>
-    ensures found { IfSome result (λ name. (view value.now ≡ string name.now) × IsName name.now) }
-    ensures other { IfNone result ((name : List ℕ) → IsName name → view value.now ≢ string name) }
-{
-    let name = value.as_str()?;
-    if name.is_empty() || name.len() > MAX_NAME {
-        return None;
-    }
-    Some(name)
-}
-
-pub fn capacity_in(value: &Value) -> Option<u32>
-    ensures found { IfSome result (λ n. (view value.now ≡ number (unsigned n)) × (n < 2 ^ 32)) }
-    ensures other { IfNone result ((n : ℕ) → n < 2 ^ 32 → view value.now ≢ number (unsigned n)) }
-{
-    let capacity = value.as_u64()?;
-    if capacity > u32::MAX as u64 {
-        return None;
-    }
-    Some(capacity as u32)
-}
-
-fn ticket_in(value: &Value) -> Option<u64>
-    ensures found { IfSome result (λ n. (view value.now ≡ number (unsigned n)) × IsTicket n) }
-    ensures other { IfNone result ((n : ℕ) → IsTicket n → view value.now ≢ number (unsigned n)) }
-{
-    let ticket = value.as_u64()?;
-    if ticket > MAX_TICKET {
-        return None;
-    }
-    Some(ticket)
 }
 
 fn model_line(value: &Value) -> Option<Line<'_>>
@@ -190,30 +153,4 @@ pub fn line_in(value: &Value) -> Option<Line<'_>>
         return Some(line);
     }
     close_line(value)
-}
-
-/// Whether a text has blanks alone.
-pub fn is_blank(text: &[u8]) -> bool
-    ensures { result ≡ is_blank text.now }
-{
-    text.iter()
-        .all(|byte| *byte == b' ' || *byte == b'\t' || *byte == b'\r')
-}
-
-/// The JSON value of a text, if it has one.
-pub fn parse(alloc: Global, text: &[u8]) -> Result<Option<Value>, AllocError>
-    ensures { IfOk result (λ parsed. MatchOption parsed (¬ IsUtf8 text.now ⊎ (read text.now ≡ None)) (λ v. IsUtf8 text.now × (read text.now ≡ Some (view v)))) }
-{
-    let Ok(text) = str::from_utf8(text) else {
-        return Ok(None);
-    };
-    match Value::from_str(alloc, text) {
-        Ok(value) => Ok(Some(value)),
-        Err(fault) => {
-            if fault.is_memory() {
-                return Err(AllocError);
-            }
-            Ok(None)
-        }
-    }
 }

@@ -3,62 +3,19 @@ ghost use Rattle.std.specs.Prelude.{◌≡◌, IfOk, false};
 ghost use Rattle.serde_json.specs.View.{view};
 ghost use Rattle.serde_json.specs.Written.{has_float};
 ghost use Rattle.box_core.specs.Views.{report_of};
-ghost use Rattle.desk_front.specs.Reading.{Says};
-ghost use Rattle.desk_front.specs.Words as words;
+ghost use Rattle.desk_reports.specs.Reading.{Says};
+ghost use Rattle.desk_reports.specs.Words as words;
 ghost use Rattle.desk_front.specs.Said as said;
 ghost use Rattle.desk_front.specs.Desk.{told_of};
 ghost use Rattle.desk_front.specs.LineView.{line_view};
 
-use crate::effect::{Effect, LineRefusal};
+use crate::effect::Effect;
 use crate::line::Line;
-use crate::report;
-use box_core::{AddRefusal, Refusal, Report};
-use dmn_plan::{ModelFault, Task};
+use box_core::Report;
+use desk_reports::{LineRefusal, model_word, refusal_word, report, unadded_word};
+use dmn_plan::Task;
 use serde_json::Value;
 use std::alloc::{AllocError, Global};
-
-pub fn refusal_word(why: Refusal) -> &'static str
-    ensures { result.now ≡ words.refusal_word why }
-{
-    match why {
-        Refusal::NoClient => "no client",
-        Refusal::Closed => "closed",
-        Refusal::Full => "full",
-        Refusal::Spent => "spent",
-        Refusal::NotWaiting => "not waiting",
-        Refusal::Capacity => "capacity",
-        Refusal::Small => "small",
-        Refusal::Memory => "memory",
-    }
-}
-
-fn unadded_word(why: AddRefusal) -> &'static str
-    ensures { result.now ≡ words.unadded_word why }
-{
-    match why {
-        AddRefusal::Capacity => "capacity",
-        AddRefusal::Many => "clients",
-        AddRefusal::Memory => "memory",
-    }
-}
-
-pub fn model_word(fault: ModelFault) -> &'static str
-    ensures { result.now ≡ words.fault_name fault }
-{
-    match fault {
-        ModelFault::Syntax => "syntax",
-        ModelFault::Shape => "shape",
-        ModelFault::Name => "name",
-        ModelFault::Twice => "twice",
-        ModelFault::Expression => "expression",
-        ModelFault::Table => "table",
-        ModelFault::Unknown => "unknown",
-        ModelFault::Cycle => "cycle",
-        ModelFault::Service => "service",
-        ModelFault::Large => "large",
-        ModelFault::Memory => "memory",
-    }
-}
 
 /// The name on a line; a model line has none.
 fn name_on<'a>(line: &Line<'a>) -> &'a str

@@ -1,5 +1,5 @@
 use Rattle.std.proofs.Common.{sym, ◌∙◌, ◌∷◌, []}
-use Rattle.desk_front.specs.Fault.{fault_word}
+use Rattle.desk_lines.specs.Fault.{fault_word}
 use Rattle.desk.proofs.Telling.{told_after, told_broken}
 use Rattle.desk.proofs.run.tell_fault.Goals as goal
 

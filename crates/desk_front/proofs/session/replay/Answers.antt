@@ -1,6 +1,5 @@
-use Rattle.std.proofs.Common.{List, ℕ}
 use Rattle.desk_front.proofs.Turning.{at_start}
-use Rattle.desk_front.proofs.Talking.{on_err, on_ok, replays_weaker, ends_weaker}
+use Rattle.desk_lines.proofs.Talking.{on_err, on_ok, replays_weaker, ends_weaker}
 use Rattle.desk_front.proofs.session.replay.Goals as goal
 
 pub answer_lines-requires-clause-starts : goal.answer_lines-requires-clause-starts

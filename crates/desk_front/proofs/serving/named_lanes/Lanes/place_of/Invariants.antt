@@ -1,7 +1,0 @@
-use Rattle.std.proofs.Common.{◌≡◌, false, take}
-use Rattle.desk_front.specs.LanesView.{names_in}
-use Rattle.desk_front.specs.Served.{is_among}
-use Rattle.desk_front.proofs.serving.named_lanes.Lanes.place_of.Given as goal
-
-abbrev pub invariant-loop-place : goal.invariant-loop-place
-invariant-loop-place l = is_among l.name (take l.place (names_in l.self)) ≡ false

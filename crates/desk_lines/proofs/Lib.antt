@@ -1,0 +1,5 @@
+pub mod Splitting
+pub mod Coming
+pub mod Gathering
+pub mod Talking
+pub mod Keeping

@@ -1,0 +1,7 @@
+pub mod Device
+pub mod Counted
+pub mod Lines
+pub mod LineReader
+pub mod Talk
+pub mod Gathers
+pub mod Fault

@@ -1,0 +1,14 @@
+//! Lines of a reader, each answered by a clerk, to a writer.
+#![tactic(auto)]
+
+mod device;
+mod fault;
+mod lines;
+mod talk;
+mod write;
+
+pub use device::{Counted, Sink, Source};
+pub use fault::FrontFault;
+pub use lines::LineText;
+pub use talk::{Clerk, answer_lines, is_cut};
+pub use write::{Unwritten, write_all};

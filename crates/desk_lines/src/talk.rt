@@ -1,0 +1,174 @@
+//! Lines in, lines out.
+ghost use Rattle.std.specs.Prelude.{◌≡◌, ◌≢◌, ◌<◌, ◌≤◌, ◌+◌, ◌-◌, ◌^◌, ◌++◌, ◌∷◌, [], ℕ, List, length, OnOk, OnErr, IfOk, IfErr, Err, IsTrue, ◌↔◌, false};
+ghost use Rattle.std.specs.List.{flat_map};
+ghost use Rattle.desk_lines.specs.Gathers.{Ended, Gathers};
+ghost use Rattle.desk_lines.specs.LineReader.{has_newline, IsInStep};
+ghost use Rattle.desk_lines.specs.Lines.{kept_line, ended, max_input};
+ghost use Rattle.desk_lines.specs.Talk.{Replays, EndsAs, IsCut};
+
+use crate::device::{Sink, Source};
+use crate::fault::FrontFault;
+use crate::lines::{LineReader, LineText, Next};
+use crate::write::Unwritten;
+use std::alloc::{AllocError, Global};
+
+/// Answers lines.
+pub trait Clerk {
+    /// Which lines may be said to which. An answer widens nothing of it.
+    ghost Script: { Self → List (List ℕ) → List (List ℕ) → Type 0 };
+
+    /// What every answer leaves as it is.
+    ghost Kept: { Type 0 };
+
+    ghost kept: { Self → Kept };
+
+    /// The clerk stands as after these lines, to which those were said.
+    ghost After: { Self → List (List ℕ) → List (List ℕ) → Type 0 };
+
+    /// What is said to the line with this number. Of a line that is too long there is nothing to see.
+    fn answer(&mut self, alloc: Global, number: u64, line: &LineText) -> Result<Vec<u8>, AllocError>
+        requires few { number < 2 ^ 60 }
+        requires stands { (lines : List (List ℕ)) × (said : List (List ℕ)) × After self.old lines said × (number ≡ length lines + 1) }
+        ensures same { kept self.new ≡ kept self.old }
+        ensures keeps { (lines said : List (List ℕ)) → Script self.new lines said → Script self.old lines said }
+        ensures answers { IfOk result (λ text. (lines said : List (List ℕ)) (it : List ℕ) →
+            After self.old lines said → line.now ≡ kept_line it → number ≡ length lines + 1 →
+            (more : List (List ℕ)) × After self.new (lines ++ it ∷ []) (said ++ more) × (text.items ≡ flat_map ended more)) };
+
+    /// What was said follows the script.
+    ghost follows: { (c : Self) (lines said : List (List ℕ)) → After c lines said → Script c lines said };
+}
+
+/// Answers a line. What is said to it may wait to be written.
+fn answer_line<W: Sink, C: Clerk>(
+    alloc: Global,
+    clerk: &mut C,
+    writer: &mut W,
+    unwritten: &mut Unwritten,
+    number: u64,
+    line: &LineText,
+) -> Result<(), FrontFault>
+    requires counts { W.faults writer.old < 2 ^ 64 - 1 }
+    requires few { number < 2 ^ 60 }
+    requires stands { (lines : List (List ℕ)) × (said : List (List ℕ)) × C.After clerk.old lines said × (number ≡ length lines + 1) }
+    ensures same { C.kept clerk.new ≡ C.kept clerk.old }
+    ensures keeps { (lines said : List (List ℕ)) → C.Script clerk.new lines said → C.Script clerk.old lines said }
+    ensures said { IfOk result (λ _. (lines said : List (List ℕ)) (it : List ℕ) →
+        C.After clerk.old lines said → line.now ≡ kept_line it → number ≡ length lines + 1 →
+        (more : List (List ℕ)) × C.After clerk.new (lines ++ it ∷ []) (said ++ more)
+        × Gathers (W.contents writer.old) (W.contents writer.new) unwritten.old.bytes.items (flat_map ended more) unwritten.new.bytes.items) }
+    ensures write { (result ≡ Err FrontFault.Write) → (lines said : List (List ℕ)) (it : List ℕ) →
+        C.After clerk.old lines said → line.now ≡ kept_line it → number ≡ length lines + 1 →
+        (more : List (List ℕ)) × (unsaid : List ℕ) × C.After clerk.new (lines ++ it ∷ []) (said ++ more)
+        × Gathers (W.contents writer.old) (W.contents writer.new) unwritten.old.bytes.items (flat_map ended more) unsaid }
+    ensures memory { (result ≡ Err FrontFault.Memory) → Gathers (W.contents writer.old) (W.contents writer.new) unwritten.old.bytes.items [] unwritten.new.bytes.items }
+    ensures only { IfErr result (λ e. (e ≢ FrontFault.Read) × (e ≢ FrontFault.Long)) }
+    ensures fault { (result ≡ Err FrontFault.Write) → W.faults writer.old < W.faults writer.new }
+    ensures counts { (result ≢ Err FrontFault.Write) → W.faults writer.new ≡ W.faults writer.old }
+{
+    let text = clerk.answer(alloc, number, line)?;
+    unwritten.add(writer, &text)
+}
+
+/// Writes what waits, unless a whole line can be answered before more is read.
+fn write_before_read<W: Sink>(
+    lines: &LineReader,
+    unwritten: &mut Unwritten,
+    writer: &mut W,
+) -> Result<(), FrontFault>
+    requires counts { W.faults writer.old < 2 ^ 64 - 1 }
+    ensures all { OnOk result (Gathers (W.contents writer.old) (W.contents writer.new) unwritten.old.bytes.items [] unwritten.new.bytes.items) }
+    ensures part { OnErr result ((rest : List ℕ) × Gathers (W.contents writer.old) (W.contents writer.new) unwritten.old.bytes.items [] rest) }
+    ensures nothing_waits { OnOk result (has_newline lines.now ≡ false → unwritten.new.bytes.items ≡ []) }
+    ensures counts { OnOk result (W.faults writer.new ≡ W.faults writer.old) }
+    ensures fault { IfErr result (λ e. (e ≡ FrontFault.Write) × (W.faults writer.old < W.faults writer.new)) }
+{
+    if lines.has_line() {
+        return Ok(());
+    }
+    unwritten.write_out(writer)
+}
+
+/// Answers the lines of the reader to its end. What is said last may wait to be written.
+fn answer_each<R: Source, W: Sink, C: Clerk>(
+    alloc: Global,
+    clerk: &mut C,
+    reader: &mut R,
+    writer: &mut W,
+    unwritten: &mut Unwritten,
+) -> Result<(), FrontFault>
+    requires read_counts { R.faults reader.old < 2 ^ 64 - 1 }
+    requires write_counts { W.faults writer.old < 2 ^ 64 - 1 }
+    requires starts { C.After clerk.old [] [] }
+    requires nothing_waits { unwritten.old.bytes.items ≡ [] }
+
+    ensures ok { OnOk result (Ended (Replays (C.After clerk.new) (R.remaining reader.old) (R.remaining reader.new)) (W.contents writer.old) (W.contents writer.new) unwritten.new.bytes.items) }
+
+    ensures fault { IfErr result (λ e. e ≢ FrontFault.Write → Ended (λ wrote wrote_new. EndsAs (C.After clerk.new) (C.Script clerk.old) (R.remaining reader.old) (R.remaining reader.new) wrote wrote_new e) (W.contents writer.old) (W.contents writer.new) unwritten.new.bytes.items) }
+
+    ensures cut { (result ≡ Err FrontFault.Write) → IsCut (C.Script clerk.old) (R.remaining reader.old) (R.remaining reader.new) (W.contents writer.old) (W.contents writer.new) }
+
+    ensures read_only_at_fault { (result ≡ Err FrontFault.Read) → R.faults reader.old < R.faults reader.new }
+    ensures write_only_at_fault { (result ≡ Err FrontFault.Write) → W.faults writer.old < W.faults writer.new }
+    ensures writes { (result ≢ Err FrontFault.Write) → W.faults writer.new ≡ W.faults writer.old }
+
+    ensures same { C.kept clerk.new ≡ C.kept clerk.old }
+    ensures keeps { (lines said : List (List ℕ)) → C.Script clerk.new lines said → C.Script clerk.old lines said }
+
+    ensures came { (came : ℕ) × IsInStep (R.came reader.old) (R.came reader.new) came × OnOk result (came ≤ max_input)
+        × ((result ≡ Err FrontFault.Read) → came ≤ max_input) × ((result ≡ Err FrontFault.Long) → max_input < came) }
+{
+    let mut lines = LineReader::new(alloc)?;
+    let mut line = LineText::new(alloc);
+    let mut number: u64 = 1;
+    'lines: loop {
+        write_before_read(&lines, unwritten, writer)?;
+        match lines.next_line(reader, &mut line)? {
+            Next::Line => answer_line(alloc, clerk, writer, unwritten, number, &line)?,
+            Next::Last => return answer_line(alloc, clerk, writer, unwritten, number, &line),
+            Next::End => return Ok(()),
+        }
+        number += 1;
+    }
+}
+
+/// Whether the writer failed.
+pub fn is_cut(ended: &Result<(), FrontFault>) -> bool
+    ensures { IsTrue result ↔ (ended.now ≡ Err FrontFault.Write) }
+{
+    matches!(ended, Err(FrontFault::Write))
+}
+
+/// Answers the lines of the reader to its end.
+pub fn answer_lines<R: Source, W: Sink, C: Clerk>(
+    alloc: Global,
+    clerk: &mut C,
+    reader: &mut R,
+    writer: &mut W,
+) -> Result<(), FrontFault>
+    requires read_counts { R.faults reader.old < 2 ^ 64 - 1 }
+    requires write_counts { W.faults writer.old < 2 ^ 64 - 1 }
+    requires starts { C.After clerk.old [] [] }
+
+    ensures same { C.kept clerk.new ≡ C.kept clerk.old }
+    ensures ok { OnOk result (Replays (C.After clerk.new) (R.remaining reader.old) (R.remaining reader.new) (W.contents writer.old) (W.contents writer.new)) }
+
+    ensures fault { IfErr result (λ e. EndsAs (C.After clerk.new) (C.Script clerk.old) (R.remaining reader.old) (R.remaining reader.new) (W.contents writer.old) (W.contents writer.new) e) }
+
+    ensures read_only_at_fault { (result ≡ Err FrontFault.Read) → R.faults reader.old < R.faults reader.new }
+    ensures write_only_at_fault { (result ≡ Err FrontFault.Write) → W.faults writer.old < W.faults writer.new }
+    ensures writes { (result ≢ Err FrontFault.Write) → W.faults writer.new ≡ W.faults writer.old }
+
+    // By the reader's own count, also of a reader whose bytes are not known.
+    ensures long_only_past_limit { (result ≡ Err FrontFault.Long) → R.came reader.old < 2 ^ 63 → max_input < R.came reader.new - R.came reader.old }
+    ensures ok_within_limit { OnOk result (R.came reader.new ≤ R.came reader.old + max_input) }
+    ensures read_within_limit { (result ≡ Err FrontFault.Read) → R.came reader.new ≤ R.came reader.old + max_input }
+{
+    let mut unwritten = Unwritten::new(alloc);
+    let ended = answer_each(alloc, clerk, reader, writer, &mut unwritten);
+    if is_cut(&ended) {
+        return ended;
+    }
+    unwritten.write_out(writer)?;
+    ended
+}

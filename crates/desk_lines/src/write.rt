@@ -1,0 +1,78 @@
+//! What is said, on its way to a writer.
+ghost use Rattle.std.specs.Prelude.{◌≡◌, ◌≢◌, ◌<◌, ◌-◌, ◌^◌, ℕ, [], List, take, OnOk, OnErr, IfErr, Err};
+ghost use Rattle.std.specs.Io.KnownBytes.{Appends};
+ghost use Rattle.desk_lines.specs.Gathers.{Gathers};
+
+use crate::device::Sink;
+use crate::fault::FrontFault;
+use std::alloc::Global;
+
+/// The number of bytes from which on they are written.
+const PIECE: usize = 65_536;
+
+/// Writes the bytes. Where the writer fails a beginning of them is written, which may be empty. A call that takes nothing of
+/// some bytes is a fault, and none is repeated.
+pub fn write_all<W: Sink>(writer: &mut W, bytes: &[u8]) -> Result<(), FrontFault>
+    requires counts { W.faults writer.old < 2 ^ 64 - 1 }
+    ensures whole { OnOk result (Appends (W.contents writer.old) (W.contents writer.new) bytes.now) }
+    ensures part { OnErr result ((n : ℕ) × Appends (W.contents writer.old) (W.contents writer.new) (take n bytes.now)) }
+    ensures counts { OnOk result (W.faults writer.new ≡ W.faults writer.old) }
+    ensures fault { IfErr result (λ e. (e ≡ FrontFault.Write) × (W.faults writer.old < W.faults writer.new)) }
+{
+    let mut at = 0;
+    'pieces: while at < bytes.len() {
+        match writer.write(&bytes[at..]) {
+            Ok(n) if n > 0 => at += n,
+            _ => return Err(FrontFault::Write),
+        }
+    }
+    Ok(())
+}
+
+/// What is said and not written yet: lines are gathered and written in large pieces.
+#[derive(Drop)]
+pub struct Unwritten {
+    bytes: Vec<u8>,
+}
+
+impl Unwritten {
+    /// Nothing that waits.
+    pub fn new(alloc: Global) -> Self
+        ensures { result.bytes.items ≡ [] }
+    {
+        Unwritten {
+            bytes: Vec::new(alloc),
+        }
+    }
+
+    /// Writes all that waits.
+    pub fn write_out<W: Sink>(&mut self, writer: &mut W) -> Result<(), FrontFault>
+        requires counts { W.faults writer.old < 2 ^ 64 - 1 }
+        ensures all { OnOk result (Gathers (W.contents writer.old) (W.contents writer.new) self.old.bytes.items [] self.new.bytes.items) }
+        ensures nothing_waits { OnOk result (self.new.bytes.items ≡ []) }
+        ensures part { OnErr result ((rest : List ℕ) × Gathers (W.contents writer.old) (W.contents writer.new) self.old.bytes.items [] rest) }
+        ensures counts { OnOk result (W.faults writer.new ≡ W.faults writer.old) }
+        ensures fault { IfErr result (λ e. (e ≡ FrontFault.Write) × (W.faults writer.old < W.faults writer.new)) }
+    {
+        write_all(writer, &self.bytes)?;
+        self.bytes.clear();
+        Ok(())
+    }
+
+    /// Adds a text to what waits, and writes all once that is a large piece.
+    pub fn add<W: Sink>(&mut self, writer: &mut W, text: &[u8]) -> Result<(), FrontFault>
+        requires counts { W.faults writer.old < 2 ^ 64 - 1 }
+        ensures said { OnOk result (Gathers (W.contents writer.old) (W.contents writer.new) self.old.bytes.items text.now self.new.bytes.items) }
+        ensures part { (result ≡ Err FrontFault.Write) → (rest : List ℕ) × Gathers (W.contents writer.old) (W.contents writer.new) self.old.bytes.items text.now rest }
+        ensures memory { (result ≡ Err FrontFault.Memory) → Gathers (W.contents writer.old) (W.contents writer.new) self.old.bytes.items [] self.new.bytes.items }
+        ensures only { IfErr result (λ e. (e ≢ FrontFault.Read) × (e ≢ FrontFault.Long)) }
+        ensures counts { (result ≢ Err FrontFault.Write) → W.faults writer.new ≡ W.faults writer.old }
+        ensures fault { (result ≡ Err FrontFault.Write) → W.faults writer.old < W.faults writer.new }
+    {
+        self.bytes.extend_from_slice(text)?;
+        if self.bytes.len() < PIECE {
+            return Ok(());
+        }
+        self.write_out(writer)
+    }
+}

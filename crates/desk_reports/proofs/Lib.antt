@@ -1,0 +1,3 @@
+pub mod ReadOnce
+pub mod Floats
+pub mod Deciding

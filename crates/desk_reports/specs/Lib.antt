@@ -1,0 +1,4 @@
+pub mod Parts
+pub mod Shown
+pub mod Words
+pub mod Reading

@@ -1,0 +1,288 @@
+-- From what the calls promise to what a line that is heard comes to.
+use Rattle.std.proofs.Common.{◌≡◌, ◌≢◌, ◌+◌, ◌<◌, ◌≤◌, ◌^◌, ℕ, zero, suc, Bool, true, false, not, is_ok, List, [], ◌∷◌, ◌++◌, Option, Some, None, Result, Ok, Err, OnOk, length, drop, reverse, slice_get, slice_set, codes, refl, sym, ap, ◌∙◌, arith, append_assoc, subst}
+use Rattle.std.specs.List.{flat_map}
+use Rattle.std.proofs.lemmas.List.{map-append, reverse-append, length-map, length-reverse}
+use Rattle.serde_json.specs.Data.{Data}
+use Rattle.serde_json.specs.Written.{compact_text}
+use Rattle.box_core.specs.Mail.{resize_refusal_by}
+use Rattle.box_core.specs.declared.faults.Refusal.{Refusal}
+use Rattle.dmn_plan.specs.Due.{IsDue, IsTaskDue}
+use Rattle.dmn_plan.specs.Request as plan
+use Rattle.dmn_plan.specs.declared.fault.ModelFault.{ModelFault}
+use Rattle.dmn_plan.specs.declared.fault.ModelFault.TheVariants as model
+use Rattle.dmn_plan.specs.declared.fault.TaskFault.{TaskFault}
+use Rattle.dmn_plan.specs.declared.fault.TaskFault.TheVariants as task
+use Rattle.desk_serving.specs.Asked.{Asked, Request, Close, Resize, Reads}
+use Rattle.desk_reports.specs.Words.{line_refusal, fault_name, line_word}
+use Rattle.lanes.specs.Clients.{client_links}
+use Rattle.desk_serving.specs.LanesView.{lanes_in, links_in, names_in}
+use Rattle.desk_lines.specs.Lines.{ended, kept_line, max_line}
+use Rattle.desk_serving.specs.Owed.{Lane, AreBooked, Hands, HandsThen, Stands, due_to, lane_of, unhanded, with_closed, with_lane, with_put_if}
+use Rattle.desk_reports.specs.Reading.{Reading, Blank, Long, Syntax, Shape, Says, is_blank}
+use Rattle.desk_reports.specs.Shown.{refusal, named_refusal, loaded, faulty}
+use Rattle.desk_serving.specs.Served.{Entry, AreRead, ServedInPart, close_answer, closed_report, newer_model, model_answer, number_after, of_name, task_answer, texts_of}
+use Rattle.desk_serving.specs.Serving.{After, HasRoom, HearsText, StandsAs, model_of}
+use Rattle.desk_serving.specs.declared.named_lanes.Lanes.{Lanes}
+use Rattle.desk_serving.specs.declared.serving.Serving.{Serving}
+use Rattle.desk_lines.proofs.Keeping.{kept_by, lost_by, le_true, le_false}
+use Rattle.desk_serving.proofs.Owing.{among_at, due_to_own, due-whole, hands_then_entry, lines-append, unhanded_at}
+use Rattle.desk_serving.proofs.Standing.{requests-few, stands_handed}
+use Rattle.desk_serving.proofs.Replying.{IsHeard, due_to_closed, heard_blank, heard_close, heard_no_task, heard_none, heard_put, heard_resize, named_close, named_request, named_resize, resize_said}
+
+-- two facts of a call that went well
+pub on_ok_both : {T E : Type 0} (r : Result T E) {A B C : Type 0} → (A → B → C) → OnOk r A → OnOk r B → OnOk r C
+on_ok_both (Ok x) f a b = f a b
+on_ok_both (Err e) f a b = tt
+
+-- a fact that waits for another
+pub on_ok_when : {T E P Q S : Type 0} (r : Result T E) → ((P → Q) → S) → (P → OnOk r Q) → OnOk r S
+on_ok_when (Ok x) f h = f h
+on_ok_when (Err e) f h = tt
+
+-- ## Models
+
+-- a fault but for want of memory is the one that the reading has
+pub due_model : {Y : Type 0} (r : Result Y ModelFault) (f : ModelFault) → IsDue r f → f ≢ model.Memory → r ≡ Err f
+due_model r model.Syntax h n = h
+due_model r model.Shape h n = h
+due_model r model.Name h n = h
+due_model r model.Twice h n = h
+due_model r model.Expression h n = h
+due_model r model.Table h n = h
+due_model r model.Unknown h n = h
+due_model r model.Cycle h n = h
+due_model r model.Service h n = h
+due_model r model.Large h n = h
+due_model r model.Memory h n = absurd (n refl)
+
+pub due_task : {Y : Type 0} (r : Result Y TaskFault) (f : TaskFault) → IsTaskDue r f → f ≢ task.Memory → r ≡ Err f
+due_task r task.Service h n = h
+due_task r task.Value h n = h
+due_task r task.Memory h n = absurd (n refl)
+
+pub loaded_model : {M : Type 0} (json : Data) (r : Result M ModelFault) (old : Option (List ℕ)) (k : ℕ) → is_ok r ≡ true
+    → (newer_model json r old ≡ Some (compact_text json)) × (model_answer k r ≡ loaded k)
+loaded_model json (Ok m) old k h = (refl, refl)
+loaded_model json (Err f) old k h = cc
+
+pub faulty_model : {M : Type 0} (json : Data) (r : Result M ModelFault) (old : Option (List ℕ)) (k : ℕ) (f : ModelFault) → r ≡ Err f
+    → (newer_model json r old ≡ old) × (model_answer k r ≡ faulty k (fault_name f))
+faulty_model json r old k f e = rw e (refl, refl)
+
+-- ## Lanes
+
+-- each name has its lane
+pub booked_lane : (names : List (List ℕ)) (lanes : List Lane) (earlier : List (Reading Asked)) (c : ℕ) (n : List ℕ) → AreBooked names lanes earlier → slice_get names c ≡ Some n
+    → (lane : Lane) × (slice_get lanes c ≡ Some lane)
+booked_lane [] lanes earlier c n b at = cc
+booked_lane (m ∷ names) [] earlier c n b at = absurd b
+booked_lane (m ∷ names) (l ∷ lanes) earlier zero n b at = (l, refl)
+booked_lane (m ∷ names) (l ∷ lanes) earlier (suc c) n b at = booked_lane names lanes earlier c n b.2 at
+
+-- a lane has no more requests than there are lines
+put-few : (names : List (List ℕ)) (lanes : List Lane) (earlier : List (Reading Asked)) (c : ℕ) (lane : Lane) → AreBooked names lanes earlier → slice_get lanes c ≡ Some lane
+    → length lane.put ≤ length earlier
+put-few names [] earlier c lane b la = cc
+put-few [] (l ∷ lanes) earlier zero lane b la =
+    let is : l ≡ lane = cc in subst (λ (x : Lane). length x.put ≤ length earlier) is (rw b.0 (omega arith))
+put-few [] (l ∷ lanes) earlier (suc c) lane b la = put-few [] lanes earlier c lane b.2 la
+put-few (n ∷ names) (l ∷ lanes) earlier zero lane b la =
+    let is : l ≡ lane = cc in subst (λ (x : Lane). length x.put ≤ length earlier) is (rw b.0 (requests-few n earlier))
+put-few (n ∷ names) (l ∷ lanes) earlier (suc c) lane b la = put-few names lanes earlier c lane b.2 la
+
+read-length : (lines : List (List ℕ)) (readings : List (Reading Asked)) → AreRead lines readings → length readings ≡ length lines
+read-length [] [] r = refl
+read-length [] (x ∷ readings) r = absurd r
+read-length (l ∷ lines) [] r = absurd r
+read-length (l ∷ lines) (x ∷ readings) r = ap suc (read-length lines readings r.1)
+
+-- ## Closes
+
+-- the report of a lane that was open, or the refusal of one that was closed
+abbrev pub close_said : ℕ → List ℕ → Bool → Data
+close_said k n true = closed_report n k
+close_said k n false = named_refusal n k (codes "closed")
+
+closed_said : (k : ℕ) (n : List ℕ) (was_open closed : Bool) → was_open ≡ not closed → close_said k n was_open ≡ close_answer k n true closed
+closed_said k n true true e = cc
+closed_said k n true false e = refl
+closed_said k n false true e = refl
+closed_said k n false false e = cc
+
+-- the same, where the names are named otherwise
+renamed : (reading : Reading Asked) (earlier : List (Reading Asked)) (names names' : List (List ℕ)) (force : Option (List ℕ)) (lanes : List Lane) (said : List Entry) (text text' : List ℕ) → names' ≡ names
+    → IsHeard reading earlier names force lanes said text text' → IsHeard reading earlier names' force lanes said text text'
+renamed reading earlier names names' force lanes said text text' is h = subst (λ ns. IsHeard reading earlier ns force lanes said text text') (sym is) h
+
+module _ {R : Type 0} where
+  counted : (serving : Serving R) (lines output : List (List ℕ)) (a : After serving lines output) → length a.readings ≡ length lines
+  counted serving lines output a = read-length (reverse lines) a.readings a.read ∙ length-reverse lines
+
+  -- after so few lines each lane has tickets left
+  pub has_room : (old new : Serving R) (lines output : List (List ℕ)) → After old lines output → unhanded (lanes_in new.lanes) ≡ unhanded (lanes_in old.lanes) → length lines < 2 ^ 60 → HasRoom new
+  has_room old new lines output a same few = λ c lane la.
+      let was = unhanded_at (lanes_in old.lanes) (lanes_in new.lanes) c lane (sym same) la in
+      let size : length was.0.put ≡ length lane.put = ap length was.2 in
+      let most : length was.0.put ≤ length a.readings = put-few (names_in old.lanes) (lanes_in old.lanes) a.readings c was.0 a.stands.booked was.1 in
+      let all : length a.readings ≡ length lines = counted old lines output a in
+      omega (arith, size, most, all, few)
+
+  -- ## Lines by their bytes
+
+  pub heard_long : (old : Serving R) (k : ℕ) (kept : Option (List ℕ)) (it text text' : List ℕ) (d : Data) → None ≡ kept → kept ≡ kept_line it → d ≡ refusal k (codes "long")
+      → text' ≡ text ++ ended (compact_text d) → HearsText old k it text text' old
+  heard_long old k kept it text text' d none e v is =
+      let over : max_line < length it = le_false (length it) max_line (lost_by _ it (none ∙ e)) in
+      (Long, over, λ earlier said st num. heard_none Long (codes "long") k d earlier _ _ _ said text text' refl st num v is)
+
+  pub heard_skip : (old : Serving R) (k : ℕ) (kept : Option (List ℕ)) (it bytes text : List ℕ) → Some bytes ≡ kept → kept ≡ kept_line it → is_blank bytes ≡ true
+      → HearsText old k it text text old
+  heard_skip old k kept it bytes text some e blank =
+      let b = kept_by _ it bytes (some ∙ e) in
+      let short : length it ≤ max_line = le_true (length it) max_line b.1 in
+      let reads : Reads it Blank = (short, ap is_blank (sym b.0) ∙ blank) in
+      (Blank, reads, λ earlier said st num. heard_blank earlier _ _ _ said text st)
+
+  pub heard_kept : (old new : Serving R) (k : ℕ) (kept : Option (List ℕ)) (it bytes text text' : List ℕ) → Some bytes ≡ kept → kept ≡ kept_line it
+      → (length bytes ≤ max_line → HearsText old k bytes text text' new) → HearsText old k it text text' new
+  heard_kept old new k kept it bytes text text' some e f =
+      let b = kept_by _ it bytes (some ∙ e) in
+      let short : length it ≤ max_line = le_true (length it) max_line b.1 in
+      let same : length bytes ≡ length it = ap length b.0 in
+      subst (λ t. HearsText old k t text text' new) b.0 (f (omega (arith, same, short)))
+
+  pub heard_syntax : (old : Serving R) (k : ℕ) (bytes text text' : List ℕ) (d : Data) → Reads bytes Syntax → d ≡ refusal k (codes "syntax")
+      → text' ≡ text ++ ended (compact_text d) → HearsText old k bytes text text' old
+  heard_syntax old k bytes text text' d reads v is =
+      (Syntax, reads, λ earlier said st num. heard_none Syntax (codes "syntax") k d earlier _ _ _ said text text' refl st num v is)
+
+  pub heard_shape : (old : Serving R) (k : ℕ) (bytes text text' : List ℕ) (d : Data) → Reads bytes Shape → d ≡ refusal k (codes "shape")
+      → text' ≡ text ++ ended (compact_text d) → HearsText old k bytes text text' old
+  heard_shape old k bytes text text' d reads v is =
+      (Shape, reads, λ earlier said st num. heard_none Shape (codes "shape") k d earlier _ _ _ said text text' refl st num v is)
+
+  -- ## Lines that ask for a lane
+
+  pub stands_request : (old : Serving R) (mid : Lanes) (n s : List ℕ) (i : Data) (t : List ℕ) (earlier : List (Reading Asked)) (said : List Entry) → StandsAs old earlier said → model_of old ≡ Some t
+      → lanes_in mid ≡ lanes_in old.lanes → names_in mid ≡ with_lane (length (lanes_in old.lanes)) n (names_in old.lanes)
+      → Stands (Says (Request n s i) ∷ earlier) earlier (names_in mid) (model_of old) (lanes_in mid) said
+  stands_request old mid n s i t earlier said st some lanes names =
+      subst (λ ls. Stands (Says (Request n s i) ∷ earlier) earlier (names_in mid) (model_of old) ls said) (sym lanes)
+      (named_request n s i t earlier (names_in old.lanes) (names_in mid) (model_of old) (lanes_in old.lanes) said st some names)
+
+  pub stands_close : (old : Serving R) (mid : Lanes) (n : List ℕ) (earlier : List (Reading Asked)) (said : List Entry) → StandsAs old earlier said
+      → lanes_in mid ≡ lanes_in old.lanes → names_in mid ≡ with_lane (length (lanes_in old.lanes)) n (names_in old.lanes)
+      → Stands (Says (Close n) ∷ earlier) earlier (names_in mid) (model_of old) (lanes_in mid) said
+  stands_close old mid n earlier said st lanes names =
+      subst (λ ls. Stands (Says (Close n) ∷ earlier) earlier (names_in mid) (model_of old) ls said) (sym lanes)
+      (named_close n earlier (names_in old.lanes) (names_in mid) (model_of old) (lanes_in old.lanes) said st names)
+
+  pub stands_resize : (old : Serving R) (mid : Lanes) (n : List ℕ) (size : ℕ) (earlier : List (Reading Asked)) (said : List Entry) → StandsAs old earlier said
+      → lanes_in mid ≡ lanes_in old.lanes → names_in mid ≡ with_lane (length (lanes_in old.lanes)) n (names_in old.lanes)
+      → Stands (Says (Resize n size) ∷ earlier) earlier (names_in mid) (model_of old) (lanes_in mid) said
+  stands_resize old mid n size earlier said st lanes names =
+      subst (λ ls. Stands (Says (Resize n size) ∷ earlier) earlier (names_in mid) (model_of old) ls said) (sym lanes)
+      (named_resize n size earlier (names_in old.lanes) (names_in mid) (model_of old) (lanes_in old.lanes) said st names)
+
+  -- a request is put into its lane, or refused there
+  pub put_request : (old : Serving R) (mid new : Lanes) (n s : List ℕ) (i : Data) (t : List ℕ) (k c : ℕ) (q : plan.Request) (text text' : List ℕ) (earlier : List (Reading Asked)) (said : List Entry)
+      → StandsAs old earlier said → k ≡ number_after earlier → model_of old ≡ Some t
+      → lanes_in mid ≡ lanes_in old.lanes → names_in mid ≡ with_lane (length (lanes_in old.lanes)) n (names_in old.lanes) → slice_get (names_in mid) c ≡ Some n
+      → plan.request_of t s i ≡ Ok q → names_in new ≡ names_in mid
+      → ((lane : Lane) → slice_get (lanes_in mid) c ≡ Some lane → unhanded (lanes_in new) ≡ unhanded (slice_set (lanes_in mid) c (with_put_if lane q)))
+      → ((lane : Lane) → slice_get (lanes_in mid) c ≡ Some lane
+      → HandsThen (names_in mid) (lanes_in mid) (lanes_in new) (of_name n (task_answer k n lane.closed (length lane.put) (Ok q))) text text')
+      → IsHeard (Says (Request n s i)) earlier (names_in new) (model_of old) (lanes_in new) said text text'
+  put_request old mid new n s i t k c q text text' earlier said st num some lanes names found good kept puts hands =
+      let named = stands_request old mid n s i t earlier said st some lanes names in
+      let at = booked_lane (names_in mid) (lanes_in mid) earlier c n named.booked found in
+      renamed (Says (Request n s i)) earlier (names_in mid) (names_in new) (model_of old) (lanes_in new) said text text' kept
+      (heard_put n s i t k c (task_answer k n at.0.closed (length at.0.put) (Ok q)) q earlier (names_in mid) (model_of old) (lanes_in mid) (lanes_in new) at.0 said text text'
+      named some found at.1 num good refl (hands at.0 at.1) (puts at.0 at.1))
+
+  -- there is no task for a request
+  pub refused_request : (old : Serving R) (mid new : Lanes) (n s : List ℕ) (i : Data) (t : List ℕ) (k c : ℕ) (d : Data) (f : TaskFault) (text text' : List ℕ) (earlier : List (Reading Asked)) (said : List Entry)
+      → StandsAs old earlier said → k ≡ number_after earlier → model_of old ≡ Some t
+      → lanes_in mid ≡ lanes_in old.lanes → names_in mid ≡ with_lane (length (lanes_in old.lanes)) n (names_in old.lanes) → slice_get (names_in mid) c ≡ Some n
+      → plan.request_of t s i ≡ Err f → d ≡ named_refusal n k (line_word (line_refusal f)) → names_in new ≡ names_in mid → unhanded (lanes_in new) ≡ unhanded (lanes_in mid)
+      → HandsThen (names_in mid) (lanes_in mid) (lanes_in new) (of_name n d) text text'
+      → IsHeard (Says (Request n s i)) earlier (names_in new) (model_of old) (lanes_in new) said text text'
+  refused_request old mid new n s i t k c d f text text' earlier said st num some lanes names found bad v kept same hands =
+      let named = stands_request old mid n s i t earlier said st some lanes names in
+      renamed (Says (Request n s i)) earlier (names_in mid) (names_in new) (model_of old) (lanes_in new) said text text' kept
+      (heard_no_task n s i t k d f earlier (names_in mid) (model_of old) (lanes_in mid) (lanes_in new) said text text'
+      named some (among_at n (names_in mid) c found) num bad v hands same)
+
+  -- the lane is closed, if it was open, and then its earlier results are handed out
+  pub closed_lane : (old : Serving R) (mid shut new : Lanes) (n : List ℕ) (k c : ℕ) (was_open : Bool) (d : Data) (text text' : List ℕ) (earlier : List (Reading Asked)) (said : List Entry)
+      → StandsAs old earlier said → k ≡ number_after earlier
+      → lanes_in mid ≡ lanes_in old.lanes → names_in mid ≡ with_lane (length (lanes_in old.lanes)) n (names_in old.lanes) → slice_get (names_in mid) c ≡ Some n
+      → names_in shut ≡ names_in mid
+      → ((lane : Lane) → slice_get (lanes_in mid) c ≡ Some lane → (was_open ≡ not lane.closed) × (lanes_in shut ≡ slice_set (lanes_in mid) c (with_closed lane)))
+      → d ≡ close_said k n was_open → names_in new ≡ names_in shut → unhanded (lanes_in new) ≡ unhanded (lanes_in shut)
+      → ((name : List ℕ) → slice_get (names_in shut) c ≡ Some name → HandsThen (names_in shut) (lanes_in shut) (lanes_in new) (of_name name d) text text')
+      → IsHeard (Says (Close n)) earlier (names_in new) (model_of old) (lanes_in new) said text text'
+  closed_lane old mid shut new n k c was_open d text text' earlier said st num lanes names found kept closes v again same hands =
+      let named = stands_close old mid n earlier said st lanes names in
+      let at = booked_lane (names_in mid) (lanes_in mid) earlier c n named.booked found in
+      let shuts = closes at.0 at.1 in
+      let h : HandsThen (names_in mid) (lanes_in shut) (lanes_in new) (of_name n d) text text' =
+      subst (λ ns. HandsThen ns (lanes_in shut) (lanes_in new) (of_name n d) text text') kept (hands n (ap (λ ns. slice_get ns c) kept ∙ found)) in
+      renamed (Says (Close n)) earlier (names_in mid) (names_in new) (model_of old) (lanes_in new) said text text' (again ∙ kept)
+      (heard_close n k c d earlier (names_in mid) (model_of old) (lanes_in mid) (lanes_in shut) (lanes_in new) at.0 said text text' named found at.1 num
+      (v ∙ closed_said k n was_open at.0.closed shuts.0) shuts.1 same
+      (λ who. ap (due_to who (names_in mid)) shuts.1 ∙ due_to_closed (names_in mid) (lanes_in mid) c at.0 at.1 who) h)
+
+  -- the lane is whole, and then it is given a capacity, or why not
+  pub resized_lane : (old : Serving R) (mid whole new : Lanes) (n : List ℕ) (size k c : ℕ) (why : Option Refusal) (d : Data) (text between text' : List ℕ) (earlier : List (Reading Asked)) (said : List Entry)
+      → StandsAs old earlier said → k ≡ number_after earlier
+      → lanes_in mid ≡ lanes_in old.lanes → names_in mid ≡ with_lane (length (lanes_in old.lanes)) n (names_in old.lanes) → slice_get (names_in mid) c ≡ Some n
+      → names_in whole ≡ names_in mid → Hands (names_in mid) (lanes_in mid) (lanes_in whole) text between
+      → ((lane : Lane) → slice_get (lanes_in whole) c ≡ Some lane → drop lane.handed lane.put ≡ [])
+      → names_in new ≡ names_in whole → lanes_in new ≡ lanes_in whole
+      → ((lane : Lane) → slice_get (lanes_in whole) c ≡ Some lane → why ≡ resize_refusal_by lane.closed 0 0 size)
+      → d ≡ resize_said k n size why → text' ≡ between ++ ended (compact_text d)
+      → IsHeard (Says (Resize n size)) earlier (names_in new) (model_of old) (lanes_in new) said text text'
+  resized_lane old mid whole new n size k c why d text between text' earlier said st num lanes names found kept hands drained again same refuses v is =
+      let named = stands_resize old mid n size earlier said st lanes names in
+      let at = booked_lane (names_in mid) (lanes_in mid) earlier c n named.booked found in
+      let now = unhanded_at (lanes_in whole) (lanes_in mid) c at.0 hands.handed.lanes at.1 in
+      let free : due_to (Some n) (names_in mid) (lanes_in whole) ≡ [] =
+      due_to_own (names_in mid) (lanes_in whole) c n now.0 named.distinct found now.1 ∙ due-whole n now.0 (drained now.0 now.1) in
+      let h = hands_then_entry (names_in mid) (lanes_in mid) (lanes_in whole) (of_name n d) text between text' hands free is in
+      let told : d ≡ resize_said k n size (resize_refusal_by at.0.closed 0 0 size) =
+      v ∙ ap (resize_said k n size) (refuses now.0 now.1 ∙ ap (λ b. resize_refusal_by b 0 0 size) now.3) in
+      let done = heard_resize n size k c d earlier (names_in mid) (model_of old) (lanes_in mid) (lanes_in whole) at.0 said text text' named found at.1 num told hands.handed.lanes h in
+      renamed (Says (Resize n size)) earlier (names_in mid) (names_in new) (model_of old) (lanes_in new) said text text' (again ∙ kept)
+      (subst (λ ls. IsHeard (Says (Resize n size)) earlier (names_in mid) (model_of old) ls said text text') (sym same) done)
+
+  -- ## After the lines
+
+  -- as many lanes are so many lanes still
+  pub kept_script : (old new : Serving R) (lines said : List (List ℕ)) → links_in new.lanes ≡ links_in old.lanes → ServedInPart (length (lanes_in new.lanes)) lines said → ServedInPart (length (lanes_in old.lanes)) lines said
+  kept_script old new lines said same h =
+      let count : length (lanes_in new.lanes) ≡ length (lanes_in old.lanes) =
+      length-map new.lanes.clients.items (λ client. lane_of client) ∙ sym (length-map new.lanes.clients.items (λ client. client_links client)) ∙ ap length same
+      ∙ length-map old.lanes.clients.items (λ client. client_links client) ∙ sym (length-map old.lanes.clients.items (λ client. lane_of client)) in
+      subst (λ k. ServedInPart k lines said) count h
+
+  -- some of what was owed is handed out, and then a line is answered
+  pub after_line : (old mid new : Serving R) (k : ℕ) (it text text' : List ℕ) (lines said : List (List ℕ)) → After old lines said → k ≡ length lines + 1
+      → names_in mid.lanes ≡ names_in old.lanes → model_of mid ≡ model_of old → Hands (names_in old.lanes) (lanes_in old.lanes) (lanes_in mid.lanes) [] text
+      → HearsText mid k it text text' new → (more : List (List ℕ)) × After new (lines ++ it ∷ []) (said ++ more) × (text' ≡ flat_map ended more)
+  after_line old mid new k it text text' lines said a num names model h heard =
+      let all : length a.readings ≡ length lines = counted old lines said a in
+      let s = stands_handed a.readings a.readings (names_in old.lanes) (model_of old) (lanes_in old.lanes) (lanes_in mid.lanes) a.said h.more a.stands h.handed in
+      let st : StandsAs mid a.readings (a.said ++ h.more) = rw (names, model) s in
+      let then = heard.2 a.readings (a.said ++ h.more) st (omega (arith, num, all)) in (
+        texts_of (h.more ++ then.0),
+        record {
+          readings = heard.0 ∷ a.readings;
+          read = rw (reverse-append lines (it ∷ [])) (heard.1, a.read);
+          said = (a.said ++ h.more) ++ then.0;
+          output = ap (λ t. t ++ texts_of (h.more ++ then.0)) a.output ∙ sym (map-append (λ (e : Entry). e.text) a.said (h.more ++ then.0))
+              ∙ ap texts_of (sym (append_assoc a.said h.more then.0));
+          stands = then.2;
+        },
+        then.1 ∙ ap (λ t. t ++ flat_map ended (texts_of then.0)) h.is ∙ sym (lines-append h.more then.0),
+      )

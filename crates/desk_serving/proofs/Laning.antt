@@ -1,0 +1,167 @@
+-- What a lane's calls make of it, and what stays of a list of lanes.
+use Rattle.std.proofs.Common.{◌≡◌, ◌≢◌, ℕ, zero, suc, ◌+◌, ◌-◌, ◌<◌, ◌≤◌, ◌⊎◌, ⊎_elim, Bool, List, [], ◌∷◌, ◌++◌, Option, Some, None, IfSome, IfNone, length, map, drop, slice_get, refl, sym, ap, ◌∙◌, arith, append-nil}
+use Rattle.std.proofs.lemmas.List.{length-map}
+use Rattle.serde_json.specs.Data.{Data}
+use Rattle.serde_json.specs.Written.{compact_text}
+use Rattle.box_core.specs.Answer.{Ticketed}
+use Rattle.box_core.specs.History.{Report, Kept}
+use Rattle.box_core.specs.Mail.{Mail, Place, accepted_in, kept_of_place, resize_refusal_by}
+use Rattle.box_core.specs.declared.faults.Refusal.{Refusal}
+use Rattle.box_core.specs.declared.faults.Refusal.TheVariants as refusal
+use Rattle.box_core.specs.declared.work.Reply.{Reply}
+use Rattle.box_core.specs.declared.work.Work.{Ghosts}
+use Rattle.dmn_plan.specs.Request.{Request, request_result}
+use Rattle.feel_value.specs.declared.feel.Outcome.{Outcome}
+use Rattle.lanes.specs.Books.{work_of}
+use Rattle.lanes.specs.Clients.{put_of, mail_of, came_to, reply_of}
+use Rattle.lanes.specs.Polls.{Polls, TakenIn, left_by}
+use Rattle.lanes.specs.declared.client.Client.{Client}
+use Rattle.lanes.proofs.Mails.{changed_length, got}
+use Rattle.desk_lines.specs.Lines.{ended}
+use Rattle.desk_serving.specs.Owed.{Lane, lane_of, due, HandsOwn, with_handed}
+use Rattle.desk_serving.specs.Served.{of_name}
+use Rattle.desk_reports.specs.Shown.{reply}
+use Rattle.desk_serving.proofs.Owing.{due-next, name_itself, of_other, of_same}
+
+-- ## Why a capacity is refused
+
+-- where nothing is outstanding, no capacity is too small
+pub resize_whole : (closed : Bool) (accepted handed n : ℕ) → accepted ≡ handed → resize_refusal_by closed accepted handed n ≡ resize_refusal_by closed 0 0 n
+resize_whole closed accepted handed n e = let none : accepted - handed ≡ 0 = omega (arith, e) in rw none refl
+
+pub no_memory : (due : Option Refusal) (n m : ℕ) (why : Refusal) → (due ≡ Some why) ⊎ ((due ≡ None) × (n ≢ m) × (why ≡ refusal.Memory)) → why ≢ refusal.Memory → due ≡ Some why
+no_memory due n m why told other = ⊎_elim (λ (is : due ≡ Some why). is) (λ (is : (due ≡ None) × (n ≢ m) × (why ≡ refusal.Memory)). absurd (other is.2)) told
+
+-- ## A poll
+
+module _ {W R O : Type 0} (request : W → R) (result_of : R → O) where
+  -- as many requests were accepted and handed out, and the client is as closed
+  record IsAsBefore (old new : Mail W O) : Type 0 where
+    handed : new.handed ≡ old.handed
+    closed : new.closed ≡ old.closed
+    accepted : accepted_in new ≡ accepted_in old
+
+  left_same : (report : Report W O) (done : Ticketed W) (mail : Mail W O) → IsAsBefore mail (left_by request result_of report done mail)
+  left_same Kept done mail = record { handed = refl; closed = refl; accepted = ap (λ n. mail.handed + n) (changed_length _ mail.outstanding (done.ticket - mail.handed)) }
+  left_same report done mail = record { handed = refl; closed = refl; accepted = refl }
+
+  taken_same : (old new : Mail W O) (answers : List (Ticketed W)) → TakenIn request result_of old answers new → IsAsBefore old new
+  taken_same old new [] t = record { handed = ap (λ m. m.handed) t; closed = ap (λ m. m.closed) t; accepted = ap (λ m. accepted_in m) t }
+  taken_same old new (done ∷ answers) t =
+      let first = left_same t.0 done old in let rest = taken_same (left_by request result_of t.0 done old) new answers t.2 in
+      record { handed = rest.handed ∙ first.handed; closed = rest.closed ∙ first.closed; accepted = rest.accepted ∙ first.accepted }
+
+  outstanding_there : (places : List (Place W O)) (outcome : O) → kept_of_place (slice_get places 0) ≡ Some outcome → 0 < length places
+  outstanding_there [] outcome e = cc
+  outstanding_there (p ∷ places) outcome e = omega arith
+
+  -- what a poll that hands out the next result leaves
+  pub record HandsNext (old new : Mail W O) (next : ℕ) : Type 0 where
+    pub ticket : next ≡ old.handed
+    pub there : old.handed < accepted_in old
+    pub handed : new.handed ≡ old.handed + 1
+    pub closed : new.closed ≡ old.closed
+
+  pub polled_some : (came came' : List (Ticketed W)) (old new : Mail W O) (reply : ℕ × O) → Polls request result_of came came' old new (Some reply) → HandsNext old new reply.0
+  polled_some came came' old new reply p =
+      let same = taken_same old p.mid p.answers p.taken_in in
+      let out = outstanding_there p.mid.outstanding reply.1 p.released.1 in
+      record {
+        ticket = p.released.0 ∙ same.handed;
+        there = (let a = same.accepted in let h = same.handed in omega (arith, a, h, out));
+        handed = ap (λ m. m.handed) p.released.2 ∙ ap (λ n. n + 1) same.handed;
+        closed = ap (λ m. m.closed) p.released.2 ∙ same.closed;
+      }
+
+  pub polled_none : (came came' : List (Ticketed W)) (old new : Mail W O) → Polls request result_of came came' old new None → (new.handed ≡ old.handed) × (new.closed ≡ old.closed)
+  polled_none came came' old new p =
+      let same = taken_same old p.mid p.answers p.taken_in in
+      (ap (λ m. m.handed) p.released.1 ∙ same.handed, ap (λ m. m.closed) p.released.1 ∙ same.closed)
+
+pub get_map : {A B : Type 0} (f : A → B) (xs : List A) (i : ℕ) (x : A) → slice_get xs i ≡ Some x → slice_get (map f xs) i ≡ Some (f x)
+get_map f [] i x e = cc
+get_map f (y ∷ xs) zero x e = let is : y ≡ x = cc in ap (λ z. Some (f z)) is
+get_map f (y ∷ xs) (suc i) x e = get_map f xs i x e
+
+pub lane_is : (x y : Lane) → x.put ≡ y.put → x.handed ≡ y.handed → x.closed ≡ y.closed → x ≡ y
+lane_is x y p h c = λ i. record { put = p i; handed = h i; closed = c i }
+
+module _ {g : Ghosts Request Outcome} {R : Type 0} (request : Request → R) (result_of : R → Outcome) where
+  pub poll_handed : (old new : Client Request Outcome g) (r : Option (Reply Request Outcome)) → put_of new ≡ put_of old
+      → Polls request result_of (came_to old) (came_to new) (mail_of old) (mail_of new) (reply_of r)
+      → IfSome r (λ reply. (reply.ticket ≡ (lane_of old).handed) × (lane_of new ≡ with_handed (lane_of old)))
+  poll_handed old new None put p = tt
+  poll_handed old new (Some reply) put p =
+      let h = polled_some request result_of (came_to old) (came_to new) (mail_of old) (mail_of new) (reply.ticket, reply.outcome) p in
+      (h.ticket, lane_is (lane_of new) (with_handed (lane_of old)) (ap (map work_of) put) h.handed h.closed)
+
+  pub poll_right : (old new : Client Request Outcome g) (r : Option (Reply Request Outcome))
+      → Polls request result_of (came_to old) (came_to new) (mail_of old) (mail_of new) (reply_of r)
+      → IfSome r (λ reply. (x : Ticketed Request) → slice_get (put_of old) reply.ticket ≡ Some x → reply.outcome ≡ result_of (request x.work))
+      → IfSome r (λ reply. (q : Request) × (slice_get (lane_of old).put (lane_of old).handed ≡ Some q) × (reply.outcome ≡ result_of (request q)))
+  poll_right old new None p right = tt
+  poll_right old new (Some reply) p right =
+      let h = polled_some request result_of (came_to old) (came_to new) (mail_of old) (mail_of new) (reply.ticket, reply.outcome) p in
+      let x = got (put_of old) (mail_of old).handed (let n = old.count in let t = h.there in omega (arith, n, t)) in
+      (x.0.work, get_map work_of (put_of old) (mail_of old).handed x.0 x.1, right x.0 (ap (λ k. slice_get (put_of old) k) h.ticket ∙ x.1))
+
+  pub poll_nothing : (old new : Client Request Outcome g) (r : Option (Reply Request Outcome)) → put_of new ≡ put_of old
+      → Polls request result_of (came_to old) (came_to new) (mail_of old) (mail_of new) (reply_of r) → IfNone r (lane_of new ≡ lane_of old)
+  poll_nothing old new None put p =
+      let h = polled_none request result_of (came_to old) (came_to new) (mail_of old) (mail_of new) p in
+      lane_is (lane_of new) (lane_of old) (ap (map work_of) put) h.0 h.1
+  poll_nothing old new (Some reply) put p = tt
+
+-- ## A lane that hands out
+
+pub own_none : (name : List ℕ) (old new : Lane) (text : List ℕ) → new ≡ old → HandsOwn name old new text text
+own_none name old new text e = record {
+  more = [];
+  is = sym (append-nil text);
+  handed = record { put = ap (λ l. l.put) e; closed = ap (λ l. l.closed) e; own = ap (due name) e; others = λ who h. refl };
+}
+
+pub own_one : (name : List ℕ) (old new : Lane) (q : Request) (report : Data) (text text' : List ℕ) → slice_get old.put old.handed ≡ Some q → new ≡ with_handed old
+    → report ≡ reply name (request_result q) old.handed → text' ≡ text ++ ended (compact_text report) → HandsOwn name old new text text'
+own_one name old new q report text text' at e same is =
+    let said = of_name name (reply name (request_result q) old.handed) in
+    record {
+      more = said ∷ [];
+      is = is ∙ ap (λ r. text ++ ended (compact_text r)) same ∙ ap (λ v. text ++ v) (sym (append-nil (ended said.text)));
+      handed = record {
+        put = ap (λ l. l.put) e;
+        closed = ap (λ l. l.closed) e;
+        own = ap (λ t. t ++ due name new) (of_same (Some name) said (name_itself name)) ∙ ap (λ l. said ∷ due name l) e ∙ sym (due-next name old q at);
+        others = λ who h. of_other who said h;
+      };
+    }
+
+-- ## Whole lanes
+
+pub length_of_dropped : {X : Type 0} (n : ℕ) (xs : List X) → drop n xs ≡ [] → length xs ≤ n
+length_of_dropped zero [] e = omega arith
+length_of_dropped zero (x ∷ xs) e = cc
+length_of_dropped (suc n) [] e = omega arith
+length_of_dropped (suc n) (x ∷ xs) e = let h = length_of_dropped n xs e in omega (arith, h)
+
+all_dropped : {X : Type 0} (n : ℕ) (xs : List X) → length xs ≤ n → drop n xs ≡ []
+all_dropped zero [] h = refl
+all_dropped zero (x ∷ xs) h = let wrong : ⊥ = omega (arith, h) in absurd wrong
+all_dropped (suc n) [] h = refl
+all_dropped (suc n) (x ∷ xs) h = let less : length xs ≤ n = omega (arith, h) in all_dropped n xs less
+
+module _ {g : Ghosts Request Outcome} where
+  pub put_length : (client : Client Request Outcome g) → length (lane_of client).put ≡ accepted_in (mail_of client)
+  put_length client = length-map (put_of client) work_of ∙ client.count
+
+  pub handed_within : (client : Client Request Outcome g) → (lane_of client).handed ≤ length (lane_of client).put
+  handed_within client = let n = put_length client in omega (arith, n)
+
+  pub dropped_whole : (client : Client Request Outcome g) → drop (lane_of client).handed (lane_of client).put ≡ [] → accepted_in (mail_of client) ≡ (mail_of client).handed
+  dropped_whole client e =
+      let n = put_length client in let h = length_of_dropped (lane_of client).handed (lane_of client).put e in omega (arith, n, h)
+
+  pub whole_dropped : (client : Client Request Outcome g) → accepted_in (mail_of client) ≡ (mail_of client).handed → drop (lane_of client).handed (lane_of client).put ≡ []
+  whole_dropped client e =
+      let n = put_length client in let h : length (lane_of client).put ≤ (lane_of client).handed = omega (arith, n, e) in
+      all_dropped (lane_of client).handed (lane_of client).put h

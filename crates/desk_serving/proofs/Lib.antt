@@ -1,0 +1,14 @@
+pub mod ServedLaws
+pub mod Owing
+pub mod Standing
+pub mod Replying
+pub mod Asking
+pub mod Saying
+pub mod EndingLanes
+pub mod Fronting
+pub mod Finishing
+pub mod Laning
+pub mod Putting
+pub mod Running
+pub mod Sendable
+pub mod Readings

@@ -1,0 +1,279 @@
+-- What handing out does to what is owed.
+use Rattle.std.proofs.Common.{◌≡◌, ◌+◌, ◌<◌, ℕ, zero, suc, Bool, true, false, List, [], ◌∷◌, ◌++◌, Option, Some, None, length, drop, slice_get, slice_set, slice_index_or, if◌then◌else◌, ◌||◌, refl, sym, ap, ◌∙◌, arith, append_assoc, append-nil, add-one, subst}
+use Rattle.std.specs.Prelude.{bytes_eq}
+use Rattle.std.specs.List.{flat_map}
+use Rattle.std.proofs.lemmas.Grind.{flat_map-append}
+use Rattle.std.proofs.lemmas.List.{map-append}
+use Rattle.std.proofs.lemmas.List.Elements.{filter-append}
+use Rattle.std.proofs.lemmas.Slice.Eq.{bytes_eq-Decides}
+use Rattle.dmn_plan.specs.Request.{Request, request_result}
+use Rattle.desk_lines.specs.Lines.{ended}
+use Rattle.desk_serving.specs.Owed.{Lane, replies, due, due_to, due_to_name, unhanded, AreDistinct, AreHanded, AreOwn, AreFirst, AreFirstOwn, Hands, HandsOwn, HandsThen, with_handed}
+use Rattle.desk_serving.specs.Served.{Entry, same_client, of_client, of_name, is_among, texts_of}
+use Rattle.desk_reports.specs.Shown.{reply}
+
+-- ## Names
+
+pub same_name : (m n : List ℕ) → bytes_eq m n ≡ true → m ≡ n
+same_name m n h = (bytes_eq-Decides m n).0 h
+
+pub name_itself : (n : List ℕ) → bytes_eq n n ≡ true
+name_itself n = (bytes_eq-Decides n n).1 refl
+
+turned_as : (m n : List ℕ) (s t : Bool) → bytes_eq m n ≡ s → bytes_eq n m ≡ t → s ≡ t
+turned_as m n true true p q = refl
+turned_as m n false false p q = refl
+turned_as m n true false p q = sym (sym (ap (λ x. bytes_eq x m) (same_name m n p)) ∙ name_itself m) ∙ q
+turned_as m n false true p q = sym (sym (sym (ap (λ x. bytes_eq x n) (same_name n m q)) ∙ name_itself n) ∙ p)
+
+pub turned_name : (m n : List ℕ) → bytes_eq m n ≡ bytes_eq n m
+turned_name m n = turned_as m n (bytes_eq m n) (bytes_eq n m) refl refl
+
+pub or_true : (b : Bool) → (b || true) ≡ true
+or_true true = refl
+or_true false = refl
+
+pub or_false : (a b : Bool) → (a || b) ≡ false → (a ≡ false) × (b ≡ false)
+or_false true b h = cc
+or_false false b h = (refl, h)
+
+-- a name that isn't among the names is none of them
+pub not_among_at : (n m : List ℕ) (names : List (List ℕ)) (c : ℕ) → is_among n names ≡ false → slice_get names c ≡ Some m → bytes_eq m n ≡ false
+not_among_at n m [] c h at = cc
+not_among_at n m (k ∷ names) zero h at = let is : k ≡ m = cc in subst (λ x. bytes_eq x n ≡ false) is (or_false (bytes_eq k n) (is_among n names) h).0
+not_among_at n m (k ∷ names) (suc c) h at = not_among_at n m names c (or_false (bytes_eq k n) (is_among n names) h).1 at
+
+-- a name at a place is among the names
+pub among_at : (n : List ℕ) (names : List (List ℕ)) (c : ℕ) → slice_get names c ≡ Some n → is_among n names ≡ true
+among_at n [] c at = cc
+among_at n (k ∷ names) zero at = let is : k ≡ n = cc in let e : bytes_eq k n ≡ true = subst (λ x. bytes_eq x n ≡ true) (sym is) (name_itself n) in rw e refl
+among_at n (k ∷ names) (suc c) at = rw (among_at n names c at) (or_true (bytes_eq k n))
+
+-- ## Entries
+
+pub of_client-append : (who : Option (List ℕ)) (xs ys : List Entry) → of_client who (xs ++ ys) ≡ of_client who xs ++ of_client who ys
+of_client-append who xs ys = filter-append (λ e. same_client e.client who) xs ys
+
+pub same_client-refl : (who : Option (List ℕ)) → same_client who who ≡ true
+same_client-refl None = refl
+same_client-refl (Some n) = name_itself n
+
+pub same_is : (a b : Option (List ℕ)) → same_client a b ≡ true → a ≡ b
+same_is None None h = refl
+same_is None (Some n) h = cc
+same_is (Some m) None h = cc
+same_is (Some m) (Some n) h = ap Some (same_name m n h)
+
+pub of_other : (who : Option (List ℕ)) (e : Entry) → same_client e.client who ≡ false → of_client who (e ∷ []) ≡ []
+of_other who e h = rw h refl
+
+pub of_same : (who : Option (List ℕ)) (e : Entry) → same_client e.client who ≡ true → of_client who (e ∷ []) ≡ e ∷ []
+of_same who e h = rw h refl
+
+-- the lines of more entries
+pub lines-append : (xs ys : List Entry) → flat_map ended (texts_of (xs ++ ys)) ≡ flat_map ended (texts_of xs) ++ flat_map ended (texts_of ys)
+lines-append xs ys = ap (flat_map ended) (map-append (λ e. e.text) xs ys) ∙ flat_map-append ended (texts_of xs) (texts_of ys)
+
+-- ## What a lane owes
+
+-- the reply at a place is the first that is owed from there
+pub replies-drop : (name : List ℕ) (t : ℕ) (qs : List Request) (i : ℕ) (q : Request) → slice_get qs i ≡ Some q
+    → replies name t (drop i qs) ≡ of_name name (reply name (request_result q) t) ∷ replies name (t + 1) (drop (suc i) qs)
+replies-drop name t [] i q h = cc
+replies-drop name t (x ∷ qs) zero q h = let is : x ≡ q = cc in ap (λ (y : Request). of_name name (reply name (request_result y) t) ∷ replies name (t + 1) qs) is
+replies-drop name t (x ∷ qs) (suc i) q h = replies-drop name t qs i q h
+
+pub due-next : (name : List ℕ) (lane : Lane) (q : Request) → slice_get lane.put lane.handed ≡ Some q
+    → due name lane ≡ of_name name (reply name (request_result q) lane.handed) ∷ due name (with_handed lane)
+due-next name lane q h = simp add-one (simp add-one at (replies-drop name lane.handed lane.put lane.handed q h))
+
+-- where each request was handed its result, nothing is owed
+pub due-whole : (name : List ℕ) (lane : Lane) → drop lane.handed lane.put ≡ [] → due name lane ≡ []
+due-whole name lane h = ap (replies name lane.handed) h
+
+-- what is owed to the name of a lane is what that lane owes
+pub due_to_own : (names : List (List ℕ)) (lanes : List Lane) (c : ℕ) (n : List ℕ) (lane : Lane) → AreDistinct names → slice_get names c ≡ Some n → slice_get lanes c ≡ Some lane
+    → due_to_name n names lanes ≡ due n lane
+due_to_own [] lanes c n lane dis at la = cc
+due_to_own (m ∷ names) [] c n lane dis at la = cc
+due_to_own (m ∷ names) (x ∷ lanes) zero n lane dis at la =
+    let is : m ≡ n = cc in let l : x ≡ lane = cc in
+    let e : bytes_eq m n ≡ true = subst (λ y. bytes_eq y n ≡ true) (sym is) (name_itself n) in
+    rw (e, is, l) refl
+due_to_own (m ∷ names) (x ∷ lanes) (suc c) n lane dis at la =
+    let e : bytes_eq m n ≡ false = turned_name m n ∙ not_among_at m n names c dis.0 at in
+    rw e (due_to_own names lanes c n lane dis.1 at la)
+
+-- and nothing that changes there changes what is owed to others
+pub due_to_other : (m : List ℕ) (names : List (List ℕ)) (lanes : List Lane) (c : ℕ) (n : List ℕ) (lane : Lane) → slice_get names c ≡ Some n → bytes_eq n m ≡ false
+    → due_to_name m names (slice_set lanes c lane) ≡ due_to_name m names lanes
+due_to_other m [] lanes c n lane at h = cc
+due_to_other m (k ∷ names) [] c n lane at h = refl
+due_to_other m (k ∷ names) (x ∷ lanes) zero n lane at h =
+    let is : k ≡ n = cc in
+    let e : bytes_eq k m ≡ false = subst (λ y. bytes_eq y m ≡ false) (sym is) h in rw e refl
+due_to_other m (k ∷ names) (x ∷ lanes) (suc c) n lane at h = ap (λ (t : List Entry). if bytes_eq k m then due k x else t) (due_to_other m names lanes c n lane at h)
+
+-- nothing is owed to a name without a lane
+pub due_to_none : (m : List ℕ) (names : List (List ℕ)) (lanes : List Lane) → is_among m names ≡ false → due_to_name m names lanes ≡ []
+due_to_none m [] lanes h = refl
+due_to_none m (n ∷ names) [] h = refl
+due_to_none m (n ∷ names) (lane ∷ lanes) h =
+    let both = or_false (bytes_eq n m) (is_among m names) h in rw both.0 (due_to_none m names lanes both.1)
+
+-- ## Lists of lanes
+
+pub set_at : {X : Type 0} (xs : List X) (c : ℕ) (x y : X) → slice_get xs c ≡ Some x → slice_get (slice_set xs c y) c ≡ Some y
+set_at [] c x y h = cc
+set_at (z ∷ xs) zero x y h = refl
+set_at (z ∷ xs) (suc c) x y h = set_at xs c x y h
+
+pub get_at : {X : Type 0} (xs : List X) (c : ℕ) (x : X) → c < length xs → x ≡ slice_index_or xs c x → slice_get xs c ≡ Some x
+get_at [] c x lt is = absurd (omega (arith, lt))
+get_at (z ∷ xs) zero x lt is = ap Some (sym is)
+get_at (z ∷ xs) (suc c) x lt is = get_at xs c x (omega (arith, lt)) is
+
+pub get_inside : {X : Type 0} (xs : List X) (c : ℕ) (x : X) → slice_get xs c ≡ Some x → c < length xs
+get_inside [] c x h = cc
+get_inside (z ∷ xs) zero x h = omega arith
+get_inside (z ∷ xs) (suc c) x h = omega (arith, get_inside xs c x h)
+
+pub unhanded-set : (lanes : List Lane) (c : ℕ) (lane new : Lane) → slice_get lanes c ≡ Some lane → new.put ≡ lane.put → new.closed ≡ lane.closed
+    → unhanded (slice_set lanes c new) ≡ unhanded lanes
+unhanded-set [] c lane new h p q = cc
+unhanded-set (x ∷ lanes) zero lane new h p q =
+    let is : x ≡ lane = cc in
+    let put : new.put ≡ x.put = p ∙ ap (λ (y : Lane). y.put) (sym is) in
+    let closed : new.closed ≡ x.closed = q ∙ ap (λ (y : Lane). y.closed) (sym is) in
+    rw (put, closed) refl
+unhanded-set (x ∷ lanes) (suc c) lane new h p q = ap (λ (t : List Lane). (record { put = x.put; handed = 0; closed = x.closed }) ∷ t) (unhanded-set lanes c lane new h p q)
+
+-- ## What was handed out
+
+pub handed_none : (names : List (List ℕ)) (lanes : List Lane) → AreHanded names lanes lanes []
+handed_none names lanes = record { lanes = refl; owed = λ who. refl }
+
+pub handed_then : (names : List (List ℕ)) (a b c : List Lane) (m k : List Entry) → AreHanded names a b m → AreHanded names b c k → AreHanded names a c (m ++ k)
+handed_then names a b c m k x y = record {
+  lanes = y.lanes ∙ x.lanes;
+  owed = λ who. ap (λ t. t ++ due_to who names c) (of_client-append who m k) ∙ append_assoc (of_client who m) (of_client who k) (due_to who names c)
+      ∙ ap (λ t. of_client who m ++ t) (y.owed who) ∙ x.owed who;
+}
+
+pub handed_first : (names : List (List ℕ)) (a b : List Lane) (m : List Entry) → AreHanded names a b m → AreFirst names a m
+handed_first names a b m x who = (due_to who names b, x.owed who)
+
+pub first_after : (names : List (List ℕ)) (a b : List Lane) (m k : List Entry) → AreHanded names a b m → AreFirst names b k → AreFirst names a (m ++ k)
+first_after names a b m k x y who =
+    let r = y who in (
+      r.0,
+      ap (λ t. t ++ r.0) (of_client-append who m k) ∙ append_assoc (of_client who m) (of_client who k) r.0 ∙ ap (λ t. of_client who m ++ t) r.1 ∙ x.owed who,
+    )
+
+owed_at : (names : List (List ℕ)) (lanes : List Lane) (c : ℕ) (n : List ℕ) (lane new : Lane) (more : List Entry) → AreDistinct names → slice_get names c ≡ Some n → slice_get lanes c ≡ Some lane
+    → AreOwn n lane new more → (m : List ℕ) (b : Bool) → bytes_eq n m ≡ b → of_client (Some m) more ++ due_to_name m names (slice_set lanes c new) ≡ due_to_name m names lanes
+owed_at names lanes c n lane new more dis at la own m false e = rw (own.others (Some m) e, due_to_other m names lanes c n new at e) refl
+owed_at names lanes c n lane new more dis at la own m true e =
+    let is : n ≡ m = same_name n m e in
+    let now : due_to_name n names (slice_set lanes c new) ≡ due n new = due_to_own names (slice_set lanes c new) c n new dis at (set_at lanes c lane new la) in
+    let P : List ℕ → Type 0 = λ k. of_client (Some k) more ++ due_to_name k names (slice_set lanes c new) ≡ due_to_name k names lanes in
+    subst P is (rw (now, due_to_own names lanes c n lane dis at la) own.own)
+
+pub own_handed : (names : List (List ℕ)) (lanes : List Lane) (c : ℕ) (n : List ℕ) (lane new : Lane) (more : List Entry) → AreDistinct names → slice_get names c ≡ Some n → slice_get lanes c ≡ Some lane
+    → AreOwn n lane new more → AreHanded names lanes (slice_set lanes c new) more
+own_handed names lanes c n lane new more dis at la own = record {
+  lanes = unhanded-set lanes c lane new la own.put own.closed;
+  owed = elim [
+    | None ↦ append-nil (of_client None more) ∙ own.others None refl
+    | Some m ↦ owed_at names lanes c n lane new more dis at la own m (bytes_eq n m) refl
+  ];
+}
+
+first_at : (names : List (List ℕ)) (lanes : List Lane) (c : ℕ) (n : List ℕ) (lane : Lane) (more : List Entry) → AreDistinct names → slice_get names c ≡ Some n → slice_get lanes c ≡ Some lane
+    → AreFirstOwn n lane more → (m : List ℕ) (b : Bool) → bytes_eq n m ≡ b → (rest : List Entry) × (of_client (Some m) more ++ rest ≡ due_to_name m names lanes)
+first_at names lanes c n lane more dis at la own m false e = (due_to_name m names lanes, ap (λ t. t ++ due_to_name m names lanes) (own.others (Some m) e))
+first_at names lanes c n lane more dis at la own m true e =
+    let is : n ≡ m = same_name n m e in
+    let P : List ℕ → Type 0 = λ k. (rest : List Entry) × (of_client (Some k) more ++ rest ≡ due_to_name k names lanes) in
+    subst P is (own.rest, own.own ∙ sym (due_to_own names lanes c n lane dis at la))
+
+pub own_first : (names : List (List ℕ)) (lanes : List Lane) (c : ℕ) (n : List ℕ) (lane : Lane) (more : List Entry) → AreDistinct names → slice_get names c ≡ Some n → slice_get lanes c ≡ Some lane
+    → AreFirstOwn n lane more → AreFirst names lanes more
+own_first names lanes c n lane more dis at la own = elim [
+  | None ↦ ([], append-nil (of_client None more) ∙ own.others None refl)
+  | Some m ↦ first_at names lanes c n lane more dis at la own m (bytes_eq n m) refl
+]
+
+-- the same, at the end of a text
+
+pub hands_none : (names : List (List ℕ)) (lanes : List Lane) (text : List ℕ) → Hands names lanes lanes text text
+hands_none names lanes text = record { more = []; is = sym (append-nil text); handed = handed_none names lanes }
+
+pub hands_then : (names : List (List ℕ)) (a b c : List Lane) (s t u : List ℕ) → Hands names a b s t → Hands names b c t u → Hands names a c s u
+hands_then names a b c s t u x y = record {
+  more = x.more ++ y.more;
+  is = y.is ∙ ap (λ v. v ++ flat_map ended (texts_of y.more)) x.is ∙ append_assoc s (flat_map ended (texts_of x.more)) (flat_map ended (texts_of y.more))
+      ∙ ap (λ v. s ++ v) (sym (lines-append x.more y.more));
+  handed = handed_then names a b c x.more y.more x.handed y.handed;
+}
+
+pub own_hands : (names : List (List ℕ)) (lanes : List Lane) (c : ℕ) (n : List ℕ) (lane new : Lane) (s t : List ℕ) → AreDistinct names → slice_get names c ≡ Some n → slice_get lanes c ≡ Some lane
+    → HandsOwn n lane new s t → Hands names lanes (slice_set lanes c new) s t
+own_hands names lanes c n lane new s t dis at la h = record {
+  more = h.more;
+  is = h.is;
+  handed = own_handed names lanes c n lane new h.more dis at la h.handed;
+}
+
+-- an entry that is said where nothing is owed to its client any more
+then_by : (names : List (List ℕ)) (old new : List Lane) (more : List Entry) (e : Entry) → AreHanded names old new more → due_to e.client names new ≡ []
+    → (who : Option (List ℕ)) (b : Bool) → same_client e.client who ≡ b → of_client who (more ++ e ∷ []) ++ due_to who names new ≡ due_to who names old ++ of_client who (e ∷ [])
+then_by names old new more e h free who false s =
+    ap (λ t. t ++ due_to who names new) (of_client-append who more (e ∷ []) ∙ ap (λ t. of_client who more ++ t) (of_other who e s) ∙ append-nil (of_client who more))
+    ∙ h.owed who ∙ sym (append-nil (due_to who names old)) ∙ ap (λ t. due_to who names old ++ t) (sym (of_other who e s))
+then_by names old new more e h free who true s =
+    let is : e.client ≡ who = same_is e.client who s in
+    let nothing : due_to who names new ≡ [] = subst (λ (c : Option (List ℕ)). due_to c names new ≡ []) is free in
+    let at : of_client who more ≡ due_to who names old = sym (append-nil (of_client who more)) ∙ ap (λ t. of_client who more ++ t) (sym nothing) ∙ h.owed who in
+    ap (λ t. of_client who (more ++ e ∷ []) ++ t) nothing ∙ append-nil (of_client who (more ++ e ∷ [])) ∙ of_client-append who more (e ∷ []) ∙ ap (λ t. t ++ of_client who (e ∷ [])) at
+
+pub hands_then_entry : (names : List (List ℕ)) (old new : List Lane) (e : Entry) (s t u : List ℕ) → Hands names old new s t → due_to e.client names new ≡ [] → u ≡ t ++ ended e.text
+    → HandsThen names old new e s u
+hands_then_entry names old new e s t u h free is = record {
+  more = h.more ++ e ∷ [];
+  is = is ∙ ap (λ v. v ++ ended e.text) h.is ∙ append_assoc s (flat_map ended (texts_of h.more)) (ended e.text)
+      ∙ ap (λ v. s ++ v) (sym (lines-append h.more (e ∷ []) ∙ ap (λ v. flat_map ended (texts_of h.more) ++ v) (append-nil (ended e.text))));
+  owed = λ who. then_by names old new h.more e h.handed free who (same_client e.client who) refl;
+}
+
+-- ## Lanes that are the same but for what they handed out
+
+abbrev pub stripped : Lane → Lane
+stripped lane = record { put = lane.put; handed = 0; closed = lane.closed }
+
+pub length-unhanded : (xs ys : List Lane) → unhanded xs ≡ unhanded ys → length xs ≡ length ys
+length-unhanded [] [] e = refl
+length-unhanded [] (y ∷ ys) e = cc
+length-unhanded (x ∷ xs) [] e = cc
+length-unhanded (x ∷ xs) (y ∷ ys) e = let rest : unhanded xs ≡ unhanded ys = cc in let h = length-unhanded xs ys rest in omega (arith, h)
+
+-- the lane at the same place
+pub unhanded_at : (xs ys : List Lane) (c : ℕ) (y : Lane) → unhanded xs ≡ unhanded ys → slice_get ys c ≡ Some y
+    → (x : Lane) × (slice_get xs c ≡ Some x) × (x.put ≡ y.put) × (x.closed ≡ y.closed)
+unhanded_at xs [] c y e h = cc
+unhanded_at [] (b ∷ ys) c y e h = cc
+unhanded_at (a ∷ xs) (b ∷ ys) zero y e h =
+    let first : stripped a ≡ stripped b = cc in
+    let is : b ≡ y = cc in
+    (a, refl, ap (λ (l : Lane). l.put) first ∙ ap (λ (l : Lane). l.put) is, ap (λ (l : Lane). l.closed) first ∙ ap (λ (l : Lane). l.closed) is)
+unhanded_at (a ∷ xs) (b ∷ ys) (suc c) y e h = let rest : unhanded xs ≡ unhanded ys = cc in unhanded_at xs ys c y rest h
+
+pub unhanded_with : (xs ys : List Lane) (c : ℕ) (x y : Lane) → unhanded xs ≡ unhanded ys → x.put ≡ y.put → x.closed ≡ y.closed
+    → unhanded (slice_set xs c x) ≡ unhanded (slice_set ys c y)
+unhanded_with [] [] c x y e p q = refl
+unhanded_with [] (b ∷ ys) c x y e p q = cc
+unhanded_with (a ∷ xs) [] c x y e p q = cc
+unhanded_with (a ∷ xs) (b ∷ ys) zero x y e p q = let rest : unhanded xs ≡ unhanded ys = cc in rw (p, q, rest) refl
+unhanded_with (a ∷ xs) (b ∷ ys) (suc c) x y e p q =
+    let rest : unhanded xs ≡ unhanded ys = cc in let first : stripped a ≡ stripped b = cc in
+    let more = unhanded_with xs ys c x y rest p q in cc

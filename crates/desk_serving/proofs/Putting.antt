@@ -1,0 +1,174 @@
+-- What stays of a list of lanes, and what a request that is put adds to what is owed.
+use Rattle.std.proofs.Common.{◌≡◌, ℕ, zero, suc, ◌+◌, ◌<◌, ◌≤◌, Bool, true, false, List, [], ◌∷◌, ◌++◌, Option, Some, None, Ok, length, map, drop, take, slice_get, length-append, string_bytes, slice_set, slice_index_or, if◌then◌else◌, refl, sym, ap, ◌∙◌, arith, append_assoc, append-nil, subst}
+use Rattle.std.specs.Prelude.{bytes_eq, codes}
+use Rattle.std.specs.List.{flat_map}
+use Rattle.std.proofs.lemmas.List.{length-map, map-append}
+use Rattle.box_core.specs.declared.work.Work.{Ghosts}
+use Rattle.dmn_plan.specs.Request.{Request, request_result}
+use Rattle.feel_value.specs.declared.feel.Outcome.{Outcome}
+use Rattle.lanes.specs.declared.client.Client.{Client}
+use Rattle.lanes.proofs.Making.{map_set}
+use Rattle.desk_serving.specs.LanesView.{lanes_in, names_in}
+use Rattle.desk_serving.specs.declared.named_lanes.Lanes.{Lanes}
+use Rattle.desk_lines.specs.Lines.{ended}
+use Rattle.desk_serving.specs.Owed.{Lane, lane_of, replies, due, due_to, due_to_name, unhanded, AreDistinct, Hands, HandsOwn, HandsThen, with_lane, with_put, with_put_if}
+use Rattle.desk_serving.specs.Served.{Entry, of_client, of_name, is_among, task_answer, texts_of}
+use Rattle.desk_reports.specs.Shown.{named_refusal, reply}
+use Rattle.desk_serving.proofs.Laning.{get_map}
+use Rattle.desk_serving.proofs.Standing.{distinct-push}
+use Rattle.desk_serving.proofs.Owing.{same_name, name_itself, or_false, of_client-append, of_other, of_same, lines-append, due_to_own, due_to_other, due-whole, set_at, get_at, own_hands, hands_then_entry, unhanded_at, unhanded_with}
+
+-- ## Lists of lanes
+
+pub inside_of : {A B C : Type 0} (f : A → C) (names : List A) (clients : List B) (place : ℕ) → place < length (map f names) → length names ≤ length clients → place < length clients
+inside_of f names clients place h le = let n = length-map names f in omega (arith, n, h, le)
+
+pub there_at : {X : Type 0} (xs : List X) (c : ℕ) → c < length xs → (x : X) × (slice_get xs c ≡ Some x)
+there_at [] c h = absurd (omega (arith, h))
+there_at (x ∷ xs) zero h = (x, refl)
+there_at (x ∷ xs) (suc c) h = there_at xs c (omega (arith, h))
+
+pub set_back : {X : Type 0} (xs : List X) (c : ℕ) (x : X) → slice_get xs c ≡ Some x → slice_set xs c x ≡ xs
+set_back [] c x h = cc
+set_back (y ∷ xs) zero x h = let is : y ≡ x = cc in ap (λ z. z ∷ xs) (sym is)
+set_back (y ∷ xs) (suc c) x h = ap (λ zs. y ∷ zs) (set_back xs c x h)
+
+pub some_same : {X : Type 0} (o : Option X) (x y : X) → o ≡ Some x → o ≡ Some y → x ≡ y
+some_same o x y p q = cc
+
+module _ {g : Ghosts Request Outcome} where
+  -- the lane at a place, as it is held
+  pub lane_at : (clients : List (Client Request Outcome g)) (c : ℕ) (client : Client Request Outcome g) → c < length clients → client ≡ slice_index_or clients c client
+      → slice_get (map (λ (x : Client Request Outcome g). lane_of x) clients) c ≡ Some (lane_of client)
+  lane_at clients c client lt is = get_map (λ (x : Client Request Outcome g). lane_of x) clients c client (get_at clients c client lt is)
+
+  pub lanes_set : (clients : List (Client Request Outcome g)) (c : ℕ) (new : Client Request Outcome g)
+      → map (λ (x : Client Request Outcome g). lane_of x) (slice_set clients c new) ≡ slice_set (map (λ (x : Client Request Outcome g). lane_of x) clients) c (lane_of new)
+  lanes_set clients c new = map_set (λ (x : Client Request Outcome g). lane_of x) clients c new
+
+  pub client_hands : (names : List (List ℕ)) (clients : List (Client Request Outcome g)) (c : ℕ) (name : List ℕ) (old new : Client Request Outcome g) (s t : List ℕ) → AreDistinct names → slice_get names c ≡ Some name
+      → c < length clients → old ≡ slice_index_or clients c old → HandsOwn name (lane_of old) (lane_of new) s t
+      → Hands names (map (λ (x : Client Request Outcome g). lane_of x) clients) (map (λ (x : Client Request Outcome g). lane_of x) (slice_set clients c new)) s t
+  client_hands names clients c name old new s t dis at lt is h =
+      let before = map (λ (x : Client Request Outcome g). lane_of x) clients in
+      subst (λ (ls : List Lane). Hands names before ls s t) (sym (lanes_set clients c new))
+      (own_hands names before c name (lane_of old) (lane_of new) s t dis at (lane_at clients c old lt is) h)
+
+-- a place with a name has a lane
+pub lanes_inside : (lanes : Lanes) (place : ℕ) → place < length (names_in lanes) → (place < length lanes.clients.items) × (place < length (lanes_in lanes))
+lanes_inside lanes place h =
+    let inside = inside_of string_bytes lanes.names.items lanes.clients.items place h lanes.named in
+    (inside, let n = length-map lanes.clients.items (λ client. lane_of client) in omega (arith, n, inside))
+
+-- the same place before and after results were handed out
+pub same_at : (old mid : List Lane) (c : ℕ) (x lane : Lane) → unhanded mid ≡ unhanded old → slice_get mid c ≡ Some x → slice_get old c ≡ Some lane → (x.put ≡ lane.put) × (x.closed ≡ lane.closed)
+same_at old mid c x lane e at la =
+    let r = unhanded_at mid old c lane e la in
+    let is : x ≡ r.0 = some_same (slice_get mid c) x r.0 at r.1 in
+    (ap (λ (l : Lane). l.put) is ∙ r.2, ap (λ (l : Lane). l.closed) is ∙ r.3)
+
+-- ## Names
+
+pub among_take : (n : List ℕ) (names : List (List ℕ)) (i : ℕ) (m : List ℕ) → slice_get names i ≡ Some m → bytes_eq m n ≡ false → is_among n (take i names) ≡ false → is_among n (take (suc i) names) ≡ false
+among_take n [] i m at far h = cc
+among_take n (k ∷ names) zero m at far h =
+    let is : k ≡ m = cc in let e : bytes_eq k n ≡ false = subst (λ x. bytes_eq x n ≡ false) (sym is) far in rw e refl
+among_take n (k ∷ names) (suc i) m at far h =
+    let both = or_false (bytes_eq k n) (is_among n (take i names)) h in rw both.0 (among_take n names i m at far both.1)
+
+pub with_lane-known : (lanes : ℕ) (n : List ℕ) (names : List (List ℕ)) → is_among n names ≡ true → with_lane lanes n names ≡ names
+with_lane-known lanes n names h = rw h refl
+
+pub last_at : {X : Type 0} (xs : List X) (x : X) → slice_get (xs ++ x ∷ []) (length xs) ≡ Some x
+last_at [] x = refl
+last_at (y ∷ xs) x = last_at xs x
+
+pub pushed_names : {A B : Type 0} (f : A → List ℕ) (clients : List B) (names names' : List A) (x : A) (b : Bool) → names' ≡ (if b then names ++ x ∷ [] else names) → AreDistinct (map f names)
+    → is_among (f x) (map f names) ≡ false → length names < length clients → (length names' ≤ length clients) × AreDistinct (map f names')
+pushed_names f clients names names' x true is dis new lt = (
+  (let n = ap length is in let k = length-append names (x ∷ []) in omega (arith, n, k, lt)),
+  subst AreDistinct (sym (ap (map f) is ∙ map-append f names (x ∷ []))) (distinct-push (map f names) (f x) dis new),
+)
+pushed_names f clients names names' x false is dis new lt = ((let n = ap length is in omega (arith, n, lt)), subst AreDistinct (sym (ap (map f) is)) dis)
+
+-- ## What a request adds
+
+replies-push : (name : List ℕ) (t k : ℕ) (qs : List Request) (q : Request) → k ≡ t + length qs
+    → replies name t (qs ++ q ∷ []) ≡ replies name t qs ++ of_name name (reply name (request_result q) k) ∷ []
+replies-push name t k [] q h = let e : t ≡ k = omega (arith, h) in ap (λ (u : ℕ). of_name name (reply name (request_result q) u) ∷ []) e
+replies-push name t k (x ∷ qs) q h = ap (λ (rs : List Entry). of_name name (reply name (request_result x) t) ∷ rs) (replies-push name (t + 1) k qs q (omega (arith, h)))
+
+replies-push_drop : (name : List ℕ) (t k i : ℕ) (qs : List Request) (q : Request) → i ≤ length qs → k + i ≡ t + length qs
+    → replies name t (drop i (qs ++ q ∷ [])) ≡ replies name t (drop i qs) ++ of_name name (reply name (request_result q) k) ∷ []
+replies-push_drop name t k zero qs q le h = replies-push name t k qs q (omega (arith, h))
+replies-push_drop name t k (suc i) [] q le h = absurd (omega (arith, le))
+replies-push_drop name t k (suc i) (x ∷ qs) q le h = replies-push_drop name t k i qs q (omega (arith, le)) (omega (arith, h))
+
+due-put : (name : List ℕ) (lane : Lane) (q : Request) → lane.handed ≤ length lane.put
+    → due name (with_put lane q) ≡ due name lane ++ of_name name (reply name (request_result q) (length lane.put)) ∷ []
+due-put name lane q le = replies-push_drop name lane.handed (length lane.put) lane.handed lane.put q le (omega arith)
+
+due_to_put_at : (names : List (List ℕ)) (lanes : List Lane) (c : ℕ) (n : List ℕ) (lane : Lane) (q : Request) → AreDistinct names → slice_get names c ≡ Some n → slice_get lanes c ≡ Some lane → lane.handed ≤ length lane.put
+    → (m : List ℕ) (b : Bool) → bytes_eq n m ≡ b
+    → due_to_name m names (slice_set lanes c (with_put lane q)) ≡ due_to_name m names lanes ++ of_client (Some m) (of_name n (reply n (request_result q) (length lane.put)) ∷ [])
+due_to_put_at names lanes c n lane q dis at la le m false e =
+    let entry = of_name n (reply n (request_result q) (length lane.put)) in
+    due_to_other m names lanes c n (with_put lane q) at e ∙ sym (append-nil (due_to_name m names lanes)) ∙ ap (λ t. due_to_name m names lanes ++ t) (sym (of_other (Some m) entry e))
+due_to_put_at names lanes c n lane q dis at la le m true e =
+    let entry = of_name n (reply n (request_result q) (length lane.put)) in
+    let is : n ≡ m = same_name n m e in
+    let P : List ℕ → Type 0 = λ k. due_to_name k names (slice_set lanes c (with_put lane q)) ≡ due_to_name k names lanes ++ of_client (Some k) (entry ∷ []) in
+    subst P is
+    (due_to_own names (slice_set lanes c (with_put lane q)) c n (with_put lane q) dis at (set_at lanes c lane (with_put lane q) la) ∙ due-put n lane q le
+    ∙ ap (λ t. t ++ entry ∷ []) (sym (due_to_own names lanes c n lane dis at la)) ∙ ap (λ t. due_to_name n names lanes ++ t) (sym (of_same (Some n) entry (name_itself n))))
+
+due_to_put : (names : List (List ℕ)) (lanes : List Lane) (c : ℕ) (n : List ℕ) (lane : Lane) (q : Request) → AreDistinct names → slice_get names c ≡ Some n → slice_get lanes c ≡ Some lane → lane.handed ≤ length lane.put
+    → (who : Option (List ℕ)) → due_to who names (slice_set lanes c (with_put lane q)) ≡ due_to who names lanes ++ of_client who (of_name n (reply n (request_result q) (length lane.put)) ∷ [])
+due_to_put names lanes c n lane q dis at la le None = refl
+due_to_put names lanes c n lane q dis at la le (Some m) = due_to_put_at names lanes c n lane q dis at la le m (bytes_eq n m) refl
+
+-- results were handed out, and then a request was put
+pub put_then : (names : List (List ℕ)) (old mid : List Lane) (c : ℕ) (n : List ℕ) (x lane : Lane) (q : Request) (s t : List ℕ) → AreDistinct names → slice_get names c ≡ Some n → slice_get mid c ≡ Some x → slice_get old c ≡ Some lane
+    → x.handed ≤ length x.put → Hands names old mid s t → HandsThen names old (slice_set mid c (with_put x q)) (of_name n (reply n (request_result q) (length lane.put))) s t
+put_then names old mid c n x lane q s t dis at la was le h =
+    let size : length x.put ≡ length lane.put = ap (λ (qs : List Request). length qs) (same_at old mid c x lane h.handed.lanes la was).0 in
+    let entry = of_name n (reply n (request_result q) (length x.put)) in
+    subst (λ (k : ℕ). HandsThen names old (slice_set mid c (with_put x q)) (of_name n (reply n (request_result q) k)) s t) size
+    (record {
+      more = h.more;
+      is = h.is;
+      owed = λ who. ap (λ d. of_client who h.more ++ d) (due_to_put names mid c n x q dis at la le who) ∙ sym (append_assoc (of_client who h.more) (due_to who names mid) (of_client who (entry ∷ [])))
+          ∙ ap (λ d. d ++ of_client who (entry ∷ [])) (h.handed.owed who);
+    })
+
+pub put_unhanded : (old mid : List Lane) (c : ℕ) (x lane : Lane) (q : Request) → unhanded mid ≡ unhanded old → slice_get mid c ≡ Some x → slice_get old c ≡ Some lane
+    → unhanded (slice_set mid c (with_put x q)) ≡ unhanded (slice_set old c (with_put lane q))
+put_unhanded old mid c x lane q e la was =
+    let same = same_at old mid c x lane e la was in unhanded_with mid old c (with_put x q) (with_put lane q) e (ap (λ (qs : List Request). qs ++ q ∷ []) same.0) same.1
+
+pub with_put-closed : (lane : Lane) (q : Request) → lane.closed ≡ true → with_put_if lane q ≡ lane
+with_put-closed lane q h = rw h refl
+
+pub closed_answer : (k : ℕ) (name : List ℕ) (closed : Bool) (ticket : ℕ) (q : Request) → closed ≡ true → named_refusal name k (codes "closed") ≡ task_answer k name closed ticket (Ok q)
+closed_answer k name true ticket q h = refl
+closed_answer k name false ticket q h = cc
+
+-- results were handed out, and then the line was answered
+pub hands_before : (names : List (List ℕ)) (a b c : List Lane) (e : Entry) (s t u : List ℕ) → Hands names a b s t → HandsThen names b c e t u → HandsThen names a c e s u
+hands_before names a b c e s t u x y = record {
+  more = x.more ++ y.more;
+  is = y.is ∙ ap (λ v. v ++ flat_map ended (texts_of y.more)) x.is ∙ append_assoc s (flat_map ended (texts_of x.more)) (flat_map ended (texts_of y.more))
+      ∙ ap (λ v. s ++ v) (sym (lines-append x.more y.more));
+  owed = λ who. ap (λ d. d ++ due_to who names c) (of_client-append who x.more y.more) ∙ append_assoc (of_client who x.more) (of_client who y.more) (due_to who names c)
+      ∙ ap (λ d. of_client who x.more ++ d) (y.owed who) ∙ sym (append_assoc (of_client who x.more) (due_to who names b) (of_client who (e ∷ [])))
+      ∙ ap (λ d. d ++ of_client who (e ∷ [])) (x.handed.owed who);
+}
+
+-- once a lane is whole, what is said of its client stands behind all that was owed
+pub whole_then : (names : List (List ℕ)) (old new : List Lane) (c : ℕ) (n text s t u : List ℕ) → AreDistinct names → slice_get names c ≡ Some n → c < length new
+    → ((lane : Lane) → slice_get new c ≡ Some lane → drop lane.handed lane.put ≡ []) → Hands names old new s t → u ≡ t ++ ended text
+    → HandsThen names old new (record { client = Some n; text = text }) s u
+whole_then names old new c n text s t u dis at lt whole h is =
+    let lane = there_at new c lt in
+    hands_then_entry names old new (record { client = Some n; text = text }) s t u h
+    (due_to_own names new c n lane.0 dis at lane.1 ∙ due-whole n lane.0 (whole lane.0 lane.1)) is

@@ -1,0 +1,82 @@
+-- How a run of the front ends.
+use Rattle.std.proofs.Common.{◌≡◌, ◌≢◌, ℕ, List, [], Option, Result, Ok, Err, OnOk, IfErr, ap, refl, inl, take, ◌∷◌, suc, map, arith}
+use Rattle.box_core.specs.declared.work.Work.{Ghosts}
+use Rattle.dmn_plan.specs.Request.{Request}
+use Rattle.feel_value.specs.declared.feel.Outcome.{Outcome}
+use Rattle.lanes.specs.Books.{work_of}
+use Rattle.lanes.specs.Made.{AreNew}
+use Rattle.lanes.specs.declared.client.Client.{Client}
+use Rattle.desk_serving.specs.Owed.{AreBooked, lane_of}
+use Rattle.desk_serving.specs.Front.{GoesOn}
+use Rattle.desk_lines.specs.Lines.{lines_of, whole_lines_of, max_input}
+use Rattle.desk_serving.specs.Served.{ServedInPart}
+use Rattle.desk_lines.specs.Talk.{EndsAs, Ends, IsCut, Replays, Stops}
+use Rattle.desk_lines.specs.declared.fault.FrontFault.{FrontFault}
+use Rattle.desk_lines.specs.declared.fault.FrontFault.TheVariants.{Read, Write, Long, Memory}
+use Rattle.desk_lines.proofs.Coming.{Consumes-none, Appends-none}
+
+module _ (Whole Part : List (List ℕ) → List (List ℕ) → Type 0) (left left' wrote wrote' : Option (List ℕ)) where
+  pub ends_of : {X : Type 0} (r : Result X FrontFault) → OnOk r (Replays Whole left left' wrote wrote') → IfErr r (λ e. EndsAs Whole Part left left' wrote wrote' e)
+      → Ends Whole Part left left' wrote wrote' r
+  ends_of (Ok x) ok fault = ok
+  ends_of (Err e) ok fault = fault
+
+  -- the writer failed, or memory was refused
+  pub ends_in_part : (e : FrontFault) → (e ≢ Read) × (e ≢ Long) → (e ≡ Write → IsCut Part left left' wrote wrote') → (e ≡ Memory → Stops Part left left' wrote wrote')
+      → EndsAs Whole Part left left' wrote wrote' e
+  ends_in_part Read only cut stops = absurd (only.0 refl)
+  ends_in_part Long only cut stops = absurd (only.1 refl)
+  ends_in_part Write only cut stops = cut refl
+  ends_in_part Memory only cut stops = stops refl
+
+-- where all lines heard were answered, neither the writer failed nor memory was refused
+pub goes_without : {X : Type 0} (r : Result X FrontFault) → GoesOn r → (r ≢ Err Write) × (r ≢ Err Memory)
+goes_without (Ok x) g = (λ e. cc, λ e. cc)
+goes_without (Err Read) g = (λ e. cc, λ e. cc)
+goes_without (Err Long) g = (λ e. cc, λ e. cc)
+goes_without (Err Write) g = absurd g
+goes_without (Err Memory) g = absurd g
+
+-- nothing is read or written
+pub stops_unread : (Part : List (List ℕ) → List (List ℕ) → Type 0) (left wrote : Option (List ℕ)) → Part [] [] → Stops Part left left wrote wrote
+stops_unread Part left wrote h = record {
+  input = [];
+  lines = whole_lines_of (take max_input []);
+  answered = [];
+  unanswered = whole_lines_of (take max_input []);
+  output = [];
+  read = Consumes-none left;
+  heard = inl refl;
+  splits = refl;
+  written = Appends-none wrote;
+  said = h;
+}
+
+pub stops_same : (Part : List (List ℕ) → List (List ℕ) → Type 0) (left left' wrote wrote' : Option (List ℕ)) → left' ≡ left → wrote' ≡ wrote → Part [] [] → Stops Part left left' wrote wrote'
+stops_same Part left left' wrote wrote' same quiet h = rw (same, quiet) (stops_unread Part left wrote h)
+
+pub nothing_served : (lanes : ℕ) → ServedInPart lanes [] []
+nothing_served lanes = record { readings = []; read = tt; said = []; output = refl; each = λ who. ([], refl) }
+
+abbrev pub failed : (X : Type 0) → FrontFault → Result X FrontFault
+failed X e = Err e
+
+pub err_is : {X : Type 0} (x y : FrontFault) → failed X x ≡ failed X y → x ≡ y
+err_is x y h = cc
+
+-- new lanes are booked where nothing was read
+module _ {g : Ghosts Request Outcome} where
+  pub new_booked : (capacity : ℕ) (clients : List (Client Request Outcome g)) → AreNew capacity clients → AreBooked [] (map (λ client. lane_of client) clients) []
+  new_booked capacity [] h = tt
+  new_booked capacity (x ∷ clients) h =
+      let first = h 0 x (omega arith) in
+      (ap (map work_of) first.0, ap (λ m. m.closed) first.2, new_booked capacity clients (λ k d lt. h (suc k) d (omega (arith, lt))))
+
+-- where all lines heard were answered, there are such lines
+pub some_answered : {X : Type 0} (Whole Part : List (List ℕ) → List (List ℕ) → Type 0) (left left' wrote wrote' : Option (List ℕ)) (r : Result X FrontFault) → GoesOn r
+    → Ends Whole Part left left' wrote wrote' r → (lines : List (List ℕ)) × (said : List (List ℕ)) × Whole lines said
+some_answered Whole Part left left' wrote wrote' (Ok x) g e = (lines_of e.input, e.output, e.said)
+some_answered Whole Part left left' wrote wrote' (Err Read) g e = (whole_lines_of e.input, e.output, e.said)
+some_answered Whole Part left left' wrote wrote' (Err Long) g e = (whole_lines_of (take max_input e.input), e.output, e.said)
+some_answered Whole Part left left' wrote wrote' (Err Write) g e = absurd g
+some_answered Whole Part left left' wrote wrote' (Err Memory) g e = absurd g

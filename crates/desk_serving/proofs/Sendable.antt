@@ -1,0 +1,106 @@
+-- What may cross threads.
+use denote.Param.Send.{IsSend, IsSync, sendable, view_send, view_sync}
+use denote.Param.SendFields.{declared_send, declared_sync}
+use Rattle.std.proofs.Crossing.{crosses, Vec-send, Vec-sync, Arc-send, Arc-sync}
+use Rattle.std.proofs.MapsCrossing as maps
+use Rattle.std.proofs.option.Option.TheSendSync as option
+use Rattle.feel_lang.proofs.expr.Operator.TheSendSync as operator
+use Rattle.feel_lang.proofs.expr.Function.TheSendSync as function
+use Rattle.feel_lang.proofs.unary.Bound.TheSendSync as bound
+use Rattle.dmn_table.proofs.hit_policy.HitPolicy.TheSendSync as policy
+use Rattle.feel_value.proofs.value.Value.TheLaws.TheKnot as ValueKnot
+use Rattle.feel_lang.proofs.expr.Tree.TheLaws.TheKnot as TreeKnot
+use Rattle.feel_value.specs.contracts.feel.Feel as Feel
+use Rattle.feel_lang.specs.contracts.expression.Expr as Expr
+use Rattle.feel_lang.specs.contracts.input_entry.Tests as Tests
+use Rattle.dmn_table.specs.contracts.table.Output as Output
+use Rattle.dmn_table.specs.contracts.table.Rule as Rule
+use Rattle.dmn_table.specs.contracts.table.Table as Table
+use Rattle.dmn_table.specs.contracts.table.Table.TheInside as TableInside
+use denote.Param.SendFields.{as_row_send, as_row_sync}
+use Rattle.dmn_logic.specs.contracts.logic.Logic as Logic
+use Rattle.dmn_logic.proofs.logic.Logic.TheLaws.TheKnot as LogicKnot
+use Rattle.dmn_service.specs.contracts.plan.Item as Item
+use Rattle.dmn_service.proofs.plan.ServicePlan.TheSendSync as service
+use Rattle.dmn_plan.specs.contracts.plan.Plan as Plan
+use Rattle.dmn_plan.specs.contracts.plan.Plan.TheInside as PlanInside
+use Rattle.dmn_plan.specs.contracts.task.Task as Task
+use Rattle.dmn_plan.specs.contracts.task.Task.TheInside as TaskInside
+
+pub Feel-send : IsSend Feel.the_row
+Feel-send = search (crosses, ValueKnot.crosses, sendable) depth 60 fits 20000
+
+pub Expr-send : IsSend Expr.the_row
+Expr-send = search (operator.the_field_send, function.the_field_send, crosses, TreeKnot.crosses, sendable) depth 60 fits 20000
+
+pub Tests-send : IsSend Tests.the_row
+Tests-send = search (operator.the_field_send, function.the_field_send, bound.the_field_send, crosses, TreeKnot.crosses, sendable) depth 60 fits 20000
+
+pub Output-send : IsSend Output.the_row
+Output-send = declared_send Output.the_type (maps.String-send, (Vec-send Feel.the_row Feel-send, (option.the_send Expr.the_row Expr-send, tt)))
+
+pub Rule-send : IsSend Rule.the_row
+Rule-send = declared_send Rule.the_type (Vec-send Tests.the_row Tests-send, (Vec-send Expr.the_row Expr-send, tt))
+
+pub TableInside-send : IsSend TableInside.the_row
+TableInside-send = declared_send TableInside.the_type (policy.the_send, (Vec-send Expr.the_row Expr-send, (Vec-send Output.the_row Output-send, (Vec-send Rule.the_row Rule-send, tt))))
+
+pub Table-send : IsSend Table.the_row
+Table-send = view_send _ _ _ _ _ TableInside-send
+
+pub Feel-sync : IsSync Feel.the_row
+Feel-sync = search (crosses, ValueKnot.crosses, sendable) depth 60 fits 20000
+
+pub Expr-sync : IsSync Expr.the_row
+Expr-sync = search (operator.the_field_sync, function.the_field_sync, crosses, TreeKnot.crosses, sendable) depth 60 fits 20000
+
+pub Tests-sync : IsSync Tests.the_row
+Tests-sync = search (operator.the_field_sync, function.the_field_sync, bound.the_field_sync, crosses, TreeKnot.crosses, sendable) depth 60 fits 20000
+
+pub Output-sync : IsSync Output.the_row
+Output-sync = declared_sync Output.the_type (maps.String-sync, (Vec-sync Feel.the_row Feel-sync, (option.the_sync Expr.the_row Expr-sync, tt)))
+
+pub Rule-sync : IsSync Rule.the_row
+Rule-sync = declared_sync Rule.the_type (Vec-sync Tests.the_row Tests-sync, (Vec-sync Expr.the_row Expr-sync, tt))
+
+pub TableInside-sync : IsSync TableInside.the_row
+TableInside-sync = declared_sync TableInside.the_type (policy.the_sync, (Vec-sync Expr.the_row Expr-sync, (Vec-sync Output.the_row Output-sync, (Vec-sync Rule.the_row Rule-sync, tt))))
+
+pub Table-sync : IsSync Table.the_row
+Table-sync = view_sync _ _ _ _ _ TableInside-sync
+
+pub Logic-send : IsSend Logic.the_row
+Logic-send = search (Expr-send, Table-send, crosses, LogicKnot.crosses, sendable) depth 60 fits 20000
+
+pub Item-send : IsSend Item.the_row
+Item-send = declared_send Item.the_type (maps.String-send, (search (sendable, crosses) depth 20, (option.the_send Logic.the_row Logic-send, tt)))
+
+pub PlanInside-send : IsSend PlanInside.the_row
+PlanInside-send = declared_send PlanInside.the_type (maps.String-send, (Vec-send Item.the_row Item-send, ((search (maps.BTreeMap-send, maps.String-send, service.the_send, as_row_send) depth 20 fits 20000), tt)))
+
+pub Plan-send : IsSend Plan.the_row
+Plan-send = view_send _ _ _ _ _ PlanInside-send
+
+pub Logic-sync : IsSync Logic.the_row
+Logic-sync = search (Expr-sync, Table-sync, crosses, LogicKnot.crosses, sendable) depth 60 fits 20000
+
+pub Item-sync : IsSync Item.the_row
+Item-sync = declared_sync Item.the_type (maps.String-sync, (search (sendable, crosses) depth 20, (option.the_sync Logic.the_row Logic-sync, tt)))
+
+pub PlanInside-sync : IsSync PlanInside.the_row
+PlanInside-sync = declared_sync PlanInside.the_type (maps.String-sync, (Vec-sync Item.the_row Item-sync, ((search (maps.BTreeMap-sync, maps.String-sync, service.the_sync, as_row_sync) depth 20 fits 20000), tt)))
+
+pub Plan-sync : IsSync Plan.the_row
+Plan-sync = view_sync _ _ _ _ _ PlanInside-sync
+
+pub TaskInside-send : IsSend TaskInside.the_row
+TaskInside-send = declared_send TaskInside.the_type (Arc-send Plan.the_row Plan-send Plan-sync, (maps.String-send, (Vec-send Feel.the_row Feel-send, tt)))
+
+pub Task-send : IsSend Task.the_row
+Task-send = view_send _ _ _ _ _ TaskInside-send
+
+pub TaskInside-sync : IsSync TaskInside.the_row
+TaskInside-sync = declared_sync TaskInside.the_type (Arc-sync Plan.the_row Plan-send Plan-sync, (maps.String-sync, (Vec-sync Feel.the_row Feel-sync, tt)))
+
+pub Task-sync : IsSync Task.the_row
+Task-sync = view_sync _ _ _ _ _ TaskInside-sync

@@ -1,0 +1,325 @@
+-- What a line makes of how the front stands.
+use Rattle.std.proofs.Common.{◌≡◌, ◌<◌, ◌≤◌, ℕ, zero, suc, Bool, true, false, not, List, [], ◌∷◌, ◌++◌, Option, Some, None, Result, Ok, Err, length, take, drop, slice_get, slice_set, if◌then◌else◌, ◌||◌, ◌&&◌, refl, sym, ap, ◌∙◌, arith, append_assoc, append-nil, subst}
+use Rattle.std.specs.Prelude.{bytes_eq, nat_le}
+use Rattle.std.proofs.lemmas.Bool.Decides.{nat_tests}
+use Rattle.std.proofs.lemmas.List.{take_all, take-append-le, length-take, take-append-drop, length-append}
+use Rattle.std.proofs.lemmas.List.Folds.{list_any-append}
+use Rattle.serde_json.specs.Data.{Data}
+use Rattle.dmn_plan.specs.ReadModel.{read_model}
+use Rattle.dmn_plan.specs.Request as plan
+use Rattle.dmn_plan.specs.declared.fault.ModelFault.{ModelFault}
+use Rattle.dmn_plan.specs.declared.fault.TaskFault.{TaskFault}
+use Rattle.desk_serving.specs.Asked.{Asked, Model, Request, Close, Resize}
+use Rattle.desk_serving.specs.Owed.{Lane, due, due_to, due_to_name, unhanded, AreDistinct, AreHanded, AreBooked, Stands, with_lane}
+use Rattle.desk_reports.specs.Reading.{Reading, Blank, Long, Syntax, Shape, Says}
+use Rattle.desk_serving.specs.Served.{Entry, of_client, is_among, with_one, with_requester, callers, names_with_lanes, in_force, newer_model, is_closed, ok_list, requests_under, requests, answer, answers}
+use Rattle.desk_serving.proofs.Owing.{same_name, name_itself, turned_name, or_true, or_false, not_among_at, of_client-append, due-whole, stripped, length-unhanded}
+
+-- ## Requests and closes
+
+-- a line that is no request of this name adds none
+pub requests-other : (m n s : List ℕ) (i : Data) (earlier : List (Reading Asked)) → bytes_eq n m ≡ false → requests m (Says (Request n s i) ∷ earlier) ≡ requests m earlier
+requests-other m n s i earlier e = rw e refl
+
+same_if : (b : Bool) (xs t : List plan.Request) → t ≡ [] → (if b then xs ++ t else xs) ≡ xs
+same_if true xs t z = rw z (append-nil xs)
+same_if false xs t z = refl
+
+-- nor does one that is refused
+pub requests-refused : (m n s : List ℕ) (i : Data) (earlier : List (Reading Asked)) → requests_under (in_force earlier) s i ≡ [] → requests m (Says (Request n s i) ∷ earlier) ≡ requests m earlier
+requests-refused m n s i earlier z = same_if (bytes_eq n m && not (is_closed m earlier)) (requests m earlier) (requests_under (in_force earlier) s i) z
+
+-- nor one of a closed client
+pub requests-closed : (n s : List ℕ) (i : Data) (earlier : List (Reading Asked)) → is_closed n earlier ≡ true → requests n (Says (Request n s i) ∷ earlier) ≡ requests n earlier
+requests-closed n s i earlier h = rw (name_itself n, h) refl
+
+pub requests-accepted : (n s : List ℕ) (i : Data) (earlier : List (Reading Asked)) (q : plan.Request) → is_closed n earlier ≡ false → requests_under (in_force earlier) s i ≡ q ∷ []
+    → requests n (Says (Request n s i) ∷ earlier) ≡ requests n earlier ++ q ∷ []
+requests-accepted n s i earlier q h u = rw (name_itself n, h, u) refl
+
+-- without a model nobody has made a request
+no_model : {M : Type 0} (json : Data) (r : Result M ModelFault) (old : Option (List ℕ)) → newer_model json r old ≡ None → old ≡ None
+no_model json (Ok m) old h = cc
+no_model json (Err f) old h = h
+
+pub quiet : (m : List ℕ) (earlier : List (Reading Asked)) → in_force earlier ≡ None → requests m earlier ≡ []
+quiet m [] h = refl
+quiet m (Blank ∷ earlier) h = quiet m earlier h
+quiet m (Long ∷ earlier) h = quiet m earlier h
+quiet m (Syntax ∷ earlier) h = quiet m earlier h
+quiet m (Shape ∷ earlier) h = quiet m earlier h
+quiet m (Says (Model json) ∷ earlier) h = quiet m earlier (no_model json (read_model json) (in_force earlier) h)
+quiet m (Says (Request n s i) ∷ earlier) h = requests-refused m n s i earlier (rw h refl) ∙ quiet m earlier h
+quiet m (Says (Close n) ∷ earlier) h = quiet m earlier h
+quiet m (Says (Resize n k) ∷ earlier) h = quiet m earlier h
+
+one_at_most : (r : Result plan.Request TaskFault) → length (ok_list r) ≤ 1
+one_at_most (Ok q) = omega arith
+one_at_most (Err f) = omega arith
+
+one_under : (model : Option (List ℕ)) (s : List ℕ) (i : Data) → length (requests_under model s i) ≤ 1
+one_under None s i = omega arith
+one_under (Some text) s i = one_at_most (plan.request_of text s i)
+
+one_more : (b : Bool) (xs t : List plan.Request) (k : ℕ) → length t ≤ 1 → length xs ≤ k → length (if b then xs ++ t else xs) ≤ suc k
+one_more true xs t k h l = omega (arith, length-append xs t, h, l)
+one_more false xs t k h l = omega (arith, l)
+
+-- there are no more requests than lines
+pub requests-few : (m : List ℕ) (earlier : List (Reading Asked)) → length (requests m earlier) ≤ length earlier
+requests-few m [] = omega arith
+requests-few m (Blank ∷ earlier) = let h = requests-few m earlier in omega (arith, h)
+requests-few m (Long ∷ earlier) = let h = requests-few m earlier in omega (arith, h)
+requests-few m (Syntax ∷ earlier) = let h = requests-few m earlier in omega (arith, h)
+requests-few m (Shape ∷ earlier) = let h = requests-few m earlier in omega (arith, h)
+requests-few m (Says (Model json) ∷ earlier) = let h = requests-few m earlier in omega (arith, h)
+requests-few m (Says (Request n s i) ∷ earlier) =
+    one_more (bytes_eq n m && not (is_closed m earlier)) (requests m earlier) (requests_under (in_force earlier) s i) (length earlier) (one_under (in_force earlier) s i) (requests-few m earlier)
+requests-few m (Says (Close n) ∷ earlier) = let h = requests-few m earlier in omega (arith, h)
+requests-few m (Says (Resize n k) ∷ earlier) = let h = requests-few m earlier in omega (arith, h)
+
+-- ## The names
+
+is_among-append : (n m : List ℕ) (names : List (List ℕ)) → is_among n (names ++ m ∷ []) ≡ (is_among n names || (bytes_eq m n || false))
+is_among-append n m names = list_any-append (λ k. bytes_eq k n) names (m ∷ [])
+
+or_nothing : (b : Bool) → (b || false) ≡ b
+or_nothing true = refl
+or_nothing false = refl
+
+-- who isn't among more names isn't among fewer
+not_with_one_at : (n m : List ℕ) (names : List (List ℕ)) (b : Bool) → is_among m names ≡ b → is_among n (if b then names else names ++ m ∷ []) ≡ false
+    → (is_among n names ≡ false) × (bytes_eq m n ≡ false)
+not_with_one_at n m names true e h = (h, apart (bytes_eq m n) refl)
+  where
+    apart : (t : Bool) → bytes_eq m n ≡ t → t ≡ false
+    apart true s = let there : is_among n names ≡ true = subst (λ k. is_among k names ≡ true) (same_name m n s) e in let wrong : true ≡ false = sym there ∙ h in wrong
+    apart false s = refl
+not_with_one_at n m names false e h =
+    let both = or_false (is_among n names) (bytes_eq m n || false) (sym (is_among-append n m names) ∙ h) in (both.0, sym (or_nothing (bytes_eq m n)) ∙ both.1)
+
+not_with_one : (n m : List ℕ) (names : List (List ℕ)) → is_among n (with_one m names) ≡ false → (is_among n names ≡ false) × (bytes_eq m n ≡ false)
+not_with_one n m names h = not_with_one_at n m names (is_among m names) refl h
+
+-- a name that never asked for a lane has no requests, and isn't closed
+abbrev IsStranger : List ℕ → List (Reading Asked) → Type 0
+IsStranger n earlier = (requests n earlier ≡ []) × (is_closed n earlier ≡ false)
+
+stranger_request : (n m s : List ℕ) (i : Data) (earlier : List (Reading Asked)) (model : Option (List ℕ)) → in_force earlier ≡ model
+    → (is_among n (callers earlier) ≡ false → IsStranger n earlier) → is_among n (with_requester model m (callers earlier)) ≡ false → IsStranger n (Says (Request m s i) ∷ earlier)
+stranger_request n m s i earlier None e before h =
+    let b = before h in (requests-refused n m s i earlier (rw e refl) ∙ b.0, b.1)
+stranger_request n m s i earlier (Some text) e before h =
+    let no = not_with_one n m (callers earlier) h in let b = before no.0 in
+    (requests-other n m s i earlier no.1 ∙ b.0, b.1)
+
+pub stranger : (n : List ℕ) (earlier : List (Reading Asked)) → is_among n (callers earlier) ≡ false → IsStranger n earlier
+stranger n [] h = (refl, refl)
+stranger n (Blank ∷ earlier) h = stranger n earlier h
+stranger n (Long ∷ earlier) h = stranger n earlier h
+stranger n (Syntax ∷ earlier) h = stranger n earlier h
+stranger n (Shape ∷ earlier) h = stranger n earlier h
+stranger n (Says (Model json) ∷ earlier) h = stranger n earlier h
+stranger n (Says (Request m s i) ∷ earlier) h = stranger_request n m s i earlier (in_force earlier) refl (λ g. stranger n earlier g) h
+stranger n (Says (Close m) ∷ earlier) h = let no = not_with_one n m (callers earlier) h in let b = stranger n earlier no.0 in (b.0, rw no.1 b.1)
+stranger n (Says (Resize m k) ∷ earlier) h = let no = not_with_one n m (callers earlier) h in stranger n earlier no.0
+
+-- the names with lanes, after one more name
+take_with : (lanes : ℕ) (n : List ℕ) (names : List (List ℕ)) (b c d : Bool) → is_among n (take lanes names) ≡ b → nat_le lanes (length (take lanes names)) ≡ c → is_among n names ≡ d
+    → (if b || c then take lanes names else take lanes names ++ n ∷ []) ≡ take lanes (if d then names else names ++ n ∷ [])
+take_with lanes n names true c true eb ec ed = refl
+take_with lanes n names true c false eb ec ed =
+    let whole : is_among n (take lanes names ++ drop lanes names) ≡ (true || is_among n (drop lanes names)) =
+    list_any-append (λ k. bytes_eq k n) (take lanes names) (drop lanes names) ∙ ap (λ (t : Bool). t || is_among n (drop lanes names)) eb in
+    let there : is_among n names ≡ true = ap (is_among n) (sym (take-append-drop lanes names)) ∙ whole in
+    let wrong : true ≡ false = sym there ∙ ed in cc
+take_with lanes n names false true true eb ec ed = refl
+take_with lanes n names false true false eb ec ed =
+    let full : lanes ≤ length (take lanes names) = grind (arith, nat_tests) in
+    let long : lanes ≤ length names = omega (arith, length-take lanes names) in
+    sym (take-append-le lanes names (n ∷ []) long)
+take_with lanes n names false false d eb ec ed =
+    let room : length (take lanes names) < lanes = grind (arith, nat_tests) in
+    let short : length names < lanes = omega (arith, length-take lanes names) in
+    let all : take lanes names ≡ names = take_all lanes names (omega arith) in
+    let no : d ≡ false = sym ed ∙ (ap (is_among n) (sym all) ∙ eb) in
+    rw (no, all) (sym (take_all lanes (names ++ n ∷ []) (omega (arith, length-append names (n ∷ [])))))
+
+pub with_lane-take : (lanes : ℕ) (n : List ℕ) (names : List (List ℕ)) → with_lane lanes n (take lanes names) ≡ take lanes (with_one n names)
+with_lane-take lanes n names = take_with lanes n names (is_among n (take lanes names)) (nat_le lanes (length (take lanes names))) (is_among n names) refl refl refl
+
+pub distinct-push : (names : List (List ℕ)) (n : List ℕ) → AreDistinct names → is_among n names ≡ false → AreDistinct (names ++ n ∷ [])
+distinct-push [] n d h = (refl, tt)
+distinct-push (m ∷ names) n d h =
+    let no = or_false (bytes_eq m n) (is_among n names) h in
+    let back : bytes_eq n m ≡ false = turned_name n m ∙ no.0 in
+    (is_among-append m n names ∙ rw (d.0, back) refl, distinct-push names n d.1 no.1)
+
+-- ## The lanes' books
+
+pub booked_same : (names : List (List ℕ)) (lanes new : List Lane) (earlier later : List (Reading Asked)) → unhanded new ≡ unhanded lanes → AreBooked names lanes earlier
+    → ((m : List ℕ) → is_among m names ≡ true → (requests m later ≡ requests m earlier) × (is_closed m later ≡ is_closed m earlier)) → AreBooked names new later
+booked_same [] [] [] earlier later e b h = tt
+booked_same [] [] (x ∷ new) earlier later e b h = cc
+booked_same [] (l ∷ lanes) [] earlier later e b h = cc
+booked_same [] (l ∷ lanes) (x ∷ new) earlier later e b h =
+    let rest : unhanded new ≡ unhanded lanes = cc in
+    let first : stripped x ≡ stripped l = cc in
+    let put : x.put ≡ l.put = ap (λ (y : Lane). y.put) first in let closed : x.closed ≡ l.closed = ap (λ (y : Lane). y.closed) first in
+    (put ∙ b.0, closed ∙ b.1, booked_same [] lanes new earlier later rest b.2 h)
+booked_same (n ∷ names) [] new earlier later e b h = absurd b
+booked_same (n ∷ names) (l ∷ lanes) [] earlier later e b h = cc
+booked_same (n ∷ names) (l ∷ lanes) (x ∷ new) earlier later e b h =
+    let rest : unhanded new ≡ unhanded lanes = cc in
+    let first : stripped x ≡ stripped l = cc in
+    let put : x.put ≡ l.put = ap (λ (y : Lane). y.put) first in let closed : x.closed ≡ l.closed = ap (λ (y : Lane). y.closed) first in
+    let mine = h n (rw (name_itself n) refl) in
+    (put ∙ (b.0 ∙ sym mine.0), closed ∙ (b.1 ∙ sym mine.1), booked_same names lanes new earlier later rest b.2 (λ m among. h m (rw among (or_true (bytes_eq n m)))))
+
+pub booked_at : (names : List (List ℕ)) (lanes : List Lane) (earlier : List (Reading Asked)) (c : ℕ) (n : List ℕ) (lane : Lane) → AreBooked names lanes earlier
+    → slice_get names c ≡ Some n → slice_get lanes c ≡ Some lane → (lane.put ≡ requests n earlier) × (lane.closed ≡ is_closed n earlier)
+booked_at [] lanes earlier c n lane b at la = cc
+booked_at (m ∷ names) [] earlier c n lane b at la = absurd b
+booked_at (m ∷ names) (l ∷ lanes) earlier zero n lane b at la =
+    let is : m ≡ n = cc in let same : l ≡ lane = cc in
+    subst (λ y. (y.put ≡ requests n earlier) × (y.closed ≡ is_closed n earlier)) same (subst (λ k. (l.put ≡ requests k earlier) × (l.closed ≡ is_closed k earlier)) is (b.0, b.1))
+booked_at (m ∷ names) (l ∷ lanes) earlier (suc c) n lane b at la = booked_at names lanes earlier c n lane b.2 at la
+
+-- one more name has a lane
+pub booked-name : (names : List (List ℕ)) (lanes : List Lane) (earlier : List (Reading Asked)) (n : List ℕ) → AreBooked names lanes earlier → length names < length lanes → IsStranger n earlier
+    → AreBooked (names ++ n ∷ []) lanes earlier
+booked-name [] [] earlier n b lt s = absurd (omega (arith, lt))
+booked-name [] (l ∷ lanes) earlier n b lt s = (b.0 ∙ sym s.0, b.1 ∙ sym s.1, b.2)
+booked-name (m ∷ names) [] earlier n b lt s = absurd b
+booked-name (m ∷ names) (l ∷ lanes) earlier n b lt s = (b.0, b.1, booked-name names lanes earlier n b.2 (omega (arith, lt)) s)
+
+-- one lane changed so that it is booked by more lines, and no other name has more by these
+pub booked-set : (names : List (List ℕ)) (lanes new : List Lane) (earlier later : List (Reading Asked)) (c : ℕ) (n : List ℕ) (lane : Lane) → AreDistinct names → AreBooked names lanes earlier
+    → slice_get names c ≡ Some n → unhanded new ≡ unhanded (slice_set lanes c lane)
+    → lane.put ≡ requests n later → lane.closed ≡ is_closed n later
+    → ((m : List ℕ) → bytes_eq n m ≡ false → (requests m later ≡ requests m earlier) × (is_closed m later ≡ is_closed m earlier)) → AreBooked names new later
+booked-set [] lanes new earlier later c n lane dis b at e put closed others = cc
+booked-set (k ∷ names) [] new earlier later c n lane dis b at e put closed others = absurd b
+booked-set (k ∷ names) (l ∷ lanes) [] earlier later zero n lane dis b at e put closed others = cc
+booked-set (k ∷ names) (l ∷ lanes) [] earlier later (suc c) n lane dis b at e put closed others = cc
+booked-set (k ∷ names) (l ∷ lanes) (x ∷ new) earlier later zero n lane dis b at e put closed others =
+    let rest : unhanded new ≡ unhanded lanes = cc in
+    let first : stripped x ≡ stripped lane = cc in
+    let is : n ≡ k = cc in (
+      ap (λ (y : Lane). y.put) first ∙ put ∙ ap (λ m. requests m later) is,
+      ap (λ (y : Lane). y.closed) first ∙ closed ∙ ap (λ m. is_closed m later) is,
+      booked_same names lanes new earlier later rest b.2 (λ m among. others m (apart m (bytes_eq n m) refl among is)),
+    )
+  where
+    apart : (m : List ℕ) (t : Bool) → bytes_eq n m ≡ t → is_among m names ≡ true → n ≡ k → bytes_eq n m ≡ false
+    apart m true s among is =
+        let same : m ≡ k = sym (same_name n m s) ∙ is in
+        let there : is_among k names ≡ true = subst (λ j. is_among j names ≡ true) same among in
+        let wrong : true ≡ false = sym there ∙ dis.0 in cc
+    apart m false s among is = s
+booked-set (k ∷ names) (l ∷ lanes) (x ∷ new) earlier later (suc c) n lane dis b at e put closed others =
+    let rest : unhanded new ≡ unhanded (slice_set lanes c lane) = cc in
+    let first : stripped x ≡ stripped l = cc in
+    let far : bytes_eq n k ≡ false = not_among_at k n names c dis.0 at in
+    let other = others k far in (
+      ap (λ (y : Lane). y.put) first ∙ (b.0 ∙ sym other.0),
+      ap (λ (y : Lane). y.closed) first ∙ (b.1 ∙ sym other.1),
+      booked-set names lanes new earlier later c n lane dis.1 b.2 at rest put closed others,
+    )
+
+-- a lane is owed nothing where its name has made no request
+drop_nothing : (h : ℕ) (xs : List plan.Request) → xs ≡ [] → drop h xs ≡ []
+drop_nothing zero [] e = refl
+drop_nothing (suc h) [] e = refl
+drop_nothing h (x ∷ xs) e = cc
+
+pub due_nothing : (n : List ℕ) (lane : Lane) → lane.put ≡ [] → due n lane ≡ []
+due_nothing n lane e = due-whole n lane (drop_nothing lane.handed lane.put e)
+
+pub due_to_quiet : (m : List ℕ) (names : List (List ℕ)) (lanes : List Lane) (earlier : List (Reading Asked)) → AreBooked names lanes earlier → requests m earlier ≡ [] → due_to_name m names lanes ≡ []
+due_to_quiet m [] lanes earlier b q = refl
+due_to_quiet m (n ∷ names) [] earlier b q = refl
+due_to_quiet m (n ∷ names) (l ∷ lanes) earlier b q = at (bytes_eq n m) refl (due_to_quiet m names lanes earlier b.2 q)
+  where
+    at : (t : Bool) → bytes_eq n m ≡ t → due_to_name m names lanes ≡ [] → (if t then due n l else due_to_name m names lanes) ≡ []
+    at true e rest = due_nothing n l (b.0 ∙ subst (λ k. requests k earlier ≡ []) (sym (same_name n m e)) q)
+    at false e rest = rest
+
+either_way : (b : Bool) (es : List Entry) → (if b then es else es) ≡ es
+either_way true es = refl
+either_way false es = refl
+
+due_to_more : (m n : List ℕ) (names : List (List ℕ)) (lanes : List Lane) (earlier : List (Reading Asked)) → AreBooked names lanes earlier → due_to_name m (names ++ n ∷ []) lanes ≡ due_to_name m names lanes
+due_to_more m n [] [] earlier b = refl
+due_to_more m n [] (l ∷ lanes) earlier b = rw (due_nothing n l b.0) (either_way (bytes_eq n m) [])
+due_to_more m n (k ∷ names) [] earlier b = refl
+due_to_more m n (k ∷ names) (l ∷ lanes) earlier b = ap (λ (t : List Entry). if bytes_eq k m then due k l else t) (due_to_more m n names lanes earlier b.2)
+
+-- ## How the front stands
+
+-- some of what was owed is handed out
+pub stands_handed : (named earlier : List (Reading Asked)) (names : List (List ℕ)) (model : Option (List ℕ)) (lanes new : List Lane) (said more : List Entry)
+    → Stands named earlier names model lanes said → AreHanded names lanes new more → Stands named earlier names model new (said ++ more)
+stands_handed named earlier names model lanes new said more s h =
+    let len : length new ≡ length lanes = length-unhanded new lanes h.lanes in
+    record {
+      names = s.names ∙ ap (λ k. names_with_lanes k named) (sym len);
+      distinct = s.distinct;
+      model = s.model;
+      booked = booked_same names lanes new earlier earlier h.lanes s.booked (λ m among. (refl, refl));
+      owed = λ who. ap (λ t. t ++ due_to who names new) (of_client-append who said more) ∙ append_assoc (of_client who said) (of_client who more) (due_to who names new)
+          ∙ ap (λ t. of_client who said ++ t) (h.owed who) ∙ s.owed who ∙ ap (λ k. of_client who (answers k earlier)) (sym len);
+    }
+
+-- The line was answered: what is owed and said is what is due.
+pub stands_answered : (reading : Reading Asked) (earlier : List (Reading Asked)) (names : List (List ℕ)) (model model' : Option (List ℕ)) (lanes new : List Lane) (said more : List Entry) (e : Entry)
+    → Stands (reading ∷ earlier) earlier names model lanes said → answer (length lanes) earlier reading ≡ e ∷ []
+    → ((who : Option (List ℕ)) → of_client who more ++ due_to who names new ≡ due_to who names lanes ++ of_client who (e ∷ []))
+    → length new ≡ length lanes → model' ≡ in_force (reading ∷ earlier) → AreBooked names new (reading ∷ earlier)
+    → Stands (reading ∷ earlier) (reading ∷ earlier) names model' new (said ++ more)
+stands_answered reading earlier names model model' lanes new said more e s is owed len force booked = record {
+  names = s.names ∙ ap (λ k. names_with_lanes k (reading ∷ earlier)) (sym len);
+  distinct = s.distinct;
+  model = force;
+  booked = booked;
+  owed = λ who. ap (λ t. t ++ due_to who names new) (of_client-append who said more) ∙ append_assoc (of_client who said) (of_client who more) (due_to who names new)
+      ∙ ap (λ t. of_client who said ++ t) (owed who) ∙ sym (append_assoc (of_client who said) (due_to who names lanes) (of_client who (e ∷ [])))
+      ∙ ap (λ t. t ++ of_client who (e ∷ [])) (s.owed who)
+      ∙ ap (λ t. of_client who (answers (length lanes) earlier) ++ of_client who t) (sym is)
+      ∙ sym (of_client-append who (answers (length lanes) earlier) (answer (length lanes) earlier reading))
+      ∙ ap (λ k. of_client who (answers k (reading ∷ earlier))) (sym len);
+}
+
+-- The line's name got a lane, if there was one.
+named_at : (n : List ℕ) (reading : Reading Asked) (earlier : List (Reading Asked)) (names : List (List ℕ)) (model : Option (List ℕ)) (lanes : List Lane) (said : List Entry) (b c : Bool)
+    → Stands earlier earlier names model lanes said → is_among n names ≡ b → nat_le (length lanes) (length names) ≡ c
+    → with_lane (length lanes) n names ≡ names_with_lanes (length lanes) (reading ∷ earlier)
+    → Stands (reading ∷ earlier) earlier (if b || c then names else names ++ n ∷ []) model lanes said
+named_at n reading earlier names model lanes said true c s eb ec same =
+    let now : with_lane (length lanes) n names ≡ names = rw eb refl in
+    record { names = sym now ∙ same; distinct = s.distinct; model = s.model; booked = s.booked; owed = s.owed }
+named_at n reading earlier names model lanes said false true s eb ec same =
+    let now : with_lane (length lanes) n names ≡ names = rw (eb, ec) refl in
+    record { names = sym now ∙ same; distinct = s.distinct; model = s.model; booked = s.booked; owed = s.owed }
+named_at n reading earlier names model lanes said false false s eb ec same =
+    let now : with_lane (length lanes) n names ≡ names ++ n ∷ [] = rw (eb, ec) refl in
+    let room : length names < length lanes = grind (arith, nat_tests) in
+    let size : length names ≡ length (take (length lanes) (callers earlier)) = ap length s.names in
+    let all : take (length lanes) (callers earlier) ≡ callers earlier = take_all (length lanes) (callers earlier) (omega (arith, length-take (length lanes) (callers earlier))) in
+    let new : is_among n (callers earlier) ≡ false = ap (is_among n) (sym all ∙ sym s.names) ∙ eb in
+    record {
+      names = sym now ∙ same;
+      distinct = distinct-push names n s.distinct eb;
+      model = s.model;
+      booked = booked-name names lanes earlier n s.booked (omega (arith, room)) (stranger n earlier new);
+      owed = elim [ None ↦ s.owed None | Some m ↦ ap (λ (t : List Entry). of_client (Some m) said ++ t) (due_to_more m n names lanes earlier s.booked) ∙ s.owed (Some m) ];
+    }
+
+pub stands_named : (n : List ℕ) (reading : Reading Asked) (earlier : List (Reading Asked)) (names names' : List (List ℕ)) (model : Option (List ℕ)) (lanes : List Lane) (said : List Entry)
+    → Stands earlier earlier names model lanes said → callers (reading ∷ earlier) ≡ with_one n (callers earlier) → names' ≡ with_lane (length lanes) n names
+    → Stands (reading ∷ earlier) earlier names' model lanes said
+stands_named n reading earlier names names' model lanes said s cs is =
+    let same : with_lane (length lanes) n names ≡ names_with_lanes (length lanes) (reading ∷ earlier) =
+    ap (with_lane (length lanes) n) s.names ∙ (with_lane-take (length lanes) n (callers earlier) ∙ ap (take (length lanes)) (sym cs)) in
+    subst (λ ms. Stands (reading ∷ earlier) earlier ms model lanes said) (sym is)
+    (named_at n reading earlier names model lanes said (is_among n names) (nat_le (length lanes) (length names)) s refl refl same)

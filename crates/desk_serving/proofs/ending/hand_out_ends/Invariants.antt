@@ -1,0 +1,14 @@
+use Rattle.std.proofs.Common.{◌≡◌, ◌<◌, ℕ, [], Some, drop, length, map, slice_get, string_bytes}
+use Rattle.desk_serving.specs.Ending.{ends_lanes}
+use Rattle.desk_serving.specs.Owed.{AreHanded, Lane}
+use Rattle.desk_serving.specs.Telling.{Tells}
+use Rattle.desk_serving.proofs.ending.hand_out_ends.Given as goal
+
+abbrev pub invariant-loop-place : goal.invariant-loop-place
+invariant-loop-place g l = record {
+  count : length l.ends.items ≡ length l.initial.ends.items;
+  rest : drop l.place l.ends.items ≡ drop l.place l.initial.ends.items;
+  whole : (k : ℕ) (lane : Lane) → k < l.place → slice_get (ends_lanes l.ends.items) k ≡ Some lane → drop lane.handed lane.put ≡ [];
+  counts : g.W.Sink.faults l.writer ≡ g.W.Sink.faults l.initial.writer;
+  tells : Tells (AreHanded (map string_bytes l.names.items) (ends_lanes l.initial.ends.items) (ends_lanes l.ends.items)) (g.W.Sink.contents l.initial.writer) (g.W.Sink.contents l.writer) [] l.unwritten.bytes.items;
+}

@@ -1,0 +1,14 @@
+use Rattle.std.proofs.Common.{map, string_bytes}
+use Rattle.desk_serving.specs.Ending.{ends_lanes}
+use Rattle.desk_serving.specs.Owed.{AreFirst, AreHanded}
+use Rattle.desk_serving.proofs.Owing.{handed_first}
+use Rattle.desk_serving.proofs.Saying.{out_cut}
+use Rattle.desk_lines.proofs.Talking.{not_so}
+use Rattle.desk_serving.proofs.ending.hand_out_rest.Goals as goal
+
+pub returns-in_err-write_out-clause-write : goal.returns-in_err-write_out-clause-write
+returns-in_err-write_out-clause-write g c = λ h.
+    let names = map string_bytes c.args.names.now.items in let old = ends_lanes c.args.ends.now.items in let new = ends_lanes c.hand_out_ends-handed.new.ends.items in
+    let handed = c.hand_out_ends-handed.ensures in
+    out_cut (AreHanded names old new) (AreFirst names old) _ _ _ _ _ c.hand_out_ends-handed.result (λ m p. handed_first names old new m p) handed.ok handed.memory handed.only
+    (not_so _ _ c.is_cut.ensures c.if-is_cut.false) c.in_err-write_out.ensures.part.1

@@ -1,0 +1,43 @@
+use Rattle.std.proofs.Common.{◌∷◌, ◌++◌, [], refl, sym, ap, ◌∙◌, Err}
+use Rattle.std.proofs.lemmas.Result.{err_from_is_err_and}
+use Rattle.lanes.specs.Rest.{mail_in}
+use Rattle.desk_serving.specs.Owed.{AreOwn, AreFirstOwn, lane_in}
+use Rattle.desk_serving.specs.Served.{Entry, of_name}
+use Rattle.desk_reports.specs.Shown.{reply}
+use Rattle.desk_serving.proofs.EndingLanes.{own_none, own_then, own_begun, own_released, run_handed}
+use Rattle.desk_serving.proofs.Saying.{tells_none, tells_one, tells_quiet, tells_weaker}
+use Rattle.desk_serving.proofs.ending.hand_rest.Goals as goal
+
+pub loop-reply-init : goal.loop-reply-init
+loop-reply-init g c = record { run = c.requires.run; counts = refl; tells = tells_none _ _ _ (own_none c.args.name.now (lane_in c.args.end.now)) }
+
+pub loop-reply-preserved : goal.loop-reply-preserved
+loop-reply-preserved g c =
+    let n = c.args.name.now in let first = lane_in c.args.end.now in let old = c.loop-reply.end in let new = c.release.new.self in
+    let e : Entry = of_name n (reply n c.in-Some.reply.outcome c.in-Some.reply.ticket) in
+    let own = own_released n old new c.in-Some.reply.ticket c.in-Some.reply.outcome c.in-Some.ensures.handed c.in-Some.ensures.right c.in-Some.ensures.rest.0 in
+    record {
+      run = run_handed (mail_in old) (mail_in new) c.loop-reply.invariant.run c.in-Some.ensures.handed.2;
+      counts = c.in_ok-say_reply.ensures.counts (λ e. cc) ∙ c.loop-reply.invariant.counts;
+      tells = tells_one (AreOwn n first (lane_in old)) (AreOwn n first (lane_in new)) _ _ _ _ _ _ e (λ m p. own_then n first (lane_in old) (lane_in new) m (e ∷ []) p own)
+          c.loop-reply.invariant.tells c.in_ok-say_reply.ensures.said;
+    }
+
+pub returns-in_err-say_reply-clause-write : goal.returns-in_err-say_reply-clause-write
+returns-in_err-say_reply-clause-write g c = λ h.
+    let n = c.args.name.now in let first = lane_in c.args.end.now in let old = c.loop-reply.end in let new = c.release.new.self in
+    let e : Entry = of_name n (reply n c.in-Some.reply.outcome c.in-Some.reply.ticket) in
+    let own = own_released n old new c.in-Some.reply.ticket c.in-Some.reply.outcome c.in-Some.ensures.handed c.in-Some.ensures.right c.in-Some.ensures.rest.0 in
+    let is = err_from_is_err_and c.from_residual.result c.from_residual.ensures.1 in
+    let part = c.in_err-say_reply.ensures.part (ap Err (sym is.2) ∙ sym is.1 ∙ h) in (
+      part.0,
+      tells_one (AreOwn n first (lane_in old)) (AreFirstOwn n first) _ _ _ _ _ _ e (λ m p. own_begun n first (lane_in new) (m ++ e ∷ []) (own_then n first (lane_in old) (lane_in new) m (e ∷ []) p own))
+          c.loop-reply.invariant.tells part.1,
+    )
+
+pub returns-in_err-say_reply-clause-memory : goal.returns-in_err-say_reply-clause-memory
+returns-in_err-say_reply-clause-memory g c = λ h.
+    let n = c.args.name.now in let first = lane_in c.args.end.now in let old = lane_in c.loop-reply.end in
+    let is = err_from_is_err_and c.from_residual.result c.from_residual.ensures.1 in
+    tells_quiet (AreFirstOwn n first) _ _ _ _ _ _ (tells_weaker (AreOwn n first old) (AreFirstOwn n first) _ _ _ _ (λ m p. own_begun n first old m p) c.loop-reply.invariant.tells)
+    (c.in_err-say_reply.ensures.memory (ap Err (sym is.2) ∙ sym is.1 ∙ h))

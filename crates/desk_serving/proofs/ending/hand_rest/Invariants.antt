@@ -1,0 +1,16 @@
+use Rattle.std.proofs.Common.{◌≡◌, length}
+use Rattle.lanes.specs.Rest.{mail_in}
+use Rattle.desk_serving.specs.Ending.{IsRun}
+use Rattle.desk_serving.specs.Owed.{AreOwn, lane_in}
+use Rattle.desk_serving.specs.Telling.{Tells}
+use Rattle.desk_serving.proofs.ending.hand_rest.Given as goal
+
+abbrev pub invariant-loop-reply : goal.invariant-loop-reply
+invariant-loop-reply g l = record {
+  run : IsRun l.end;
+  counts : g.W.Sink.faults l.writer ≡ g.W.Sink.faults l.initial.writer;
+  tells : Tells (AreOwn l.name (lane_in l.initial.end) (lane_in l.end)) (g.W.Sink.contents l.initial.writer) (g.W.Sink.contents l.writer) l.initial.unwritten.bytes.items l.unwritten.bytes.items;
+}
+
+abbrev pub decreases-loop-reply : goal.decreases-loop-reply
+decreases-loop-reply g l = length (mail_in l.end).outstanding

@@ -1,0 +1,13 @@
+use Rattle.std.proofs.Common.{◌≡◌}
+use Rattle.std.specs.Arc.{arc_value}
+use Rattle.desk_serving.specs.LanesView.{lanes_in, links_in, names_in}
+use Rattle.desk_serving.specs.Owed.{Hands}
+use Rattle.desk_serving.proofs.named_lanes.Lanes.put.Given as goal
+
+abbrev pub invariant-loop : goal.invariant-loop
+invariant-loop g l = record {
+  links : links_in l.self ≡ links_in l.fn.self;
+  names : names_in l.self ≡ names_in l.fn.self;
+  hands : Hands (names_in l.fn.self) (lanes_in l.fn.self) (lanes_in l.self) l.fn.text.items l.text.items;
+  work : arc_value l.work ≡ arc_value l.fn.work;
+}

@@ -1,0 +1,13 @@
+use Rattle.desk_serving.proofs.serving.Serving.answer_asked.Goals as goal
+
+pub returns-in-Model-clause-hears : goal.returns-in-Model-clause-hears
+returns-in-Model-clause-hears g c = rw c.in-Model.is c.answer_model.ensures.hears
+
+pub returns-in-Request-clause-hears : goal.returns-in-Request-clause-hears
+returns-in-Request-clause-hears g c = rw c.in-Request.is c.answer_request.ensures.hears
+
+pub returns-in-Close-clause-hears : goal.returns-in-Close-clause-hears
+returns-in-Close-clause-hears g c = rw c.in-Close.is c.answer_close.ensures.hears
+
+pub returns-in-Resize-clause-hears : goal.returns-in-Resize-clause-hears
+returns-in-Resize-clause-hears g c = rw c.in-Resize.is c.answer_resize.ensures.hears

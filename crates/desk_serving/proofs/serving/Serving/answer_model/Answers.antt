@@ -1,0 +1,36 @@
+use Rattle.std.proofs.Common.{sym, ap, ◌∙◌, refl, Some}
+use Rattle.std.proofs.lemmas.Result.{on_ok_weaker}
+use Rattle.serde_json.specs.View.{view}
+use Rattle.dmn_plan.specs.ReadModel.{read_model}
+use Rattle.desk_serving.specs.LanesView.{lanes_in, names_in}
+use Rattle.desk_reports.specs.Shown.{faulty}
+use Rattle.desk_serving.specs.Served.{in_force}
+use Rattle.desk_serving.specs.Serving.{model_of}
+use Rattle.desk_serving.proofs.Asking.{due_model, loaded_model, faulty_model}
+use Rattle.desk_serving.proofs.Replying.{heard_model}
+use Rattle.desk_serving.proofs.serving.Serving.answer_model.Goals as goal
+
+pub returns-in_ok-loaded-in-Ok-clause-hears : goal.returns-in_ok-loaded-in-Ok-clause-hears
+returns-in_ok-loaded-in-Ok-clause-hears g c =
+    let old = c.args.self.now in
+    let json = view c.args.model.now in
+    on_ok_weaker c.say.result (λ is earlier said st num.
+    let loads = loaded_model json (read_model json) (in_force earlier) c.args.number c.in-Ok.ensures.read in
+    heard_model json c.args.number _ earlier (names_in old.lanes) (model_of old) _ (lanes_in old.lanes) said _ _ st num
+    (c.in_ok-loaded-in-Ok.ensures.value ∙ sym loads.1) is
+    (ap Some (c.in_ok-new-in-Ok.ensures.ok ∙ c.in-Ok.ensures.compact) ∙ sym loads.0))
+    c.say.ensures
+
+pub returns-in_ok-faulty-in_default : goal.returns-in_ok-faulty-in_default
+returns-in_ok-faulty-in_default g c =
+    let old = c.args.self.now in
+    let json = view c.args.model.now in
+    let is_due = due_model (read_model json) c.in-Err.fault c.in-Err.ensures.err c.in_default.not-Memory in record {
+      same = refl;
+      hears = on_ok_weaker c.say-in_default.result (λ is earlier said st num.
+          let tells = faulty_model json (read_model json) (in_force earlier) c.args.number c.in-Err.fault is_due in
+          heard_model json c.args.number _ earlier (names_in old.lanes) (model_of old) _ (lanes_in old.lanes) said _ _ st num
+          (c.in_ok-faulty-in_default.ensures.value ∙ ap (faulty c.args.number) c.model_word.ensures ∙ sym tells.1) is
+          (st.model ∙ sym tells.0))
+          c.say-in_default.ensures;
+    }

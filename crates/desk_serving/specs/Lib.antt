@@ -1,0 +1,10 @@
+pub mod Asked
+pub mod AskedView
+pub mod Served
+pub mod Owed
+pub mod Submits
+pub mod LanesView
+pub mod Serving
+pub mod Telling
+pub mod Ending
+pub mod Front

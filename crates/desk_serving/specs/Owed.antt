@@ -1,0 +1,140 @@
+-- What the lanes still owe their clients, and what handing it out keeps. Internal: no public contract cites these words but
+-- `Lane`, `lane_in` and `AreBooked`.
+use Rattle.std.specs.Prelude.{◌≡◌, ◌+◌, ℕ, Bool, true, false, ◌||◌, nat_le, if◌then◌else◌, List, [], ◌∷◌, ◌++◌, Option, Some, None, length, drop, map, bytes_eq}
+use Rattle.std.specs.Coded.{×_prop, Unit-prop}
+use Rattle.std.specs.List.{flat_map}
+use Rattle.std.proofs.Props.{props}
+use Rattle.box_core.specs.declared.work.Work.{Ghosts}
+use Rattle.dmn_plan.specs.Request.{Request, request_result}
+use Rattle.feel_value.specs.declared.feel.Outcome.{Outcome}
+use Rattle.lanes.specs.Books.{work_of}
+use Rattle.lanes.specs.Clients.{put_of, mail_of}
+use Rattle.lanes.specs.Rest.{put_in, mail_in}
+use Rattle.lanes.specs.declared.client.Client.{Client}
+use Rattle.lanes.specs.declared.settled.Settled.{Settled}
+use Rattle.desk_serving.specs.Asked.{Asked}
+use Rattle.desk_lines.specs.Lines.{ended}
+use Rattle.desk_reports.specs.Reading.{Reading}
+use Rattle.desk_serving.specs.Served.{Entry, same_client, of_client, of_name, is_among, requests, is_closed, answers, names_with_lanes, in_force, texts_of}
+use Rattle.desk_reports.specs.Shown.{reply}
+
+-- a client's lane as the front sees it: the requests that were put, how many results were handed out, and whether it is closed
+pub record Lane : Type 0 where
+  pub put : List Request
+  pub handed : ℕ
+  pub closed : Bool
+
+module _ {g : Ghosts Request Outcome} where
+  abbrev pub lane_of : Client Request Outcome g → Lane
+  lane_of client = record { put = map work_of (put_of client); handed = (mail_of client).handed; closed = (mail_of client).closed }
+
+  -- the same, once all ends came together
+  abbrev pub lane_in : Settled Request Outcome g → Lane
+  lane_in end = record { put = map work_of (put_in end); handed = (mail_in end).handed; closed = (mail_in end).closed }
+
+-- the replies to these requests, the first of which has this ticket
+abbrev pub replies : List ℕ → ℕ → List Request → List Entry
+replies name ticket [] = []
+replies name ticket (request ∷ requests) = of_name name (reply name (request_result request) ticket) ∷ replies name (ticket + 1) requests
+
+-- what a lane still owes its client: the replies to what was put and not handed out
+abbrev pub due : List ℕ → Lane → List Entry
+due name lane = replies name lane.handed (drop lane.handed lane.put)
+
+-- what is owed to a name, where lane by lane these are the names
+abbrev pub due_to_name : List ℕ → List (List ℕ) → List Lane → List Entry
+due_to_name m [] lanes = []
+due_to_name m (n ∷ names) [] = []
+due_to_name m (n ∷ names) (lane ∷ lanes) = if bytes_eq n m then due n lane else due_to_name m names lanes
+
+abbrev pub due_to : Option (List ℕ) → List (List ℕ) → List Lane → List Entry
+due_to None names lanes = []
+due_to (Some m) names lanes = due_to_name m names lanes
+
+-- the lanes but for how much they handed out
+abbrev pub unhanded : List Lane → List Lane
+unhanded [] = []
+unhanded (lane ∷ lanes) = (record { put = lane.put; handed = 0; closed = lane.closed }) ∷ unhanded lanes
+
+abbrev pub AreDistinct : List (List ℕ) → Type 0
+AreDistinct [] = Unit {0}
+AreDistinct (n ∷ names) = (is_among n names ≡ false) × AreDistinct names
+
+pub AreDistinct-prop : (names : List (List ℕ)) → IsProp (AreDistinct names)
+AreDistinct-prop [] = Unit-prop
+AreDistinct-prop (n ∷ names) = ×_prop (Prim.hlevel props) (AreDistinct-prop names)
+
+-- these entries are what was handed out of what was owed
+pub record AreHanded (names : List (List ℕ)) (old new : List Lane) (more : List Entry) : Type 0 where
+  pub lanes : unhanded new ≡ unhanded old
+  pub owed : (who : Option (List ℕ)) → of_client who more ++ due_to who names new ≡ due_to who names old
+
+-- the same, in lines at the end of the text
+pub record Hands (names : List (List ℕ)) (old new : List Lane) (text text' : List ℕ) : Type 0 where
+  pub more : List Entry
+  pub is : text' ≡ text ++ flat_map ended (texts_of more)
+  pub handed : AreHanded names old new more
+
+-- What was owed was handed out in part, and then a line came that is answered with this entry: it stands said, or its lane
+-- owes it, behind all that was owed before.
+pub record HandsThen (names : List (List ℕ)) (old new : List Lane) (entry : Entry) (text text' : List ℕ) : Type 0 where
+  pub more : List Entry
+  pub is : text' ≡ text ++ flat_map ended (texts_of more)
+  pub owed : (who : Option (List ℕ)) → of_client who more ++ due_to who names new ≡ due_to who names old ++ of_client who (entry ∷ [])
+
+-- these entries are what one lane handed out
+pub record AreOwn (name : List ℕ) (old new : Lane) (more : List Entry) : Type 0 where
+  pub put : new.put ≡ old.put
+  pub closed : new.closed ≡ old.closed
+  pub own : of_client (Some name) more ++ due name new ≡ due name old
+  pub others : (who : Option (List ℕ)) → same_client (Some name) who ≡ false → of_client who more ≡ []
+
+-- the same, in lines at the end of the text
+pub record HandsOwn (name : List ℕ) (old new : Lane) (text text' : List ℕ) : Type 0 where
+  pub more : List Entry
+  pub is : text' ≡ text ++ flat_map ended (texts_of more)
+  pub handed : AreOwn name old new more
+
+-- the entries are the first of what one lane owed
+pub record AreFirstOwn (name : List ℕ) (lane : Lane) (more : List Entry) : Type 0 where
+  pub rest : List Entry
+  pub own : of_client (Some name) more ++ rest ≡ due name lane
+  pub others : (who : Option (List ℕ)) → same_client (Some name) who ≡ false → of_client who more ≡ []
+
+-- the entries are some of what was owed, the first of each client's
+abbrev pub AreFirst : List (List ℕ) → List Lane → List Entry → Type 0
+AreFirst names lanes more = (who : Option (List ℕ)) → (rest : List Entry) × (of_client who more ++ rest ≡ due_to who names lanes)
+
+-- lane by lane: its client's requests, and whether the client is closed; the lanes without a name are new
+abbrev pub AreBooked : List (List ℕ) → List Lane → List (Reading Asked) → Type 0
+AreBooked [] [] read = Unit {0}
+AreBooked [] (lane ∷ lanes) read = (lane.put ≡ []) × (lane.closed ≡ false) × AreBooked [] lanes read
+AreBooked (n ∷ names) [] read = ⊥
+AreBooked (n ∷ names) (lane ∷ lanes) read = (lane.put ≡ requests n read) × (lane.closed ≡ is_closed n read) × AreBooked names lanes read
+
+-- The front has answered these lines, but for what the lanes owe. Lane by lane it has the names that have lanes by the lines
+-- `named`, and this model is in force.
+pub record Stands (named earlier : List (Reading Asked)) (known : List (List ℕ)) (force : Option (List ℕ)) (lanes : List Lane) (said : List Entry) : Type 0 where
+  pub names : known ≡ names_with_lanes (length lanes) named
+  pub distinct : AreDistinct known
+  pub model : force ≡ in_force earlier
+  pub booked : AreBooked known lanes earlier
+  pub owed : (who : Option (List ℕ)) → of_client who said ++ due_to who known lanes ≡ of_client who (answers (length lanes) earlier)
+
+-- the names with one more, if there is a lane for it
+abbrev pub with_lane : ℕ → List ℕ → List (List ℕ) → List (List ℕ)
+with_lane lanes name names = if is_among name names || nat_le lanes (length names) then names else names ++ name ∷ []
+
+-- the lane with one more request, and one result more handed out
+abbrev pub with_put : Lane → Request → Lane
+with_put lane request = record { put = lane.put ++ request ∷ []; handed = lane.handed; closed = lane.closed }
+
+-- the same, unless the lane is closed
+abbrev pub with_put_if : Lane → Request → Lane
+with_put_if lane request = if lane.closed then lane else with_put lane request
+
+abbrev pub with_handed : Lane → Lane
+with_handed lane = record { put = lane.put; handed = lane.handed + 1; closed = lane.closed }
+
+abbrev pub with_closed : Lane → Lane
+with_closed lane = record { put = lane.put; handed = lane.handed; closed = true }

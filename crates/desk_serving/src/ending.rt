@@ -1,0 +1,256 @@
+//! What is left once the input ended: the workers end, and the rest of the results is handed out.
+ghost use Rattle.std.specs.Prelude.{◌≡◌, ◌≢◌, ◌<◌, ◌-◌, ◌^◌, ◌≤◌, [], ℕ, All, List, drop, length, map, slice_get, string_bytes, Err, IfErr, IfOk, OnOk, Some};
+ghost use Rattle.lanes.specs.Workers.{worker_links};
+ghost use Rattle.lanes.specs.Links.{AreOfOneCall};
+ghost use Rattle.serde_json.specs.Written.{compact_text};
+ghost use Rattle.desk_serving.specs.Ending.{IsReady, IsRun, IsWhole, ends_lanes};
+ghost use Rattle.desk_lines.specs.Gathers.{Gathers};
+ghost use Rattle.desk_serving.specs.LanesView.{lanes_in, links_in, names_in};
+ghost use Rattle.desk_lines.specs.Lines.{ended};
+ghost use Rattle.desk_serving.specs.Owed.{AreDistinct, AreFirst, AreFirstOwn, AreHanded, AreOwn, Lane, lane_in};
+ghost use Rattle.desk_reports.specs.Shown.{reply};
+ghost use Rattle.desk_serving.specs.Telling.{Tells, Told, ToldInPart};
+
+use crate::named_lanes::Lanes;
+use box_core::Reply;
+use crew::Crew;
+use desk_lines::{FrontFault, Sink, Unwritten, is_cut};
+use desk_reports::report;
+use dmn_plan::Task;
+use lanes::{Settled, Worker, settle};
+use std::alloc::{AllocError, Global};
+use std::sync::Wait;
+use std::thread;
+
+/// Hands out results while workers run. What is said last may wait to be written.
+fn hand_out_beside<R: Wait, W: Sink>(
+    rt: &R,
+    alloc: Global,
+    crew: &Crew,
+    lanes: &mut Lanes,
+    writer: &mut W,
+    unwritten: &mut Unwritten,
+) -> Result<(), FrontFault>
+    requires counts { W.faults writer.old < 2 ^ 64 - 1 }
+    requires nothing_waits { unwritten.old.bytes.items ≡ [] }
+    ensures same { links_in lanes.new ≡ links_in lanes.old }
+    ensures names { names_in lanes.new ≡ names_in lanes.old }
+    ensures ok { OnOk result (Tells (AreHanded (names_in lanes.old) (lanes_in lanes.old) (lanes_in lanes.new)) (W.contents writer.old) (W.contents writer.new) [] unwritten.new.bytes.items) }
+    ensures write { (result ≡ Err FrontFault.Write) → (rest : List ℕ) × Tells (AreFirst (names_in lanes.old) (lanes_in lanes.old)) (W.contents writer.old) (W.contents writer.new) [] rest }
+    ensures memory { (result ≡ Err FrontFault.Memory) → Tells (AreFirst (names_in lanes.old) (lanes_in lanes.old)) (W.contents writer.old) (W.contents writer.new) [] unwritten.new.bytes.items }
+    ensures only { IfErr result (λ e. (e ≢ FrontFault.Read) × (e ≢ FrontFault.Long)) }
+    ensures counts { (result ≢ Err FrontFault.Write) → W.faults writer.new ≡ W.faults writer.old }
+    ensures fault { (result ≡ Err FrontFault.Write) → W.faults writer.old < W.faults writer.new }
+{
+    let mut text = Vec::new(alloc);
+    for _ in rt.forever() {
+        if crew.has_ended() {
+            break;
+        }
+        text.clear();
+        lanes.hand_out(alloc, &mut text)?;
+        unwritten.add(writer, &text)?;
+        thread::yield_now();
+    }
+    Ok(())
+}
+
+/// Tells the workers to stop, and hands out results until they have ended.
+pub fn end_workers<R: Wait, W: Sink>(
+    rt: &R,
+    alloc: Global,
+    crew: &Crew,
+    lanes: &mut Lanes,
+    writer: &mut W,
+) -> Result<(), FrontFault>
+    requires counts { W.faults writer.old < 2 ^ 64 - 1 }
+    ensures same { links_in lanes.new ≡ links_in lanes.old }
+    ensures names { names_in lanes.new ≡ names_in lanes.old }
+    ensures ok { OnOk result (Told (AreHanded (names_in lanes.old) (lanes_in lanes.old) (lanes_in lanes.new)) (W.contents writer.old) (W.contents writer.new)) }
+    ensures write { (result ≡ Err FrontFault.Write) → ToldInPart (AreFirst (names_in lanes.old) (lanes_in lanes.old)) (W.contents writer.old) (W.contents writer.new) }
+    ensures memory { (result ≡ Err FrontFault.Memory) → Told (AreFirst (names_in lanes.old) (lanes_in lanes.old)) (W.contents writer.old) (W.contents writer.new) }
+    ensures only { IfErr result (λ e. (e ≢ FrontFault.Read) × (e ≢ FrontFault.Long)) }
+    ensures counts { (result ≢ Err FrontFault.Write) → W.faults writer.new ≡ W.faults writer.old }
+    ensures fault { (result ≡ Err FrontFault.Write) → W.faults writer.old < W.faults writer.new }
+{
+    crew.stop();
+    let mut unwritten = Unwritten::new(alloc);
+    let handed = hand_out_beside(rt, alloc, crew, lanes, writer, &mut unwritten);
+    if is_cut(&handed) {
+        return handed;
+    }
+    unwritten.write_out(writer)?;
+    handed
+}
+
+/// Runs each job that no worker answered, and takes the answers in.
+fn run_left(alloc: Global, end: &mut Settled<Task>) -> Result<(), AllocError>
+    requires ready { IsReady end.old }
+    ensures lane { lane_in end.new ≡ lane_in end.old }
+    ensures run { OnOk result (IsRun end.new) }
+{
+    while let Some(job) = end.next_left() {
+        match job.run(alloc) {
+            Ok(done) => {
+                end.answer(done);
+            }
+            Err(_) => return Err(AllocError),
+        }
+    }
+    Ok(())
+}
+
+/// Says a reply, which may wait to be written.
+fn say_reply<W: Sink>(
+    alloc: Global,
+    handed: Reply<Task>,
+    name: &str,
+    writer: &mut W,
+    unwritten: &mut Unwritten,
+) -> Result<(), FrontFault>
+    requires counts { W.faults writer.old < 2 ^ 64 - 1 }
+    ensures said { OnOk result (Gathers (W.contents writer.old) (W.contents writer.new) unwritten.old.bytes.items (ended (compact_text (reply name.now handed.outcome handed.ticket))) unwritten.new.bytes.items) }
+    ensures part { (result ≡ Err FrontFault.Write) → (rest : List ℕ) × Gathers (W.contents writer.old) (W.contents writer.new) unwritten.old.bytes.items (ended (compact_text (reply name.now handed.outcome handed.ticket))) rest }
+    ensures memory { (result ≡ Err FrontFault.Memory) → Gathers (W.contents writer.old) (W.contents writer.new) unwritten.old.bytes.items [] unwritten.new.bytes.items }
+    ensures only { IfErr result (λ e. (e ≢ FrontFault.Read) × (e ≢ FrontFault.Long)) }
+    ensures counts { (result ≢ Err FrontFault.Write) → W.faults writer.new ≡ W.faults writer.old }
+    ensures fault { (result ≡ Err FrontFault.Write) → W.faults writer.old < W.faults writer.new }
+{
+    let report = report::handed(alloc, name, &handed.outcome, handed.ticket)?;
+    let text = report::report_line(alloc, &report)?;
+    unwritten.add(writer, &text)
+}
+
+/// Hands out the rest of a client's results. What is said last may wait to be written.
+fn hand_rest<W: Sink>(
+    alloc: Global,
+    end: &mut Settled<Task>,
+    name: &str,
+    writer: &mut W,
+    unwritten: &mut Unwritten,
+) -> Result<(), FrontFault>
+    requires run { IsRun end.old }
+    requires counts { W.faults writer.old < 2 ^ 64 - 1 }
+    ensures whole { OnOk result (IsWhole end.new) }
+    ensures ok { OnOk result (Tells (AreOwn name.now (lane_in end.old) (lane_in end.new)) (W.contents writer.old) (W.contents writer.new) unwritten.old.bytes.items unwritten.new.bytes.items) }
+    ensures write { (result ≡ Err FrontFault.Write) → (rest : List ℕ) × Tells (AreFirstOwn name.now (lane_in end.old)) (W.contents writer.old) (W.contents writer.new) unwritten.old.bytes.items rest }
+    ensures memory { (result ≡ Err FrontFault.Memory) → Tells (AreFirstOwn name.now (lane_in end.old)) (W.contents writer.old) (W.contents writer.new) unwritten.old.bytes.items unwritten.new.bytes.items }
+    ensures only { IfErr result (λ e. (e ≢ FrontFault.Read) × (e ≢ FrontFault.Long)) }
+    ensures counts { (result ≢ Err FrontFault.Write) → W.faults writer.new ≡ W.faults writer.old }
+    ensures fault { (result ≡ Err FrontFault.Write) → W.faults writer.old < W.faults writer.new }
+{
+    while let Some(reply) = end.release() {
+        say_reply(alloc, reply, name, writer, unwritten)?;
+    }
+    Ok(())
+}
+
+/// Runs what is left of a client, and hands out the rest of its results. What is said last may wait to be written.
+fn hand_out_end<W: Sink>(
+    alloc: Global,
+    end: &mut Settled<Task>,
+    name: &str,
+    writer: &mut W,
+    unwritten: &mut Unwritten,
+) -> Result<(), FrontFault>
+    requires ready { IsReady end.old }
+    requires counts { W.faults writer.old < 2 ^ 64 - 1 }
+    ensures whole { OnOk result (IsWhole end.new) }
+    ensures ok { OnOk result (Tells (AreOwn name.now (lane_in end.old) (lane_in end.new)) (W.contents writer.old) (W.contents writer.new) unwritten.old.bytes.items unwritten.new.bytes.items) }
+    ensures write { (result ≡ Err FrontFault.Write) → (rest : List ℕ) × Tells (AreFirstOwn name.now (lane_in end.old)) (W.contents writer.old) (W.contents writer.new) unwritten.old.bytes.items rest }
+    ensures memory { (result ≡ Err FrontFault.Memory) → Tells (AreFirstOwn name.now (lane_in end.old)) (W.contents writer.old) (W.contents writer.new) unwritten.old.bytes.items unwritten.new.bytes.items }
+    ensures only { IfErr result (λ e. (e ≢ FrontFault.Read) × (e ≢ FrontFault.Long)) }
+    ensures counts { (result ≢ Err FrontFault.Write) → W.faults writer.new ≡ W.faults writer.old }
+    ensures fault { (result ≡ Err FrontFault.Write) → W.faults writer.old < W.faults writer.new }
+{
+    run_left(alloc, end)?;
+    hand_rest(alloc, end, name, writer, unwritten)
+}
+
+/// Runs what is left of each client, and hands out the rest of its results. What is said last may wait to be written.
+fn hand_out_ends<W: Sink>(
+    alloc: Global,
+    names: &Vec<String>,
+    ends: &mut Vec<Settled<Task>>,
+    writer: &mut W,
+    unwritten: &mut Unwritten,
+) -> Result<(), FrontFault>
+    requires named { length names.now.items ≤ length ends.old.items }
+    requires distinct { AreDistinct (map string_bytes names.now.items) }
+    requires ready { All IsReady ends.old.items }
+    requires counts { W.faults writer.old < 2 ^ 64 - 1 }
+    requires nothing_waits { unwritten.old.bytes.items ≡ [] }
+    ensures whole { OnOk result ((place : ℕ) (lane : Lane) → place < length names.now.items → slice_get (ends_lanes ends.new.items) place ≡ Some lane → drop lane.handed lane.put ≡ []) }
+    ensures rest { OnOk result (drop (length names.now.items) ends.new.items ≡ drop (length names.now.items) ends.old.items) }
+    ensures ok { OnOk result (Tells (AreHanded (map string_bytes names.now.items) (ends_lanes ends.old.items) (ends_lanes ends.new.items)) (W.contents writer.old) (W.contents writer.new) [] unwritten.new.bytes.items) }
+    ensures write { (result ≡ Err FrontFault.Write) → (rest : List ℕ) × Tells (AreFirst (map string_bytes names.now.items) (ends_lanes ends.old.items)) (W.contents writer.old) (W.contents writer.new) [] rest }
+    ensures memory { (result ≡ Err FrontFault.Memory) → Tells (AreFirst (map string_bytes names.now.items) (ends_lanes ends.old.items)) (W.contents writer.old) (W.contents writer.new) [] unwritten.new.bytes.items }
+    ensures only { IfErr result (λ e. (e ≢ FrontFault.Read) × (e ≢ FrontFault.Long)) }
+    ensures counts { (result ≢ Err FrontFault.Write) → W.faults writer.new ≡ W.faults writer.old }
+    ensures fault { (result ≡ Err FrontFault.Write) → W.faults writer.old < W.faults writer.new }
+{
+    for place in 0..names.len() {
+        hand_out_end(
+            alloc,
+            &mut ends[place],
+            names[place].as_str(),
+            writer,
+            unwritten,
+        )?;
+    }
+    Ok(())
+}
+
+/// Runs what is left of each client, and hands out the rest of its results.
+fn hand_out_rest<W: Sink>(
+    alloc: Global,
+    names: &Vec<String>,
+    ends: &mut Vec<Settled<Task>>,
+    writer: &mut W,
+) -> Result<(), FrontFault>
+    requires named { length names.now.items ≤ length ends.old.items }
+    requires distinct { AreDistinct (map string_bytes names.now.items) }
+    requires ready { All IsReady ends.old.items }
+    requires counts { W.faults writer.old < 2 ^ 64 - 1 }
+    ensures whole { OnOk result ((place : ℕ) (lane : Lane) → place < length names.now.items → slice_get (ends_lanes ends.new.items) place ≡ Some lane → drop lane.handed lane.put ≡ []) }
+    ensures rest { OnOk result (drop (length names.now.items) ends.new.items ≡ drop (length names.now.items) ends.old.items) }
+    ensures ok { OnOk result (Told (AreHanded (map string_bytes names.now.items) (ends_lanes ends.old.items) (ends_lanes ends.new.items)) (W.contents writer.old) (W.contents writer.new)) }
+    ensures write { (result ≡ Err FrontFault.Write) → ToldInPart (AreFirst (map string_bytes names.now.items) (ends_lanes ends.old.items)) (W.contents writer.old) (W.contents writer.new) }
+    ensures memory { (result ≡ Err FrontFault.Memory) → Told (AreFirst (map string_bytes names.now.items) (ends_lanes ends.old.items)) (W.contents writer.old) (W.contents writer.new) }
+    ensures only { IfErr result (λ e. (e ≢ FrontFault.Read) × (e ≢ FrontFault.Long)) }
+    ensures fault { (result ≡ Err FrontFault.Write) → W.faults writer.old < W.faults writer.new }
+{
+    let mut unwritten = Unwritten::new(alloc);
+    let handed = hand_out_ends(alloc, names, ends, writer, &mut unwritten);
+    if is_cut(&handed) {
+        return handed;
+    }
+    unwritten.write_out(writer)?;
+    handed
+}
+
+/// Brings all ends together, runs what is left, and hands out the rest of the results.
+pub fn end_lanes<W: Sink>(
+    alloc: Global,
+    lanes: Lanes,
+    workers: Vec<Worker<Task>>,
+    writer: &mut W,
+) -> Result<Vec<Settled<Task>>, FrontFault>
+    requires ends { AreOfOneCall (links_in lanes) (map worker_links workers.items) }
+    // No request was put into a lane without a name.
+    requires new { (place : ℕ) (lane : Lane) → length (names_in lanes) ≤ place → slice_get (lanes_in lanes) place ≡ Some lane → lane.put ≡ [] }
+    requires counts { W.faults writer.old < 2 ^ 64 - 1 }
+    ensures ok { IfOk result (λ ends. Told (AreHanded (names_in lanes) (lanes_in lanes) (ends_lanes ends.items)) (W.contents writer.old) (W.contents writer.new)) }
+    ensures whole { IfOk result (λ ends. All IsWhole ends.items) }
+    ensures write { (result ≡ Err FrontFault.Write) → ToldInPart (AreFirst (names_in lanes) (lanes_in lanes)) (W.contents writer.old) (W.contents writer.new) }
+    ensures memory { (result ≡ Err FrontFault.Memory) → Told (AreFirst (names_in lanes) (lanes_in lanes)) (W.contents writer.old) (W.contents writer.new) }
+    ensures only { IfErr result (λ e. (e ≢ FrontFault.Read) × (e ≢ FrontFault.Long)) }
+    ensures fault { (result ≡ Err FrontFault.Write) → W.faults writer.old < W.faults writer.new }
+{
+    let Lanes { names, clients } = lanes;
+    let Ok(mut ends) = settle(clients, workers) else {
+        return Err(FrontFault::Memory);
+    };
+    hand_out_rest(alloc, &names, &mut ends, writer)?;
+    Ok(ends)
+}

@@ -1,0 +1,14 @@
+//! `serve`: many clients at once. Each client's answers come in the order of its lines, and none waits for another client's.
+#![tactic(auto)]
+
+mod answering;
+mod ending;
+mod front;
+mod lane;
+mod line;
+mod named_lanes;
+mod options;
+mod serving;
+
+pub use front::serve;
+pub use options::Options;

@@ -1,0 +1,222 @@
+//! The clients' lanes and their names.
+ghost use Rattle.std.specs.Bool.{OnFalse, OnTrue};
+ghost use Rattle.std.specs.Prelude.{◌≡◌, ◌<◌, ◌≤◌, ◌^◌, [], ℕ, List, drop, false, length, map, not, slice_get, slice_set, string_bytes, IfNone, IfOk, IfSome, Ok, OnOk, Some};
+ghost use Rattle.std.specs.Arc.{arc_value};
+ghost use Rattle.serde_json.specs.View.{view};
+ghost use Rattle.serde_json.specs.Written.{has_float};
+ghost use Rattle.box_core.specs.Mail.{resize_refusal_by};
+ghost use Rattle.dmn_plan.specs.Request.{request_result};
+ghost use Rattle.desk_serving.specs.Owed.{AreDistinct, AreDistinct-prop, Hands, HandsThen, Lane, unhanded, with_closed, with_lane, with_put, with_put_if};
+ghost use Rattle.desk_serving.specs.Served.{is_among, of_name, task_answer};
+ghost use Rattle.desk_reports.specs.Shown.{reply};
+
+use crate::lane::{self, Submitted};
+use box_core::Refusal;
+use desk_reports::report::{self, say};
+use dmn_plan::Task;
+use lanes::Client;
+use serde_json::Value;
+use std::alloc::{AllocError, Global};
+use std::sync::{Arc, Wait};
+use std::thread;
+
+/// The clients' ends of the lanes, and the names of the first of them: lane by lane.
+#[derive(Drop)]
+pub struct Lanes {
+    pub(crate) names: Vec<String>,
+    pub(crate) clients: Vec<Client<Task>>,
+    ghost named: { length names.items ≤ length clients.items },
+    ghost distinct: { AreDistinct (map string_bytes names.items) } by { AreDistinct-prop (map string_bytes names.items) },
+}
+
+impl Lanes {
+    ghost use Rattle.desk_serving.specs.LanesView.{lanes_in, links_in, names_in};
+
+    /// Lanes without a name.
+    pub fn new(alloc: Global, clients: Vec<Client<Task>>) -> Lanes
+        ensures { (result.names.items ≡ []) × (result.clients ≡ clients) }
+    {
+        Lanes {
+            names: Vec::new(alloc),
+            clients,
+        }
+    }
+
+    /// The place of a name's lane, if it has one.
+    fn place_of(&self, name: &str) -> Option<usize>
+        ensures found { IfSome result (λ place. slice_get (names_in self.now) place ≡ Some name.now) }
+        ensures none { IfNone result (is_among name.now (names_in self.now) ≡ false) }
+    {
+        for (place, known) in self.names.iter().enumerate() {
+            if known.as_str() == name {
+                return Some(place);
+            }
+        }
+        None
+    }
+
+    /// The place of a name's lane. A name without one gets the next, if one is left.
+    pub fn place_for(&mut self, alloc: Global, name: &str) -> Result<Option<usize>, AllocError>
+        ensures same { links_in self.new ≡ links_in self.old }
+        ensures lanes { lanes_in self.new ≡ lanes_in self.old }
+        ensures names { OnOk result (names_in self.new ≡ with_lane (length (lanes_in self.old)) name.now (names_in self.old)) }
+        ensures found { IfOk result (λ place. IfSome place (λ place. slice_get (names_in self.new) place ≡ Some name.now)) }
+        ensures none { IfOk result (λ place. IfNone place (is_among name.now (names_in self.new) ≡ false)) }
+    {
+        if let Some(place) = self.place_of(name) {
+            return Ok(Some(place));
+        }
+        let place = self.names.len();
+        if place >= self.clients.len() {
+            return Ok(None);
+        }
+        self.names.push(String::from_str(alloc, name)?)?;
+        Ok(Some(place))
+    }
+
+    /// Hands out at most one result from each lane, in lines at the end of the text.
+    pub fn hand_out(&mut self, alloc: Global, text: &mut Vec<u8>) -> Result<(), AllocError>
+        ensures same { links_in self.new ≡ links_in self.old }
+        ensures names { names_in self.new ≡ names_in self.old }
+        ensures hands { OnOk result (Hands (names_in self.old) (lanes_in self.old) (lanes_in self.new) text.old.items text.new.items) }
+    {
+        for place in 0..self.names.len() {
+            lane::hand_out(
+                alloc,
+                &mut self.clients[place],
+                self.names[place].as_str(),
+                text,
+            )?;
+        }
+        Ok(())
+    }
+
+    /// Hands out results until a lane is whole.
+    pub fn drain<R: Wait>(
+        &mut self,
+        rt: &R,
+        alloc: Global,
+        place: usize,
+        text: &mut Vec<u8>,
+    ) -> Result<(), AllocError>
+        requires place { place < length (names_in self.old) }
+        ensures same { links_in self.new ≡ links_in self.old }
+        ensures names { names_in self.new ≡ names_in self.old }
+        ensures hands { OnOk result (Hands (names_in self.old) (lanes_in self.old) (lanes_in self.new) text.old.items text.new.items) }
+        ensures whole { OnOk result ((lane : Lane) → slice_get (lanes_in self.new) place ≡ Some lane → drop lane.handed lane.put ≡ []) }
+    {
+        for _ in rt.forever() {
+            if lane::is_whole(&self.clients[place]) {
+                break;
+            }
+            self.hand_out(alloc, text)?;
+            thread::yield_now();
+        }
+        Ok(())
+    }
+
+    /// Adds the line of a report of a client to the text, behind all earlier results of that client.
+    pub fn report<R: Wait>(
+        &mut self,
+        rt: &R,
+        alloc: Global,
+        place: usize,
+        report: &Value,
+        text: &mut Vec<u8>,
+    ) -> Result<(), AllocError>
+        requires place { place < length (names_in self.old) }
+        requires plain { has_float (view report.now) ≡ false }
+        ensures same { links_in self.new ≡ links_in self.old }
+        ensures names { names_in self.new ≡ names_in self.old }
+        ensures lanes { OnOk result (unhanded (lanes_in self.new) ≡ unhanded (lanes_in self.old)) }
+        ensures hands { OnOk result ((name : List ℕ) → slice_get (names_in self.old) place ≡ Some name →
+            HandsThen (names_in self.old) (lanes_in self.old) (lanes_in self.new) (of_name name (view report.now)) text.old.items text.new.items) }
+    {
+        self.drain(rt, alloc, place, text)?;
+        say(alloc, report, text)
+    }
+
+    /// Puts a request into a lane, once there is a place for it. Answers false where the lane is closed. Until then results
+    /// are handed out, in lines at the end of the text.
+    pub fn put<R: Wait>(
+        &mut self,
+        rt: &R,
+        alloc: Global,
+        place: usize,
+        work: Arc<Task>,
+        text: &mut Vec<u8>,
+    ) -> Result<bool, AllocError>
+        requires place { place < length (names_in self.old) }
+        requires few { (lane : Lane) → slice_get (lanes_in self.old) place ≡ Some lane → length lane.put < 2 ^ 60 }
+        ensures same { links_in self.new ≡ links_in self.old }
+        ensures names { names_in self.new ≡ names_in self.old }
+        ensures open { IfOk result (λ put. (lane : Lane) → slice_get (lanes_in self.old) place ≡ Some lane → lane.closed ≡ not put) }
+        ensures lanes { IfOk result (λ put. OnTrue put ((lane : Lane) → slice_get (lanes_in self.old) place ≡ Some lane →
+            unhanded (lanes_in self.new) ≡ unhanded (slice_set (lanes_in self.old) place (with_put lane (arc_value work))))) }
+        ensures put { IfOk result (λ put. OnTrue put ((name : List ℕ) (lane : Lane) → slice_get (names_in self.old) place ≡ Some name → slice_get (lanes_in self.old) place ≡ Some lane →
+            HandsThen (names_in self.old) (lanes_in self.old) (lanes_in self.new) (of_name name (reply name (request_result (arc_value work)) (length lane.put))) text.old.items text.new.items)) }
+        ensures closed { IfOk result (λ put. OnFalse put (Hands (names_in self.old) (lanes_in self.old) (lanes_in self.new) text.old.items text.new.items)) }
+    {
+        let mut work = work;
+        for _ in rt.forever() {
+            match lane::submit(&mut self.clients[place], work)? {
+                Submitted::Accepted => return Ok(true),
+                Submitted::Closed => return Ok(false),
+                Submitted::Full(refused) => work = refused,
+            }
+            self.hand_out(alloc, text)?;
+            thread::yield_now();
+        }
+        unreachable!()
+    }
+
+    /// Puts a request into a lane, or refuses it behind the client's earlier results where the lane is closed.
+    pub fn put_or_refuse<R: Wait>(
+        &mut self,
+        rt: &R,
+        alloc: Global,
+        number: u64,
+        name: &str,
+        place: usize,
+        work: Arc<Task>,
+        text: &mut Vec<u8>,
+    ) -> Result<(), AllocError>
+        requires place { slice_get (names_in self.old) place ≡ Some name.now }
+        requires few { (lane : Lane) → slice_get (lanes_in self.old) place ≡ Some lane → length lane.put < 2 ^ 60 }
+        ensures same { links_in self.new ≡ links_in self.old }
+        ensures names { names_in self.new ≡ names_in self.old }
+        ensures lanes { OnOk result ((lane : Lane) → slice_get (lanes_in self.old) place ≡ Some lane →
+            unhanded (lanes_in self.new) ≡ unhanded (slice_set (lanes_in self.old) place (with_put_if lane (arc_value work)))) }
+        ensures hands { OnOk result ((lane : Lane) → slice_get (lanes_in self.old) place ≡ Some lane →
+            HandsThen (names_in self.old) (lanes_in self.old) (lanes_in self.new) (of_name name.now (task_answer number name.now lane.closed (length lane.put) (Ok (arc_value work)))) text.old.items text.new.items) }
+    {
+        if self.put(rt, alloc, place, work, text)? {
+            return Ok(());
+        }
+        let refused = report::refused(alloc, name, number, "closed")?;
+        self.report(rt, alloc, place, &refused, text)
+    }
+
+    /// Closes a lane, and answers whether it was open.
+    pub fn close(&mut self, place: usize) -> bool
+        requires place { place < length (names_in self.old) }
+        ensures same { links_in self.new ≡ links_in self.old }
+        ensures names { names_in self.new ≡ names_in self.old }
+        ensures closes { (lane : Lane) → slice_get (lanes_in self.old) place ≡ Some lane →
+            (result ≡ not lane.closed) × (lanes_in self.new ≡ slice_set (lanes_in self.old) place (with_closed lane)) }
+    {
+        lane::close(&mut self.clients[place])
+    }
+
+    /// Gives a whole lane a capacity, or says why not.
+    pub fn resize(&mut self, place: usize, capacity: u32) -> Result<Option<Refusal>, AllocError>
+        requires place { place < length (names_in self.old) }
+        requires whole { (lane : Lane) → slice_get (lanes_in self.old) place ≡ Some lane → drop lane.handed lane.put ≡ [] }
+        ensures same { links_in self.new ≡ links_in self.old }
+        ensures names { names_in self.new ≡ names_in self.old }
+        ensures lanes { lanes_in self.new ≡ lanes_in self.old }
+        ensures refused { IfOk result (λ refused. (lane : Lane) → slice_get (lanes_in self.old) place ≡ Some lane → refused ≡ resize_refusal_by lane.closed 0 0 capacity) }
+    {
+        lane::resize(&mut self.clients[place], capacity)
+    }
+}
