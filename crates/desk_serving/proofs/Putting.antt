@@ -8,7 +8,7 @@ use Rattle.dmn_plan.specs.Request.{Request, request_result}
 use Rattle.feel_value.specs.declared.feel.Outcome.{Outcome}
 use Rattle.lanes.specs.declared.client.Client.{Client}
 use Rattle.lanes.proofs.Making.{map_set}
-use Rattle.desk_serving.specs.LanesView.{lanes_in, names_in}
+use Rattle.desk_serving.specs.LanesView.{ArePolled, IsPolled, lanes_in, names_in}
 use Rattle.desk_serving.specs.declared.named_lanes.Lanes.{Lanes}
 use Rattle.desk_lines.specs.Lines.{ended}
 use Rattle.desk_serving.specs.Owed.{Lane, lane_of, replies, due, due_to, due_to_name, unhanded, AreDistinct, Hands, HandsOwn, HandsThen, with_lane, with_put, with_put_if}
@@ -53,6 +53,27 @@ module _ {g : Ghosts Request Outcome} where
       let before = map (λ (x : Client Request Outcome g). lane_of x) clients in
       subst (λ (ls : List Lane). Hands names before ls s t) (sym (lanes_set clients c new))
       (own_hands names before c name (lane_of old) (lane_of new) s t dis at (lane_at clients c old lt is) h)
+
+  -- one more client was polled
+  polled_first : (old : List (Client Request Outcome g)) (client client' : Client Request Outcome g) → 0 < length old → client ≡ slice_index_or old 0 client → IsPolled client client'
+      → ArePolled 1 old (slice_set old 0 client')
+  polled_first [] client client' lt is p = absurd (omega (arith, lt))
+  polled_first (x ∷ old) client client' lt is p = (subst (λ (c : Client Request Outcome g). IsPolled c client') is p, refl)
+
+  polled_suc : (n : ℕ) (old now : List (Client Request Outcome g)) (client client' : Client Request Outcome g) → n < length now → client ≡ slice_index_or now n client
+      → IsPolled client client' → ArePolled n old now → ArePolled (suc n) old (slice_set now n client')
+  polled_suc zero old now client client' lt is p same =
+      subst (λ (cs : List (Client Request Outcome g)). ArePolled 1 cs (slice_set now 0 client')) same (polled_first now client client' lt is p)
+  polled_suc (suc n) [] [] client client' lt is p polled = polled
+  polled_suc (suc n) [] (y ∷ now) client client' lt is p polled = polled
+  polled_suc (suc n) (x ∷ old) [] client client' lt is p polled = polled
+  polled_suc (suc n) (x ∷ old) (y ∷ now) client client' lt is p polled = (polled.0, polled_suc n old now client client' (omega (arith, lt)) is p polled.1)
+
+  pub polled_next : (n : ℕ) (old now : List (Client Request Outcome g)) (client client' : Client Request Outcome g) → n < length now → client ≡ slice_index_or now n client
+      → IsPolled client client' → ArePolled n old now → ArePolled (n + 1) old (slice_set now n client')
+  polled_next n old now client client' lt is p polled =
+      let next : suc n ≡ n + 1 = omega arith in
+      subst (λ (k : ℕ). ArePolled k old (slice_set now n client')) next (polled_suc n old now client client' lt is p polled)
 
 -- a place with a name has a lane
 pub lanes_inside : (lanes : Lanes) (place : ℕ) → place < length (names_in lanes) → (place < length lanes.clients.items) × (place < length (lanes_in lanes))

@@ -3,7 +3,9 @@ ghost use Rattle.std.specs.Prelude.{◌≡◌, ◌↔◌, ◌<◌, ◌^◌, [], 
 ghost use Rattle.std.specs.Arc.{arc_value};
 ghost use Rattle.box_core.specs.Mail.{resize_refusal_by};
 ghost use Rattle.dmn_plan.specs.Request.{Request, request_result};
-ghost use Rattle.lanes.specs.Clients.{client_links};
+ghost use Rattle.lanes.specs.Clients.{client_links, came_to, mail_of, reply_of};
+ghost use Rattle.lanes.specs.Polls.{Polls};
+ghost use Rattle.desk_serving.specs.LanesView.{IsPolled};
 ghost use Rattle.desk_serving.specs.Owed.{HandsOwn, lane_of, with_closed, with_handed};
 ghost use Rattle.desk_serving.specs.Submits.{Submits};
 
@@ -46,6 +48,8 @@ fn poll(client: &mut Client<Task>) -> Option<Reply<Task>>
     ensures handed { IfSome result (λ reply. (reply.ticket ≡ (lane_of client.old).handed) × (lane_of client.new ≡ with_handed (lane_of client.old))) }
     ensures right { IfSome result (λ reply. (request : Request) × (slice_get (lane_of client.old).put (lane_of client.old).handed ≡ Some request) × (reply.outcome ≡ request_result request)) }
     ensures nothing { IfNone result (lane_of client.new ≡ lane_of client.old) }
+    // There is none only where the next result has not come.
+    ensures polls { Polls (λ request. request) request_result (came_to client.old) (came_to client.new) (mail_of client.old) (mail_of client.new) (reply_of result) }
 {
     client.poll()
 }
@@ -58,6 +62,7 @@ pub fn hand_out(
     text: &mut Vec<u8>,
 ) -> Result<(), AllocError>
     ensures same { client_links client.new ≡ client_links client.old }
+    ensures polled { IsPolled client.old client.new }
     ensures hands { OnOk result (HandsOwn name.now (lane_of client.old) (lane_of client.new) text.old.items text.new.items) }
 {
     let Some(reply) = poll(client) else {

@@ -30,7 +30,7 @@ pub struct Lanes {
 }
 
 impl Lanes {
-    ghost use Rattle.desk_serving.specs.LanesView.{lanes_in, links_in, names_in};
+    ghost use Rattle.desk_serving.specs.LanesView.{ArePolled, lanes_in, links_in, names_in};
 
     /// Lanes without a name.
     pub fn new(alloc: Global, clients: Vec<Client<Task>>) -> Lanes
@@ -78,6 +78,8 @@ impl Lanes {
     pub fn hand_out(&mut self, alloc: Global, text: &mut Vec<u8>) -> Result<(), AllocError>
         ensures same { links_in self.new ≡ links_in self.old }
         ensures names { names_in self.new ≡ names_in self.old }
+        // Each lane with a name hands out its next result, unless it has not come.
+        ensures polled { OnOk result (ArePolled (length (names_in self.old)) self.old.clients.items self.new.clients.items) }
         ensures hands { OnOk result (Hands (names_in self.old) (lanes_in self.old) (lanes_in self.new) text.old.items text.new.items) }
     {
         for place in 0..self.names.len() {

@@ -2,6 +2,7 @@ use Rattle.std.proofs.Common.{◌≡◌, ◌∙◌}
 use Rattle.std.proofs.lemmas.Result.{on_ok_weaker}
 use Rattle.serde_json.specs.View.{view}
 use Rattle.dmn_plan.specs.Request.{request_result}
+use Rattle.lanes.specs.Clients.{reply_of}
 use Rattle.desk_serving.specs.Owed.{lane_of}
 use Rattle.desk_reports.specs.Shown.{reply}
 use Rattle.desk_serving.proofs.Laning.{own_one}
@@ -14,3 +15,6 @@ returns-clause-hands c =
     let same : view c.in_ok-report.report ≡ reply c.args.name.now (request_result r.0) old.handed =
     c.in_ok-report.ensures.value ∙ (λ i. reply c.args.name.now (r.2 i) (h.0 i)) in
     on_ok_weaker c.say.result (λ is. own_one c.args.name.now old (lane_of c.poll.new.client) r.0 _ c.args.text.now.items c.say.new.text.items r.1 h.1 same is) c.say.ensures
+
+pub returns-clause-polled : goal.returns-clause-polled
+returns-clause-polled c = (reply_of c.poll.result, c.poll.ensures.polls)

@@ -10,3 +10,6 @@ returns-clause-right c = poll_right (λ (q : Request). q) request_result c.args.
 
 pub returns-clause-nothing : goal.returns-clause-nothing
 returns-clause-nothing c = poll_nothing (λ (q : Request). q) request_result c.args.client.now c.poll.new.self c.poll.result c.poll.ensures.put c.poll.ensures.polls
+
+pub returns-clause-polls : goal.returns-clause-polls
+returns-clause-polls c = c.poll.ensures.polls

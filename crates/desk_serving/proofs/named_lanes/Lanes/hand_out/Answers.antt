@@ -5,7 +5,7 @@ use Rattle.lanes.specs.Clients.{client_links}
 use Rattle.desk_serving.specs.LanesView.{lanes_in, names_in}
 use Rattle.desk_serving.proofs.Laning.{get_map}
 use Rattle.desk_serving.proofs.Owing.{get_at, hands_then}
-use Rattle.desk_serving.proofs.Putting.{client_hands, lanes_inside}
+use Rattle.desk_serving.proofs.Putting.{client_hands, lanes_inside, polled_next}
 use Rattle.desk_serving.proofs.named_lanes.Lanes.hand_out.Goals as goal
 
 pub returns-in_err-hand_out-clause-same : goal.returns-in_err-hand_out-clause-same
@@ -27,6 +27,7 @@ loop-place-preserved c =
     record {
       links = links_kept client_links self.clients.items place c.index_mut.result.now c.hand_out.new.client c.index_mut.ensures.value c.hand_out.ensures.same ∙ inv.links;
       names = inv.names;
+      polled = polled_next place was.clients.items self.clients.items c.index_mut.result.now c.hand_out.new.client (lanes_inside self place few).0 c.index_mut.ensures.value c.hand_out.ensures.polled inv.polled;
       hands = hands_then ns (lanes_in was) (lanes_in self) _ c.args.text.now.items c.loop-place.text.items c.hand_out.new.text.items inv.hands
           (client_hands ns self.clients.items place c.as_str.result.now c.index_mut.result.now c.hand_out.new.client c.loop-place.text.items c.hand_out.new.text.items
           was.distinct (at ∙ ap (λ (n : List ℕ). Some n) name) (lanes_inside self place few).0 c.index_mut.ensures.value c.in_ok-hand_out.ensures.hands);

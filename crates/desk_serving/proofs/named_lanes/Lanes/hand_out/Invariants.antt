@@ -1,5 +1,5 @@
 use Rattle.std.proofs.Common.{◌≡◌}
-use Rattle.desk_serving.specs.LanesView.{lanes_in, links_in, names_in}
+use Rattle.desk_serving.specs.LanesView.{ArePolled, lanes_in, links_in, names_in}
 use Rattle.desk_serving.specs.Owed.{Hands}
 use Rattle.desk_serving.proofs.named_lanes.Lanes.hand_out.Given as goal
 
@@ -7,5 +7,6 @@ abbrev pub invariant-loop-place : goal.invariant-loop-place
 invariant-loop-place l = record {
   links : links_in l.self ≡ links_in l.fn.self;
   names : names_in l.self ≡ names_in l.fn.self;
+  polled : ArePolled l.place l.fn.self.clients.items l.self.clients.items;
   hands : Hands (names_in l.fn.self) (lanes_in l.fn.self) (lanes_in l.self) l.fn.text.items l.text.items;
 }
