@@ -4,7 +4,8 @@
 mod inputs;
 
 use anyhow::Error;
-use desk_front::{Counted, replay};
+use desk_lines::Counted;
+use desk_replaying::replay;
 use inputs::{Lines, graph_requests, small_requests, table_requests};
 use serde_json::Value;
 use std::alloc::Global;

@@ -65,22 +65,13 @@ fn context_with(
 ) -> Result<Reading<Logic>, AllocError>
     ensures { IfOk result (λ r. mapped logic_view r ≡ both context_of (mapped (λ v. map entry_view v.items) entries) (mapped logic_view last)) }
 {
-    let last = match last {
-        Reading::Unread => return Ok(Reading::Unread),
-        Reading::Refused => None,
-        Reading::Found(last) => Some(last),
-    };
-    let entries = match entries {
-        Reading::Unread => return Ok(Reading::Unread),
-        Reading::Refused => return Ok(Reading::Refused),
-        Reading::Found(entries) => entries,
-    };
-    let Some(last) = last else {
-        return Ok(Reading::Refused);
-    };
-    match Box::new(alloc, last) {
-        Ok(last) => Ok(Reading::Found(Logic::ContextWith(entries, last))),
-        Err(_) => Err(AllocError),
+    match (entries, last) {
+        (Reading::Unread, _) | (_, Reading::Unread) => Ok(Reading::Unread),
+        (Reading::Found(entries), Reading::Found(last)) => {
+            let last = Box::new(alloc, last)?;
+            Ok(Reading::Found(Logic::ContextWith(entries, last)))
+        }
+        _ => Ok(Reading::Refused),
     }
 }
 

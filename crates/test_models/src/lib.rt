@@ -1,20 +1,9 @@
-//! The tests of `feel_value`, `dmn_table`, `dmn_form`, `dmn_names`, `dmn_graph`, `dmn_logic` and `dmn_plan` through their
-//! public interfaces, for what no line of the program shows: want of memory, the libraries' own types, faults that have one
-//! word there, and sizes past a line. What models answer stands in the program's stored run. They stand in a crate of their
-//! own, so that the libraries' proofs are not made once more for them.
+//! The tests of `dmn_plan` through its public interface, for what no line of the program shows: want of memory, faults that have
+//! one word there, and sizes past a line. What models answer stands in the program's stored run. They stand in a crate of their
+//! own, so that the library's proofs are not made once more for them.
 #![tactic(auto)]
 
-#[cfg(test)]
-mod form;
-#[cfg(test)]
-mod graph;
-#[cfg(test)]
-mod logic;
 #[cfg(test)]
 mod models;
 #[cfg(test)]
 mod names;
-#[cfg(test)]
-mod tables;
-#[cfg(test)]
-mod values;

@@ -2,9 +2,9 @@
 //! refused.
 mod refused;
 
-use crate::logic::shown;
 use box_core::Work;
 use dmn_plan::{ModelFault, Plan, Task, TaskFault};
+use feel_value::Outcome;
 use std::alloc::{AllocError, Global};
 use std::sync::Arc;
 use std::test::Fail;
@@ -33,6 +33,14 @@ fn shared(alloc: Global) -> Result<Arc<Plan>, Fail> {
 fn task(alloc: Global, text: &str, service: &str, inputs: &str) -> Result<Task, Fail> {
     let inputs = serde_json::Value::from_str(alloc, inputs)?;
     Ok(Task::new(alloc, plan(alloc, text)?, service, &inputs)?)
+}
+
+/// The outcome as JSON text, or `limit`.
+fn shown(alloc: Global, outcome: &Outcome) -> Result<String, AllocError> {
+    match outcome {
+        Outcome::Is(value) => value.to_json(alloc)?.to_string(alloc),
+        Outcome::Limit => String::from_str(alloc, "limit"),
+    }
 }
 
 /// The outcome of a task, as JSON text.

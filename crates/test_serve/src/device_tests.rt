@@ -4,6 +4,7 @@ use desk_front::FrontFault;
 use lanes::OpenGate;
 use std::alloc::Global;
 use std::io;
+use std::process::Abort;
 use std::sync::Wait;
 use std::test::Fail;
 use std::thread::Threads;
@@ -179,50 +180,97 @@ const CASES: [Case; 3] = [
     (LINES, DUE, 100),
 ];
 
-/// The lines that came whole are answered, and no other.
+/// Whether all is answered, or the reader failed behind so many bytes and the lines that came whole are answered, and no other.
+fn is_right_reading(
+    ended: Ended,
+    output: &[u8],
+    text: &[u8],
+    due: &[(&str, &str)],
+    came: usize,
+) -> bool {
+    match ended {
+        Ended::Whole(4) => is_due(output, due),
+        Ended::Failed(FrontFault::Read) => {
+            is_begun(output, due)
+                && lines_in(output) == lines_in(&text[..came.min(text.len())])
+                && matches!(output.last(), None | Some(b'\n'))
+        }
+        _ => false,
+    }
+}
+
+/// Whether all is answered, or the writer failed and there is a beginning of it.
+fn is_right_writing(ended: Ended, output: &[u8], due: &[(&str, &str)]) -> bool {
+    match ended {
+        Ended::Whole(4) => is_due(output, due),
+        Ended::Failed(FrontFault::Write) => is_begun(output, due),
+        _ => false,
+    }
+}
+
+/// Whether all is read before the reader fails.
+fn ends_reading<T: Threads + Wait + Sync + Abort>(
+    alloc: Global,
+    rt: &T,
+    text: &[u8],
+    due: &[(&str, &str)],
+    way: Way,
+) -> bool {
+    let (ended, output) = served_by(alloc, rt, text, way, WELL);
+    let came = (way.fails_at as usize)
+        .saturating_sub(1)
+        .saturating_mul(way.most);
+    assert!(rt;
+        is_right_reading(ended, &output, text, due, came),
+        "{} {}",
+        way.most,
+        way.fails_at
+    );
+    ended == Ended::Whole(4)
+}
+
+/// Whether all is written before the writer fails.
+fn ends_writing<T: Threads + Wait + Sync + Abort>(
+    alloc: Global,
+    rt: &T,
+    text: &[u8],
+    due: &[(&str, &str)],
+    reads: Way,
+    way: Way,
+) -> bool {
+    let (ended, output) = served_by(alloc, rt, text, reads, way);
+    assert!(rt;
+        is_right_writing(ended, &output, due),
+        "{} {}",
+        way.most,
+        way.fails_at
+    );
+    ended == Ended::Whole(4)
+}
+
+/// The first run that meets no fault is the last.
 #[test]
 fn a_reader_may_fail_at_any_call(rt: HostRuntime) -> Result<(), Fail> {
     for (lines, due, most) in CASES {
         let text = with_model(rt.alloc(), lines.as_bytes())?;
         for fails_at in 1..1000 {
-            let (ended, output) = served_by(rt.alloc(), &rt, &text, Way { most, fails_at }, WELL);
-            if ended == Ended::Whole(4) {
-                assert!(rt; is_due(&output, &due), "{most} {fails_at}");
+            if ends_reading(rt.alloc(), &rt, &text, &due, Way { most, fails_at }) {
                 break;
             }
-            let came = (fails_at as usize - 1).saturating_mul(most);
-            let whole = lines_in(&text[..came.min(text.len())]);
-            assert_eq!(rt; ended, Ended::Failed(FrontFault::Read), "{most} {fails_at}");
-            assert!(rt; is_begun(&output, &due), "{most} {fails_at}");
-            assert_eq!(rt; lines_in(&output), whole, "{most} {fails_at}");
-            assert!(rt;
-                matches!(output.last(), None | Some(b'\n')),
-                "{most} {fails_at}"
-            );
         }
     }
     Ok(())
 }
 
-/// A run that meets no fault is the last.
 #[test]
 fn a_writer_may_fail_at_any_call(rt: HostRuntime) -> Result<(), Fail> {
     for reads in [WELL, ONE_BYTE] {
         for (lines, due, most) in CASES {
             let text = with_model(rt.alloc(), lines.as_bytes())?;
             for fails_at in 1..1000 {
-                let writes = Way { most, fails_at };
-                let (ended, output) = served_by(rt.alloc(), &rt, &text, reads, writes);
-                if ended == Ended::Whole(4) {
-                    assert!(rt; is_due(&output, &due), "{most} {fails_at}");
+                if ends_writing(rt.alloc(), &rt, &text, &due, reads, Way { most, fails_at }) {
                     break;
                 }
-                assert_eq!(rt;
-                    ended,
-                    Ended::Failed(FrontFault::Write),
-                    "{most} {fails_at}"
-                );
-                assert!(rt; is_begun(&output, &due), "{most} {fails_at}");
             }
         }
     }

@@ -2,8 +2,7 @@
 //! gives with ample memory. In a plain run only the last test meets a refusal. A run that refuses the Nth request of each test
 //! shows the rest: past the requests of the set-up a test then ends well with "refused: true", once for each request of its call,
 //! and later with "refused: false".
-use super::{SHARED, outcome_of, shared, task};
-use crate::logic::shown;
+use super::{SHARED, outcome_of, shared, shown, task};
 use box_core::Work;
 use dmn_plan::{ModelFault, Plan, Task, TaskFault};
 use feel_value::Outcome;

@@ -1,0 +1,32 @@
+//! The options of `serve`, as the words of the command line give them.
+ghost use Rattle.std.specs.Prelude.{◌≤◌};
+ghost use Rattle.clap.specs.Words.{first_of, found_of, rows_of};
+ghost use Rattle.desk_commands.specs.CommandLine.{AreOptionsOf, IsNumberOf};
+
+use clap::ArgMatches;
+use desk_front::Options;
+
+/// The number that an option has. `clap` has refused all texts but those of the numbers from 1 to the most.
+fn number_of(matches: &ArgMatches<'_>, name: &str, most: u32) -> u32
+    requires some { 1 ≤ most }
+    ensures { IsNumberOf most (first_of name.now (rows_of (found_of matches.now))) result }
+{
+    let Some(text) = matches.get_str(name) else {
+        return most;
+    };
+    match text.parse::<u32>() {
+        Ok(number) => number.clamp(1, most),
+        Err(_) => most,
+    }
+}
+
+/// The options of `serve`.
+pub fn options_of(matches: &ArgMatches<'_>) -> Options
+    ensures { AreOptionsOf (rows_of (found_of matches.now)) result }
+{
+    Options {
+        clients: number_of(matches, "clients", 64),
+        workers: number_of(matches, "workers", 8),
+        capacity: number_of(matches, "capacity", 4096),
+    }
+}

@@ -1,0 +1,159 @@
+//! What the program does with its words, as a function of them and of its streams.
+ghost use Rattle.std.specs.Prelude.{◌≡◌, ◌≢◌, ◌⊎◌, ◌<◌, ◌-◌, ◌^◌, ℕ, List, [], None, Result, map, string_bytes};
+ghost use Rattle.std.specs.IoError.{error_kind};
+ghost use Rattle.clap.specs.Words.{kind_of};
+ghost use Rattle.desk_lines.specs.declared.fault.FrontFault.{FrontFault};
+ghost use Rattle.lanes.specs.Made.{fault_in};
+ghost use Rattle.desk_commands.specs.CommandLine.{IsCommand, kinds_of, serve_rows};
+ghost use Rattle.desk_commands.specs.Status.{RanAs, Replayed, ServedBy, IsTold, IsStatusOf, status_of, status_of_kind, fault_line, no_utf8_line, end_text};
+
+use crate::command::read_words;
+use crate::options::options_of;
+use clap::Error;
+use clap::error::ErrorKind;
+use desk_front::{FrontFault, Options, Sink, Source, replay, serve, write_all};
+use lanes::OpenGate;
+use std::alloc::Global;
+use std::io::{self, ErrorKind as IoKind};
+use std::sync::Wait;
+use std::thread::Threads;
+
+/// The status of a run that came to its end.
+const DONE: u8 = 0;
+/// The status of a run that a fault ended.
+const FAULT: u8 = 1;
+/// The status where the words name no command.
+const WRONG_COMMAND: u8 = 2;
+
+/// Writes a text as far as the writer takes it.
+fn tell<W: Sink>(text: &str, writer: &mut W)
+    requires counts { W.faults writer.old < 2 ^ 64 - 1 }
+    ensures { IsTold W.contents W.faults writer.old writer.new text.now }
+{
+    let _ = write_all(writer, text.as_bytes());
+}
+
+/// Tells a fault by its word, on a line of its own.
+fn tell_fault<F: Sink>(fault: FrontFault, faults: &mut F) -> u8
+    requires counts { F.faults faults.old < 2 ^ 64 - 1 }
+    ensures status { result ≡ 1 }
+    ensures word { IsTold F.contents F.faults faults.old faults.new (fault_line fault) }
+{
+    if write_all(faults, fault.word().as_bytes()).is_ok() {
+        tell("\n", faults);
+    }
+    FAULT
+}
+
+/// Tells why the words of the command line can't be had: for want of memory, or since one of them is not UTF-8.
+pub fn tell_of_words<F: Sink>(error: &io::Error, faults: &mut F) -> u8
+    requires counts { F.faults faults.old < 2 ^ 64 - 1 }
+    ensures memory { error_kind error.now ≡ IoKind.OutOfMemory → (result ≡ 1) × IsTold F.contents F.faults faults.old faults.new (fault_line FrontFault.Memory) }
+    ensures wrong { error_kind error.now ≢ IoKind.OutOfMemory → (result ≡ 2) × IsTold F.contents F.faults faults.old faults.new no_utf8_line }
+{
+    if error.kind() == IoKind::OutOfMemory {
+        return tell_fault(FrontFault::Memory, faults);
+    }
+    tell("error: a word of the command line is not UTF-8\n", faults);
+    WRONG_COMMAND
+}
+
+/// Replays the lines of the reader, and tells the fault that ends it, if one does.
+fn run_replay<R: Source, W: Sink, F: Sink>(
+    alloc: Global,
+    reader: &mut R,
+    writer: &mut W,
+    faults: &mut F,
+) -> u8
+    requires read_counts { R.faults reader.old < 2 ^ 64 - 1 }
+    requires write_counts { W.faults writer.old < 2 ^ 64 - 1 }
+    requires fault_counts { F.faults faults.old < 2 ^ 64 - 1 }
+    ensures { (end : Result (Unit {0}) FrontFault) × Replayed R.remaining R.faults R.came reader.old reader.new W.contents W.faults writer.old writer.new end × (result ≡ status_of end) × IsTold F.contents F.faults faults.old faults.new (end_text end) }
+{
+    match replay(alloc, reader, writer) {
+        Ok(()) => DONE,
+        Err(fault) => tell_fault(fault, faults),
+    }
+}
+
+/// Serves the lines of the reader, and tells the fault that ends it, if one does.
+fn run_serve<T: Threads + Wait + Sync, R: Source, W: Sink, F: Sink>(
+    alloc: Global,
+    rt: &T,
+    options: Options,
+    reader: &mut R,
+    writer: &mut W,
+    faults: &mut F,
+) -> u8
+    requires lawful { fault_in options.clients options.workers options.capacity ≡ None }
+    requires read_counts { R.faults reader.old < 2 ^ 64 - 1 }
+    requires write_counts { W.faults writer.old < 2 ^ 64 - 1 }
+    requires fault_counts { F.faults faults.old < 2 ^ 64 - 1 }
+    ensures { (end : Result (Unit {0}) FrontFault) × ServedBy R.remaining R.faults R.came reader.old reader.new W.contents W.faults writer.old writer.new options.clients end × (result ≡ status_of end) × IsTold F.contents F.faults faults.old faults.new (end_text end) }
+{
+    let Err(fault) = serve(alloc, rt, reader, writer, &OpenGate, options) else {
+        return DONE;
+    };
+    tell_fault(fault, faults)
+}
+
+/// Tells why the words name no command, or the help that they ask for.
+fn explain<W: Sink, F: Sink>(alloc: Global, error: &Error, writer: &mut W, faults: &mut F) -> u8
+    requires write_counts { W.faults writer.old < 2 ^ 64 - 1 }
+    requires fault_counts { F.faults faults.old < 2 ^ 64 - 1 }
+    ensures status { (result ≡ 1) ⊎ (result ≡ status_of_kind (kind_of error.now)) }
+    ensures starved { kind_of error.now ≡ ErrorKind.OutOfMemory → result ≡ 1 }
+    ensures memory { result ≡ 1 → IsTold F.contents F.faults faults.old faults.new (fault_line FrontFault.Memory) }
+    ensures wrong { result ≡ 2 → (text : List ℕ) × IsTold F.contents F.faults faults.old faults.new text }
+    ensures help { result ≡ 0 → (text : List ℕ) × IsTold W.contents W.faults writer.old writer.new text }
+    ensures silent { result ≢ 0 → writer.new ≡ writer.old }
+    ensures no_fault { result ≡ 0 → faults.new ≡ faults.old }
+{
+    if error.kind() == ErrorKind::OutOfMemory {
+        return tell_fault(FrontFault::Memory, faults);
+    }
+    let Ok(text) = error.to_string(alloc) else {
+        return tell_fault(FrontFault::Memory, faults);
+    };
+    if error.use_stderr() {
+        tell(&text, faults);
+        return WRONG_COMMAND;
+    }
+    tell(&text, writer);
+    DONE
+}
+
+/// Runs the command that the words name, and gives the program's status. The first word is the program's name.
+///
+/// The status is 0 where the command came to its end or help was asked for, 1 where a fault ended it or no memory was
+/// found for the words, and 2 where they name no command. A fault is told on `faults` by its word, and a wrong command line by
+/// the text of `clap`; help goes to the writer. A text that can't be written changes no status.
+pub fn run_desk<T: Threads + Wait + Sync, R: Source, W: Sink, F: Sink>(
+    alloc: Global,
+    rt: &T,
+    words: Vec<String>,
+    reader: &mut R,
+    writer: &mut W,
+    faults: &mut F,
+) -> u8
+    requires read_counts { R.faults reader.old < 2 ^ 64 - 1 }
+    requires write_counts { W.faults writer.old < 2 ^ 64 - 1 }
+    requires fault_counts { F.faults faults.old < 2 ^ 64 - 1 }
+    ensures taken { IsCommand (map string_bytes words.items) →
+        ((result ≡ 1) × (reader.new ≡ reader.old) × (writer.new ≡ writer.old) × IsTold F.contents F.faults faults.old faults.new (fault_line FrontFault.Memory))
+        ⊎ ((end : Result (Unit {0}) FrontFault) × RanAs R.remaining R.faults R.came reader.old reader.new W.contents W.faults writer.old writer.new (serve_rows (map string_bytes words.items)) end × (result ≡ status_of end) × IsTold F.contents F.faults faults.old faults.new (end_text end)) }
+    ensures refused { kinds_of (map string_bytes words.items) ≢ [] → IsStatusOf (kinds_of (map string_bytes words.items)) result × (reader.new ≡ reader.old) }
+    ensures memory { kinds_of (map string_bytes words.items) ≢ [] → result ≡ 1 → IsTold F.contents F.faults faults.old faults.new (fault_line FrontFault.Memory) }
+    ensures wrong { kinds_of (map string_bytes words.items) ≢ [] → result ≡ 2 → (text : List ℕ) × IsTold F.contents F.faults faults.old faults.new text }
+    ensures help { kinds_of (map string_bytes words.items) ≢ [] → result ≡ 0 → (text : List ℕ) × IsTold W.contents W.faults writer.old writer.new text }
+    ensures silent { kinds_of (map string_bytes words.items) ≢ [] → result ≢ 0 → writer.new ≡ writer.old }
+    ensures no_fault { kinds_of (map string_bytes words.items) ≢ [] → result ≡ 0 → faults.new ≡ faults.old }
+{
+    match read_words(alloc, words.as_slice()) {
+        Ok(matches) => match matches.subcommand_matches("serve") {
+            Some(found) => run_serve(alloc, rt, options_of(found), reader, writer, faults),
+            None => run_replay(alloc, reader, writer, faults),
+        },
+        Err(error) => explain(alloc, &error, writer, faults),
+    }
+}

@@ -1,0 +1,14 @@
+use Rattle.desk_replaying.proofs.Turning.{at_start}
+use Rattle.desk_lines.proofs.Talking.{on_err, on_ok, replays_weaker, ends_weaker}
+use Rattle.desk_replaying.proofs.session.replay.Goals as goal
+
+pub answer_lines-requires-clause-starts : goal.answer_lines-requires-clause-starts
+answer_lines-requires-clause-starts g c = at_start c.new.result c.new.ensures
+
+pub returns-clause-ok : goal.returns-clause-ok
+returns-clause-ok g c =
+    on_ok c.answer_lines.result _ (λ x e. replays_weaker _ _ _ _ (λ lines said a. a.script) (rw e at c.answer_lines.ensures.ok))
+
+pub returns-clause-fault : goal.returns-clause-fault
+returns-clause-fault g c =
+    on_err c.answer_lines.result _ (λ x e. ends_weaker _ _ _ _ (λ lines said a. a.script) (λ lines said a. a) x (rw e at c.answer_lines.ensures.fault))

@@ -1,0 +1,99 @@
+//! `replay`: each line is answered before the next is read.
+ghost use Rattle.std.specs.Prelude.{◌≡◌, ◌≢◌, ◌<◌, ◌≤◌, ◌+◌, ◌-◌, ◌^◌, ℕ, List, length, OnOk, IfOk, IfErr, Err, true, false};
+ghost use Rattle.std.specs.List.{flat_map};
+ghost use Rattle.serde_json.specs.View.{view};
+ghost use Rattle.serde_json.specs.Written.{has_float};
+ghost use Rattle.desk_lines.specs.Lines.{ended, kept_line, max_input, max_line};
+ghost use Rattle.desk_reports.specs.Reading.{is_blank};
+ghost use Rattle.desk_lines.specs.Talk.{Replays, EndsBy};
+ghost use Rattle.desk_replaying.specs.Script.{Script};
+ghost use Rattle.desk_replaying.specs.Desk.{TakesTurn, TakesReport};
+
+use crate::desk::Desk;
+use crate::line::line_in;
+use crate::said::said_of;
+use desk_lines::{Clerk, FrontFault, LineText, Sink, Source, answer_lines};
+use desk_reports::{LineRefusal, is_blank, parse, report};
+use serde_json::Value;
+use std::alloc::{AllocError, Global};
+
+/// The report on a line that is neither too long nor blank.
+fn report_on(alloc: Global, desk: &mut Desk, number: u64, text: &[u8]) -> Result<Value, AllocError>
+    ensures plain { IfOk result (λ v. has_float (view v) ≡ false) }
+    ensures turn { is_blank text.now ≢ true → length text.now ≤ max_line → IfOk result (λ v. TakesReport desk.old number text.now (view v) desk.new) }
+{
+    let Some(value) = parse(alloc, text)? else {
+        return report::refused_line(alloc, number, LineRefusal::Syntax.word());
+    };
+    let Some(line) = line_in(&value) else {
+        return report::refused_line(alloc, number, LineRefusal::Shape.word());
+    };
+    let effect = desk.hear(alloc, &line)?;
+    said_of(alloc, number, &line, &effect)
+}
+
+/// What is said to a line: nothing where it is blank.
+fn answer_to(
+    alloc: Global,
+    desk: &mut Desk,
+    number: u64,
+    line: &LineText,
+) -> Result<Vec<u8>, AllocError>
+    ensures { IfOk result (λ text. (it : List ℕ) → line.now ≡ kept_line it →
+        (more : List (List ℕ)) × TakesTurn desk.old number it more desk.new × (text.items ≡ flat_map ended more)) }
+{
+    let Some(text) = line.text() else {
+        let refused = report::refused_line(alloc, number, LineRefusal::Long.word())?;
+        return report::report_line(alloc, &refused);
+    };
+    if is_blank(text) {
+        return Ok(Vec::new(alloc));
+    }
+    let said = report_on(alloc, desk, number, text)?;
+    report::report_line(alloc, &said)
+}
+
+impl Clerk for Desk {
+    ghost use Rattle.desk_replaying.specs.Script.{Script};
+    ghost use Rattle.desk_replaying.specs.Desk.{After};
+
+    ghost Script = { λ _. Script };
+
+    ghost Kept = { Unit {0} };
+
+    ghost kept = { λ _. tt };
+
+    ghost After = { After };
+
+    fn answer(
+        &mut self,
+        alloc: Global,
+        number: u64,
+        line: &LineText,
+    ) -> Result<Vec<u8>, AllocError> {
+        answer_to(alloc, self, number, line)
+    }
+
+    ghost follows = { λ desk lines said h. h.script };
+}
+
+/// Answers the lines of the reader to its end.
+pub fn replay<R: Source, W: Sink>(
+    alloc: Global,
+    reader: &mut R,
+    writer: &mut W,
+) -> Result<(), FrontFault>
+    requires read_counts { R.faults reader.old < 2 ^ 64 - 1 }
+    requires write_counts { W.faults writer.old < 2 ^ 64 - 1 }
+    ensures ok { OnOk result (Replays Script (R.remaining reader.old) (R.remaining reader.new) (W.contents writer.old) (W.contents writer.new)) }
+    ensures fault { IfErr result (λ e. EndsBy Script (R.remaining reader.old) (R.remaining reader.new) (W.contents writer.old) (W.contents writer.new) e) }
+    ensures read_only_at_fault { (result ≡ Err FrontFault.Read) → R.faults reader.old < R.faults reader.new }
+    ensures write_only_at_fault { (result ≡ Err FrontFault.Write) → W.faults writer.old < W.faults writer.new }
+
+    // By the reader's own count, also of a reader whose bytes are not known.
+    ensures long_only_past_limit { (result ≡ Err FrontFault.Long) → R.came reader.old < 2 ^ 63 → max_input < R.came reader.new - R.came reader.old }
+    ensures ok_within_limit { OnOk result (R.came reader.new ≤ R.came reader.old + max_input) }
+    ensures read_within_limit { (result ≡ Err FrontFault.Read) → R.came reader.new ≤ R.came reader.old + max_input }
+{
+    answer_lines(alloc, &mut Desk::new(alloc), reader, writer)
+}

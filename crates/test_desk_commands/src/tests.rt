@@ -1,0 +1,200 @@
+//! The program's words, statuses and streams.
+use desk_commands::{run_desk, tell_of_words};
+use desk_front::Counted;
+use std::alloc::{AllocError, Global};
+use std::io;
+use std::sync::Wait;
+use std::test::Fail;
+use std::thread::Threads;
+
+/// What a run leaves.
+#[derive(Drop)]
+struct Left {
+    status: u8,
+    output: Vec<u8>,
+    faults: Vec<u8>,
+}
+
+impl Left {
+    fn is(&self, status: u8, output: &[u8], faults: &[u8]) -> bool {
+        self.status == status
+            && self.output.as_slice() == output
+            && self.faults.as_slice() == faults
+    }
+
+    /// The words were wrong: there is a text on standard error, and none on standard output.
+    fn is_refused(&self) -> bool {
+        self.status == 2 && self.output.is_empty() && !self.faults.is_empty()
+    }
+
+    /// Help was asked for: there is a text on standard output, and none on standard error.
+    fn is_help(&self) -> bool {
+        self.status == 0 && !self.output.is_empty() && self.faults.is_empty()
+    }
+}
+
+fn words_of(alloc: Global, words: &[&str]) -> Result<Vec<String>, AllocError> {
+    let mut list = Vec::new(alloc);
+    for word in words {
+        list.push(String::from_str(alloc, word)?)?;
+    }
+    Ok(list)
+}
+
+fn run<T: Threads + Wait + Sync, R: io::Read + Drop>(
+    rt: &T,
+    alloc: Global,
+    words: &[&str],
+    input: R,
+) -> Result<Left, AllocError> {
+    let words = words_of(alloc, words)?;
+    let mut reader = Counted::new(input);
+    let mut writer = Counted::new(Vec::new(alloc));
+    let mut faults = Counted::new(Vec::new(alloc));
+    let status = run_desk(alloc, rt, words, &mut reader, &mut writer, &mut faults);
+    Ok(Left {
+        status,
+        output: writer.inner,
+        faults: faults.inner,
+    })
+}
+
+/// A reader that fails at each read.
+#[derive(Drop)]
+struct Broken;
+
+impl io::Read for Broken {
+    fn read(&mut self, _buf: &mut [u8]) -> io::Result<usize> {
+        Err(io::Error::from(io::ErrorKind::Other))
+    }
+}
+
+/// A writer that fails at each write.
+#[derive(Drop)]
+struct Closed;
+
+impl io::Write for Closed {
+    fn write(&mut self, _buf: &[u8]) -> io::Result<usize> {
+        Err(io::Error::from(io::ErrorKind::Other))
+    }
+
+    fn flush(&mut self) -> io::Result<()> {
+        Ok(())
+    }
+}
+
+/// The status of a run of which nothing can be told.
+fn untold_status<T: Threads + Wait + Sync, R: io::Read + Drop>(
+    rt: &T,
+    alloc: Global,
+    words: &[&str],
+    input: R,
+) -> Result<u8, AllocError> {
+    let words = words_of(alloc, words)?;
+    let mut reader = Counted::new(input);
+    let mut writer = Counted::new(Closed);
+    let mut faults = Counted::new(Closed);
+    Ok(run_desk(alloc, rt, words, &mut reader, &mut writer, &mut faults))
+}
+
+#[test]
+fn replays_its_input(rt: HostRuntime) -> Result<(), Fail> {
+    let alloc = rt.alloc();
+    let left = run(
+        &rt,
+        alloc,
+        &["desk", "replay"],
+        b"{\"release\":\"a\"}\n\n[]\n".as_slice(),
+    )?;
+    let said =
+        b"{\"client\":\"a\",\"line\":1,\"refused\":\"no client\"}\n{\"line\":3,\"refused\":\"shape\"}\n";
+    assert!(rt; left.is(0, said.as_slice(), b"".as_slice()));
+    let left = run(&rt, alloc, &["desk", "replay"], b"".as_slice())?;
+    assert!(rt; left.is(0, b"".as_slice(), b"".as_slice()));
+    Ok(())
+}
+
+#[test]
+fn serves_its_input(rt: HostRuntime) -> Result<(), Fail> {
+    let alloc = rt.alloc();
+    let input =
+        b"{\"client\":\"a\",\"close\":true}\n{\"client\":\"a\",\"close\":true}\n".as_slice();
+    let said =
+        b"{\"client\":\"a\",\"closed\":true,\"line\":1}\n{\"client\":\"a\",\"line\":2,\"refused\":\"closed\"}\n";
+    let left = run(&rt, alloc, &["desk", "serve"], input)?;
+    assert!(rt; left.is(0, said.as_slice(), b"".as_slice()));
+    let words = &[
+        "desk",
+        "serve",
+        "--clients",
+        "1",
+        "--workers=8",
+        "--capacity",
+        "4096",
+    ];
+    let left = run(&rt, alloc, words, input)?;
+    assert!(rt; left.is(0, said.as_slice(), b"".as_slice()));
+    let left = run(&rt, alloc, &["desk", "serve"], Broken)?;
+    assert!(rt; left.is(1, b"".as_slice(), b"read\n".as_slice()));
+    Ok(())
+}
+
+#[test]
+fn a_fault_is_told_by_its_word(rt: HostRuntime) -> Result<(), Fail> {
+    let alloc = rt.alloc();
+    let left = run(&rt, alloc, &["desk", "replay"], Broken)?;
+    assert!(rt; left.is(1, b"".as_slice(), b"read\n".as_slice()));
+    Ok(())
+}
+
+#[test]
+fn wrong_words_are_refused(rt: HostRuntime) -> Result<(), Fail> {
+    let alloc = rt.alloc();
+    let input = b"{\"release\":\"a\"}\n".as_slice();
+    assert!(rt; run(&rt, alloc, &["desk"], input)?.is_refused());
+    assert!(rt; run(&rt, alloc, &["desk", "replay", "more"], input)?.is_refused());
+    assert!(rt; run(&rt, alloc, &["desk", "--fast", "replay"], input)?.is_refused());
+    assert!(rt; run(&rt, alloc, &["desk", "serve", "--workers", "9"], input)?.is_refused());
+    assert!(rt; run(&rt, alloc, &["desk", "serve", "--clients", "0"], input)?.is_refused());
+    assert!(rt; run(&rt, alloc, &["desk", "serve", "--capacity", "many"], input)?.is_refused());
+    assert!(rt; run(&rt, alloc, &["desk", "Replay"], input)?.is_refused());
+    Ok(())
+}
+
+#[test]
+fn help_is_told(rt: HostRuntime) -> Result<(), Fail> {
+    let alloc = rt.alloc();
+    let input = b"{\"release\":\"a\"}\n".as_slice();
+    assert!(rt; run(&rt, alloc, &["desk", "--help"], input)?.is_help());
+    assert!(rt; run(&rt, alloc, &["desk", "help"], input)?.is_help());
+    assert!(rt; run(&rt, alloc, &["desk", "help", "replay"], input)?.is_help());
+    assert!(rt; run(&rt, alloc, &["desk", "replay", "--help"], input)?.is_help());
+    Ok(())
+}
+
+#[test]
+fn a_text_that_cant_be_written_changes_no_status(rt: HostRuntime) -> Result<(), Fail> {
+    let alloc = rt.alloc();
+    let nothing = b"".as_slice();
+    assert_eq!(rt; untold_status(&rt, alloc, &["desk", "replay"], Broken)?, 1);
+    assert_eq!(rt; untold_status(&rt, alloc, &["desk", "replay"], nothing)?, 0);
+    assert_eq!(rt; untold_status(&rt, alloc, &["desk", "repeat"], nothing)?, 2);
+    assert_eq!(rt; untold_status(&rt, alloc, &["desk", "--help"], nothing)?, 0);
+    Ok(())
+}
+
+#[test]
+fn words_that_cant_be_had_are_told(rt: HostRuntime) -> Result<(), Fail> {
+    let mut faults = Counted::new(Vec::new(rt.alloc()));
+    let refused = io::Error::from(io::ErrorKind::OutOfMemory);
+    assert_eq!(rt; tell_of_words(&refused, &mut faults), 1);
+    assert_eq!(rt; faults.inner.as_slice(), b"memory\n".as_slice());
+    let mut faults = Counted::new(Vec::new(rt.alloc()));
+    let no_text = io::Error::from(io::ErrorKind::InvalidData);
+    assert_eq!(rt; tell_of_words(&no_text, &mut faults), 2);
+    assert_eq!(rt;
+        faults.inner.as_slice(),
+        b"error: a word of the command line is not UTF-8\n".as_slice()
+    );
+    Ok(())
+}
