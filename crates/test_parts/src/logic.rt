@@ -4,6 +4,7 @@ use dmn_logic::{Logic, evaluate, read_decision_logic};
 use feel_lang::Env;
 use feel_value::{Feel, Outcome, Value};
 use std::alloc::{AllocError, Global};
+use std::process::Abort;
 use std::test::Fail;
 
 /// The logic of a decision with this expression, which is JSON.
@@ -43,21 +44,32 @@ pub fn shown(alloc: Global, outcome: &Outcome) -> Result<String, AllocError> {
     }
 }
 
+/// What a boxed expression comes to.
+fn evaluated(alloc: Global, logic: &Logic, env: &mut Env) -> Result<String, AllocError> {
+    let outcome = evaluate(alloc, logic, env)?;
+    shown(alloc, &outcome)
+}
+
 /// What an expression, which is JSON, comes to.
 fn outcome_of(alloc: Global, expression: &str, env: &mut Env) -> Result<String, Fail> {
     let logic = logic(alloc, expression)?;
-    let outcome = evaluate(alloc, &logic, env)?;
-    Ok(shown(alloc, &outcome)?)
+    Ok(evaluated(alloc, &logic, env)?)
+}
+
+/// Each expression comes to its outcome.
+fn have_their_outcomes(rt: &impl Abort, alloc: Global, env: &mut Env) -> Result<(), Fail> {
+    for (expression, want) in OUTCOMES {
+        let found = outcome_of(alloc, expression, env)?;
+        assert_eq!(rt; found.as_str(), *want, "{expression}");
+    }
+    Ok(())
 }
 
 /// Behind an evaluation no more names are bound than before.
 #[test]
 fn contexts_with_a_name_twice(rt: HostRuntime) -> Result<(), Fail> {
     let mut env = env_of(rt.alloc(), 3)?;
-    for (expression, want) in OUTCOMES {
-        let found = outcome_of(rt.alloc(), expression, &mut env)?;
-        assert_eq!(rt; found.as_str(), *want, "{expression}");
-    }
+    have_their_outcomes(&rt, rt.alloc(), &mut env)?;
     assert_eq!(rt; env.len(), 1);
     Ok(())
 }

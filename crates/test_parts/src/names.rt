@@ -3,6 +3,7 @@ use crate::form::form_of;
 use dmn_form::{WrittenModel, WrittenService};
 use dmn_names::{Places, has_bad_name, has_name_twice};
 use std::alloc::{AllocError, Global};
+use std::process::Abort;
 use std::test::Fail;
 
 const OFFERS: &str = r#"{"inputs":["age","region"],"decisions":[
@@ -36,15 +37,29 @@ fn misplaced(places: &Places<'_>) -> Option<&'static str> {
     None
 }
 
+/// Each name has its place, and each need that of its name.
+fn are_in_place(rt: &impl Abort, alloc: Global, places: &Places<'_>) -> Result<(), AllocError> {
+    assert_eq!(rt; misplaced(places), None);
+    assert!(rt; places.input("risk").is_none() && places.decision("age").is_none());
+    let needs = needs_text(alloc, places)?;
+    assert_eq!(rt; needs.as_str(), "Some([[], [], [0, 1], [2, 0]])");
+    Ok(())
+}
+
+/// The names and needs of a model do.
+fn all_are_in_place(
+    rt: &impl Abort,
+    alloc: Global,
+    model: &WrittenModel,
+) -> Result<(), AllocError> {
+    let places = Places::new(alloc, model)?;
+    are_in_place(rt, alloc, &places)
+}
+
 #[test]
 fn places_of_names_and_needs(rt: HostRuntime) -> Result<(), Fail> {
     let model = form_of(rt.alloc(), OFFERS)?;
-    let places = Places::new(rt.alloc(), &model)?;
-    assert_eq!(rt; misplaced(&places), None);
-    assert!(rt; places.input("risk").is_none() && places.decision("age").is_none());
-    let needs = needs_text(rt.alloc(), &places)?;
-    assert_eq!(rt; needs.as_str(), "Some([[], [], [0, 1], [2, 0]])");
-    Ok(())
+    Ok(all_are_in_place(&rt, rt.alloc(), &model)?)
 }
 
 /// The places of a service's four lists, or `none`.
@@ -64,16 +79,31 @@ fn listed(
 
 const LISTED: &[&str] = &["[3] [2] [] [0, 1]", "[3] [] [2] [0]", "none", "none"];
 
-#[test]
-fn places_of_services(rt: HostRuntime) -> Result<(), Fail> {
-    let model = form_of(rt.alloc(), OFFERS)?;
-    let places = Places::new(rt.alloc(), &model)?;
-    assert!(rt; model.services.len() == LISTED.len());
-    for (service, expected) in model.services.iter().zip(LISTED) {
-        let found = listed(rt.alloc(), &places, service)?;
+/// The lists of each service have these places.
+fn are_listed(
+    rt: &impl Abort,
+    alloc: Global,
+    places: &Places<'_>,
+    services: &[WrittenService],
+) -> Result<(), AllocError> {
+    assert!(rt; services.len() == LISTED.len());
+    for (service, expected) in services.iter().zip(LISTED) {
+        let found = listed(alloc, places, service)?;
         assert!(rt; found.as_str() == *expected, "{expected}");
     }
     Ok(())
+}
+
+/// The lists of a model's services do.
+fn all_are_listed(rt: &impl Abort, alloc: Global, model: &WrittenModel) -> Result<(), AllocError> {
+    let places = Places::new(alloc, model)?;
+    are_listed(rt, alloc, &places, &model.services)
+}
+
+#[test]
+fn places_of_services(rt: HostRuntime) -> Result<(), Fail> {
+    let model = form_of(rt.alloc(), OFFERS)?;
+    Ok(all_are_listed(&rt, rt.alloc(), &model)?)
 }
 
 /// Names that differ only at their ends, so many.
@@ -103,13 +133,24 @@ fn last_place(alloc: Global, model: &WrittenModel) -> Result<Option<usize>, Allo
     Ok(Places::new(alloc, model)?.of(LAST_NAME))
 }
 
+/// The last name has the last of 20,000 places, and stands twice or not.
+fn last_name_is_found(
+    rt: &impl Abort,
+    alloc: Global,
+    model: &WrittenModel,
+    is_twice: bool,
+) -> Result<(), AllocError> {
+    assert!(rt; !has_bad_name(model));
+    assert_eq!(rt; has_name_twice(alloc, model)?, is_twice);
+    assert_eq!(rt; last_place(alloc, model)?, Some(19_999));
+    Ok(())
+}
+
 #[test]
 fn many_names_with_a_long_prefix(rt: HostRuntime) -> Result<(), Fail> {
     let mut model = with_inputs(rt.alloc())?;
-    assert!(rt; !has_bad_name(&model) && !has_name_twice(rt.alloc(), &model)?);
-    assert_eq!(rt; last_place(rt.alloc(), &model)?, Some(19_999));
+    last_name_is_found(&rt, rt.alloc(), &model, false)?;
     model.inputs.push(String::from_str(rt.alloc(), LAST_NAME)?)?;
-    assert!(rt; has_name_twice(rt.alloc(), &model)?);
-    assert_eq!(rt; last_place(rt.alloc(), &model)?, Some(19_999));
+    last_name_is_found(&rt, rt.alloc(), &model, true)?;
     Ok(())
 }

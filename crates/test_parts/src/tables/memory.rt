@@ -7,6 +7,7 @@ use feel_lang::{Env, read_expr, read_literal};
 use feel_value::{Feel, Outcome};
 use full_heap::FullHeap;
 use std::alloc::{AllocError, Global};
+use std::process::Abort;
 use std::test::Fail;
 
 /// The one value of an output column.
@@ -123,12 +124,21 @@ fn wrong_spare(
     Ok(None)
 }
 
+/// The first size with which a decision of thirty rules is wrong, if there is one.
+fn wrong_of_thirty(alloc: Global, hit: &str, env: &Env, want: &str) -> Result<Option<usize>, Fail> {
+    let table = table(alloc, hit, 9)?;
+    Ok(wrong_spare(alloc, &table, env, want)?)
+}
+
 #[test]
 fn a_decision_is_right_or_finds_no_memory(rt: HostRuntime) -> Result<(), Fail> {
     let env = env_of(rt.alloc(), 1)?;
     for (hit, want) in OF_THIRTY {
-        let table = table(rt.alloc(), hit, 9)?;
-        assert_eq!(rt; wrong_spare(rt.alloc(), &table, &env, want)?, None, "{hit}");
+        assert_eq!(rt;
+            wrong_of_thirty(rt.alloc(), hit, &env, want)?,
+            None,
+            "{hit}"
+        );
     }
     Ok(())
 }
@@ -146,15 +156,42 @@ fn tables_of_three(alloc: Global) -> Result<Vec<Table>, Fail> {
 }
 
 /// Says whether a request of the first decision was refused, and tells what it came to in the end.
-fn told(
-    rt: &HostRuntime,
+fn told<R: Print>(
+    rt: &R,
+    alloc: Global,
     hit: &str,
     table: &Table,
     env: &Env,
     first: Result<Outcome, AllocError>,
 ) -> Result<String, Fail> {
     println!(rt; "{hit} refused: {}", first.is_err())?;
-    Ok(settled(rt.alloc(), table, env, first)?)
+    Ok(settled(alloc, table, env, first)?)
+}
+
+/// Each table's decision comes to what it should.
+fn each_is_right<R: Abort + Print>(
+    rt: &R,
+    alloc: Global,
+    tables: &[Table],
+    env: &Env,
+) -> Result<(), Fail> {
+    for (table, (hit, want)) in tables.iter().zip(OF_THREE) {
+        let first = decide(alloc, table, env);
+        let found = told(rt, alloc, hit, table, env, first)?;
+        assert!(rt; found.as_str() == *want, "{hit}");
+    }
+    Ok(())
+}
+
+/// The decisions of three rules do.
+fn decisions_of_three_are_right<R: Abort + Print>(
+    rt: &R,
+    alloc: Global,
+    env: &Env,
+) -> Result<(), Fail> {
+    let tables = tables_of_three(alloc)?;
+    println!(rt; "made")?;
+    each_is_right(rt, alloc, &tables, env)
 }
 
 /// Decisions whose requests are refused one after another, by hand: each says whether one of its own was. One that was
@@ -162,12 +199,5 @@ fn told(
 #[test]
 fn a_refused_decision_answers_nothing_else(rt: HostRuntime) -> Result<(), Fail> {
     let env = env_of(rt.alloc(), 1)?;
-    let tables = tables_of_three(rt.alloc())?;
-    println!(rt; "made")?;
-    for (table, (hit, want)) in tables.iter().zip(OF_THREE) {
-        let first = decide(rt.alloc(), table, &env);
-        let found = told(&rt, hit, table, &env, first)?;
-        assert!(rt; found.as_str() == *want, "{hit}");
-    }
-    Ok(())
+    decisions_of_three_are_right(&rt, rt.alloc(), &env)
 }
