@@ -20,14 +20,15 @@ use Rattle.desk_lines.specs.Lines.{ended, kept_line, max_line}
 use Rattle.desk_serving.specs.Owed.{Lane, AreBooked, Hands, HandsThen, Stands, due_to, lane_of, unhanded, with_closed, with_lane, with_put_if}
 use Rattle.desk_reports.specs.Reading.{Reading, Blank, Long, Syntax, Shape, Says, is_blank}
 use Rattle.desk_reports.specs.Shown.{refusal, named_refusal, loaded, faulty}
-use Rattle.desk_serving.specs.Served.{Entry, AreRead, ServedInPart, close_answer, closed_report, newer_model, model_answer, number_after, of_name, task_answer, texts_of}
+use Rattle.desk_serving.specs.Served.{Entry, AreRead, ServedInPart, close_answer, newer_model, model_answer, number_after, of_name, task_answer, texts_of}
+use Rattle.desk_serving.specs.Said.{close_said, resize_said}
 use Rattle.desk_serving.specs.Serving.{After, HasRoom, HearsText, StandsAs, model_of}
 use Rattle.desk_serving.specs.declared.named_lanes.Lanes.{Lanes}
 use Rattle.desk_serving.specs.declared.serving.Serving.{Serving}
 use Rattle.desk_lines.proofs.Keeping.{kept_by, lost_by, le_true, le_false}
 use Rattle.desk_serving.proofs.Owing.{among_at, due_to_own, due-whole, hands_then_entry, lines-append, unhanded_at}
 use Rattle.desk_serving.proofs.Standing.{requests-few, stands_handed}
-use Rattle.desk_serving.proofs.Replying.{IsHeard, due_to_closed, heard_blank, heard_close, heard_no_task, heard_none, heard_put, heard_resize, named_close, named_request, named_resize, resize_said}
+use Rattle.desk_serving.proofs.Replying.{IsHeard, due_to_closed, heard_blank, heard_close, heard_no_task, heard_none, heard_put, heard_resize, named_close, named_request, named_resize}
 
 -- two facts of a call that went well
 pub on_ok_both : {T E : Type 0} (r : Result T E) {A B C : Type 0} → (A → B → C) → OnOk r A → OnOk r B → OnOk r C
@@ -97,11 +98,6 @@ read-length (l ∷ lines) [] r = absurd r
 read-length (l ∷ lines) (x ∷ readings) r = ap suc (read-length lines readings r.1)
 
 -- ## Closes
-
--- the report of a lane that was open, or the refusal of one that was closed
-abbrev pub close_said : ℕ → List ℕ → Bool → Data
-close_said k n true = closed_report n k
-close_said k n false = named_refusal n k (codes "closed")
 
 closed_said : (k : ℕ) (n : List ℕ) (was_open closed : Bool) → was_open ≡ not closed → close_said k n was_open ≡ close_answer k n true closed
 closed_said k n true true e = cc

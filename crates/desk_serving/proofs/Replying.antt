@@ -5,17 +5,17 @@ use Rattle.std.specs.List.{flat_map}
 use Rattle.serde_json.specs.Data.{Data}
 use Rattle.serde_json.specs.Written.{compact_text}
 use Rattle.box_core.specs.Mail.{resize_refusal_by, is_no_capacity}
-use Rattle.box_core.specs.declared.faults.Refusal.{Refusal}
 use Rattle.dmn_plan.specs.ReadModel.{read_model}
 use Rattle.dmn_plan.specs.Request as plan
 use Rattle.dmn_plan.specs.declared.fault.TaskFault.{TaskFault}
 use Rattle.desk_serving.specs.Asked.{Asked, Model, Request, Close, Resize}
-use Rattle.desk_reports.specs.Words.{line_refusal, line_word, refusal_word}
+use Rattle.desk_reports.specs.Words.{line_refusal, line_word}
 use Rattle.desk_lines.specs.Lines.{ended}
 use Rattle.desk_serving.specs.Owed.{Lane, due_to, due_to_name, unhanded, AreDistinct, AreBooked, HandsThen, Stands, with_lane, with_put, with_put_if, with_closed}
 use Rattle.desk_reports.specs.Reading.{Reading, Blank, Long, Syntax, Shape, Says}
 use Rattle.desk_reports.specs.Shown.{refusal, named_refusal}
-use Rattle.desk_serving.specs.Served.{Entry, of_none, of_name, of_client, texts_of, is_among, callers, has_lane, in_force, is_closed, requests_under, requests, number_after, answer, request_answer, task_answer, close_answer, resize_answer, model_answer, resized_report}
+use Rattle.desk_serving.specs.Said.{resize_said}
+use Rattle.desk_serving.specs.Served.{Entry, of_none, of_name, of_client, texts_of, is_among, callers, has_lane, in_force, is_closed, requests_under, requests, number_after, answer, request_answer, task_answer, close_answer, resize_answer, model_answer}
 use Rattle.desk_serving.proofs.Owing.{same_name, name_itself, among_at, due_to_none, hands_none, hands_then_entry, length-unhanded}
 use Rattle.desk_serving.proofs.Standing.{requests-other, requests-refused, requests-closed, requests-accepted, quiet, booked_same, booked_at, booked-set, due_to_quiet, stands_answered, stands_named}
 
@@ -287,11 +287,6 @@ heard_resize_no_lane n size k d earlier names model lanes said text text' st abs
     (ap (λ b. of_name n (resize_answer (number_after earlier) n size b (is_closed n earlier)) ∷ []) lane
     ∙ ap (λ x. of_name n x ∷ []) (sym (v ∙ ap (λ j. named_refusal n j (codes "clients")) num)))
     refl st.model (booked_same names lanes lanes earlier (reading ∷ earlier) refl st.booked (λ m among. (refl, refl)))
-
--- the report or refusal of a whole lane
-abbrev pub resize_said : ℕ → List ℕ → ℕ → Option Refusal → Data
-resize_said k n size None = resized_report n k size
-resize_said k n size (Some why) = named_refusal n k (refusal_word why)
 
 not_less : (size : ℕ) (b : Bool) → nat_lt size 0 ≡ b → b ≡ false
 not_less size true e = let less : size < 0 = ltb-true size 0 e in absurd (omega (arith, less))

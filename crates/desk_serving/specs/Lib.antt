@@ -1,6 +1,7 @@
 pub mod Asked
 pub mod AskedView
 pub mod Served
+pub mod Said
 pub mod Owed
 pub mod Submits
 pub mod LanesView

@@ -9,10 +9,11 @@ ghost use Rattle.desk_reports.specs.Reading.{Says, is_blank};
 ghost use Rattle.desk_serving.specs.Serving.{HasRoom, Hears, HearsText};
 
 use crate::line::{Asked, asked_in};
+use crate::reports::{self, refuse, refuse_line, say_resized};
 use crate::serving::Serving;
 use desk_lines::{Clerk, LineText};
 use desk_reports::report::{self, say};
-use desk_reports::{LineRefusal, is_blank, model_word, parse, refusal_of, refusal_word};
+use desk_reports::{LineRefusal, is_blank, model_word, parse, refusal_of};
 use dmn_plan::{ModelFault, Plan, Task, TaskFault};
 use serde_json::Value;
 use std::alloc::{AllocError, Global};
@@ -61,14 +62,12 @@ impl<'a, R: Wait> Serving<'a, R> {
         ensures hears { OnOk result (Hears self.old number (Says (Request name.now service.now (view inputs.now))) text.old.items text.new.items self.new) }
     {
         let Some(plan) = &self.plan else {
-            let refused = report::refused(alloc, name, number, "model")?;
-            return say(alloc, &refused, text);
+            return refuse(alloc, name, number, "model", text);
+        };
+        let Some(place) = self.lanes.place_for(alloc, name)? else {
+            return refuse(alloc, name, number, "clients", text);
         };
         let plan = Arc::try_clone(plan)?;
-        let Some(place) = self.lanes.place_for(alloc, name)? else {
-            let refused = report::refused(alloc, name, number, "clients")?;
-            return say(alloc, &refused, text);
-        };
         match Task::new(alloc, plan, service, inputs) {
             Ok(task) => {
                 let work = Arc::new(alloc, task)?;
@@ -79,8 +78,8 @@ impl<'a, R: Wait> Serving<'a, R> {
                 TaskFault::Memory => Err(AllocError),
                 fault => {
                     let word = refusal_of(fault).word();
-                    let refused = report::refused(alloc, name, number, word)?;
-                    self.lanes.report(self.rt, alloc, place, &refused, text)
+                    self.lanes
+                        .refuse(self.rt, alloc, number, name, place, word, text)
                 }
             },
         }
@@ -98,15 +97,10 @@ impl<'a, R: Wait> Serving<'a, R> {
         ensures hears { OnOk result (Hears self.old number (Says (Close name.now)) text.old.items text.new.items self.new) }
     {
         let Some(place) = self.lanes.place_for(alloc, name)? else {
-            let refused = report::refused(alloc, name, number, "clients")?;
-            return say(alloc, &refused, text);
+            return refuse(alloc, name, number, "clients", text);
         };
-        if self.lanes.close(place) {
-            let closed = report::closed(alloc, name, number)?;
-            return self.lanes.report(self.rt, alloc, place, &closed, text);
-        }
-        let refused = report::refused(alloc, name, number, "closed")?;
-        self.lanes.report(self.rt, alloc, place, &refused, text)
+        let closed = reports::closed(alloc, name, number, self.lanes.close(place))?;
+        self.lanes.report(self.rt, alloc, place, &closed, text)
     }
 
     /// A client's lane is given a capacity behind its earlier results, or the first refusal that applies is told there. As no
@@ -123,16 +117,11 @@ impl<'a, R: Wait> Serving<'a, R> {
         ensures hears { OnOk result (Hears self.old number (Says (Resize name.now capacity)) text.old.items text.new.items self.new) }
     {
         let Some(place) = self.lanes.place_for(alloc, name)? else {
-            let refused = report::refused(alloc, name, number, "clients")?;
-            return say(alloc, &refused, text);
+            return refuse(alloc, name, number, "clients", text);
         };
         self.lanes.drain(self.rt, alloc, place, text)?;
-        let Some(why) = self.lanes.resize(place, capacity)? else {
-            let resized = report::resized(alloc, name, number, capacity)?;
-            return say(alloc, &resized, text);
-        };
-        let refused = report::refused(alloc, name, number, refusal_word(why))?;
-        say(alloc, &refused, text)
+        let why = self.lanes.resize(place, capacity)?;
+        say_resized(alloc, name, number, capacity, why, text)
     }
 
     /// Answers a line of one of the forms.
@@ -172,12 +161,10 @@ impl<'a, R: Wait> Serving<'a, R> {
         ensures hears { is_blank line.now ≢ true → length line.now ≤ max_line → OnOk result (HearsText self.old number line.now text.old.items text.new.items self.new) }
     {
         let Some(value) = parse(alloc, line)? else {
-            let refused = report::refused_line(alloc, number, LineRefusal::Syntax.word())?;
-            return say(alloc, &refused, text);
+            return refuse_line(alloc, number, LineRefusal::Syntax, text);
         };
         let Some(asked) = asked_in(&value) else {
-            let refused = report::refused_line(alloc, number, LineRefusal::Shape.word())?;
-            return say(alloc, &refused, text);
+            return refuse_line(alloc, number, LineRefusal::Shape, text);
         };
         self.answer_asked(alloc, number, &asked, text)
     }
@@ -195,8 +182,7 @@ impl<'a, R: Wait> Serving<'a, R> {
         ensures hears { OnOk result ((it : List ℕ) → line.now ≡ kept_line it → HearsText self.old number it text.old.items text.new.items self.new) }
     {
         let Some(bytes) = line.text() else {
-            let refused = report::refused_line(alloc, number, LineRefusal::Long.word())?;
-            return say(alloc, &refused, text);
+            return refuse_line(alloc, number, LineRefusal::Long, text);
         };
         if is_blank(bytes) {
             return Ok(());

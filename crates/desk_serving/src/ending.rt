@@ -12,10 +12,10 @@ ghost use Rattle.desk_reports.specs.Shown.{reply};
 ghost use Rattle.desk_serving.specs.Telling.{Tells, Told, ToldInPart};
 
 use crate::named_lanes::Lanes;
+use crate::reports::reply_line;
 use box_core::Reply;
 use crew::Crew;
 use desk_lines::{FrontFault, Sink, Unwritten, is_cut};
-use desk_reports::report;
 use dmn_plan::Task;
 use lanes::{Settled, Worker, settle};
 use std::alloc::{AllocError, Global};
@@ -116,8 +116,7 @@ fn say_reply<W: Sink>(
     ensures counts { (result ≢ Err FrontFault.Write) → W.faults writer.new ≡ W.faults writer.old }
     ensures fault { (result ≡ Err FrontFault.Write) → W.faults writer.old < W.faults writer.new }
 {
-    let report = report::handed(alloc, name, &handed.outcome, handed.ticket)?;
-    let text = report::report_line(alloc, &report)?;
+    let text = reply_line(alloc, name, &handed)?;
     unwritten.add(writer, &text)
 }
 

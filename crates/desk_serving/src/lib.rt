@@ -8,6 +8,7 @@ mod lane;
 mod line;
 mod named_lanes;
 mod options;
+mod reports;
 mod serving;
 
 pub use front::serve;

@@ -8,7 +8,7 @@ ghost use Rattle.box_core.specs.Mail.{resize_refusal_by};
 ghost use Rattle.dmn_plan.specs.Request.{request_result};
 ghost use Rattle.desk_serving.specs.Owed.{AreDistinct, AreDistinct-prop, Hands, HandsThen, Lane, unhanded, with_closed, with_lane, with_put, with_put_if};
 ghost use Rattle.desk_serving.specs.Served.{is_among, of_name, task_answer};
-ghost use Rattle.desk_reports.specs.Shown.{reply};
+ghost use Rattle.desk_reports.specs.Shown.{named_refusal, reply};
 
 use crate::lane::{self, Submitted};
 use box_core::Refusal;
@@ -138,6 +138,27 @@ impl Lanes {
         say(alloc, report, text)
     }
 
+    /// Refuses a line of a client behind all earlier results of that client.
+    pub fn refuse<R: Wait>(
+        &mut self,
+        rt: &R,
+        alloc: Global,
+        number: u64,
+        name: &str,
+        place: usize,
+        word: &str,
+        text: &mut Vec<u8>,
+    ) -> Result<(), AllocError>
+        requires place { slice_get (names_in self.old) place ≡ Some name.now }
+        ensures same { links_in self.new ≡ links_in self.old }
+        ensures names { names_in self.new ≡ names_in self.old }
+        ensures lanes { OnOk result (unhanded (lanes_in self.new) ≡ unhanded (lanes_in self.old)) }
+        ensures hands { OnOk result (HandsThen (names_in self.old) (lanes_in self.old) (lanes_in self.new) (of_name name.now (named_refusal name.now number word.now)) text.old.items text.new.items) }
+    {
+        let refused = report::refused(alloc, name, number, word)?;
+        self.report(rt, alloc, place, &refused, text)
+    }
+
     /// Puts a request into a lane, once there is a place for it. Answers false where the lane is closed. Until then results
     /// are handed out, in lines at the end of the text.
     pub fn put<R: Wait>(
@@ -195,8 +216,7 @@ impl Lanes {
         if self.put(rt, alloc, place, work, text)? {
             return Ok(());
         }
-        let refused = report::refused(alloc, name, number, "closed")?;
-        self.report(rt, alloc, place, &refused, text)
+        self.refuse(rt, alloc, number, name, place, "closed", text)
     }
 
     /// Closes a lane, and answers whether it was open.

@@ -1,8 +1,8 @@
-use Rattle.std.proofs.Common.{ap, sym, ◌∙◌}
+use Rattle.std.proofs.Common.{refl}
 use Rattle.std.proofs.lemmas.Result.{on_ok_weaker}
 use Rattle.desk_serving.specs.LanesView.{lanes_in, names_in}
 use Rattle.desk_serving.specs.Serving.{model_of}
-use Rattle.desk_serving.proofs.Asking.{close_said, closed_lane, on_ok_both, stands_close}
+use Rattle.desk_serving.proofs.Asking.{closed_lane, on_ok_both, stands_close}
 use Rattle.desk_serving.proofs.Owing.{get_inside}
 use Rattle.desk_serving.proofs.Replying.{heard_close_no_lane}
 use Rattle.desk_serving.proofs.serving.Serving.answer_close.Goals as goal
@@ -11,9 +11,9 @@ pub returns-in_default-clause-hears : goal.returns-in_default-clause-hears
 returns-in_default-clause-hears g c =
     let old = c.args.self.now in let mid = c.place_for.new.self in let n = c.args.name.now in
     let absent = rw c.in_default.is at c.in_ok-place.ensures.none in
-    on_ok_weaker c.say.result (λ is earlier said st num.
+    on_ok_weaker c.refuse.result (λ is earlier said st num.
     heard_close_no_lane n c.args.number _ earlier (names_in mid) (model_of old) (lanes_in mid) said _ _
-    (stands_close old mid n earlier said st c.in_ok-place.ensures.lanes c.in_ok-place.ensures.names) absent num c.in_ok-refused.ensures.value is) c.say.ensures
+    (stands_close old mid n earlier said st c.in_ok-place.ensures.lanes c.in_ok-place.ensures.names) absent num refl is) c.refuse.ensures
 
 pub close-requires : goal.close-requires
 close-requires g c = record { place = get_inside _ c.in-Some.place _ (rw c.in-Some.is at c.in_ok-place.ensures.found) }
@@ -21,25 +21,12 @@ close-requires g c = record { place = get_inside _ c.in-Some.place _ (rw c.in-So
 pub report-requires-clause-place : goal.report-requires-clause-place
 report-requires-clause-place g c = rw c.close.ensures.names (get_inside _ c.in-Some.place _ (rw c.in-Some.is at c.in_ok-place.ensures.found))
 
-pub returns-then-close-clause-hears : goal.returns-then-close-clause-hears
-returns-then-close-clause-hears g c =
+pub returns-clause-hears : goal.returns-clause-hears
+returns-clause-hears g c =
     let found = rw c.in-Some.is at c.in_ok-place.ensures.found in
     let place = c.in_ok-place.ensures in
     on_ok_both c.report.result (λ same hands earlier said st num.
     closed_lane c.args.self.now c.place_for.new.self c.close.new.self c.report.new.self c.args.name.now c.args.number c.in-Some.place c.close.result _ _ _ earlier said st num
     place.lanes place.names found c.close.ensures.names c.close.ensures.closes
-    (c.in_ok-closed.ensures.value ∙ ap (close_said c.args.number c.args.name.now) (sym c.if-close.true)) c.report.ensures.names same hands)
+    c.in_ok-closed.ensures.value c.report.ensures.names same hands)
     c.report.ensures.lanes c.report.ensures.hands
-
-pub report-requires-2-clause-place : goal.report-requires-2-clause-place
-report-requires-2-clause-place g c = rw c.close.ensures.names (get_inside _ c.in-Some.place _ (rw c.in-Some.is at c.in_ok-place.ensures.found))
-
-pub returns-clause-hears : goal.returns-clause-hears
-returns-clause-hears g c =
-    let found = rw c.in-Some.is at c.in_ok-place.ensures.found in
-    let place = c.in_ok-place.ensures in
-    on_ok_both c.report-2.result (λ same hands earlier said st num.
-    closed_lane c.args.self.now c.place_for.new.self c.close.new.self c.report-2.new.self c.args.name.now c.args.number c.in-Some.place c.close.result _ _ _ earlier said st num
-    place.lanes place.names found c.close.ensures.names c.close.ensures.closes
-    (c.in_ok-refused-2.ensures.value ∙ ap (close_said c.args.number c.args.name.now) (sym c.if-close.false)) c.report-2.ensures.names same hands)
-    c.report-2.ensures.lanes c.report-2.ensures.hands

@@ -1,14 +1,11 @@
-use Rattle.std.proofs.Common.{ap, sym, ◌∙◌, true≢false}
+use Rattle.std.proofs.Common.{refl, sym, ◌∙◌, true≢false}
 use Rattle.std.proofs.lemmas.Result.{on_ok_weaker}
-use Rattle.desk_reports.specs.Shown.{refusal}
 use Rattle.desk_serving.proofs.Asking.{heard_long, heard_skip, heard_kept, on_ok_when}
 use Rattle.desk_serving.proofs.serving.Serving.answer_line.Goals as goal
 
 pub returns-in_default-clause-hears : goal.returns-in_default-clause-hears
 returns-in_default-clause-hears g c =
-    on_ok_weaker c.say.result (λ is it e.
-    heard_long c.args.self.now c.args.number c.args.line.now it _ _ _ c.in_default.ensures e
-    (c.in_ok-refused.ensures.value ∙ ap (refusal c.args.number) c.word.ensures) is) c.say.ensures
+    on_ok_weaker c.refuse_line.result (λ is it e. heard_long c.args.self.now c.args.number c.args.line.now it _ _ _ c.in_default.ensures e refl is) c.refuse_line.ensures
 
 pub returns-then-is_blank-clause-hears : goal.returns-then-is_blank-clause-hears
 returns-then-is_blank-clause-hears g c = λ it e.

@@ -1,20 +1,19 @@
-use Rattle.std.proofs.Common.{ap, sym, ◌∙◌}
+use Rattle.std.proofs.Common.{refl}
 use Rattle.std.proofs.lemmas.Result.{on_ok_weaker}
 use Rattle.desk_serving.specs.LanesView.{lanes_in, names_in}
-use Rattle.desk_reports.specs.Shown.{named_refusal}
 use Rattle.desk_serving.specs.Serving.{model_of}
 use Rattle.desk_serving.proofs.Asking.{resized_lane, stands_resize}
 use Rattle.desk_serving.proofs.Owing.{get_inside}
-use Rattle.desk_serving.proofs.Replying.{heard_resize_no_lane, resize_said}
+use Rattle.desk_serving.proofs.Replying.{heard_resize_no_lane}
 use Rattle.desk_serving.proofs.serving.Serving.answer_resize.Goals as goal
 
 pub returns-in_default-clause-hears : goal.returns-in_default-clause-hears
 returns-in_default-clause-hears g c =
     let old = c.args.self.now in let mid = c.place_for.new.self in let n = c.args.name.now in
     let absent = rw c.in_default.is at c.in_ok-place.ensures.none in
-    on_ok_weaker c.say.result (λ is earlier said st num.
+    on_ok_weaker c.refuse.result (λ is earlier said st num.
     heard_resize_no_lane n c.args.capacity c.args.number _ earlier (names_in mid) (model_of old) (lanes_in mid) said _ _
-    (stands_resize old mid n c.args.capacity earlier said st c.in_ok-place.ensures.lanes c.in_ok-place.ensures.names) absent num c.in_ok-refused.ensures.value is) c.say.ensures
+    (stands_resize old mid n c.args.capacity earlier said st c.in_ok-place.ensures.lanes c.in_ok-place.ensures.names) absent num refl is) c.refuse.ensures
 
 pub drain-requires : goal.drain-requires
 drain-requires g c = record { place = get_inside _ c.in-Some.place _ (rw c.in-Some.is at c.in_ok-place.ensures.found) }
@@ -22,21 +21,10 @@ drain-requires g c = record { place = get_inside _ c.in-Some.place _ (rw c.in-So
 pub resize-requires-clause-place : goal.resize-requires-clause-place
 resize-requires-clause-place g c = rw c.in_ok-drain.ensures.names (get_inside _ c.in-Some.place _ (rw c.in-Some.is at c.in_ok-place.ensures.found))
 
-pub returns-in_default-2-clause-hears : goal.returns-in_default-2-clause-hears
-returns-in_default-2-clause-hears g c =
-    let found = rw c.in-Some.is at c.in_ok-place.ensures.found in
-    let place = c.in_ok-place.ensures in let whole = c.in_ok-drain.ensures in let why = c.in_ok-why.ensures in
-    on_ok_weaker c.say-in_default-2.result (λ is earlier said st num.
-    resized_lane c.args.self.now c.place_for.new.self c.drain.new.self c.resize.new.self c.args.name.now c.args.capacity c.args.number c.in-Some.place c.in_ok-why.field-0 _ _ _ _ earlier said st num
-    place.lanes place.names found whole.names whole.hands whole.whole why.names why.lanes why.refused
-    (c.in_ok-resized.ensures.value ∙ ap (resize_said c.args.number c.args.name.now c.args.capacity) (sym c.in_default-2.is)) is) c.say-in_default-2.ensures
-
 pub returns-clause-hears : goal.returns-clause-hears
 returns-clause-hears g c =
     let found = rw c.in-Some.is at c.in_ok-place.ensures.found in
     let place = c.in_ok-place.ensures in let whole = c.in_ok-drain.ensures in let why = c.in_ok-why.ensures in
-    on_ok_weaker c.say-2.result (λ is earlier said st num.
-    resized_lane c.args.self.now c.place_for.new.self c.drain.new.self c.resize.new.self c.args.name.now c.args.capacity c.args.number c.in-Some.place c.in_ok-why.field-0 _ _ _ _ earlier said st num
-    place.lanes place.names found whole.names whole.hands whole.whole why.names why.lanes why.refused
-    (c.in_ok-refused-2.ensures.value ∙ ap (named_refusal c.args.name.now c.args.number) c.refusal_word.ensures
-    ∙ ap (resize_said c.args.number c.args.name.now c.args.capacity) (sym c.in-Some-2.is)) is) c.say-2.ensures
+    on_ok_weaker c.say_resized.result (λ is earlier said st num.
+    resized_lane c.args.self.now c.place_for.new.self c.drain.new.self c.resize.new.self c.args.name.now c.args.capacity c.args.number c.in-Some.place c.in_ok-why.why _ _ _ _ earlier said st num
+    place.lanes place.names found whole.names whole.hands whole.whole why.names why.lanes why.refused refl is) c.say_resized.ensures
