@@ -6,7 +6,7 @@ mod inputs;
 use anyhow::Error;
 use desk_lines::Counted;
 use desk_replaying::replay;
-use inputs::{Lines, graph_requests, small_requests, table_requests};
+use inputs::Input;
 use serde_json::Value;
 use std::alloc::Global;
 use std::io::{self, Write};
@@ -30,77 +30,53 @@ impl io::Write for Written {
     }
 }
 
-/// The bytes that are printed where each line is read as JSON and printed back.
-fn echo(alloc: Global, text: &[u8]) -> Result<usize, Error> {
-    let mut printed = Vec::new(alloc);
-    for line in text.split(|byte| *byte == b'\n') {
-        if !line.is_empty() {
-            let value = Value::from_slice(alloc, line)?;
-            printed.extend_from_slice(value.to_string(alloc)?.as_bytes())?;
-            printed.push(b'\n')?;
-        }
+/// The line that is printed where one is read as JSON and printed back.
+fn echo_line(alloc: Global, line: &str) -> Result<String, Error> {
+    let value = Value::from_slice(alloc, line.as_bytes())?;
+    Ok(value.to_string(alloc)?)
+}
+
+/// How many bytes the bare loop prints.
+fn echo(alloc: Global, text: &str) -> Result<usize, Error> {
+    let mut printed = String::new(alloc);
+    for line in text.lines() {
+        printed.push_str(echo_line(alloc, line)?.as_str())?;
+        printed.push('\n')?;
     }
     Ok(printed.len())
 }
 
-/// What `replay` took and wrote.
-struct Replayed {
-    millis: u128,
-    bytes: usize,
-    calls: u64,
-}
-
-/// Replays the lines.
-fn time_replay<R: Clock>(rt: &R, alloc: Global, lines: &Lines) -> Result<Replayed, Error> {
-    let mut reader = Counted::new(lines.bytes());
+/// How many bytes `replay` writes, and in how many calls.
+fn replay_all(alloc: Global, text: &str) -> Result<(usize, u64), Error> {
+    let mut reader = Counted::new(text.as_bytes());
     let mut writer = Counted::new(Written {
         bytes: Vec::new(alloc),
         calls: 0,
     });
-    let start = Instant::now(rt)?;
     replay(alloc, &mut reader, &mut writer)?;
-    Ok(Replayed {
-        millis: start.elapsed(rt)?.as_millis(),
-        bytes: writer.inner.bytes.len(),
-        calls: writer.inner.calls,
-    })
+    Ok((writer.inner.bytes.len(), writer.inner.calls))
 }
 
-/// The milliseconds of the bare loop, and how many bytes it prints.
-fn time_echo<R: Clock>(rt: &R, alloc: Global, lines: &Lines) -> Result<(u128, usize), Error> {
+/// Tells how long so many requests take.
+fn time<R: Clock + Eprint>(
+    rt: &R,
+    alloc: Global,
+    name: &str,
+    input: &Input,
+    requests: usize,
+) -> Result<(), Error> {
+    let text = input.lines(alloc, requests)?;
+    let count = text.as_str().lines().count();
     let start = Instant::now(rt)?;
-    let bytes = echo(alloc, lines.bytes())?;
-    Ok((start.elapsed(rt)?.as_millis(), bytes))
-}
-
-/// Tells how long the lines take.
-fn time<R: Clock + Eprint>(rt: &R, alloc: Global, name: &str, lines: &Lines) -> Result<(), Error> {
-    let (bare, echoed) = time_echo(rt, alloc, lines)?;
-    let Replayed {
-        millis,
-        bytes,
-        calls,
-    } = time_replay(rt, alloc, lines)?;
-    let count = lines.count();
+    let echoed = echo(alloc, text.as_str())?;
+    let bare = start.elapsed(rt)?.as_millis();
+    let start = Instant::now(rt)?;
+    let (bytes, calls) = replay_all(alloc, text.as_str())?;
+    let millis = start.elapsed(rt)?.as_millis();
     eprintln!(rt;
         "{name}: {count} lines: replay {millis} ms, {bytes} bytes in {calls} writes; bare loop {bare} ms, {echoed} bytes"
     )?;
     Ok(())
-}
-
-fn time_small<R: Clock + Eprint>(rt: &R, alloc: Global, requests: u64) -> Result<(), Error> {
-    let lines = small_requests(alloc, requests)?;
-    time(rt, alloc, "small requests", &lines)
-}
-
-fn time_table<R: Clock + Eprint>(rt: &R, alloc: Global, requests: u64) -> Result<(), Error> {
-    let lines = table_requests(alloc, requests)?;
-    time(rt, alloc, "a table of 200 rules", &lines)
-}
-
-fn time_graph<R: Clock + Eprint>(rt: &R, alloc: Global, requests: u64) -> Result<(), Error> {
-    let lines = graph_requests(alloc, requests)?;
-    time(rt, alloc, "400 shared decisions", &lines)
 }
 
 /// Tells how long each input takes, at full size or at the small one.
@@ -110,9 +86,12 @@ pub(crate) fn time_all<R: Clock + Eprint>(
     is_whole: bool,
 ) -> Result<(), Error> {
     let part = if is_whole { 1 } else { 100 };
-    for requests in [50_000 / part, 100_000 / part, 200_000 / part] {
-        time_small(rt, alloc, requests)?;
+    let small = Input::small(alloc)?;
+    for requests in [50_000, 100_000, 200_000] {
+        time(rt, alloc, "small requests", &small, requests / part)?;
     }
-    time_table(rt, alloc, 50_000 / part)?;
-    time_graph(rt, alloc, 5_000 / part)
+    let table = Input::table(alloc)?;
+    time(rt, alloc, "a table of 200 rules", &table, 50_000 / part)?;
+    let graph = Input::graph(alloc)?;
+    time(rt, alloc, "400 shared decisions", &graph, 5_000 / part)
 }

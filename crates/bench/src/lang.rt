@@ -1,4 +1,5 @@
 //! How long the language takes: three expressions that are read and evaluated, and 10,000 names that are bound and found.
+use crate::pieces::pieces;
 use feel_lang::{Env, Expr, eval, read_expr};
 use feel_value::{Feel, Outcome, Value};
 use std::alloc::{AllocError, Global};
@@ -7,39 +8,27 @@ use std::time::{Clock, Instant};
 
 const NAMES: u64 = 10_000;
 
-const MEMBERS: u64 = 5_000;
+const MEMBERS: usize = 5_000;
 
 const DEPTH: usize = 64;
 
 const ROUNDS: u64 = 100;
 
 // A short one, as a decision has.
-fn short(alloc: Global) -> Result<String, AllocError> {
-    String::from_str(alloc, "if a + 1 > 3 and b = \"x\" then a * 2 else -1")
-}
+const SHORT: &str = r#"if a + 1 > 3 and b = "x" then a * 2 else -1"#;
 
 // A number in so many pairs of parentheses that it is as deep as may be.
 fn deep(alloc: Global) -> Result<String, AllocError> {
-    let mut text = String::new(alloc);
-    for _ in 1..DEPTH {
-        text.push_str("(")?;
-    }
-    text.push_str("1")?;
-    for _ in 1..DEPTH {
-        text.push_str(")")?;
-    }
+    let mut text = "(".repeat(alloc, DEPTH - 1)?;
+    text.push('1')?;
+    text.push_str(")".repeat(alloc, DEPTH - 1)?.as_str())?;
     Ok(text)
 }
 
 // The sum of a list of numbers.
 fn long(alloc: Global) -> Result<String, AllocError> {
-    let mut text = String::from_str(alloc, "sum([0")?;
-    for n in 1..MEMBERS {
-        let member = format!(in alloc; ",{n}")?;
-        text.push_str(member.as_str())?;
-    }
-    text.push_str("])")?;
-    Ok(text)
+    let members = pieces(alloc, 0..MEMBERS, "$")?;
+    format!(in alloc; "sum([{members}])")
 }
 
 // How many rounds gave a value, and the nanoseconds that reading and evaluating took.
@@ -159,7 +148,7 @@ fn texts<R: Clock + Eprint>(rt: &R, alloc: Global) -> io::Result<()> {
     if let Some(value) = number(4) {
         env.bind("a", value)?;
     }
-    run(rt, alloc, "short", short(alloc)?.as_str(), &env)?;
+    run(rt, alloc, "short", SHORT, &env)?;
     run(rt, alloc, "64 deep", deep(alloc)?.as_str(), &env)?;
     run(rt, alloc, "5,000 members", long(alloc)?.as_str(), &env)
 }

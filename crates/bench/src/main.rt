@@ -7,6 +7,7 @@
 mod desk;
 mod lang;
 mod passing;
+mod pieces;
 mod plan;
 mod read;
 mod tables;
@@ -22,19 +23,7 @@ use std::time::Clock;
 /// What can be timed.
 const NAMES: [&str; 7] = ["values", "read", "lang", "tables", "plan", "lanes", "desk"];
 
-/// Times what has this name among the values and the language, if one has.
-fn time_low<R: Clock + Eprint>(rt: &R, alloc: Global, name: &str) -> Result<bool, Error> {
-    match name {
-        "values" => values::time_all(rt, alloc)?,
-        "read" => read::time_all(rt, alloc)?,
-        "lang" => lang::time_all(rt, alloc)?,
-        "tables" => tables::time_all(rt, alloc)?,
-        _ => return Ok(false),
-    }
-    Ok(true)
-}
-
-/// Times what has this name among all, if one has.
+/// Times what has this name, if one has.
 fn time_named<R: Clock + Eprint + Threads + Wait + Sync>(
     rt: &R,
     alloc: Global,
@@ -42,16 +31,14 @@ fn time_named<R: Clock + Eprint + Threads + Wait + Sync>(
     is_whole: bool,
 ) -> Result<(), Error> {
     match name {
+        "values" => values::time_all(rt, alloc),
+        "read" => Ok(read::time_all(rt, alloc)?),
+        "lang" => Ok(lang::time_all(rt, alloc)?),
+        "tables" => tables::time_all(rt, alloc),
         "plan" => plan::time_all(rt, alloc, is_whole),
         "lanes" => passing::time_all(rt, alloc, is_whole),
         "desk" => desk::time_all(rt, alloc, is_whole),
-        _ => {
-            if time_low(rt, alloc, name)? {
-                Ok(())
-            } else {
-                Err(unknown())
-            }
-        }
+        _ => Err(unknown()),
     }
 }
 

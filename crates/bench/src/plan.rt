@@ -1,18 +1,18 @@
 //! How long models take to be read or refused, by their shape, and how long requests take. Whole models are as
 //! large as a line may be; the others are small.
-mod shapes;
+pub(crate) mod shapes;
 
 use anyhow::Error;
 use box_core::Work;
 use dmn_plan::{Plan, Task};
 use feel_value::Outcome;
-use shapes::{graph, largest, small};
+use shapes::{SHAPES, SMALL, graph, listed};
 use std::alloc::Global;
 use std::sync::Arc;
 use std::time::{Clock, Instant};
 
-/// How large a model is that is not whole, and one that is.
-const BYTES: [usize; 2] = [20_000, 1_000_000];
+/// How many decisions there are for services that list all of them, and how many such services.
+const LISTED: [(usize, usize); 2] = [(200, 7), (999, 71)];
 
 /// How many tasks of a small model are run.
 const TASKS: [u32; 2] = [200, 10_000];
@@ -46,15 +46,34 @@ fn answering<R: Clock>(rt: &R, alloc: Global, text: &str, tasks: u32) -> Result<
     Ok(start.elapsed(rt)?.as_micros())
 }
 
-/// Tells how long the largest texts of each shape take.
-fn time_largest<R: Clock + Eprint>(rt: &R, alloc: Global, bytes: usize) -> Result<(), Error> {
-    for (name, shape) in largest() {
-        let text = shape.text(alloc, bytes)?;
-        let (micros, is_model) = reading(rt, alloc, text.as_str())?;
-        let bytes = text.len();
-        eprintln!(rt; "{name}, {bytes} bytes, read: {is_model}: {micros} us")?;
-    }
+/// Tells how long a text takes.
+fn time_text<R: Clock + Eprint>(
+    rt: &R,
+    alloc: Global,
+    name: &str,
+    text: &str,
+) -> Result<(), Error> {
+    let (micros, is_model) = reading(rt, alloc, text)?;
+    let bytes = text.len();
+    eprintln!(rt; "{name}, {bytes} bytes, read: {is_model}: {micros} us")?;
     Ok(())
+}
+
+/// Tells how long the largest texts of each shape take.
+fn time_largest<R: Clock + Eprint>(rt: &R, alloc: Global, is_whole: bool) -> Result<(), Error> {
+    let scale = usize::from(is_whole);
+    for shape in &SHAPES {
+        let text = shape.text(alloc, shape.counts[scale])?;
+        time_text(rt, alloc, shape.name, text.as_str())?;
+    }
+    let (decisions, services) = LISTED[scale];
+    let text = listed(alloc, decisions, services)?;
+    time_text(
+        rt,
+        alloc,
+        "services that list a thousand decisions",
+        text.as_str(),
+    )
 }
 
 /// Tells how long a graph takes whose decisions need so many layers before their own.
@@ -76,7 +95,7 @@ fn time_graph<R: Clock + Eprint>(
 
 /// Tells how long tasks of a small model take.
 fn time_small<R: Clock + Eprint>(rt: &R, alloc: Global, tasks: u32) -> Result<(), Error> {
-    let micros = answering(rt, alloc, small(alloc)?.as_str(), tasks)?;
+    let micros = answering(rt, alloc, SMALL, tasks)?;
     eprintln!(rt; "{tasks} tasks of a small model: {micros} us")?;
     Ok(())
 }
@@ -88,7 +107,7 @@ pub(crate) fn time_all<R: Clock + Eprint>(
     is_whole: bool,
 ) -> Result<(), Error> {
     let scale = usize::from(is_whole);
-    time_largest(rt, alloc, BYTES[scale])?;
+    time_largest(rt, alloc, is_whole)?;
     for needed in [1, 2, 10] {
         time_graph(rt, alloc, LAYERS[scale], needed)?;
     }

@@ -1,60 +1,50 @@
 //! How long texts of growing size take to be read or refused.
 use feel_lang::{read_expr, read_literal, read_tests};
-use std::alloc::{AllocError, Global};
+use std::alloc::Global;
 use std::io;
 use std::time::{Clock, Instant};
 
 /// The least number of pieces of a text; further ones are twice and four times as long.
 const PIECES: usize = 1 << 17;
 
-// A text of pieces between a first and a last part.
-fn text(
-    alloc: Global,
-    pieces: usize,
-    first: &str,
-    piece: &str,
-    last: &str,
-) -> Result<String, AllocError> {
-    let mut whole = String::from_str(alloc, first)?;
-    for _ in 0..pieces {
-        whole.push_str(piece)?;
+/// What a text is read as.
+#[derive(Clone, Copy)]
+enum Reader {
+    Expr,
+    Tests,
+    Literal,
+}
+
+/// The readers, and what each takes a text for.
+const READERS: [(Reader, &str); 3] = [
+    (Reader::Expr, "an expression"),
+    (Reader::Tests, "unary tests"),
+    (Reader::Literal, "a literal"),
+];
+
+impl Reader {
+    /// Whether the text is read.
+    fn is_read(self, alloc: Global, text: &str) -> bool {
+        match self {
+            Reader::Expr => read_expr(alloc, text).is_ok(),
+            Reader::Tests => read_tests(alloc, text).is_ok(),
+            Reader::Literal => read_literal(alloc, text).is_ok(),
+        }
     }
-    whole.push_str(last)?;
-    Ok(whole)
 }
 
-// Tells whether the text is an expression, and how long it took to see that.
-fn time_expr<R: Clock + Eprint>(rt: &R, alloc: Global, text: &str) -> io::Result<()> {
-    let start = Instant::now(rt)?;
-    let is_read = read_expr(alloc, text).is_ok();
-    let micros = start.elapsed(rt)?.as_micros();
-    eprintln!(rt; "  as an expression, {is_read}: {micros} us")
-}
-
-// The same of unary tests.
-fn time_tests<R: Clock + Eprint>(rt: &R, alloc: Global, text: &str) -> io::Result<()> {
-    let start = Instant::now(rt)?;
-    let is_read = read_tests(alloc, text).is_ok();
-    let micros = start.elapsed(rt)?.as_micros();
-    eprintln!(rt; "  as unary tests, {is_read}: {micros} us")
-}
-
-// The same of a literal.
-fn time_literal<R: Clock + Eprint>(rt: &R, alloc: Global, text: &str) -> io::Result<()> {
-    let start = Instant::now(rt)?;
-    let is_read = read_literal(alloc, text).is_ok();
-    let micros = start.elapsed(rt)?.as_micros();
-    eprintln!(rt; "  as a literal, {is_read}: {micros} us")
-}
-
-// Reads such a text by each reader, and tells how long that takes.
+// Tells whether each reader takes the text, and how long it took to see that.
 fn run_once<R: Clock + Eprint>(rt: &R, alloc: Global, text: &str) -> io::Result<()> {
-    time_expr(rt, alloc, text)?;
-    time_tests(rt, alloc, text)?;
-    time_literal(rt, alloc, text)
+    for (reader, name) in READERS {
+        let start = Instant::now(rt)?;
+        let is_read = reader.is_read(alloc, text);
+        let micros = start.elapsed(rt)?.as_micros();
+        eprintln!(rt; "  as {name}, {is_read}: {micros} us")?;
+    }
+    Ok(())
 }
 
-// The same for texts of three lengths.
+// Does so for texts of three lengths, with so many pieces between a first and a last part.
 fn run<R: Clock + Eprint>(
     rt: &R,
     alloc: Global,
@@ -63,10 +53,12 @@ fn run<R: Clock + Eprint>(
     last: &str,
 ) -> io::Result<()> {
     for pieces in [PIECES, 2 * PIECES, 4 * PIECES] {
-        let text = text(alloc, pieces, first, piece, last)?;
+        let mut text = String::from_str(alloc, first)?;
+        text.push_str(piece.repeat(alloc, pieces)?.as_str())?;
+        text.push_str(last)?;
         let bytes = text.len();
         eprintln!(rt; "{first}{piece}..{last} {bytes} bytes:")?;
-        run_once(rt, alloc, &text)?;
+        run_once(rt, alloc, text.as_str())?;
     }
     Ok(())
 }

@@ -1,213 +1,99 @@
 //! Inputs of `replay`, the same at each run.
+ghost use Rattle.std.specs.Prelude.{◌<◌};
+
+use crate::pieces::{pieces, push_numbered};
+use crate::plan::shapes::SMALL;
 use std::alloc::{AllocError, Global};
 
 /// The clients that an input opens.
-const CLIENTS: u64 = 8;
+const CLIENTS: usize = 8;
 /// The rules of the table.
-const RULES: u64 = 200;
-/// The levels of the graph, on each of which stand two decisions that need both of the level before.
-const LEVELS: u64 = 200;
+const RULES: usize = 200;
+/// The levels of the graph above its first, on each of which stand two decisions that need both of the level before.
+const LEVELS: usize = 199;
 
-/// Lines of JSON, one after another.
+/// A model, and the requests to its service.
 #[derive(Drop)]
-pub struct Lines {
-    alloc: Global,
-    text: String,
-    count: u64,
+pub(crate) struct Input {
+    /// The model's text.
+    model: String,
+    /// The inputs of a request, with `$` in place of its number.
+    values: &'static str,
+    /// After how many requests the numbers begin anew.
+    period: usize,
+    ghost positive: { 0 < period },
 }
 
-impl Lines {
-    /// No line yet.
-    fn new(alloc: Global) -> Lines {
-        Lines {
-            alloc,
-            text: String::new(alloc),
-            count: 0,
-        }
+impl Input {
+    /// Requests to a decision that adds 1 to its input.
+    pub(crate) fn small(alloc: Global) -> Result<Input, AllocError> {
+        Ok(Input {
+            model: String::from_str(alloc, SMALL)?,
+            values: r#""a":$"#,
+            period: usize::MAX,
+        })
     }
 
-    /// The lines, each with its newline.
-    pub fn bytes(&self) -> &[u8] {
-        self.text.as_bytes()
+    /// Requests to a table of 200 rules and 6 inputs, of which up to ten hit.
+    pub(crate) fn table(alloc: Global) -> Result<Input, AllocError> {
+        let rules = pieces(alloc, 0..RULES, RULE)?;
+        Ok(Input {
+            model: TABLE.replace(alloc, '%', rules.as_str())?,
+            values: r#""a":$,"b":$,"c":$,"d":$,"e":$,"f":$"#,
+            period: 10,
+        })
     }
 
-    /// How many there are.
-    pub fn count(&self) -> u64 {
-        self.count
+    /// Requests to 400 decisions, which share those of the level before.
+    pub(crate) fn graph(alloc: Global) -> Result<Input, AllocError> {
+        let decisions = pieces(alloc, 0..LEVELS, LEVEL)?;
+        let names = pieces(alloc, 0..LEVELS, r#""x$","y@""#)?;
+        let model = format!(in alloc;
+            r#"{{"inputs":["a"],"decisions":[{{"name":"x0","needs":["a"],"expr":"a"}},{{"name":"y0","needs":["a"],"expr":"a"}},{decisions}],"services":[{{"name":"s","outputs":["x{LEVELS}"],"encapsulated":["y0",{names}],"inputDecisions":[],"inputData":["a"]}}]}}"#
+        )?;
+        Ok(Input {
+            model,
+            values: r#""a":$"#,
+            period: usize::MAX,
+        })
     }
 
-    fn push(&mut self, parts: &[&str]) -> Result<(), AllocError> {
-        for part in parts {
-            self.text.push_str(part)?;
-        }
-        self.text.push('\n')?;
-        self.count = self.count.saturating_add(1);
-        Ok(())
-    }
-
-    /// A model with one service that takes all inputs and gives the last decision. Decisions and encapsulated names
-    /// come as the text of their lists.
-    fn model(
-        &mut self,
-        inputs: &str,
-        decisions: &str,
-        output: &str,
-        encapsulated: &str,
-    ) -> Result<(), AllocError> {
-        self.push(&[
-            "{\"model\":{\"inputs\":[",
-            inputs,
-            "],\"decisions\":[",
-            decisions,
-            "],\"services\":[{\"name\":\"s\",\"outputs\":[\"",
-            output,
-            "\"],\"encapsulated\":[",
-            encapsulated,
-            "],\"inputDecisions\":[],\"inputData\":[",
-            inputs,
-            "]}]}}",
-        ])
-    }
-
-    fn open_clients(&mut self) -> Result<(), AllocError> {
+    /// The lines of so many requests: the model, the clients, and each request from its submission to its release.
+    pub(crate) fn lines(&self, alloc: Global, requests: usize) -> Result<String, AllocError> {
+        let mut text = String::new(alloc);
+        writeln!(text, r#"{{"model":{}}}"#, self.model)?;
         for client in 0..CLIENTS {
-            let line = format!(in self.alloc; "{client}\",\"capacity\":64")?;
-            self.push(&["{\"open\":\"client ", line.as_str(), "}"])?;
+            writeln!(text, r#"{{"open":"client {client}","capacity":64}}"#)?;
         }
-        Ok(())
+        for number in 0..requests {
+            self.push_request(&mut text, number)?;
+        }
+        Ok(text)
     }
 
-    /// A request from its submission to its result.
-    fn request(&mut self, number: u64, inputs: &str) -> Result<(), AllocError> {
+    /// Appends the four lines of a request.
+    fn push_request(&self, text: &mut String, number: usize) -> Result<(), AllocError> {
         let client = number % CLIENTS;
-        let name = format!(in self.alloc; "\"client {client}\"")?;
         let ticket = number / CLIENTS;
-        let ticket = format!(in self.alloc; ",\"ticket\":{ticket}")?;
-        self.push(&[
-            "{\"submit\":",
-            name.as_str(),
-            ",\"service\":\"s\",\"inputs\":{",
-            inputs,
-            "}}",
-        ])?;
-        self.push(&["{\"take\":", name.as_str(), ticket.as_str(), "}"])?;
-        self.push(&["{\"answer\":", name.as_str(), ticket.as_str(), "}"])?;
-        self.push(&["{\"release\":", name.as_str(), "}"])
+        write!(
+            text,
+            r#"{{"submit":"client {client}","service":"s","inputs":{{"#
+        )?;
+        push_numbered(text, self.values, number % self.period)?;
+        writeln!(text, "}}}}")?;
+        writeln!(text, r#"{{"take":"client {client}","ticket":{ticket}}}"#)?;
+        writeln!(text, r#"{{"answer":"client {client}","ticket":{ticket}}}"#)?;
+        writeln!(text, r#"{{"release":"client {client}"}}"#)
     }
 }
 
-/// Requests to a decision that adds 1 to its input.
-pub fn small_requests(alloc: Global, requests: u64) -> Result<Lines, AllocError> {
-    let mut lines = Lines::new(alloc);
-    lines.model(
-        "\"a\"",
-        "{\"name\":\"d\",\"needs\":[\"a\"],\"expr\":\"a + 1\"}",
-        "d",
-        "",
-    )?;
-    lines.open_clients()?;
-    for number in 0..requests {
-        let inputs = format!(in alloc; "\"a\":{number}")?;
-        lines.request(number, inputs.as_str())?;
-    }
-    Ok(lines)
-}
+/// A model of a table with 6 inputs, with `%` in place of its rules.
+const TABLE: &str =
+    r#"{"inputs":["a","b","c","d","e","f"],"decisions":[{"name":"t","needs":["a","b","c","d","e","f"],"expr":{"table":{"hit":"C+","inputs":["a","b","c","d","e","f"],"outputs":[{"name":"r"}],"rules":[%]}}}],"services":[{"name":"s","outputs":["t"],"encapsulated":[],"inputDecisions":[],"inputData":["a","b","c","d","e","f"]}]}"#;
 
 /// A rule that asks that all six inputs are above a number.
-fn rule(alloc: Global, n: u64) -> Result<String, AllocError> {
-    let test = format!(in alloc; "\"> {n}\"")?;
-    let mut tests = String::from_str(alloc, test.as_str())?;
-    for _ in 1..6 {
-        tests.push(',')?;
-        tests.push_str(test.as_str())?;
-    }
-    format!(in alloc; "{{\"when\":[{tests}],\"then\":[\"{n}\"]}}")
-}
-
-/// The rules of a table.
-fn rules(alloc: Global) -> Result<String, AllocError> {
-    let mut rules = rule(alloc, 0)?;
-    for n in 1..RULES {
-        rules.push(',')?;
-        rules.push_str(rule(alloc, n)?.as_str())?;
-    }
-    Ok(rules)
-}
-
-/// The names of six inputs.
-const SIX: &str = "\"a\",\"b\",\"c\",\"d\",\"e\",\"f\"";
-
-/// A decision by a table of 200 rules and 6 inputs.
-fn table_decision(alloc: Global) -> Result<String, AllocError> {
-    let rules = rules(alloc)?;
-    format!(in alloc;
-        "{{\"name\":\"t\",\"needs\":[{SIX}],\"expr\":{{\"table\":{{\"hit\":\"C+\",\"inputs\":[{SIX}],\"outputs\":[{{\"name\":\"r\"}}],\"rules\":[{rules}]}}}}}}"
-    )
-}
-
-/// The same number for each of six inputs.
-fn six_values(alloc: Global, n: u64) -> Result<String, AllocError> {
-    format!(in alloc; "\"a\":{n},\"b\":{n},\"c\":{n},\"d\":{n},\"e\":{n},\"f\":{n}")
-}
-
-/// Requests to a table of 200 rules and 6 inputs, of which up to ten hit.
-pub fn table_requests(alloc: Global, requests: u64) -> Result<Lines, AllocError> {
-    let mut lines = Lines::new(alloc);
-    lines.model(SIX, table_decision(alloc)?.as_str(), "t", "")?;
-    lines.open_clients()?;
-    for number in 0..requests {
-        let values = six_values(alloc, number % 10)?;
-        lines.request(number, values.as_str())?;
-    }
-    Ok(lines)
-}
+const RULE: &str = r#"{"when":["> $","> $","> $","> $","> $","> $"],"then":["$"]}"#;
 
 /// The two decisions of a level, which need those of the level below.
-fn level_decisions(alloc: Global, level: u64) -> Result<String, AllocError> {
-    let below = level.saturating_sub(1);
-    let needs = format!(in alloc; "\"needs\":[\"x{below}\",\"y{below}\"]")?;
-    format!(in alloc;
-        ",{{\"name\":\"x{level}\",{needs},\"expr\":\"x{below}\"}},{{\"name\":\"y{level}\",{needs},\"expr\":\"y{below}\"}}"
-    )
-}
-
-/// The decisions of all levels.
-fn graph_decisions(alloc: Global) -> Result<String, AllocError> {
-    let mut decisions = String::from_str(
-        alloc,
-        "{\"name\":\"x0\",\"needs\":[\"a\"],\"expr\":\"a\"},{\"name\":\"y0\",\"needs\":[\"a\"],\"expr\":\"a\"}",
-    )?;
-    for level in 1..LEVELS {
-        decisions.push_str(level_decisions(alloc, level)?.as_str())?;
-    }
-    Ok(decisions)
-}
-
-/// The names of all decisions but the last.
-fn graph_encapsulated(alloc: Global) -> Result<String, AllocError> {
-    let mut names = String::from_str(alloc, "\"y0\"")?;
-    for level in 1..LEVELS {
-        let below = level - 1;
-        let more = format!(in alloc; ",\"x{below}\",\"y{level}\"")?;
-        names.push_str(more.as_str())?;
-    }
-    Ok(names)
-}
-
-/// Requests to 400 decisions, which share those of the level before.
-pub fn graph_requests(alloc: Global, requests: u64) -> Result<Lines, AllocError> {
-    let mut lines = Lines::new(alloc);
-    let last = LEVELS - 1;
-    lines.model(
-        "\"a\"",
-        graph_decisions(alloc)?.as_str(),
-        format!(in alloc; "x{last}")?.as_str(),
-        graph_encapsulated(alloc)?.as_str(),
-    )?;
-    lines.open_clients()?;
-    for number in 0..requests {
-        let inputs = format!(in alloc; "\"a\":{number}")?;
-        lines.request(number, inputs.as_str())?;
-    }
-    Ok(lines)
-}
+const LEVEL: &str =
+    r#"{"name":"x@","needs":["x$","y$"],"expr":"x$"},{"name":"y@","needs":["x$","y$"],"expr":"y$"}"#;
