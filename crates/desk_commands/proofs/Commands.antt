@@ -1,5 +1,5 @@
 -- The program's command is one whose parses are known.
-use Rattle.std.proofs.Common.{◌≡◌, true, refl}
+use Rattle.std.proofs.Common.{◌≡◌, ◌&&◌, not, Bool, true, false, true≢false, refl, sym}
 use Rattle.clap.specs.Faults.{is_simple_and_free}
 use Rattle.clap.proofs.OnLiterals.{clap_on_literals}
 use Rattle.desk_commands.specs.CommandLine.{desk_command}
@@ -7,3 +7,10 @@ use Rattle.desk_commands.specs.CommandLine.{desk_command}
 pub simple_and_free : is_simple_and_free desk_command ≡ true
 unfolding clap_on_literals
 simple_and_free = refl
+
+-- what a plain command says of its global arguments, which is the third of its tests
+pub has_no_global : (grouped external global rest : Bool) → grouped && (external && (not global && rest)) ≡ true → global ≡ false
+has_no_global true true false rest plain = refl
+has_no_global true true true rest plain = absurd (true≢false (sym plain))
+has_no_global true false global rest plain = absurd (true≢false (sym plain))
+has_no_global false external global rest plain = absurd (true≢false (sym plain))

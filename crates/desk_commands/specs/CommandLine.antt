@@ -24,10 +24,12 @@ abbrev pub serve_app : App
 serve_app = with_rule (with_rule (with_rule (new_app (codes "serve")) (number_option (codes "clients") (codes "8") 64))
     (number_option (codes "workers") (codes "4") 8)) (number_option (codes "capacity") (codes "64") 4096)
 
--- `desk replay` and `desk serve`: one of the subcommands has to be named
+-- `desk replay` and `desk serve`: one of the subcommands has to be named, and `--version` tells the version
 abbrev pub desk_command : App
-desk_command = with_subcommand (with_subcommand (record { top = record (new_app (codes "desk")).top { subcommand_required = true }; subs = [] })
-    (new_app (codes "replay")).top) serve_app.top
+desk_command = with_subcommand (with_subcommand (record {
+  top = record (new_app (codes "desk")).top { has_version = true; subcommand_required = true };
+  subs = [];
+}) (new_app (codes "replay")).top) serve_app.top
 
 -- `clap` takes these words
 abbrev pub IsCommand : List Text → Type 0

@@ -20,7 +20,7 @@ abbrev pub status_of : Result (Unit {0}) FrontFault → ℕ
 status_of (Ok done) = 0
 status_of (Err why) = 1
 
--- 0 where help was asked for, 2 where the words are wrong
+-- 0 where help or the version was asked for, 2 where the words are wrong
 abbrev pub status_of_kind : ErrorKind → ℕ
 status_of_kind kind.DisplayHelp = 0
 status_of_kind kind.DisplayVersion = 0

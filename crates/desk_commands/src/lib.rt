@@ -1,8 +1,10 @@
-//! What the program does with its words: it replays, serves, gives help, or tells what is wrong with them.
+//! What the program does with its words: it replays, serves, gives help or its version, or tells what is wrong with them.
 #![tactic(auto)]
 
 mod command;
+mod help;
 mod options;
 mod run;
+mod version;
 
 pub use run::{run_desk, tell_of_words};

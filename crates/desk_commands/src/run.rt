@@ -97,7 +97,7 @@ fn run_serve<T: Threads + Wait + Sync, R: Source, W: Sink, F: Sink>(
     tell_fault(fault, faults)
 }
 
-/// Tells why the words name no command, or the help that they ask for.
+/// Tells why the words name no command, or the help or the version that they ask for.
 fn explain<W: Sink, F: Sink>(alloc: Global, error: &Error, writer: &mut W, faults: &mut F) -> u8
     requires write_counts { W.faults writer.old < 2 ^ 64 - 1 }
     requires fault_counts { F.faults faults.old < 2 ^ 64 - 1 }
@@ -125,9 +125,9 @@ fn explain<W: Sink, F: Sink>(alloc: Global, error: &Error, writer: &mut W, fault
 
 /// Runs the command that the words name, and gives the program's status. The first word is the program's name.
 ///
-/// The status is 0 where the command came to its end or help was asked for, 1 where a fault ended it or no memory was
-/// found for the words, and 2 where they name no command. A fault is told on `faults` by its word, and a wrong command line by
-/// the text of `clap`; help goes to the writer. A text that can't be written changes no status.
+/// The status is 0 where the command came to its end or help or the version was asked for, 1 where a fault ended it or no
+/// memory was found for the words, and 2 where they name no command. A fault is told on `faults` by its word, and a wrong
+/// command line by the text of `clap`; help and the version go to the writer. A text that can't be written changes no status.
 pub fn run_desk<T: Threads + Wait + Sync, R: Source, W: Sink, F: Sink>(
     alloc: Global,
     rt: &T,

@@ -27,9 +27,17 @@ impl Left {
         self.status == 2 && self.output.is_empty() && !self.faults.is_empty()
     }
 
-    /// Help was asked for: there is a text on standard output, and none on standard error.
+    /// Help or the version was asked for: there is a text on standard output, and none on standard error.
     fn is_help(&self) -> bool {
         self.status == 0 && !self.output.is_empty() && self.faults.is_empty()
+    }
+
+    /// This text stands somewhere on standard output.
+    fn shows(&self, text: &str) -> bool {
+        match str::from_utf8(self.output.as_slice()) {
+            Ok(output) => output.contains(text),
+            Err(_) => false,
+        }
     }
 }
 
@@ -173,6 +181,34 @@ fn help_is_told(rt: HostRuntime) -> Result<(), Fail> {
 }
 
 #[test]
+fn help_names_an_example_and_the_documents(rt: HostRuntime) -> Result<(), Fail> {
+    let alloc = rt.alloc();
+    let nothing = b"".as_slice();
+    let help = run(&rt, alloc, &["desk", "--help"], nothing)?;
+    assert!(rt; help.shows("\n  desk serve --workers 4 < "));
+    assert!(rt; help.shows("docs/LINES.md") && help.shows("docs/MODEL.md"));
+    let help = run(&rt, alloc, &["desk", "replay", "--help"], nothing)?;
+    assert!(rt; help.shows("\n  desk replay < ") && help.shows("{\"release\":\"ann\"}"));
+    let help = run(&rt, alloc, &["desk", "serve", "--help"], nothing)?;
+    assert!(rt; help.shows("\n  desk serve --workers 4 < ") && help.shows("--capacity <NUMBER>"));
+    Ok(())
+}
+
+#[test]
+fn the_version_is_told(rt: HostRuntime) -> Result<(), Fail> {
+    let alloc = rt.alloc();
+    let input = b"{\"release\":\"a\"}\n".as_slice();
+    let long = run(&rt, alloc, &["desk", "--version"], input)?;
+    assert!(rt; long.is_help());
+    assert!(rt; long.output.starts_with(b"desk 0.9.0\nproved with "));
+    assert!(rt; long.shows("\nsources "));
+    let short = run(&rt, alloc, &["desk", "-V"], input)?;
+    assert!(rt; short.is(0, long.output.as_slice(), b"".as_slice()));
+    assert!(rt; run(&rt, alloc, &["desk", "replay", "--version"], input)?.is_refused());
+    Ok(())
+}
+
+#[test]
 fn a_text_that_cant_be_written_changes_no_status(rt: HostRuntime) -> Result<(), Fail> {
     let alloc = rt.alloc();
     let nothing = b"".as_slice();
@@ -180,6 +216,10 @@ fn a_text_that_cant_be_written_changes_no_status(rt: HostRuntime) -> Result<(), 
     assert_eq!(rt; untold_status(&rt, alloc, &["desk", "replay"], nothing)?, 0);
     assert_eq!(rt; untold_status(&rt, alloc, &["desk", "repeat"], nothing)?, 2);
     assert_eq!(rt; untold_status(&rt, alloc, &["desk", "--help"], nothing)?, 0);
+    assert_eq!(rt;
+        untold_status(&rt, alloc, &["desk", "--version"], nothing)?,
+        0
+    );
     Ok(())
 }
 

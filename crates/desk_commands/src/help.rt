@@ -1,0 +1,71 @@
+//! What help says of each command, and behind its options. A terminal shows these lines as they stand here.
+
+/// What the program does.
+pub const DESK_ABOUT: &str =
+    r#"Evaluates decision services after DMN 1.3, and hands each client its results in the order of
+its requests"#;
+
+/// What `replay` does.
+pub const REPLAY_ABOUT: &str =
+    "Answers the lines of standard input, one after another, on standard output";
+
+/// What `serve` does.
+pub const SERVE_ABOUT: &str =
+    "Answers the lines of many clients side by side, each client's in the order of its lines";
+
+/// Lines, statuses and documents.
+pub const DESK: &str =
+    r#"Standard input has one JSON object on each line, and so has standard output.
+
+Example:
+  desk serve --workers 4 < examples/clients.jsonl
+
+Status:
+  0  the input was answered to its end; or help or the version was asked for
+  1  a fault ended the run, and is told on standard error by one word: read, write, long or memory
+  2  the command line is wrong
+
+Documents, in the repository:
+  README.md      a first run, and a model of one's own
+  docs/LINES.md  every line, its answers, and the status
+  docs/MODEL.md  models and their expressions
+  docs/desk.1    this as a manual page (man -l docs/desk.1)"#;
+
+/// The lines of `replay`.
+pub const REPLAY: &str = r#"Each line is one JSON object:
+  {"model":M}                                      a model, in force from the next line on
+  {"open":"ann","capacity":2}                      a client with room for two requests
+  {"submit":"ann","service":"s","inputs":{"a":4}}  a request, which gets the client's next ticket
+  {"take":"ann","ticket":0}                        a worker takes the request
+  {"answer":"ann","ticket":0}                      the request is run, and its outcome kept
+  {"release":"ann"}                                the client's next result is handed out
+  {"resize":"ann","capacity":3}                    the client has room for three requests
+  {"close":"ann"}                                  the client makes no more requests
+
+An answer with "service" and "inputs", as in a submit, runs that request instead.
+
+Example:
+  desk replay < examples/first.jsonl
+
+The status is 0 at the end of the input, and 1 where a fault ended the run. Standard error then has
+one word: read, write, long (more than 2^40 bytes came) or memory.
+
+docs/LINES.md in the repository has every line and its answers, docs/MODEL.md what M is."#;
+
+/// The lines of `serve`.
+pub const SERVE: &str = r#"Each line is one JSON object:
+  {"model":M}                                      a model, in force from the next line on
+  {"client":"ann","service":"s","inputs":{"a":4}}  a request, which is answered by its result
+  {"client":"ann","close":true}                    the client makes no more requests
+  {"resize":"ann","capacity":3}                    the client has room for three requests
+
+A client's answers come in the order of its lines. They are handed out while lines are read, and the
+rest at the end of the input.
+
+Example:
+  desk serve --workers 4 < examples/clients.jsonl
+
+The status is 0 at the end of the input, and 1 where a fault ended the run. Standard error then has
+one word: read, write, long (more than 2^40 bytes came) or memory.
+
+docs/LINES.md in the repository has every line and its answers, docs/MODEL.md what M is."#;
