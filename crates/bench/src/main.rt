@@ -1,17 +1,11 @@
-//! How long the libraries take, on standard error.
+//! How long decision tables and lanes take, on standard error. What the program itself shows is timed by tools/measure.
 //!
 //! Without words all are timed at their small size; with a name the library of that name; with the name and `whole` the same at
 //! full size, where it has two.
 #![tactic(auto)]
 
-mod desk;
-mod lang;
 mod passing;
-mod pieces;
-mod plan;
-mod read;
 mod tables;
-mod values;
 
 use anyhow::Error;
 use std::alloc::Global;
@@ -21,7 +15,7 @@ use std::thread::Threads;
 use std::time::Clock;
 
 /// What can be timed.
-const NAMES: [&str; 7] = ["values", "read", "lang", "tables", "plan", "lanes", "desk"];
+const NAMES: [&str; 2] = ["tables", "lanes"];
 
 /// Times what has this name, if one has.
 fn time_named<R: Clock + Eprint + Threads + Wait + Sync>(
@@ -31,22 +25,15 @@ fn time_named<R: Clock + Eprint + Threads + Wait + Sync>(
     is_whole: bool,
 ) -> Result<(), Error> {
     match name {
-        "values" => values::time_all(rt, alloc),
-        "read" => Ok(read::time_all(rt, alloc)?),
-        "lang" => Ok(lang::time_all(rt, alloc)?),
         "tables" => tables::time_all(rt, alloc),
-        "plan" => plan::time_all(rt, alloc, is_whole),
         "lanes" => passing::time_all(rt, alloc, is_whole),
-        "desk" => desk::time_all(rt, alloc, is_whole),
         _ => Err(unknown()),
     }
 }
 
 /// What is said of words that ask for nothing.
 fn unknown() -> Error {
-    Error::msg(
-        "expected: nothing, or one of values, read, lang, tables, plan, lanes, desk, and `whole` after it",
-    )
+    Error::msg("expected: nothing, or one of tables, lanes, and `whole` after it")
 }
 
 /// Times all at their small size.

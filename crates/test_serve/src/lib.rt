@@ -1,17 +1,11 @@
-//! The tests of `serve` of `desk_front` through its public interface: whole inputs with their answers, many clients at once,
-//! devices that fail, and memory that is refused.
+//! The tests of `serve` of `desk_front` through its public interface: workers that a gate holds, devices that fail, and memory
+//! that is refused. Whole inputs with their answers are tests of the program.
 #![tactic(auto)]
 
 #[cfg(test)]
 mod device_tests;
 #[cfg(test)]
 mod gate_tests;
-#[cfg(test)]
-mod lane_tests;
-#[cfg(test)]
-mod line_tests;
-#[cfg(test)]
-mod many_tests;
 #[cfg(test)]
 mod refused_tests;
 #[cfg(test)]

@@ -3,7 +3,7 @@ ghost use Rattle.std.specs.Prelude.{◌≡◌, None};
 ghost use Rattle.lanes.specs.Made.{fault_in};
 
 use desk_front::{Counted, FrontFault, Options, serve};
-use lanes::{Gate, OpenGate};
+use lanes::Gate;
 use std::alloc::{AllocError, Global};
 use std::io;
 use std::sync::Wait;
@@ -12,13 +12,6 @@ use std::thread::Threads;
 /// A line with the model of one decision, which is one more than its input.
 pub const MODEL: &str =
     r#"{"model":{"inputs":["a"],"decisions":[{"name":"d","needs":["a"],"expr":"a + 1"}],"services":[{"name":"s","outputs":["d"],"encapsulated":[],"inputDecisions":[],"inputData":["a"]}]}}"#;
-
-/// One lane for one request, and one worker.
-pub const ONE: Options = Options {
-    clients: 1,
-    workers: 1,
-    capacity: 1,
-};
 
 /// Some lanes, and two workers.
 pub const FEW: Options = Options {
@@ -71,33 +64,6 @@ where
         Ended::Left
     };
     (ended, writer.inner)
-}
-
-/// What `serve` writes to an input, and how it ends.
-pub fn served<T: Threads + Wait + Sync>(
-    alloc: Global,
-    rt: &T,
-    options: Options,
-    input: &[u8],
-) -> (Ended, Vec<u8>)
-    requires { fault_in options.clients options.workers options.capacity ≡ None }
-{
-    serve_once(alloc, rt, input, Vec::new(alloc), &OpenGate, options)
-}
-
-/// Whether `serve` reads an input to its end, and writes what is due to each client; under the name "" stands what is due to
-/// none.
-pub fn says<T: Threads + Wait + Sync>(
-    alloc: Global,
-    rt: &T,
-    options: Options,
-    input: &[u8],
-    due: &[(&str, &str)],
-) -> bool
-    requires { fault_in options.clients options.workers options.capacity ≡ None }
-{
-    let (ended, output) = served(alloc, rt, options, input);
-    ended == Ended::Whole(options.clients as usize) && is_due(&output, due)
 }
 
 /// The model on the first line, and other lines behind it.
