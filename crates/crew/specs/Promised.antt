@@ -1,4 +1,4 @@
--- Which ends the threads were started with.
+-- Internal: which ends the threads were started with.
 use Rattle.std.specs.Prelude.{List, map}
 use Rattle.std.specs.declared.thread.PromisedHandle.{PromisedHandle}
 use Rattle.box_core.specs.declared.work.Work.{Ghosts}

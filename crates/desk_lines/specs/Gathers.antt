@@ -1,4 +1,4 @@
--- What is said and waits to be written. Internal: no public contract names it.
+-- Internal but for `Gathers`: what is said and waits to be written.
 use Rattle.std.specs.Prelude.{◌≡◌, ℕ, List, [], ◌++◌, Option, Some}
 use Rattle.std.specs.Io.KnownBytes.{Appends}
 

@@ -1,4 +1,4 @@
--- What the reader of lines does.
+-- Internal: what the reader of lines does.
 use Rattle.std.specs.Prelude.{◌≡◌, ℕ, ◌+◌, ◌-◌, ◌^◌, ◌<◌, ◌≤◌, min, List, [], ◌∷◌, ◌++◌, length, slice_range, Option, Bool, is_some, position, ◌==◌}
 use Rattle.std.specs.Io.KnownBytes.{IsAtEnd, Consumes}
 use Rattle.desk_lines.specs.declared.lines.LineReader.{LineReader}

@@ -1,4 +1,4 @@
--- The line that the code holds.
+-- Internal: the line that the code holds.
 use Rattle.serde_json.specs.View.{view}
 use Rattle.desk_replaying.specs.Line as said
 use Rattle.desk_replaying.specs.declared.line.Line.{Line}

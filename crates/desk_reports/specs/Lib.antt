@@ -1,3 +1,4 @@
+pub mod Holding
 pub mod Parts
 pub mod Shown
 pub mod Words

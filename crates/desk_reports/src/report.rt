@@ -9,6 +9,7 @@ ghost use Rattle.desk_reports.specs.Shown.{reply};
 ghost use Rattle.feel_value.specs.Json.{json_of};
 ghost use Rattle.feel_value.specs.declared.feel.Outcome.TheVariants.{Limit};
 
+use crate::object::{Held, object_of};
 use feel_value::{Feel, Outcome};
 use serde_json::{Value, json};
 use std::alloc::{AllocError, Global};
@@ -18,15 +19,30 @@ pub fn refused_line(alloc: Global, line: u64, word: &str) -> Result<Value, Alloc
     ensures plain { IfOk result (λ v. has_float (view v) ≡ false) }
     ensures value { IfOk result (λ v. view v ≡ object (with_number (codes "line") line (with_name (codes "refused") word.now no_members))) }
 {
-    json!(in alloc; {"line": line, "refused": word})
+    object_of(
+        alloc,
+        &[("line", Held::Number(line)), ("refused", Held::Text(word))],
+    )
 }
 
 /// `{"client":name,"line":k,"refused":word}`
-pub fn refused(alloc: Global, name: &str, line: u64, word: &str) -> Result<Value, AllocError>
+pub fn refused<'a>(
+    alloc: Global,
+    name: &'a str,
+    line: u64,
+    word: &'a str,
+) -> Result<Value, AllocError>
     ensures plain { IfOk result (λ v. has_float (view v) ≡ false) }
     ensures value { IfOk result (λ v. view v ≡ object (with_name (codes "client") name.now (with_number (codes "line") line (with_name (codes "refused") word.now no_members)))) }
 {
-    json!(in alloc; {"client": name, "line": line, "refused": word})
+    object_of(
+        alloc,
+        &[
+            ("client", Held::Text(name)),
+            ("line", Held::Number(line)),
+            ("refused", Held::Text(word)),
+        ],
+    )
 }
 
 /// `{"line":k,"model":true}`
@@ -34,7 +50,10 @@ pub fn loaded(alloc: Global, line: u64) -> Result<Value, AllocError>
     ensures plain { IfOk result (λ v. has_float (view v) ≡ false) }
     ensures value { IfOk result (λ v. view v ≡ object (with_number (codes "line") line (member (codes "model") (boolean true) no_members))) }
 {
-    json!(in alloc; {"line": line, "model": true})
+    object_of(
+        alloc,
+        &[("line", Held::Number(line)), ("model", Held::True)],
+    )
 }
 
 /// `{"fault":word,"line":k,"refused":"model"}`
@@ -42,7 +61,14 @@ pub fn faulty(alloc: Global, line: u64, word: &str) -> Result<Value, AllocError>
     ensures plain { IfOk result (λ v. has_float (view v) ≡ false) }
     ensures value { IfOk result (λ v. view v ≡ object (with_name (codes "fault") word.now (with_number (codes "line") line (with_name (codes "refused") (codes "model") no_members)))) }
 {
-    json!(in alloc; {"fault": word, "line": line, "refused": "model"})
+    object_of(
+        alloc,
+        &[
+            ("fault", Held::Text(word)),
+            ("line", Held::Number(line)),
+            ("refused", Held::Text("model")),
+        ],
+    )
 }
 
 /// `{"client":name,"line":k,"opened":n}`
@@ -50,7 +76,14 @@ pub fn opened(alloc: Global, name: &str, line: u64, capacity: u32) -> Result<Val
     ensures plain { IfOk result (λ v. has_float (view v) ≡ false) }
     ensures value { IfOk result (λ v. view v ≡ object (with_name (codes "client") name.now (with_number (codes "line") line (with_number (codes "opened") capacity no_members)))) }
 {
-    json!(in alloc; {"client": name, "line": line, "opened": capacity})
+    object_of(
+        alloc,
+        &[
+            ("client", Held::Text(name)),
+            ("line", Held::Number(line)),
+            ("opened", Held::Number(capacity as u64)),
+        ],
+    )
 }
 
 /// `{"client":name,"line":k,"resized":n}`
@@ -58,7 +91,14 @@ pub fn resized(alloc: Global, name: &str, line: u64, capacity: u32) -> Result<Va
     ensures plain { IfOk result (λ v. has_float (view v) ≡ false) }
     ensures value { IfOk result (λ v. view v ≡ object (with_name (codes "client") name.now (with_number (codes "line") line (with_number (codes "resized") capacity no_members)))) }
 {
-    json!(in alloc; {"client": name, "line": line, "resized": capacity})
+    object_of(
+        alloc,
+        &[
+            ("client", Held::Text(name)),
+            ("line", Held::Number(line)),
+            ("resized", Held::Number(capacity as u64)),
+        ],
+    )
 }
 
 /// `{"accepted":t,"client":name,"line":k}`
@@ -66,7 +106,14 @@ pub fn accepted(alloc: Global, name: &str, line: u64, ticket: u64) -> Result<Val
     ensures plain { IfOk result (λ v. has_float (view v) ≡ false) }
     ensures value { IfOk result (λ v. view v ≡ object (with_number (codes "accepted") ticket (with_name (codes "client") name.now (with_number (codes "line") line no_members)))) }
 {
-    json!(in alloc; {"accepted": ticket, "client": name, "line": line})
+    object_of(
+        alloc,
+        &[
+            ("accepted", Held::Number(ticket)),
+            ("client", Held::Text(name)),
+            ("line", Held::Number(line)),
+        ],
+    )
 }
 
 /// `{"client":name,"line":k,"taken":t}`
@@ -74,7 +121,14 @@ pub fn taken(alloc: Global, name: &str, line: u64, ticket: u64) -> Result<Value,
     ensures plain { IfOk result (λ v. has_float (view v) ≡ false) }
     ensures value { IfOk result (λ v. view v ≡ object (with_name (codes "client") name.now (with_number (codes "line") line (with_number (codes "taken") ticket no_members)))) }
 {
-    json!(in alloc; {"client": name, "line": line, "taken": ticket})
+    object_of(
+        alloc,
+        &[
+            ("client", Held::Text(name)),
+            ("line", Held::Number(line)),
+            ("taken", Held::Number(ticket)),
+        ],
+    )
 }
 
 /// `{"client":name,"kept":t,"line":k}`
@@ -82,7 +136,14 @@ pub fn kept(alloc: Global, name: &str, line: u64, ticket: u64) -> Result<Value, 
     ensures plain { IfOk result (λ v. has_float (view v) ≡ false) }
     ensures value { IfOk result (λ v. view v ≡ object (with_name (codes "client") name.now (with_number (codes "kept") ticket (with_number (codes "line") line no_members)))) }
 {
-    json!(in alloc; {"client": name, "kept": ticket, "line": line})
+    object_of(
+        alloc,
+        &[
+            ("client", Held::Text(name)),
+            ("kept", Held::Number(ticket)),
+            ("line", Held::Number(line)),
+        ],
+    )
 }
 
 /// `{"client":name,"line":k,"nothing":true}`
@@ -90,7 +151,14 @@ pub fn nothing(alloc: Global, name: &str, line: u64) -> Result<Value, AllocError
     ensures plain { IfOk result (λ v. has_float (view v) ≡ false) }
     ensures value { IfOk result (λ v. view v ≡ object (with_name (codes "client") name.now (with_number (codes "line") line (member (codes "nothing") (boolean true) no_members)))) }
 {
-    json!(in alloc; {"client": name, "line": line, "nothing": true})
+    object_of(
+        alloc,
+        &[
+            ("client", Held::Text(name)),
+            ("line", Held::Number(line)),
+            ("nothing", Held::True),
+        ],
+    )
 }
 
 /// `{"client":name,"closed":true,"line":k}`
@@ -98,7 +166,14 @@ pub fn closed(alloc: Global, name: &str, line: u64) -> Result<Value, AllocError>
     ensures plain { IfOk result (λ v. has_float (view v) ≡ false) }
     ensures value { IfOk result (λ v. view v ≡ object (with_name (codes "client") name.now (member (codes "closed") (boolean true) (with_number (codes "line") line no_members)))) }
 {
-    json!(in alloc; {"client": name, "closed": true, "line": line})
+    object_of(
+        alloc,
+        &[
+            ("client", Held::Text(name)),
+            ("closed", Held::True),
+            ("line", Held::Number(line)),
+        ],
+    )
 }
 
 /// A value in JSON, which has no float.
@@ -125,7 +200,14 @@ fn handed_limit(alloc: Global, name: &str, ticket: u64) -> Result<Value, AllocEr
     ensures plain { IfOk result (λ v. has_float (view v) ≡ false) }
     ensures value { IfOk result (λ v. view v ≡ reply name.now Limit ticket) }
 {
-    json!(in alloc; {"client": name, "fault": "limit", "ticket": ticket})
+    object_of(
+        alloc,
+        &[
+            ("client", Held::Text(name)),
+            ("fault", Held::Text("limit")),
+            ("ticket", Held::Number(ticket)),
+        ],
+    )
 }
 
 /// `{"client":name,"result":V,"ticket":t}`, or `{"client":name,"fault":"limit","ticket":t}` where a limit was broken.

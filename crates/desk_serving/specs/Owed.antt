@@ -1,5 +1,5 @@
--- What the lanes still owe their clients, and what handing it out keeps. Internal: no public contract cites these words but
--- `Lane`, `lane_in` and `AreBooked`.
+-- Internal but for `Lane`, `lane_in` and `AreBooked`: what the lanes still owe their clients, and what handing it out
+-- keeps.
 use Rattle.std.specs.Prelude.{◌≡◌, ◌+◌, ℕ, Bool, true, false, ◌||◌, nat_le, if◌then◌else◌, List, [], ◌∷◌, ◌++◌, Option, Some, None, length, drop, map, bytes_eq}
 use Rattle.std.specs.Coded.{×_prop, Unit-prop}
 use Rattle.std.specs.List.{flat_map}

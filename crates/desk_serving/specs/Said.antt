@@ -1,4 +1,4 @@
--- What is said of a close and of a resize by what the lane answers. Internal: no public contract cites these words.
+-- Internal: what is said of a close and of a resize by what the lane answers.
 use Rattle.std.specs.Prelude.{ℕ, Bool, true, false, List, Option, Some, None, codes}
 use Rattle.serde_json.specs.Data.{Data}
 use Rattle.box_core.specs.declared.faults.Refusal.{Refusal}

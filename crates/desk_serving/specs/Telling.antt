@@ -1,4 +1,4 @@
--- Entries on their way to a writer. Internal: no public contract cites these words.
+-- Internal: entries on their way to a writer.
 use Rattle.std.specs.Prelude.{◌≡◌, ℕ, List, ◌++◌, Option}
 use Rattle.std.specs.List.{flat_map}
 use Rattle.std.specs.Io.KnownBytes.{Appends}

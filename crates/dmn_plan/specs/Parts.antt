@@ -1,4 +1,4 @@
--- Internal, cited by no public contract: what is found on the way to a plan.
+-- Internal but for `fault_of`: what is found on the way to a plan.
 use Rattle.std.specs.Prelude.{◌≡◌, ℕ, List, map, Some, option_map, Result, false}
 use Rattle.feel_lang.specs.Expr.{Expr}
 use Rattle.dmn_table.specs.Table.{Table}

@@ -1,4 +1,4 @@
--- Names, needs and logic of a model by places, and when plans of services are those of a model.
+-- Internal: names, needs and logic of a model by places, and when plans of services are those of a model.
 use Rattle.std.specs.Prelude.{◌≡◌, ◌<◌, ◌≤◌, ℕ, List, [], ◌∷◌, ◌++◌, map, length, true, Option, None, Some, option_map, Result, Ok, Err, string_bytes, slice_index_or, ⊤}
 use Rattle.std.specs.List.{All}
 use Rattle.feel_lang.specs.Expr.{Expr}

@@ -1,4 +1,4 @@
--- Internal, cited by no public contract: where the last binding of a name stands.
+-- Internal but for `bindings_of`: where the last binding of a name stands.
 use Rattle.std.specs.Prelude.{◌≡◌, ℕ, suc, ◌<◌, List, [], ◌∷◌, map, take, length, slice_index_or, Option, Some, None, String, string_bytes, bytes_eq, if◌then◌else◌}
 use Rattle.std.specs.declared.alloc.Global.{Global}
 use Rattle.std.specs.BTreeMap.{BTreeMap, get_by_text}

@@ -1,4 +1,4 @@
--- Internal: no public contract cites these words, and the laws of `Readings` say what they come to.
+-- Internal behind `expr_of_spells`, `tests_of_spells` and `literal_of_spells`: laws that tie it to the grammar.
 -- Reading the first token of a text, byte by byte. What is read is the token and the bytes after it.
 use Rattle.std.specs.List.{list_all, prefix_len}
 use Rattle.std.specs.Prelude.{ℕ, zero, suc, Bool, true, false, not, ◌&&◌, List, [], ◌∷◌, ◌++◌, length, take, drop, Option, Some, None, nat_le, nat_lt, ◌==◌, if◌then◌else◌}

@@ -1,4 +1,4 @@
--- Internal: no public contract cites these words, and the laws of `Readings` say what they come to.
+-- Internal behind `expr_of_spells`, `tests_of_spells` and `literal_of_spells`: laws that tie it to the grammar.
 -- Reading unary tests and literals from their tokens, once from left to right. What is read is a test and the tokens after it.
 use Rattle.std.specs.Prelude.{ℕ, zero, suc, Bool, true, false, ℤ, pos, ◌-ℤ◌, List, [], ◌∷◌, ◌++◌, length, Option, Some, None, nat_le, if◌then◌else◌}
 use Rattle.feel_lang.specs.declared.token.Word.TheVariants as word

@@ -1,4 +1,4 @@
--- Internal: no public contract cites these words. The expression that a `Tree` of the code stands for.
+-- The expression that a `Tree` of the code stands for.
 use Rattle.std.specs.Prelude.{List, [], ◌∷◌, map, string_bytes}
 use Rattle.feel_lang.specs.Expr.{Expr, Exprs, none, more}
 use Rattle.feel_lang.specs.Expr as expr

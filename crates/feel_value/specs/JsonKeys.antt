@@ -1,4 +1,4 @@
--- The keys of a JSON object rise: each is before all the later ones, in the order of their bytes. So they are distinct.
+-- Internal: the keys of a JSON object rise, each before all later ones in the order of their bytes, so they are distinct.
 use Rattle.std.specs.Prelude.{ℕ, List, Bool, true, ◌&&◌}
 use Rattle.std.specs.Ordering.{nat_cmp, is_lt}
 use Rattle.std.specs.Cmp.Lexicographic.{slice_cmp}

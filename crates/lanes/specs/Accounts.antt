@@ -1,4 +1,4 @@
--- What a client's mailbox has of the requests that were put. Internal: no public contract cites these words but `is_open`.
+-- Internal but for `is_open`: what a client's mailbox has of the requests that were put.
 use Rattle.std.specs.Prelude.{◌≡◌, ◌≢◌, ℕ, ◌+◌, ◌<◌, ◌≤◌, Bool, true, false, All, List, [], ◌∷◌, length, map, slice_get, Option, Some, None, is_some, if◌then◌else◌}
 use Rattle.box_core.specs.Answer.{Ticketed}
 use Rattle.box_core.specs.Mail.{Mail, Place, open_in}

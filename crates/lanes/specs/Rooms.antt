@@ -1,4 +1,4 @@
--- The room that lanes take to settle. Internal: no public contract cites it.
+-- Internal: the room that lanes take to settle.
 use Rattle.std.specs.Prelude.{◌≡◌, ◌≢◌, ℕ, ◌≤◌, All, List, [], ◌∷◌, length, Vec, vec_capacity}
 use Rattle.std.specs.declared.alloc.Global.{Global}
 use Rattle.box_core.specs.Answer.{Ticketed}
