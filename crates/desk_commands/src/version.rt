@@ -5,5 +5,5 @@
 pub const VERSION: &str = concat!(
     "0.9.0\n",
     "proved with rattle-kit-13b logic dac8208d650f15bf\n",
-    "sources cd93666423d9fde1b9b3f4db7f3f3c76ab1ff37f43a94b3b438514b2ff25dc13",
+    "sources bce3fe1e743ace6f62e7db465e03ea77332dd77f8d7c97256e32b51d1d4a8cb9",
 );

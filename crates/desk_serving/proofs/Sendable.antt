@@ -18,6 +18,9 @@ use Rattle.dmn_table.specs.contracts.table.Rule as Rule
 use Rattle.dmn_table.specs.contracts.table.Table as Table
 use Rattle.dmn_table.specs.contracts.table.Table.TheInside as TableInside
 use denote.Param.SendFields.{as_row_send, as_row_sync}
+use Rattle.std.specs.contracts.alloc.Global as Heap
+use Rattle.std.specs.contracts.impls.GlobalAllocator.TheImpl.{ghosts}
+use Rattle.std.specs.contracts.sync.ArcStr as ArcStr
 use Rattle.dmn_logic.specs.contracts.logic.Logic as Logic
 use Rattle.dmn_logic.proofs.logic.Logic.TheLaws.TheKnot as LogicKnot
 use Rattle.dmn_service.specs.contracts.plan.Item as Item
@@ -27,8 +30,14 @@ use Rattle.dmn_plan.specs.contracts.plan.Plan.TheInside as PlanInside
 use Rattle.dmn_plan.specs.contracts.task.Task as Task
 use Rattle.dmn_plan.specs.contracts.task.Task.TheInside as TaskInside
 
+pub Text-send : IsSend (ArcStr.the_row Heap.the_row ghosts)
+Text-send = search (maps.String-send, maps.String-sync, Arc-send, sendable) depth 20
+
+pub Text-sync : IsSync (ArcStr.the_row Heap.the_row ghosts)
+Text-sync = search (maps.String-send, maps.String-sync, Arc-sync, sendable) depth 20
+
 pub Feel-send : IsSend Feel.the_row
-Feel-send = search (crosses, ValueKnot.crosses, sendable) depth 60 fits 20000
+Feel-send = search (Text-send, Text-sync, Vec-send, Vec-sync, Arc-send, Arc-sync, ValueKnot.crosses_both, sendable) depth 60 fits 200000
 
 pub Expr-send : IsSend Expr.the_row
 Expr-send = search (operator.the_field_send, function.the_field_send, crosses, TreeKnot.crosses, sendable) depth 60 fits 20000
@@ -49,7 +58,7 @@ pub Table-send : IsSend Table.the_row
 Table-send = view_send _ _ _ _ _ TableInside-send
 
 pub Feel-sync : IsSync Feel.the_row
-Feel-sync = search (crosses, ValueKnot.crosses, sendable) depth 60 fits 20000
+Feel-sync = search (Text-send, Text-sync, Vec-send, Vec-sync, Arc-send, Arc-sync, ValueKnot.crosses_both, sendable) depth 60 fits 200000
 
 pub Expr-sync : IsSync Expr.the_row
 Expr-sync = search (operator.the_field_sync, function.the_field_sync, crosses, TreeKnot.crosses, sendable) depth 60 fits 20000

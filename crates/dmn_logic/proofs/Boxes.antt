@@ -1,5 +1,7 @@
 -- Boxed expressions, one member or one entry at a time.
 use Rattle.std.proofs.Common.{◌≡◌, ℕ, ◌+◌, ◌<◌, List, [], ◌∷◌, ◌++◌, map, length, get_or, take, drop, refl, sym, ap, ◌∙◌, append_assoc, String, Vec, Box, Global, string_bytes, rules, Option, None, Some, arith}
+use Rattle.std.specs.Arc.{arc_str_bytes}
+use Rattle.std.specs.declared.sync.ArcStr.{ArcStr}
 use Rattle.std.proofs.lemmas.List.{at_drop_more, map-append}
 use Rattle.std.proofs.lemmas.Grind.{common_steps}
 use Rattle.feel_value.specs.Datum.{Datum}
@@ -67,11 +69,11 @@ kept_in_front : (outer m r : Bindings) → take (length outer) m ≡ outer → t
 kept_in_front outer m r e = grind (arith, common_steps)
 
 -- one turn of the loop over the entries of a context
-pub entry_turn : (whole : Option (List (List ℕ × Datum))) (outer m0 m1 m2 : Bindings) (vs ws : List (String Global × Value)) (xs : List Named) (i : ℕ) (x : Named)
-    (key : String Global) (name : List ℕ) (v : Value) (d e : Datum)
+pub entry_turn : (whole : Option (List (List ℕ × Datum))) (outer m0 m1 m2 : Bindings) (vs ws : List (ArcStr Global × Value)) (xs : List Named) (i : ℕ) (x : Named)
+    (key : ArcStr Global) (name : List ℕ) (v : Value) (d e : Datum)
     → (take (length outer) m0 ≡ outer) × (whole ≡ after (map pair_view vs) (entry_values (entries_view (drop i xs)) m0))
     → x ≡ get_or xs i x → i < length xs → Is d ≡ boxed (logic_view x.1) m0 → m1 ≡ m0 → m2 ≡ m1 ++ (name, e) ∷ [] → e ≡ d → name ≡ string_bytes x.0
-    → string_bytes key ≡ string_bytes x.0 → datum_of v ≡ d → ws ≡ vs ++ (key, v) ∷ []
+    → arc_str_bytes key ≡ string_bytes x.0 → datum_of v ≡ d → ws ≡ vs ++ (key, v) ∷ []
     → (take (length outer) m2 ≡ outer) × (whole ≡ after (map pair_view ws) (entry_values (entries_view (drop (i + 1) xs)) m2))
 entry_turn whole outer m0 m1 m2 vs ws xs i x key name v d e before here more outcome kept bound copied named keyed same pushed =
     let pair : List ℕ × Datum = (string_bytes x.0, d) in

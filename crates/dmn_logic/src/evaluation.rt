@@ -10,6 +10,7 @@ use dmn_table::decide;
 use feel_lang::{Env, eval};
 use feel_value::{Outcome, Value};
 use std::alloc::{AllocError, Global};
+use std::sync::ArcStr;
 
 /// The outcome of a boxed expression, where names have the values that the environment gives them.
 ///
@@ -51,7 +52,7 @@ fn list_outcome(alloc: Global, members: &[Logic], env: &mut Env) -> Result<Outco
     ensures same { env.new ≡ env.old }
 {
     match member_values(alloc, members, env)? {
-        Some(values) => Ok(Outcome::of(Value::List(values))),
+        Some(values) => Outcome::list(alloc, values),
         None => Ok(Outcome::Limit),
     }
 }
@@ -90,7 +91,7 @@ fn context_outcome(
     let values = entry_values(alloc, entries, env);
     env.cut(before);
     match values? {
-        Some(values) => Ok(Outcome::of(Value::Context(values))),
+        Some(values) => Outcome::context(alloc, values),
         None => Ok(Outcome::Limit),
     }
 }
@@ -101,7 +102,7 @@ fn entry_values(
     alloc: Global,
     entries: &[(String, Logic)],
     env: &mut Env,
-) -> Result<Option<Vec<(String, Value)>>, AllocError>
+) -> Result<Option<Vec<(ArcStr, Value)>>, AllocError>
     ensures value { IfOk result (λ o. option_map pairs_view o ≡ entry_values_of (entries_view entries.now) env.old) }
     ensures outer { take (length env.old) env.new ≡ env.old }
 {
@@ -110,8 +111,8 @@ fn entry_values(
         let Outcome::Is(value) = evaluate(alloc, logic, env)? else {
             return Ok(None);
         };
-        let key = String::from_str(alloc, name.as_str())?;
-        env.bind(name.as_str(), value.try_clone(alloc)?)?;
+        let key = ArcStr::from_str(alloc, name.as_str())?;
+        env.bind(name.as_str(), value.try_clone()?)?;
         values.push((key, value.into_value()))?;
     }
     Ok(Some(values))

@@ -1,5 +1,6 @@
 -- Values are one and the same where their parts are.
-use Rattle.std.proofs.Common.{◌≡◌, suc, Bool, true, false, ◌&&◌, List, [], ◌∷◌, length, refl, sym, ap, ap₂, ◌∙◌, true≢false, string_bytes, ◌↔◌, IsTrue, ℕ, ◌+◌, ◌<◌, ◌≤◌, drop, get_or, subst}
+use Rattle.std.proofs.Common.{◌≡◌, suc, Bool, true, false, ◌&&◌, List, [], ◌∷◌, length, refl, sym, ap, ap₂, ◌∙◌, true≢false, ◌↔◌, IsTrue, ℕ, ◌+◌, ◌<◌, ◌≤◌, drop, get_or, subst}
+use Rattle.std.specs.Arc.{arc_str_bytes}
 use Rattle.std.proofs.lemmas.List.{at_drop_more, drop_all}
 use Rattle.std.specs.Prelude.{bytes_eq}
 use Rattle.std.specs.Bool.{Decides}
@@ -122,7 +123,7 @@ other_entries [] (y ∷ ys) h = refl
 other_entries (x ∷ xs) [] h = refl
 other_entries (x ∷ xs) (y ∷ ys) h =
     let later = other_entries xs ys (λ e. h (ap suc e)) in
-    and_false (bytes_eq (string_bytes x.0) (string_bytes y.0)) _ (and_false (is_same (datum_of x.1) (datum_of y.1)) _ later)
+    and_false (bytes_eq (arc_str_bytes x.0) (arc_str_bytes y.0)) _ (and_false (is_same (datum_of x.1) (datum_of y.1)) _ later)
 
 pub other_values : (xs ys : List Datum) → (length xs ≡ length ys → ⊥) → pointwise is_same xs ys ≡ false
 other_values [] [] h = absurd (h refl)

@@ -4,6 +4,7 @@ ghost use Rattle.feel_value.specs.View.{datum_of, items_view, entries_view};
 ghost use Rattle.dmn_plan.specs.Identical.{is_same, are_same_items, are_same_entries};
 
 use feel_value::{Feel, Value};
+use std::sync::ArcStr;
 
 /// Whether two lists have the same values in one order. The time is linear in the nodes.
 pub(crate) fn same_values(a: &[Feel], b: &[Feel]) -> bool
@@ -54,7 +55,7 @@ fn same_items(a: &[Value], b: &[Value]) -> bool
 
 /// Whether two contexts have the same entries in one order.
 #[cycle(same)]
-fn same_entries(a: &[(String, Value)], b: &[(String, Value)]) -> bool
+fn same_entries(a: &[(ArcStr, Value)], b: &[(ArcStr, Value)]) -> bool
     ensures { result ≡ are_same_entries (entries_view a.now) (entries_view b.now) }
 {
     if a.len() != b.len() {

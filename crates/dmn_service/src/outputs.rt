@@ -15,6 +15,7 @@ use crate::plan::Item;
 use feel_value::{Feel, Outcome, Value};
 use std::alloc::{AllocError, Global};
 use std::collections::BTreeMap;
+use std::sync::ArcStr;
 
 /// The outcome of the outputs: the value of the only one, or the context of all in their order.
 pub(crate) fn output_outcome(
@@ -46,7 +47,7 @@ fn values(
         let Some(value) = value_at(found, *place) else {
             return Ok(None);
         };
-        values.push(value.try_clone(alloc)?)?;
+        values.push(value.try_clone()?)?;
     }
     Ok(Some(values))
 }
@@ -96,8 +97,8 @@ fn named(
         let Some(value) = values.next() else {
             break;
         };
-        let name = String::from_str(alloc, items[*output].name.as_str())?;
+        let name = ArcStr::from_str(alloc, items[*output].name.as_str())?;
         entries.push((name, value.into_value()))?;
     }
-    Ok(Outcome::of(Value::Context(entries)))
+    Outcome::context(alloc, entries)
 }

@@ -47,7 +47,7 @@ fn given(
 {
     let mut found = BTreeMap::new(alloc);
     for (i, place) in parameters.iter().enumerate() {
-        let value = values[i].try_clone(alloc)?;
+        let value = values[i].try_clone()?;
         keep(&mut found, *place, Outcome::Is(value))?;
     }
     Ok(found)
@@ -106,7 +106,7 @@ fn needed(
         let Some(value) = value_at(found, *need) else {
             return Ok(None);
         };
-        env.bind(items[*need].name.as_str(), value.try_clone(alloc)?)?;
+        env.bind(items[*need].name.as_str(), value.try_clone()?)?;
     }
     Ok(Some(env))
 }

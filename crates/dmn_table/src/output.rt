@@ -14,6 +14,7 @@ use crate::table::Output;
 use feel_lang::{Env, Expr, eval};
 use feel_value::{Feel, Outcome, Value};
 use std::alloc::{AllocError, Global};
+use std::sync::ArcStr;
 
 /// The values of the expressions; None where one breaks a limit.
 pub(crate) fn evaluated(
@@ -110,8 +111,8 @@ fn named(alloc: Global, outputs: &[Output], values: Vec<Feel>) -> Result<Outcome
         let Some(value) = values.next() else {
             break;
         };
-        let name = String::from_str(alloc, output.name.as_str())?;
+        let name = ArcStr::from_str(alloc, output.name.as_str())?;
         entries.push((name, value.into_value()))?;
     }
-    Ok(Outcome::of(Value::Context(entries)))
+    Outcome::context(alloc, entries)
 }

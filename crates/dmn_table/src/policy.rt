@@ -93,7 +93,7 @@ fn list_of(alloc: Global, hits: Vec<Hit>) -> Result<Outcome, AllocError>
     for hit in hits {
         items.push(hit.output.into_value())?;
     }
-    Ok(Outcome::of(Value::List(items)))
+    Outcome::list(alloc, items)
 }
 
 /// The number of the hits.

@@ -18,6 +18,7 @@ use crate::expr::Tree;
 use crate::operands::{Operand, Operands};
 use feel_value::{Outcome, Truth, Value};
 use std::alloc::{AllocError, Global};
+use std::sync::ArcStr;
 
 /// The value of an expression, where names have the values that the environment gives them, and null where it has none; or that
 /// a limit is broken. Every part is evaluated but the branch of an `if` that isn't taken. A bound value is copied only where the result
@@ -30,8 +31,8 @@ pub(crate) fn eval(alloc: Global, expr: &Tree, env: &Env) -> Result<Outcome, All
         Tree::Null => Ok(null()),
         Tree::Boolean(b) => Ok(Outcome::of(Value::Bool(*b))),
         Tree::Number(n) => Ok(number(i64::try_from(*n).ok())),
-        Tree::Text(text) => Ok(Outcome::of(Value::Text(String::from_str(alloc, text.as_str())?))),
-        Tree::Name(name) => named(alloc, name.as_str(), env),
+        Tree::Text(text) => Ok(Outcome::of(Value::Text(ArcStr::from_str(alloc, text.as_str())?))),
+        Tree::Name(name) => named(name.as_str(), env),
         Tree::Group(inner) => eval(alloc, inner, env),
         Tree::List(exprs) => list(alloc, exprs, env),
         Tree::Call(function, argument) => Ok(call(*function, operand(alloc, argument, env)?)),
@@ -119,11 +120,11 @@ fn lies_between(
 }
 
 // The value of a name; null where it has none.
-fn named(alloc: Global, name: &str, env: &Env) -> Result<Outcome, AllocError>
+fn named(name: &str, env: &Env) -> Result<Outcome, AllocError>
     ensures { IfOk result (λ o. o ≡ Is (unwrap_or (bound name.now env.now) null_value)) }
 {
     match env.find(name) {
-        Some(value) => Ok(Outcome::Is(value.try_clone(alloc)?)),
+        Some(value) => Ok(Outcome::Is(value.try_clone()?)),
         None => Ok(null()),
     }
 }
@@ -134,7 +135,7 @@ fn list(alloc: Global, exprs: &[Tree], env: &Env) -> Result<Outcome, AllocError>
     ensures { IfOk result (λ o. o ≡ list_held (dens (views exprs.now) env.now)) }
 {
     match members(alloc, exprs, env)? {
-        Some(values) => Ok(Outcome::of(Value::List(values))),
+        Some(values) => Outcome::list(alloc, values),
         None => Ok(Outcome::Limit),
     }
 }

@@ -10,6 +10,7 @@ use crate::env::Env;
 use crate::expr::Tree;
 use feel_value::Value;
 use std::alloc::{AllocError, Global};
+use std::sync::Arc;
 
 // The entry of that name; of a list the list of its members' entries; otherwise null.
 #[cycle(path)]
@@ -18,10 +19,10 @@ pub(crate) fn path(alloc: Global, value: &Value, name: &str) -> Result<Value, Al
 {
     match value {
         Value::Context(_) => match value.entry(name) {
-            Some(entry) => entry.try_clone(alloc),
+            Some(entry) => entry.try_clone(),
             None => Ok(Value::Null),
         },
-        Value::List(items) => Ok(Value::List(paths(alloc, items, name)?)),
+        Value::List(items) => Ok(Value::List(Arc::new(alloc, paths(alloc, items, name)?)?)),
         _ => Ok(Value::Null),
     }
 }

@@ -11,6 +11,7 @@ use crate::fault::ReadFault;
 use crate::token::{Sign, Token, Word};
 use feel_value::{Feel, Value};
 use std::alloc::Global;
+use std::sync::ArcStr;
 
 // The number of a token, within the range of numbers.
 fn number(n: u64) -> Result<i64, ReadFault>
@@ -25,7 +26,7 @@ fn constant(alloc: Global, token: &Token) -> Result<Value, ReadFault>
 {
     match token {
         Token::Number(n) => Ok(Value::Number(number(*n)?)),
-        Token::Text(text) => Ok(Value::Text(text.clone()?)),
+        Token::Text(text) => Ok(Value::Text(ArcStr::from_str(alloc, text.as_str())?)),
         Token::Keyword(Word::Null) => Ok(Value::Null),
         Token::Keyword(Word::True) => Ok(Value::Bool(true)),
         Token::Keyword(Word::False) => Ok(Value::Bool(false)),

@@ -1,5 +1,6 @@
 -- Names that rise are distinct; other names are looked for, entry by entry.
-use Rattle.std.proofs.Common.{◌≡◌, ℕ, ◌+◌, ◌-◌, ◌<◌, Bool, true, false, ◌&&◌, ◌||◌, not, bytes_eq, if◌then◌else◌, Option, Some, None, is_some, option_map, List, length, get_or, take, drop, refl, sym, ap, ap₂, ◌∙◌, string_bytes, Ordering, Less, Equal, Greater, is_lt, is_eq, nat_cmp}
+use Rattle.std.proofs.Common.{◌≡◌, ℕ, ◌+◌, ◌-◌, ◌<◌, Bool, true, false, ◌&&◌, ◌||◌, not, bytes_eq, if◌then◌else◌, Option, Some, None, is_some, option_map, List, length, get_or, take, drop, refl, sym, ap, ap₂, ◌∙◌, Ordering, Less, Equal, Greater, is_lt, is_eq, nat_cmp}
+use Rattle.std.specs.Arc.{arc_str_bytes}
 use Rattle.std.proofs.lemmas.Cmp.{nat_list_cmp_total}
 use Rattle.std.proofs.lemmas.List.{take_rest}
 use Rattle.std.proofs.lemmas.Map.Text.{is_eq-slice_cmp}
@@ -66,7 +67,7 @@ pub is_found : {X : Type 0} (f : X → Datum) (o : Option X) (n : List ℕ) (es 
 is_found f o n es e = sym (some_mapped f o) ∙ ap is_some e ∙ sym (has_name-value_at n es)
 
 -- the entry at hand has a name of a later one, or only the later ones matter
-pub differ_step : {X : Type 0} (f : X → Datum) (xs : List Entry) (i : ℕ) (x : Entry) (o : Option X) (name : List ℕ) → x ≡ get_or xs i x → i < length xs → name ≡ string_bytes x.0
+pub differ_step : {X : Type 0} (f : X → Datum) (xs : List Entry) (i : ℕ) (x : Entry) (o : Option X) (name : List ℕ) → x ≡ get_or xs i x → i < length xs → name ≡ arc_str_bytes x.0
     → option_map f o ≡ value_at name (entries_view (take (length xs - (i + 1)) (drop (i + 1) xs)))
     → names_differ (entries_view (drop i xs)) ≡ (not (is_some o) && names_differ (entries_view (drop (i + 1) xs)))
 differ_step f xs i x o name e h named found =

@@ -1,5 +1,6 @@
 -- Values read from JSON, member by member.
-use Rattle.std.proofs.Common.{◌≡◌, ℕ, ◌+◌, ◌<◌, Option, Some, None, option_map, option_and_then, List, [], ◌∷◌, ◌++◌, get_or, drop, length, refl, sym, ap, ◌∙◌, string_bytes}
+use Rattle.std.proofs.Common.{◌≡◌, ℕ, ◌+◌, ◌<◌, Option, Some, None, option_map, option_and_then, List, [], ◌∷◌, ◌++◌, get_or, drop, length, refl, sym, ap, ◌∙◌}
+use Rattle.std.specs.Arc.{arc_str_bytes}
 use Rattle.std.proofs.lemmas.List.{at_drop_more}
 use Rattle.serde_json.specs.Data as json
 use Rattle.serde_json.specs.View as seen
@@ -19,15 +20,15 @@ items_after (v ∷ vs) ds = item (datum_of v) (items_after vs ds)
 
 abbrev pub entries_after : List Entry → Entries → Entries
 entries_after [] es = es
-entries_after (x ∷ xs) es = entry (string_bytes x.0) (datum_of x.1) (entries_after xs es)
+entries_after (x ∷ xs) es = entry (arc_str_bytes x.0) (datum_of x.1) (entries_after xs es)
 
 pub items_after-push : (vs : List Value) (v : Value) (ds : Items) → items_after vs (item (datum_of v) ds) ≡ items_after (vs ++ v ∷ []) ds
 items_after-push [] v ds = refl
 items_after-push (w ∷ vs) v ds = ap (item (datum_of w)) (items_after-push vs v ds)
 
-pub entries_after-push : (xs : List Entry) (x : Entry) (es : Entries) → entries_after xs (entry (string_bytes x.0) (datum_of x.1) es) ≡ entries_after (xs ++ x ∷ []) es
+pub entries_after-push : (xs : List Entry) (x : Entry) (es : Entries) → entries_after xs (entry (arc_str_bytes x.0) (datum_of x.1) es) ≡ entries_after (xs ++ x ∷ []) es
 entries_after-push [] x es = refl
-entries_after-push (y ∷ xs) x es = ap (entry (string_bytes y.0) (datum_of y.1)) (entries_after-push xs x es)
+entries_after-push (y ∷ xs) x es = ap (entry (arc_str_bytes y.0) (datum_of y.1)) (entries_after-push xs x es)
 
 pub items_after-all : (vs : List Value) → items_after vs no_items ≡ items_view vs
 items_after-all [] = refl
@@ -35,7 +36,7 @@ items_after-all (v ∷ vs) = ap (item (datum_of v)) (items_after-all vs)
 
 pub entries_after-all : (xs : List Entry) → entries_after xs no_entries ≡ entries_view xs
 entries_after-all [] = refl
-entries_after-all (x ∷ xs) = ap (entry (string_bytes x.0) (datum_of x.1)) (entries_after-all xs)
+entries_after-all (x ∷ xs) = ap (entry (arc_str_bytes x.0) (datum_of x.1)) (entries_after-all xs)
 
 pub items_after-none : (o : Option Items) → o ≡ option_map (items_after []) o
 items_after-none None = refl
@@ -51,7 +52,7 @@ pub items_step : (vs : List Value) (v : Value) (o : Option Datum) (rest : Option
 items_step vs v o None e = ap (λ p. option_map (items_after vs) (option_and_then (λ d. option_map (item d) None) p)) e
 items_step vs v o (Some ds) e = ap (λ p. option_map (items_after vs) (option_and_then (λ d. option_map (item d) (Some ds)) p)) e ∙ ap Some (items_after-push vs v ds)
 
-pub entries_step : (xs : List Entry) (x : Entry) (n : List ℕ) (o : Option Datum) (rest : Option Entries) → n ≡ string_bytes x.0 → o ≡ Some (datum_of x.1)
+pub entries_step : (xs : List Entry) (x : Entry) (n : List ℕ) (o : Option Datum) (rest : Option Entries) → n ≡ arc_str_bytes x.0 → o ≡ Some (datum_of x.1)
     → option_map (entries_after xs) (option_and_then (λ e. option_map (entry n e) rest) o) ≡ option_map (entries_after (xs ++ x ∷ [])) rest
 entries_step xs x n o None named e = ap (λ p. option_map (entries_after xs) (option_and_then (λ d. option_map (entry n d) None) p)) e
 entries_step xs x n o (Some es) named e =

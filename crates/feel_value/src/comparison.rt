@@ -9,6 +9,7 @@ use crate::feel::Feel;
 use crate::logic::{Truth, decided};
 use crate::names::find;
 use crate::value::Value;
+use std::sync::ArcStr;
 
 /// Whether two values are equal.
 ///
@@ -75,7 +76,7 @@ fn same_items(a: &[Value], b: &[Value]) -> bool
 
 // Whether each entry of the first has its name and an equal value in the second.
 #[cycle(same)]
-fn same_entries(a: &[(String, Value)], b: &[(String, Value)]) -> bool
+fn same_entries(a: &[(ArcStr, Value)], b: &[(ArcStr, Value)]) -> bool
     ensures { result ≡ values_match (entries_view a.now) (entries_view b.now) }
 {
     for (i, (name, value)) in a.iter().enumerate() {
@@ -88,7 +89,7 @@ fn same_entries(a: &[(String, Value)], b: &[(String, Value)]) -> bool
 
 // Whether an entry has the name and an equal value. From `place` on is looked first: there it stands in contexts of one order.
 #[cycle(same)]
-fn has_equal(value: &Value, name: &str, entries: &[(String, Value)], place: usize) -> bool
+fn has_equal(value: &Value, name: &str, entries: &[(ArcStr, Value)], place: usize) -> bool
     ensures { result ≡ has_entry (λ e. is_yes (equal_of (datum_of value.now) e)) name.now (entries_view entries.now) }
 {
     let (before, after) = entries.split_at(place.min(entries.len()));
@@ -96,7 +97,7 @@ fn has_equal(value: &Value, name: &str, entries: &[(String, Value)], place: usiz
 }
 
 #[cycle(same)]
-fn has_equal_among(value: &Value, name: &str, entries: &[(String, Value)]) -> bool
+fn has_equal_among(value: &Value, name: &str, entries: &[(ArcStr, Value)]) -> bool
     ensures { result ≡ has_entry (λ e. is_yes (equal_of (datum_of value.now) e)) name.now (entries_view entries.now) }
 {
     for (key, other) in entries {
@@ -108,7 +109,7 @@ fn has_equal_among(value: &Value, name: &str, entries: &[(String, Value)]) -> bo
 }
 
 // Whether each name of the first is a name of the second.
-fn names_within(a: &[(String, Value)], b: &[(String, Value)]) -> bool
+fn names_within(a: &[(ArcStr, Value)], b: &[(ArcStr, Value)]) -> bool
     ensures { result ≡ has_names (entries_view a.now) (entries_view b.now) }
 {
     for (i, (name, _)) in a.iter().enumerate() {
@@ -120,7 +121,7 @@ fn names_within(a: &[(String, Value)], b: &[(String, Value)]) -> bool
 }
 
 // Whether an entry has the name, looked for from `place` on first.
-fn has_name(name: &str, entries: &[(String, Value)], place: usize) -> bool
+fn has_name(name: &str, entries: &[(ArcStr, Value)], place: usize) -> bool
     ensures { result ≡ is_name_of name.now (entries_view entries.now) }
 {
     let (before, after) = entries.split_at(place.min(entries.len()));

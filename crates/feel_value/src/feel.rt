@@ -14,6 +14,7 @@ use crate::names::has_distinct_names;
 use crate::value::Value;
 use std::alloc::{AllocError, Global};
 use std::marker::Model;
+use std::sync::{Arc, ArcStr};
 
 /// A value that keeps the limits, and whose contexts have distinct names.
 ///
@@ -77,11 +78,11 @@ impl Feel {
         write(alloc, self.value())
     }
 
-    /// A copy.
-    pub fn try_clone(&self, alloc: Global) -> Result<Feel, AllocError>
+    /// A copy, which shares its texts, lists and contexts with this value. The time is constant.
+    pub fn try_clone(&self) -> Result<Feel, AllocError>
         ensures { IfOk result (λ f. f ≡ self.now) }
     {
-        let value = copy(alloc, self.value())?;
+        let value = copy(self.value())?;
         Ok(Feel { value })
     }
 
@@ -111,7 +112,23 @@ pub enum Outcome {
 }
 
 impl Outcome {
+    ghost use Rattle.feel_value.specs.Datum.{list, context};
     ghost use Rattle.feel_value.specs.Outcome.{held};
+    ghost use Rattle.feel_value.specs.View.{items_view, entries_view};
+
+    /// The list of the members, held against the limits.
+    pub fn list(alloc: Global, members: Vec<Value>) -> Result<Outcome, AllocError>
+        ensures { IfOk result (λ o. o ≡ held (list (items_view members.items))) }
+    {
+        Ok(Outcome::of(Value::List(Arc::new(alloc, members)?)))
+    }
+
+    /// The context of the entries, in their order, held against the limits.
+    pub fn context(alloc: Global, entries: Vec<(ArcStr, Value)>) -> Result<Outcome, AllocError>
+        ensures { IfOk result (λ o. o ≡ held (context (entries_view entries.items))) }
+    {
+        Ok(Outcome::of(Value::Context(Arc::new(alloc, entries)?)))
+    }
 
     /// The value held against the limits.
     pub fn of(value: Value) -> Outcome

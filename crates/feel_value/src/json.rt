@@ -12,6 +12,7 @@ use crate::limits::is_in_range;
 use crate::value::Value;
 use serde_json::{Map, Number};
 use std::alloc::{AllocError, Global};
+use std::sync::{Arc, ArcStr};
 
 #[cycle(read)]
 pub(crate) fn read(alloc: Global, json: &serde_json::Value) -> Result<Value, ValueFault>
@@ -24,10 +25,14 @@ pub(crate) fn read(alloc: Global, json: &serde_json::Value) -> Result<Value, Val
         serde_json::Value::Bool(b) => Ok(Value::Bool(*b)),
         serde_json::Value::Number(n) => whole(n),
         serde_json::Value::String(text) => {
-            Ok(Value::Text(String::from_str(alloc, text.as_str())?))
+            Ok(Value::Text(ArcStr::from_str(alloc, text.as_str())?))
         }
-        serde_json::Value::Array(items) => Ok(Value::List(read_items(alloc, items)?)),
-        serde_json::Value::Object(members) => Ok(Value::Context(read_members(alloc, members)?)),
+        serde_json::Value::Array(items) => {
+            Ok(Value::List(Arc::new(alloc, read_items(alloc, items)?)?))
+        }
+        serde_json::Value::Object(members) => {
+            Ok(Value::Context(Arc::new(alloc, read_members(alloc, members)?)?))
+        }
     }
 }
 
@@ -59,7 +64,7 @@ fn read_items(alloc: Global, items: &[serde_json::Value]) -> Result<Vec<Value>, 
 fn read_members(
     alloc: Global,
     members: &Map<String, serde_json::Value>,
-) -> Result<Vec<(String, Value)>, ValueFault>
+) -> Result<Vec<(ArcStr, Value)>, ValueFault>
     ensures due { MatchResult result (λ v. entries_of_json (json_members_view members.now.entries) ≡ Some (entries_view v.items))
         (λ e. IsNumberOrMemory e (entries_of_json (json_members_view members.now.entries))) }
     ensures rising { OnOk result ((in_order (json_members_view members.now.entries) ≡ true)
@@ -67,7 +72,7 @@ fn read_members(
 {
     let mut entries = Vec::with_capacity(alloc, members.len())?;
     for (key, member) in members.iter() {
-        let name = String::from_str(alloc, key.as_str())?;
+        let name = ArcStr::from_str(alloc, key.as_str())?;
         entries.push((name, read(alloc, member)?))?;
     }
     Ok(entries)
@@ -104,7 +109,7 @@ fn write_items(alloc: Global, items: &[Value]) -> Result<Vec<serde_json::Value>,
 #[cycle(write)]
 fn write_entries(
     alloc: Global,
-    entries: &[(String, Value)],
+    entries: &[(ArcStr, Value)],
 ) -> Result<Map<String, serde_json::Value>, AllocError>
     ensures { IfOk result (λ m. json_members_view m.entries ≡ json_members (entries_view entries.now)) }
 {

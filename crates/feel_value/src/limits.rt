@@ -5,6 +5,7 @@ ghost use Rattle.feel_value.specs.Places.{left_of, items_left_of, entries_left_o
 ghost use Rattle.feel_value.specs.View.{datum_of, items_view, entries_view};
 
 use crate::value::Value;
+use std::sync::ArcStr;
 
 const MOST_NODES: usize = 10_000;
 
@@ -58,7 +59,7 @@ fn items_left(items: &[Value], levels: usize, places: usize) -> Option<usize>
 }
 
 #[cycle(places_left)]
-fn entries_left(entries: &[(String, Value)], levels: usize, places: usize) -> Option<usize>
+fn entries_left(entries: &[(ArcStr, Value)], levels: usize, places: usize) -> Option<usize>
     ensures { result ≡ entries_left_of (entries_view entries.now) levels places }
 {
     let mut left = places;

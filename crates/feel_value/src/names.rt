@@ -6,9 +6,10 @@ ghost use Rattle.feel_value.specs.Names.{names_rise as rise};
 ghost use Rattle.feel_value.specs.View.{datum_of, items_view, entries_view};
 
 use crate::value::Value;
+use std::sync::ArcStr;
 
 // The value of the first entry that has the name.
-pub(crate) fn find<'a>(entries: &'a [(String, Value)], name: &str) -> Option<&'a Value>
+pub(crate) fn find<'a>(entries: &'a [(ArcStr, Value)], name: &str) -> Option<&'a Value>
     ensures { option_map (λ v. datum_of v.now) result ≡ value_at name.now (entries_view entries.now) }
 {
     for (key, value) in entries {
@@ -44,7 +45,7 @@ fn items_have_distinct_names(items: &[Value]) -> bool
 }
 
 #[cycle(distinct)]
-fn entries_have_distinct_names(entries: &[(String, Value)]) -> bool
+fn entries_have_distinct_names(entries: &[(ArcStr, Value)]) -> bool
     ensures { result ≡ entries_distinct (entries_view entries.now) }
 {
     for (_, value) in entries {
@@ -56,14 +57,14 @@ fn entries_have_distinct_names(entries: &[(String, Value)]) -> bool
 }
 
 // Whether no two entries have one name. Names that rise differ; only among others is each looked for.
-fn names_differ(entries: &[(String, Value)]) -> bool
+fn names_differ(entries: &[(ArcStr, Value)]) -> bool
     ensures { result ≡ differ (entries_view entries.now) }
 {
     names_rise(entries) || no_name_repeats(entries)
 }
 
 // Whether each name is after the one before it.
-fn names_rise(entries: &[(String, Value)]) -> bool
+fn names_rise(entries: &[(ArcStr, Value)]) -> bool
     ensures { result ≡ rise (entries_view entries.now) }
 {
     let Some(((first, _), others)) = entries.split_first() else {
@@ -80,7 +81,7 @@ fn names_rise(entries: &[(String, Value)]) -> bool
 }
 
 // Whether no name comes again later.
-fn no_name_repeats(entries: &[(String, Value)]) -> bool
+fn no_name_repeats(entries: &[(ArcStr, Value)]) -> bool
     ensures { result ≡ differ (entries_view entries.now) }
 {
     for (i, (name, _)) in entries.iter().enumerate() {

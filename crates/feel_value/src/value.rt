@@ -1,4 +1,4 @@
-//! A FEEL value as a tree that owns its parts.
+//! A FEEL value as a tree whose parts may be shared.
 ghost use Rattle.std.specs.Prelude.{◌≡◌, IfOk, option_map};
 ghost use Rattle.feel_value.specs.Datum.{entry_named};
 ghost use Rattle.feel_value.specs.Comparison.{equal as equal_of, less as less_of};
@@ -10,11 +10,13 @@ use crate::copy::copy;
 use crate::logic::Truth;
 use crate::names::find;
 use crate::reading::truth_value;
-use std::alloc::{AllocError, Global};
+use std::alloc::AllocError;
+use std::sync::{Arc, ArcStr};
 
 /// A value of any size and depth; a `Feel` is one that keeps the limits.
 ///
-/// Dropping it goes as deep as it is.
+/// Texts, lists and contexts are shared: a copy takes no memory of its own, whatever its size. Dropping the last copy goes as
+/// deep as the value is.
 #[derive(Drop)]
 pub enum Value {
     /// The value null.
@@ -24,19 +26,19 @@ pub enum Value {
     /// A whole number.
     Number(i64),
     /// A text.
-    Text(String),
+    Text(ArcStr),
     /// A list of values.
-    List(Vec<Value>),
+    List(Arc<Vec<Value>>),
     /// A context: values under names, in the order of their entries.
-    Context(Vec<(String, Value)>),
+    Context(Arc<Vec<(ArcStr, Value)>>),
 }
 
 impl Value {
-    /// A copy of this part of a value.
-    pub fn try_clone(&self, alloc: Global) -> Result<Value, AllocError>
+    /// A copy of this part of a value, which shares its texts, lists and contexts with it. The time is constant.
+    pub fn try_clone(&self) -> Result<Value, AllocError>
         ensures { IfOk result (λ v. datum_of v ≡ datum_of self.now) }
     {
-        copy(alloc, self)
+        copy(self)
     }
 
     /// The entry of that name, where this is a context that has one.

@@ -3,6 +3,7 @@ use feel_lang::{Env, Expr, Held, Tests, eval, holds, read_expr, read_tests};
 use feel_value::{Feel, Outcome, Value};
 use std::alloc::{AllocError, Global};
 use std::process::Abort;
+use std::sync::Arc;
 use std::test::Fail;
 
 fn number(rt: &impl Abort, n: i64) -> Feel {
@@ -103,7 +104,7 @@ fn a_refused_evaluation_answers_nothing_else(rt: HostRuntime) -> Result<(), Fail
 /// The list of 1 and 2.
 fn one_and_two(alloc: Global) -> Result<Feel, Fail> {
     let numbers = vec![in alloc; Value::Number(1), Value::Number(2)]?;
-    Ok(Feel::of(Value::List(numbers)).ok_or("no list")?)
+    Ok(Feel::of(Value::List(Arc::new(alloc, numbers)?)).ok_or("no list")?)
 }
 
 /// Whether an expression that only looks at a list is refused memory at first, and what it gives.

@@ -3,6 +3,7 @@ mod refused;
 
 use feel_value::{Feel, Truth, Value, ValueFault, equal};
 use std::alloc::{AllocError, Global};
+use std::sync::{Arc, ArcStr};
 use std::test::Fail;
 
 /// The word for why a text is no value; want of memory has none.
@@ -21,7 +22,7 @@ fn is_same_json(alloc: Global, value: &Feel, other: &Feel) -> Result<bool, Alloc
 
 /// The value's copy as text, and `another copy` where that isn't equal.
 fn text_of_copy(alloc: Global, value: &Feel) -> Result<String, AllocError> {
-    let copy = value.try_clone(alloc)?;
+    let copy = value.try_clone()?;
     if equal(value, &copy) == Truth::Yes && is_same_json(alloc, value, &copy)? {
         copy.to_json(alloc)?.to_string(alloc)
     } else {
@@ -106,9 +107,9 @@ fn sizes_from_json(rt: HostRuntime) -> Result<(), Fail> {
 fn named(alloc: Global, names: &[&str]) -> Result<Value, AllocError> {
     let mut entries = Vec::new(alloc);
     for name in names {
-        entries.push((String::from_str(alloc, name)?, Value::Null))?;
+        entries.push((ArcStr::from_str(alloc, name)?, Value::Null))?;
     }
-    Ok(Value::Context(entries))
+    Ok(Value::Context(Arc::new(alloc, entries)?))
 }
 
 const LISTS_OF_NAMES: &[(&[&str], bool)] = &[
@@ -139,7 +140,7 @@ fn contexts_by_hand(rt: HostRuntime) -> Result<(), Fail> {
 #[test]
 fn values_by_hand(rt: HostRuntime) -> Result<(), Fail> {
     let twice = named(rt.alloc(), &["a", "a"])?;
-    let inside = Value::List(vec![in rt.alloc(); twice]?);
+    let inside = Value::List(Arc::new(rt.alloc(), vec![in rt.alloc(); twice]?)?);
     assert!(rt; Feel::of(inside).is_none());
     assert!(rt; Feel::of(Value::Number(i64::MIN)).is_none());
     assert!(rt; Feel::of(Value::Number(-i64::MAX)).is_some());

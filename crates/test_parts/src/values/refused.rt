@@ -14,25 +14,14 @@ fn json_and_value(alloc: Global) -> Result<(serde_json::Value, Feel), Fail> {
     Ok((json, value))
 }
 
-/// The copy, made again where its first making was refused.
-fn copy_of(
-    alloc: Global,
-    value: &Feel,
-    first: Result<Feel, AllocError>,
-) -> Result<Feel, AllocError> {
-    match first {
-        Ok(copy) => Ok(copy),
-        Err(AllocError) => value.try_clone(alloc),
-    }
-}
-
+/// A copy shares its parts, so there is no request that could be refused.
 #[test]
-fn a_refused_copy(rt: HostRuntime) -> Result<(), Fail> {
+fn a_copy_takes_no_memory(rt: HostRuntime) -> Result<(), Fail> {
     let (_, value) = json_and_value(rt.alloc())?;
-    let first = value.try_clone(rt.alloc());
-    let refused = first.is_err();
-    let copy = copy_of(rt.alloc(), &value, first)?;
-    assert!(rt; equal(&value, &copy) == Truth::Yes);
+    let copy = value.try_clone();
+    let refused = copy.is_err();
+    assert!(rt; !refused);
+    assert!(rt; equal(&value, &copy?) == Truth::Yes);
     println!(rt; "refused: {refused}")?;
     Ok(())
 }

@@ -2,7 +2,6 @@ use Rattle.std.proofs.Common.{◌≡◌, ap, sym, ◌∙◌, subst, option_map, 
 use Rattle.feel_lang.specs.Meaning.{Bindings}
 use Rattle.feel_value.specs.Datum.{context as context_value, entries_of}
 use Rattle.feel_value.specs.Outcome.{held}
-use Rattle.feel_value.proofs.Views.{datum_of-Context}
 use Rattle.feel_value.proofs.Entries.{entries_view-named}
 use Rattle.dmn_table.specs.Evaluated.{outcome_from}
 use Rattle.dmn_form.specs.Model.{context}
@@ -15,8 +14,9 @@ use Rattle.dmn_logic.proofs.evaluation.+evaluate.Goals.{evaluate-in-Ok-true, eva
 
 pub context_outcome-returns-in-Some-clause-value : goal.context_outcome-returns-in-Some-clause-value
 context_outcome-returns-in-Some-clause-value t c =
-    c.of.ensures ∙ ap held (datum_of-Context c.in-Some.values ∙ ap context_value (entries_view-named c.in-Some.values.items))
-    ∙ ap (outcome_from (λ ds. held (context_value (entries_of ds)))) (sym (ap (option_map pairs_view) c.in-Some.is) ∙ c.in_ok-values.ensures.value)
+    let same = ap (λ es. held (context_value es)) (entries_view-named c.in-Some.values.items)
+    ∙ ap (outcome_from (λ ds. held (context_value (entries_of ds)))) (sym (ap (option_map pairs_view) c.in-Some.is) ∙ c.in_ok-values.ensures.value) in
+    subst (λ d. IfOk c.context.result (λ o. o ≡ d)) same c.context.ensures
 
 pub entry_values-loop-name-preserved : goal.entry_values-loop-name-preserved
 entry_values-loop-name-preserved t c =

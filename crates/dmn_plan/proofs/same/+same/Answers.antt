@@ -13,7 +13,7 @@ same_items-returns-then-a-b t c = sym (other_items c.args.a.now c.args.b.now c.i
 
 pub same_value-returns-in-Context-Context : goal.same_value-returns-in-Context-Context
 same_value-returns-in-Context-Context t c =
-    let x_is = ap entries_view c.deref-in-Context-Context.ensures.value in
-    let y_is = ap entries_view c.deref-in-Context-Context-2.ensures.value in
+    let x_is = ap entries_view (c.deref-in-Context-Context-2.ensures.value ∙ ap (λ v. v.items) c.deref-in-Context-Context.ensures) in
+    let y_is = ap entries_view (c.deref-in-Context-Context-4.ensures.value ∙ ap (λ v. v.items) c.deref-in-Context-Context-3.ensures) in
     c.same_entries.ensures ∙ ap₂ are_same_entries x_is y_is
     ∙ sym (ap₂ is_same (ap datum_of c.in-Context-Context.is-0 ∙ datum_of-Context c.in-Context-Context.x) (ap datum_of c.in-Context-Context.is-1 ∙ datum_of-Context c.in-Context-Context.y))

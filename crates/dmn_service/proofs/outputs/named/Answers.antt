@@ -1,9 +1,8 @@
-use Rattle.std.proofs.Common.{◌≡◌, ◌∙◌, ℕ, List, [], ◌∷◌, ◌++◌, map, length, refl, sym, ap, drop, arith}
+use Rattle.std.proofs.Common.{◌≡◌, ◌∙◌, ℕ, List, [], ◌∷◌, ◌++◌, map, length, refl, sym, ap, drop, subst, IfOk, arith}
 use Rattle.std.specs.List.{zip}
 use Rattle.std.proofs.lemmas.List.{append-nil, drop_all}
 use Rattle.feel_value.specs.Datum.{context, entries_of}
 use Rattle.feel_value.specs.Outcome.{held}
-use Rattle.feel_value.proofs.Views.{datum_of-Context}
 use Rattle.feel_value.proofs.Entries.{named, entries_view-named}
 use Rattle.dmn_service.specs.Places.{name_at}
 use Rattle.dmn_service.proofs.outputs.named.Goals as goal
@@ -27,5 +26,5 @@ returns c =
       | else-loop-output-test w ↦ ap (λ qs. zip (map name qs) c.loop-output.values.rest.items) (drop_all c.loop-output.output-index outputs (omega (arith, w.loop-output-test.false)))
       | then-loop-output-test+in_default w ↦ ap (λ ds. zip (map name (drop c.loop-output.output-index outputs)) ds) (empty c.loop-output.values.rest.items (omega (arith, w.in_default.ensures.cases.0, c.loop-output.values.rest.ok.0))) ∙ zip_none (map name (drop c.loop-output.output-index outputs))
     ] in
-    c.of.ensures ∙ ap held (datum_of-Context entries
-    ∙ ap context (entries_view-named entries.items ∙ ap entries_of (sym (c.loop-output.invariant ∙ ap (λ ps. map named entries.items ++ ps) ends ∙ append-nil (map named entries.items)))))
+    let same = ap (λ es. held (context es)) (entries_view-named entries.items ∙ ap entries_of (sym (c.loop-output.invariant ∙ ap (λ ps. map named entries.items ++ ps) ends ∙ append-nil (map named entries.items)))) in
+    subst (λ d. IfOk c.context.result (λ o. o ≡ d)) same c.context.ensures

@@ -13,15 +13,15 @@ same_items-returns-then-a-b t c = sym (other_length c.args.a.now c.args.b.now c.
 
 pub same_value-returns-after-same_entries : goal.same_value-returns-after-same_entries
 same_value-returns-after-same_entries t c =
-    let xs = entries_view c.in-Context-Context.x.items in
-    let ys = entries_view c.in-Context-Context.y.items in
-    let x_is = ap entries_view c.deref-in-Context-Context.ensures.value in
-    let y_is = ap entries_view c.deref-in-Context-Context-2.ensures.value in
+    let xs = entries_view c.in-Context-Context.x.value.items in
+    let ys = entries_view c.in-Context-Context.y.value.items in
+    let x_is = ap entries_view (c.deref-in-Context-Context-2.ensures.value ∙ ap (λ v. v.items) c.deref-in-Context-Context.ensures) in
+    let y_is = ap entries_view (c.deref-in-Context-Context-4.ensures.value ∙ ap (λ v. v.items) c.deref-in-Context-Context-3.ensures) in
     let first : c.same_entries.result ≡ values_equal xs ys = c.same_entries.ensures ∙ ap₂ values_equal x_is y_is in
     let both : c.if-same_entries.decided ≡ (values_equal xs ys && names_within ys xs) =
     elim c.if-same_entries.branch [
       | same_value-then-same_entries w ↦
-          w.decided-is ∙ w.names_within.ensures ∙ ap₂ names_within (ap entries_view w.deref-then-same_entries.ensures.value) (ap entries_view w.deref-then-same_entries-2.ensures.value)
+          w.decided-is ∙ w.names_within.ensures ∙ ap₂ names_within (ap entries_view (w.deref-then-same_entries-2.ensures.value ∙ ap (λ v. v.items) w.deref-then-same_entries.ensures)) (ap entries_view (w.deref-then-same_entries-4.ensures.value ∙ ap (λ v. v.items) w.deref-then-same_entries-3.ensures))
           ∙ ap (λ b. b && names_within ys xs) (sym w.if-same_entries.true ∙ first)
       | same_value-else-same_entries w ↦ w.decided-is ∙ w.if-same_entries.false ∙ ap (λ b. b && names_within ys xs) (sym w.if-same_entries.false ∙ first)
     ] in
