@@ -1,8 +1,7 @@
 //! The evaluation of expressions.
-ghost use Rattle.std.specs.Prelude.{◌≡◌, IfOk, option_map, unwrap_or};
+ghost use Rattle.std.specs.Prelude.{◌≡◌, IfOk, unwrap_or};
 ghost use Rattle.feel_value.specs.Datum.{null as null_value};
 ghost use Rattle.feel_value.specs.Outcome.{held};
-ghost use Rattle.feel_value.specs.View.{items_view};
 ghost use Rattle.feel_value.specs.declared.feel.Outcome.TheVariants.{Is};
 ghost use Rattle.feel_lang.specs.Expr as expr_specs;
 ghost use Rattle.feel_lang.specs.Meaning.{den, dens, bound, list_held, with_value, path_of};
@@ -16,7 +15,7 @@ use crate::eval_outcome::{null, number};
 use crate::eval_paths::{path, place};
 use crate::expr::Tree;
 use crate::operands::{Operand, Operands};
-use feel_value::{Outcome, Truth, Value};
+use feel_value::{Members, Outcome, Truth, Value};
 use std::alloc::{AllocError, Global};
 use std::sync::ArcStr;
 
@@ -129,30 +128,21 @@ fn named(name: &str, env: &Env) -> Result<Outcome, AllocError>
     }
 }
 
-// A list of expressions.
+// A list of expressions, whose evaluation ends where its values are too many for one.
 #[cycle(eval)]
 fn list(alloc: Global, exprs: &[Tree], env: &Env) -> Result<Outcome, AllocError>
     ensures { IfOk result (λ o. o ≡ list_held (dens (views exprs.now) env.now)) }
 {
-    match members(alloc, exprs, env)? {
-        Some(values) => Outcome::list(alloc, values),
-        None => Ok(Outcome::Limit),
-    }
-}
-
-// The values of the expressions; None where one breaks a limit.
-#[cycle(eval)]
-fn members(alloc: Global, exprs: &[Tree], env: &Env) -> Result<Option<Vec<Value>>, AllocError>
-    ensures { IfOk result (λ o. option_map (λ v. items_view v.items) o ≡ dens (views exprs.now) env.now) }
-{
-    let mut values = Vec::with_capacity(alloc, exprs.len())?;
+    let mut members = Members::new(alloc);
     for expr in exprs {
-        match eval(alloc, expr, env)? {
-            Outcome::Is(value) => values.push(value.into_value())?,
-            Outcome::Limit => return Ok(None),
+        let Outcome::Is(value) = eval(alloc, expr, env)? else {
+            return Ok(Outcome::Limit);
+        };
+        if !members.push(value)? {
+            return Ok(Outcome::Limit);
         }
     }
-    Ok(Some(values))
+    Ok(Outcome::Is(members.into_list(alloc)?))
 }
 
 // A path from an expression.

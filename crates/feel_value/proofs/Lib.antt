@@ -1,6 +1,7 @@
 pub mod Views
 pub mod Entries
 pub mod Places
+pub mod Room
 pub mod Booleans
 pub mod DistinctNames
 pub mod Same

@@ -4,7 +4,8 @@ ghost use Rattle.serde_json.specs.View.{view};
 ghost use Rattle.feel_value.specs.Faults.{json_reading, IsDueUnlessMemory};
 ghost use Rattle.feel_value.specs.Json.{json_of};
 ghost use Rattle.feel_value.specs.Limits.{is_value};
-ghost use Rattle.feel_value.specs.View.{datum_of};
+ghost use Rattle.feel_value.specs.Datum.{list};
+ghost use Rattle.feel_value.specs.View.{datum_of, items_view};
 
 use crate::copy::copy;
 use crate::fault::ValueFault;
@@ -55,6 +56,15 @@ impl Feel {
         } else {
             None
         }
+    }
+
+    // The list of these members, which is a value.
+    pub(crate) fn of_members(alloc: Global, members: Vec<Value>) -> Result<Feel, AllocError>
+        requires { is_value (list (items_view members.items)) ≡ true }
+        ensures { IfOk result (λ f. f ≡ list (items_view members.items)) }
+    {
+        let value = Value::List(Arc::new(alloc, members)?);
+        Ok(Feel { value })
     }
 
     /// The value that a JSON value stands for. An object is a context of its members in the order of their keys.

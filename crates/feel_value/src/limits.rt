@@ -7,9 +7,9 @@ ghost use Rattle.feel_value.specs.View.{datum_of, items_view, entries_view};
 use crate::value::Value;
 use std::sync::ArcStr;
 
-const MOST_NODES: usize = 10_000;
+pub(crate) const MOST_NODES: usize = 10_000;
 
-const MOST_DEPTH: usize = 100;
+pub(crate) const MOST_DEPTH: usize = 100;
 
 // Whether a number is in range: as far from 0 as `i64::MAX` at most.
 pub(crate) fn is_in_range(n: i64) -> bool
@@ -27,7 +27,7 @@ pub(crate) fn keeps_limits(value: &Value) -> bool
 
 // What is left of `places` once the value's nodes are counted, where it fits.
 #[cycle(places_left)]
-fn places_left(value: &Value, levels: usize, places: usize) -> Option<usize>
+pub(crate) fn places_left(value: &Value, levels: usize, places: usize) -> Option<usize>
     ensures { result ≡ left_of (datum_of value.now) levels places }
 {
     if levels == 0 || places == 0 {
