@@ -7,6 +7,6 @@ mod refusal;
 pub mod report;
 mod words;
 
-pub use reading::{capacity_in, is_blank, name_in, parse, ticket_in};
+pub use reading::{capacity_in, is_blank, name_in, ticket_in};
 pub use refusal::{LineRefusal, refusal_of};
 pub use words::{model_word, refusal_word, unadded_word};

@@ -1,14 +1,11 @@
 //! How a line of an input is read.
-ghost use Rattle.std.specs.Prelude.{◌≡◌, ◌≢◌, ◌<◌, ◌⊎◌, ◌^◌, ℕ, List, MatchOption, IfSome, IfNone, IfOk, None, Some};
-ghost use Rattle.std.specs.Str.{IsUtf8};
+ghost use Rattle.std.specs.Prelude.{◌≡◌, ◌≢◌, ◌<◌, ◌^◌, ℕ, List, IfSome, IfNone};
 ghost use Rattle.serde_json.specs.Data.{string, number, unsigned};
 ghost use Rattle.serde_json.specs.View.{view};
-ghost use Rattle.serde_json.specs.Read.{read};
 ghost use Rattle.desk_reports.specs.Parts.{IsName, IsTicket};
 ghost use Rattle.desk_reports.specs.Reading.{is_blank};
 
 use serde_json::Value;
-use std::alloc::{AllocError, Global};
 
 /// The most bytes of a name.
 const MAX_NAME: usize = 64;
@@ -57,22 +54,4 @@ pub fn is_blank(text: &[u8]) -> bool
 {
     text.iter()
         .all(|byte| *byte == b' ' || *byte == b'\t' || *byte == b'\r')
-}
-
-/// The JSON value of a text, if it has one.
-pub fn parse(alloc: Global, text: &[u8]) -> Result<Option<Value>, AllocError>
-    ensures { IfOk result (λ parsed. MatchOption parsed (¬ IsUtf8 text.now ⊎ (read text.now ≡ None)) (λ v. IsUtf8 text.now × (read text.now ≡ Some (view v)))) }
-{
-    let Ok(text) = str::from_utf8(text) else {
-        return Ok(None);
-    };
-    match Value::from_str(alloc, text) {
-        Ok(value) => Ok(Some(value)),
-        Err(fault) => {
-            if fault.is_memory() {
-                return Err(AllocError);
-            }
-            Ok(None)
-        }
-    }
 }

@@ -1,0 +1,52 @@
+//! The reader of one text after the other.
+ghost use Rattle.std.specs.Prelude.{◌≡◌, ◌⊎◌, MatchOption, IfOk, None, Some};
+ghost use Rattle.std.specs.Str.{IsUtf8};
+ghost use Rattle.serde_json.specs.View.{view};
+ghost use Rattle.serde_json.specs.Read.{read};
+
+use crate::value::value_in;
+use json::{Reader, Scratch};
+use serde_json::Value;
+use std::alloc::{AllocError, Global};
+
+/// How deep lists and objects may be nested, as in `serde_json`.
+const MOST_DEPTH: usize = 127;
+
+/// Reads JSON texts. It keeps the memory that reading needs: 16 KiB, and the length of the longest text so far.
+#[derive(Drop)]
+pub struct JsonReader {
+    scratch: Scratch,
+}
+
+impl JsonReader {
+    /// A reader that has read nothing. The memory for the texts is taken where they are read.
+    pub fn new(alloc: Global) -> JsonReader {
+        JsonReader {
+            scratch: Scratch::new(alloc),
+        }
+    }
+
+    /// The JSON value of a text, if it has one.
+    pub fn read(&mut self, alloc: Global, text: &[u8]) -> Result<Option<Value>, AllocError>
+        ensures { IfOk result (λ parsed. MatchOption parsed (¬ IsUtf8 text.now ⊎ (read text.now ≡ None)) (λ v. IsUtf8 text.now × (read text.now ≡ Some (view v)))) }
+    {
+        let Ok(text) = str::from_utf8(text) else {
+            return Ok(None);
+        };
+        self.read_text(alloc, text)
+    }
+
+    // The JSON value of a text of UTF-8.
+    fn read_text(&mut self, alloc: Global, text: &str) -> Result<Option<Value>, AllocError>
+        ensures { IfOk result (λ parsed. MatchOption parsed (read text.now ≡ None) (λ v. read text.now ≡ Some (view v))) }
+    {
+        let mut reader = Reader::new(text, &mut self.scratch)?;
+        let Some(value) = value_in(alloc, &mut reader, MOST_DEPTH)? else {
+            return Ok(None);
+        };
+        if reader.next().is_some() {
+            return Ok(None);
+        }
+        Ok(Some(value))
+    }
+}
