@@ -1,4 +1,6 @@
 //! What a front and the workers beside it share.
+use lanes::Signals;
+use std::sync::Arc;
 use std::sync::atomic::{AtomicBool, AtomicUsize, Ordering};
 
 /// What a front and the workers' threads beside it share: whether the workers are to stop, and how many have ended.
@@ -7,22 +9,25 @@ pub struct Crew {
     size: usize,
     stopping: AtomicBool,
     ended: AtomicUsize,
+    signals: Arc<Signals>,
 }
 
 impl Crew {
-    // A crew of so many workers, none of which has ended.
-    pub(crate) fn of(size: usize) -> Crew {
+    // A crew of so many workers of some lanes, none of which has ended.
+    pub(crate) fn of(size: usize, signals: Arc<Signals>) -> Crew {
         Crew {
             size,
             stopping: AtomicBool::new(false),
             ended: AtomicUsize::new(0),
+            signals,
         }
     }
 
-    /// Tells the workers to stop. Each goes on while its steps post answers, and ends with the first step that finds no job
-    /// or can't finish one.
+    /// Tells the workers to stop, and wakes those that sleep. Each goes on while its steps post answers or meet another
+    /// thread, and ends with the first step after this that finds no job or can't finish one.
     pub fn stop(&self) {
         self.stopping.store(true, Ordering::SeqCst);
+        self.signals.wake_workers();
     }
 
     /// Whether every worker has ended, so that no further answer is sent.
@@ -30,13 +35,19 @@ impl Crew {
         self.ended.load(Ordering::SeqCst) == self.size
     }
 
+    /// What wakes the threads of the lanes.
+    pub fn signals(&self) -> &Signals {
+        &self.signals
+    }
+
     // Whether the workers were told to stop.
     pub(crate) fn is_stopping(&self) -> bool {
         self.stopping.load(Ordering::SeqCst)
     }
 
-    // One worker more has ended.
+    // One worker more has ended. A front that waits for answers is woken.
     pub(crate) fn add_ended(&self) {
         self.ended.fetch_add(1, Ordering::SeqCst);
+        self.signals.add_answer();
     }
 }

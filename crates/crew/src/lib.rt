@@ -4,6 +4,7 @@
 
 mod crew;
 mod front;
+mod post;
 mod promise;
 mod scoped;
 mod threads;

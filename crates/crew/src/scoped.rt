@@ -6,9 +6,9 @@ use crate::crew::Crew;
 use crate::front::Front;
 use crate::threads::{finish, start};
 use box_core::Work;
-use lanes::{Gate, Worker};
+use lanes::{Gate, Signals, Worker};
 use std::alloc::AllocError;
-use std::sync::Wait;
+use std::sync::{Arc, Wait};
 use std::thread;
 use std::thread::Threads;
 
@@ -30,10 +30,19 @@ where
     ensures refused { OnErr result (front.new ≡ front.old) }
 {
     let joined = Vec::with_capacity(*workers.allocator(), workers.len())?;
-    let crew = Crew::of(workers.len());
+    let signals = signals_of(&workers)?;
+    let crew = Crew::of(workers.len(), signals);
     let (front, ran) = run_beside(rt, gate, &crew, workers, joined, Lent { front });
     take_back(front);
     ran
+}
+
+// What wakes the workers.
+fn signals_of<W: Work>(workers: &Vec<Worker<W>>) -> Result<Arc<Signals>, AllocError> {
+    if workers.is_empty() {
+        return Ok(Arc::new(*workers.allocator(), Signals::new())?);
+    }
+    Arc::try_clone(workers[0].signals())
 }
 
 // A front that is lent.

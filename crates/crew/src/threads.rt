@@ -4,16 +4,16 @@ ghost use Rattle.lanes.specs.Workers.{worker_links};
 ghost use Rattle.crew.specs.Promised.{promised_links};
 
 use crate::crew::Crew;
+use crate::post::Post;
 use crate::promise::SameEnd;
 use box_core::Work;
 use lanes::{Gate, Stepped, Worker};
 use std::alloc::AllocError;
 use std::snapshot::Snapshot;
 use std::sync::Wait;
-use std::thread;
 use std::thread::{PromisedHandle, Scope, Threads};
 
-// Steps until the crew is to stop and a step finds no job or can't finish one.
+// Steps until the crew is to stop and a step finds no job or can't finish one. Between steps that find none it sleeps.
 pub(crate) fn work<R: Wait, G: Gate, W: Work>(
     rt: &R,
     mut worker: Worker<W>,
@@ -22,14 +22,17 @@ pub(crate) fn work<R: Wait, G: Gate, W: Work>(
 ) -> Worker<W>
     ensures { worker_links result ≡ worker_links worker }
 {
+    let post = Post::of(crew, gate);
     for _ in rt.forever() {
+        let seen = post.jobs();
         let stopping = crew.is_stopping();
-        match worker.step(gate) {
-            Stepped::Answered | Stepped::Again => {}
-            _ if stopping => break,
-            _ => thread::yield_now(),
+        let stepped = worker.step(&post);
+        if stopping && !matches!(stepped, Stepped::Answered | Stepped::Again) {
+            break;
         }
+        post.follow(rt, stepped, seen);
     }
+    post.end();
     crew.add_ended();
     worker
 }

@@ -5,5 +5,5 @@
 pub const VERSION: &str = concat!(
     "0.9.0\n",
     "proved with rattle-kit-13b logic dac8208d650f15bf\n",
-    "sources bce3fe1e743ace6f62e7db465e03ea77332dd77f8d7c97256e32b51d1d4a8cb9",
+    "sources e042a34a711c1cfde98007b4f9e3cdc2d7d3e9536329034694a68134fc301d1c",
 );

@@ -1,5 +1,6 @@
 pub mod Splitting
 pub mod Coming
 pub mod Gathering
+pub mod CatchingUp
 pub mod Talking
 pub mod Keeping

@@ -7,6 +7,7 @@ use Rattle.desk_lines.specs.Lines.{newline, kept_line, heard, max_input, IsOneLi
 use Rattle.desk_lines.specs.declared.fault.FrontFault.{FrontFault}
 use Rattle.desk_lines.specs.declared.fault.FrontFault.TheVariants.{Read, Write, Long, Memory}
 use Rattle.desk_lines.specs.declared.lines.Next.TheVariants.{Line, Last, End}
+use Rattle.desk_lines.specs.Answering.{SaysMore}
 use Rattle.desk_lines.specs.Gathers.{Gathers, Ended}
 use Rattle.desk_lines.specs.LineReader.{Comes, IsInStep, Took}
 use Rattle.desk_lines.specs.Talk.{IsHeard, Replays, IsCut, Stops, EndsAs}
@@ -62,19 +63,22 @@ module _ {After : List (List ℕ) → List (List ℕ) → Type 0} {left left' wr
       let s = progress_text p bytes in
       ap whole_lines_of s.is ∙ whole_lines_of-ended p.done (rest ++ heard came bytes) s.each
 
-  -- what is written out before more is read
-  pub progress_written : {wrote'' : Option (List ℕ)} {waits' : List ℕ} → Progress After left left' wrote wrote' came rest waits number → Gathers wrote' wrote'' waits [] waits'
-      → Progress After left left' wrote wrote'' came rest waits' number
-  progress_written p g = record {
-    bytes = p.bytes;
-    done = p.done;
-    said = p.said;
-    comes = p.comes;
-    splits = p.splits;
-    stands = p.stands;
-    gathers = gathers_quiet p.gathers g;
-    counted = p.counted;
-  }
+  -- what is said and written before more is read
+  pub progress_caught : {After' : List (List ℕ) → List (List ℕ) → Type 0} {wrote'' : Option (List ℕ)} {waits' : List ℕ} → Progress After left left' wrote wrote' came rest waits number
+      → SaysMore After After' wrote' wrote'' waits waits' → Progress After' left left' wrote wrote'' came rest waits' number
+  progress_caught {After'} {wrote''} {waits'} p s =
+      let m = s p.done p.said p.stands in
+      let g : Gathers wrote wrote'' [] (flat_map ended p.said ++ flat_map ended m.0) waits' = gathers_then p.gathers m.2 in
+      record {
+        bytes = p.bytes;
+        done = p.done;
+        said = p.said ++ m.0;
+        comes = p.comes;
+        splits = p.splits;
+        stands = m.1;
+        gathers = rw (flat_map-append ended p.said m.0) g;
+        counted = p.counted;
+      }
 
 module _ (Script : List (List ℕ) → List (List ℕ) → Type 0) {After : List (List ℕ) → List (List ℕ) → Type 0} {left left' left'' wrote wrote' : Option (List ℕ)} {came came'' : ℕ} {rest waits : List ℕ} {number : ℕ} where
   pub progress_end : (p : Progress After left left' wrote wrote' came rest waits number) (bytes : List ℕ) (rest'' : List ℕ) (kept : Option (List ℕ))
@@ -151,25 +155,50 @@ module _ (Whole Part : List (List ℕ) → List (List ℕ) → Type 0) {After : 
 
 module _ (Script : List (List ℕ) → List (List ℕ) → Type 0) {After : List (List ℕ) → List (List ℕ) → Type 0} {left left' wrote wrote' : Option (List ℕ)} {came : ℕ} {rest waits : List ℕ} {number : ℕ} where
   -- the writer failed before more was read
-  pub progress_cut : {wrote'' : Option (List ℕ)} {waits' : List ℕ} → Progress After left left' wrote wrote' came rest waits number → Gathers wrote' wrote'' waits [] waits'
-      → ((lines said : List (List ℕ)) → After lines said → Script lines said)
+  pub progress_cut : {wrote'' : Option (List ℕ)} {waits' : List ℕ} → Progress After left left' wrote wrote' came rest waits number → SaysMore After Script wrote' wrote'' waits waits'
       → IsCut Script left left' wrote wrote''
-  progress_cut {wrote''} {waits'} p h follows =
-      let g : Gathers wrote wrote'' [] (flat_map ended p.said) waits' = gathers_quiet p.gathers h in
+  progress_cut {wrote''} {waits'} q s =
+      let p : Progress Script left left' wrote wrote'' came rest waits' number = progress_caught q s in
       record {
         input = p.bytes;
         lines = whole_lines_of (take max_input p.bytes);
         answered = p.done;
         unanswered = whole_lines_of rest;
         output = p.said;
-        text = g.out;
+        text = p.gathers.out;
         unsaid = waits';
         read = p.comes.taken;
         heard = inl refl;
         splits = ap whole_lines_of p.splits.is ∙ whole_lines_of-ended p.done rest p.splits.each;
-        written = g.written;
-        begins = g.is;
-        said = follows p.done p.said p.stands;
+        written = p.gathers.written;
+        begins = p.gathers.is;
+        said = p.stands;
+      }
+
+  -- memory was refused before more was read
+  pub progress_held : (Whole : List (List ℕ) → List (List ℕ) → Type 0) {wrote'' : Option (List ℕ)} {waits' : List ℕ} → Progress After left left' wrote wrote' came rest waits number → (e : FrontFault)
+      → (e ≢ Read) × (e ≢ Long) → e ≢ Write → (e ≡ Memory → SaysMore After Script wrote' wrote'' waits waits')
+      → Ended (λ w w'. EndsAs Whole Script left left' w w' e) wrote wrote'' waits'
+  progress_held Whole q Read only other memory = absurd (only.0 refl)
+  progress_held Whole q Long only other memory = absurd (only.1 refl)
+  progress_held Whole q Write only other memory = absurd (other refl)
+  progress_held Whole {wrote''} {waits'} q Memory only other memory =
+      let p : Progress Script left left' wrote wrote'' came rest waits' number = progress_caught q (memory refl) in
+      record {
+        text = flat_map ended p.said;
+        gathers = p.gathers;
+        ends = record {
+          input = p.bytes;
+          lines = whole_lines_of (take max_input p.bytes);
+          answered = p.done;
+          unanswered = whole_lines_of rest;
+          output = p.said;
+          read = p.comes.taken;
+          heard = inl refl;
+          splits = ap whole_lines_of p.splits.is ∙ whole_lines_of-ended p.done rest p.splits.each;
+          written = refl;
+          said = p.stands;
+        };
       }
 
 -- the next line of those that were heard, which is kept

@@ -1,6 +1,7 @@
 //! Lines in, lines out.
 ghost use Rattle.std.specs.Prelude.{◌≡◌, ◌≢◌, ◌<◌, ◌≤◌, ◌+◌, ◌-◌, ◌^◌, ◌++◌, ◌∷◌, [], ℕ, List, length, OnOk, OnErr, IfOk, IfErr, Err, IsTrue, ◌↔◌, false};
 ghost use Rattle.std.specs.List.{flat_map};
+ghost use Rattle.desk_lines.specs.Answering.{SaysMore};
 ghost use Rattle.desk_lines.specs.Gathers.{Ended, Gathers};
 ghost use Rattle.desk_lines.specs.LineReader.{has_newline, IsInStep};
 ghost use Rattle.desk_lines.specs.Lines.{kept_line, ended, max_input};
@@ -34,6 +35,23 @@ pub trait Clerk {
         ensures answers { IfOk result (λ text. (lines said : List (List ℕ)) (it : List ℕ) →
             After self.old lines said → line.now ≡ kept_line it → number ≡ length lines + 1 →
             (more : List (List ℕ)) × After self.new (lines ++ it ∷ []) (said ++ more) × (text.items ≡ flat_map ended more)) };
+
+    /// Says what it still owes. It is called before more is read, where no whole line waits.
+    fn catch_up<W: Sink>(
+        &mut self,
+        alloc: Global,
+        writer: &mut W,
+        unwritten: &mut Unwritten,
+    ) -> Result<(), FrontFault>
+        requires counts { W.faults writer.old < 2 ^ 64 - 1 }
+        ensures same { kept self.new ≡ kept self.old }
+        ensures keeps { (lines said : List (List ℕ)) → Script self.new lines said → Script self.old lines said }
+        ensures said { OnOk result (SaysMore (After self.old) (After self.new) (W.contents writer.old) (W.contents writer.new) unwritten.old.bytes.items unwritten.new.bytes.items) }
+        ensures write { (result ≡ Err FrontFault.Write) → (unsaid : List ℕ) × SaysMore (After self.old) (Script self.old) (W.contents writer.old) (W.contents writer.new) unwritten.old.bytes.items unsaid }
+        ensures memory { (result ≡ Err FrontFault.Memory) → SaysMore (After self.old) (Script self.old) (W.contents writer.old) (W.contents writer.new) unwritten.old.bytes.items unwritten.new.bytes.items }
+        ensures only { IfErr result (λ e. (e ≢ FrontFault.Read) × (e ≢ FrontFault.Long)) }
+        ensures fault { (result ≡ Err FrontFault.Write) → W.faults writer.old < W.faults writer.new }
+        ensures counts { (result ≢ Err FrontFault.Write) → W.faults writer.new ≡ W.faults writer.old };
 
     /// What was said follows the script.
     ghost follows: { (c : Self) (lines said : List (List ℕ)) → After c lines said → Script c lines said };
@@ -70,22 +88,29 @@ fn answer_line<W: Sink, C: Clerk>(
     unwritten.add(writer, &text)
 }
 
-/// Writes what waits, unless a whole line can be answered before more is read.
-fn write_before_read<W: Sink>(
+/// Unless a whole line can be answered before more is read, has the clerk say what it still owes, and writes all that waits.
+fn before_read<W: Sink, C: Clerk>(
+    alloc: Global,
+    clerk: &mut C,
     lines: &LineReader,
-    unwritten: &mut Unwritten,
     writer: &mut W,
+    unwritten: &mut Unwritten,
 ) -> Result<(), FrontFault>
     requires counts { W.faults writer.old < 2 ^ 64 - 1 }
-    ensures all { OnOk result (Gathers (W.contents writer.old) (W.contents writer.new) unwritten.old.bytes.items [] unwritten.new.bytes.items) }
-    ensures part { OnErr result ((rest : List ℕ) × Gathers (W.contents writer.old) (W.contents writer.new) unwritten.old.bytes.items [] rest) }
+    ensures same { C.kept clerk.new ≡ C.kept clerk.old }
+    ensures keeps { (lines said : List (List ℕ)) → C.Script clerk.new lines said → C.Script clerk.old lines said }
+    ensures said { OnOk result (SaysMore (C.After clerk.old) (C.After clerk.new) (W.contents writer.old) (W.contents writer.new) unwritten.old.bytes.items unwritten.new.bytes.items) }
+    ensures write { (result ≡ Err FrontFault.Write) → (unsaid : List ℕ) × SaysMore (C.After clerk.old) (C.Script clerk.old) (W.contents writer.old) (W.contents writer.new) unwritten.old.bytes.items unsaid }
+    ensures memory { (result ≡ Err FrontFault.Memory) → SaysMore (C.After clerk.old) (C.Script clerk.old) (W.contents writer.old) (W.contents writer.new) unwritten.old.bytes.items unwritten.new.bytes.items }
     ensures nothing_waits { OnOk result (has_newline lines.now ≡ false → unwritten.new.bytes.items ≡ []) }
-    ensures counts { OnOk result (W.faults writer.new ≡ W.faults writer.old) }
-    ensures fault { IfErr result (λ e. (e ≡ FrontFault.Write) × (W.faults writer.old < W.faults writer.new)) }
+    ensures only { IfErr result (λ e. (e ≢ FrontFault.Read) × (e ≢ FrontFault.Long)) }
+    ensures fault { (result ≡ Err FrontFault.Write) → W.faults writer.old < W.faults writer.new }
+    ensures counts { (result ≢ Err FrontFault.Write) → W.faults writer.new ≡ W.faults writer.old }
 {
     if lines.has_line() {
         return Ok(());
     }
+    clerk.catch_up(alloc, writer, unwritten)?;
     unwritten.write_out(writer)
 }
 
@@ -122,7 +147,7 @@ fn answer_each<R: Source, W: Sink, C: Clerk>(
     let mut line = LineText::new(alloc);
     let mut number: u64 = 1;
     'lines: loop {
-        write_before_read(&lines, unwritten, writer)?;
+        before_read(alloc, clerk, &lines, writer, unwritten)?;
         match lines.next_line(reader, &mut line)? {
             Next::Line => answer_line(alloc, clerk, writer, unwritten, number, &line)?,
             Next::Last => return answer_line(alloc, clerk, writer, unwritten, number, &line),

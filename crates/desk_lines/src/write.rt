@@ -75,4 +75,21 @@ impl Unwritten {
         }
         self.write_out(writer)
     }
+
+    /// Adds a text to what waits, as `add` does. Where the text is empty, all that waits is written.
+    pub fn pass_on<W: Sink>(&mut self, writer: &mut W, text: &[u8]) -> Result<(), FrontFault>
+        requires counts { W.faults writer.old < 2 ^ 64 - 1 }
+        ensures said { OnOk result (Gathers (W.contents writer.old) (W.contents writer.new) self.old.bytes.items text.now self.new.bytes.items) }
+        ensures out { text.now ≡ [] → OnOk result (self.new.bytes.items ≡ []) }
+        ensures part { (result ≡ Err FrontFault.Write) → (rest : List ℕ) × Gathers (W.contents writer.old) (W.contents writer.new) self.old.bytes.items text.now rest }
+        ensures memory { (result ≡ Err FrontFault.Memory) → Gathers (W.contents writer.old) (W.contents writer.new) self.old.bytes.items [] self.new.bytes.items }
+        ensures only { IfErr result (λ e. (e ≢ FrontFault.Read) × (e ≢ FrontFault.Long)) }
+        ensures counts { (result ≢ Err FrontFault.Write) → W.faults writer.new ≡ W.faults writer.old }
+        ensures fault { (result ≡ Err FrontFault.Write) → W.faults writer.old < W.faults writer.new }
+    {
+        if text.is_empty() {
+            return self.write_out(writer);
+        }
+        self.add(writer, text)
+    }
 }

@@ -12,17 +12,31 @@ ghost use Rattle.desk_replaying.specs.Desk.{TakesTurn, TakesReport};
 use crate::desk::Desk;
 use crate::line::line_in;
 use crate::said::said_of;
-use desk_lines::{Clerk, FrontFault, LineText, Sink, Source, answer_lines};
-use desk_reports::{LineRefusal, is_blank, parse, report};
+use desk_lines::{Clerk, FrontFault, LineText, Sink, Source, Unwritten, answer_lines};
+use desk_reports::{LineRefusal, is_blank, report};
+use json_reader::JsonReader;
 use serde_json::Value;
 use std::alloc::{AllocError, Global};
 
+/// What answers the lines of `replay`: what stands between them, and the reader of their texts.
+#[derive(Drop)]
+struct Session {
+    desk: Desk,
+    texts: JsonReader,
+}
+
 /// The report on a line that is neither too long nor blank.
-fn report_on(alloc: Global, desk: &mut Desk, number: u64, text: &[u8]) -> Result<Value, AllocError>
+fn report_on(
+    alloc: Global,
+    texts: &mut JsonReader,
+    desk: &mut Desk,
+    number: u64,
+    text: &[u8],
+) -> Result<Value, AllocError>
     ensures plain { IfOk result (λ v. has_float (view v) ≡ false) }
     ensures turn { is_blank text.now ≢ true → length text.now ≤ max_line → IfOk result (λ v. TakesReport desk.old number text.now (view v) desk.new) }
 {
-    let Some(value) = parse(alloc, text)? else {
+    let Some(value) = texts.read(alloc, text)? else {
         return report::refused_line(alloc, number, LineRefusal::Syntax.word());
     };
     let Some(line) = line_in(&value) else {
@@ -35,6 +49,7 @@ fn report_on(alloc: Global, desk: &mut Desk, number: u64, text: &[u8]) -> Result
 /// What is said to a line: nothing where it is blank.
 fn answer_to(
     alloc: Global,
+    texts: &mut JsonReader,
     desk: &mut Desk,
     number: u64,
     line: &LineText,
@@ -49,11 +64,11 @@ fn answer_to(
     if is_blank(text) {
         return Ok(Vec::new(alloc));
     }
-    let said = report_on(alloc, desk, number, text)?;
+    let said = report_on(alloc, texts, desk, number, text)?;
     report::report_line(alloc, &said)
 }
 
-impl Clerk for Desk {
+impl Clerk for Session {
     ghost use Rattle.desk_replaying.specs.Script.{Script};
     ghost use Rattle.desk_replaying.specs.Desk.{After};
 
@@ -63,7 +78,7 @@ impl Clerk for Desk {
 
     ghost kept = { λ _. tt };
 
-    ghost After = { After };
+    ghost After = { λ session. After session.desk };
 
     fn answer(
         &mut self,
@@ -71,10 +86,20 @@ impl Clerk for Desk {
         number: u64,
         line: &LineText,
     ) -> Result<Vec<u8>, AllocError> {
-        answer_to(alloc, self, number, line)
+        answer_to(alloc, &mut self.texts, &mut self.desk, number, line)
     }
 
-    ghost follows = { λ desk lines said h. h.script };
+    /// Nothing: each line is answered at once.
+    fn catch_up<W: Sink>(
+        &mut self,
+        _alloc: Global,
+        _writer: &mut W,
+        _unwritten: &mut Unwritten,
+    ) -> Result<(), FrontFault> {
+        Ok(())
+    }
+
+    ghost follows = { λ session lines said h. h.script };
 }
 
 /// Answers the lines of the reader to its end.
@@ -95,5 +120,9 @@ pub fn replay<R: Source, W: Sink>(
     ensures ok_within_limit { OnOk result (R.came reader.new ≤ R.came reader.old + max_input) }
     ensures read_within_limit { (result ≡ Err FrontFault.Read) → R.came reader.new ≤ R.came reader.old + max_input }
 {
-    answer_lines(alloc, &mut Desk::new(alloc), reader, writer)
+    let mut session = Session {
+        desk: Desk::new(alloc),
+        texts: JsonReader::new(alloc),
+    };
+    answer_lines(alloc, &mut session, reader, writer)
 }

@@ -1,7 +1,7 @@
 -- What the front of `serve` comes to.
 use Rattle.std.proofs.Common.{◌≡◌, ℕ, ◌<◌, zero, suc, List, [], ◌∷◌, ◌++◌, length, slice_get, slice_index_or, refl, ap, sym, ◌∙◌, append_assoc, append-nil, arith, Option, Some, None, All, subst, Bool, true, false, if◌then◌else◌}
 use Rattle.std.specs.Prelude.{bytes_eq}
-use Rattle.std.proofs.lemmas.List.{map-append}
+use Rattle.std.proofs.lemmas.List.{length-map, map-append}
 use Rattle.box_core.specs.declared.work.Work.{Ghosts}
 use Rattle.dmn_plan.specs.Request.{Request}
 use Rattle.feel_value.specs.declared.feel.Outcome.{Outcome}
@@ -128,6 +128,7 @@ served_by serving ends lines output more a h w =
     let s = stands_handed a.readings a.readings (names_in serving.lanes) _ (lanes_in serving.lanes) (ends_lanes ends) a.said more a.stands h in
     record {
       served = served_more serving (ends_lanes ends) (due_to_whole (names_in serving.lanes) ends w) lines output more a h;
+      each = sym (length-map ends (λ end. lane_in end)) ∙ length-unhanded (ends_lanes ends) (lanes_in serving.lanes) h.lanes;
       booked = subst (λ names. AreBooked names (ends_lanes ends) a.readings) a.stands.names s.booked;
       whole = w;
     }

@@ -6,6 +6,7 @@ pub mod Asking
 pub mod Saying
 pub mod EndingLanes
 pub mod Fronting
+pub mod CatchingUp
 pub mod Finishing
 pub mod Laning
 pub mod Putting

@@ -1,5 +1,5 @@
 -- What `serve` comes to.
-use Rattle.std.specs.Prelude.{◌≡◌, ◌⊎◌, ℕ, All, Contains, List, map, Some, None}
+use Rattle.std.specs.Prelude.{◌≡◌, ◌⊎◌, ℕ, All, Contains, List, length, map, Some, None}
 use Rattle.box_core.specs.declared.work.Work.{Ghosts}
 use Rattle.box_core.specs.Mail.{accepted_in, open_in}
 use Rattle.dmn_plan.specs.Request.{Request}
@@ -14,10 +14,11 @@ module _ {g : Ghosts Request Outcome} where
   abbrev pub IsWhole : Settled Request Outcome g → Type 0
   IsWhole end = accepted_in (mail_in end) ≡ (mail_in end).handed
 
-  -- The output is served, and these are the ends of the lanes: each is whole, and has just the requests of its client that
-  -- were accepted, in order; the lanes that no client has are new.
+  -- The output is served, and these are the ends of the lanes, as many as there are lanes: each is whole, and has just the
+  -- requests of its client that were accepted, in order; the lanes that no client has are new.
   pub record ServedBy (lanes : ℕ) (ends : List (Settled Request Outcome g)) (lines output : List (List ℕ)) : Type 0 where
     pub served : Served lanes lines output
+    pub each : length ends ≡ lanes
     pub booked : AreBooked (names_with_lanes lanes served.readings) (map (λ end. lane_in end) ends) served.readings
     pub whole : All IsWhole ends
 

@@ -11,9 +11,10 @@ ghost use Rattle.desk_serving.specs.Serving.{HasRoom, Hears, HearsText};
 use crate::line::{Asked, asked_in};
 use crate::reports::{self, refuse, refuse_line, say_resized};
 use crate::serving::Serving;
-use desk_lines::{Clerk, LineText};
+use crate::waiting::hand_out_all;
+use desk_lines::{Clerk, FrontFault, LineText, Sink, Unwritten};
 use desk_reports::report::{self, say};
-use desk_reports::{LineRefusal, is_blank, model_word, parse, refusal_of};
+use desk_reports::{LineRefusal, is_blank, model_word, refusal_of};
 use dmn_plan::{ModelFault, Plan, Task, TaskFault};
 use serde_json::Value;
 use std::alloc::{AllocError, Global};
@@ -160,7 +161,7 @@ impl<'a, R: Wait> Serving<'a, R> {
         ensures same { links_in self.new.lanes ≡ links_in self.old.lanes }
         ensures hears { is_blank line.now ≢ true → length line.now ≤ max_line → OnOk result (HearsText self.old number line.now text.old.items text.new.items self.new) }
     {
-        let Some(value) = parse(alloc, line)? else {
+        let Some(value) = self.texts.read(alloc, line)? else {
             return refuse_line(alloc, number, LineRefusal::Syntax, text);
         };
         let Some(asked) = asked_in(&value) else {
@@ -224,5 +225,14 @@ impl<'a, R: Wait> Clerk for Serving<'a, R> {
         self.lanes.hand_out(alloc, &mut text)?;
         self.answer_line(alloc, number, line, &mut text)?;
         Ok(text)
+    }
+
+    fn catch_up<W: Sink>(
+        &mut self,
+        alloc: Global,
+        writer: &mut W,
+        unwritten: &mut Unwritten,
+    ) -> Result<(), FrontFault> {
+        hand_out_all(self.rt, alloc, &mut self.lanes, writer, unwritten)
     }
 }

@@ -20,7 +20,6 @@ use dmn_plan::Task;
 use lanes::{Settled, Worker, settle};
 use std::alloc::{AllocError, Global};
 use std::sync::Wait;
-use std::thread;
 
 /// Hands out results while workers run. What is said last may wait to be written.
 fn hand_out_beside<R: Wait, W: Sink>(
@@ -44,13 +43,14 @@ fn hand_out_beside<R: Wait, W: Sink>(
 {
     let mut text = Vec::new(alloc);
     for _ in rt.forever() {
+        let seen = lanes.answers();
         if crew.has_ended() {
             break;
         }
         text.clear();
         lanes.hand_out(alloc, &mut text)?;
         unwritten.add(writer, &text)?;
-        thread::yield_now();
+        lanes.rest(rt, !text.is_empty(), seen);
     }
     Ok(())
 }

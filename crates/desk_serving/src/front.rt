@@ -19,6 +19,7 @@ use crate::serving::Serving;
 use crew::{Crew, Front, beside};
 use desk_lines::{FrontFault, Sink, Source, answer_lines};
 use dmn_plan::Task;
+use json_reader::JsonReader;
 use lanes::{Gate, Settled, Worker, lanes};
 use std::alloc::Global;
 use std::sync::Wait;
@@ -95,6 +96,7 @@ pub fn serve<T: Threads + Wait + Sync, R: Source, W: Sink, G: Gate + Sync>(
             rt,
             lanes: Lanes::new(alloc, clients),
             plan: None,
+            texts: JsonReader::new(alloc),
         },
         reader,
         writer,

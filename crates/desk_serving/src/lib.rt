@@ -10,6 +10,7 @@ mod named_lanes;
 mod options;
 mod reports;
 mod serving;
+mod waiting;
 
 pub use front::serve;
 pub use options::Options;

@@ -18,7 +18,6 @@ use lanes::Client;
 use serde_json::Value;
 use std::alloc::{AllocError, Global};
 use std::sync::{Arc, Wait};
-use std::thread;
 
 /// The clients' ends of the lanes, and the names of the first of them: lane by lane.
 #[derive(Drop)]
@@ -93,6 +92,34 @@ impl Lanes {
         Ok(())
     }
 
+    /// Whether each lane with a name is whole.
+    pub fn is_whole(&self) -> bool {
+        for place in 0..self.names.len() {
+            if !lane::is_whole(&self.clients[place]) {
+                return false;
+            }
+        }
+        true
+    }
+
+    /// How many answers were posted to the lanes so far.
+    pub fn answers(&self) -> u64 {
+        match self.clients.first() {
+            Some(client) => client.signals().answers(),
+            None => 0,
+        }
+    }
+
+    /// Where nothing came since so many answers were posted, waits until there are more. It may return early.
+    pub fn rest<R: Wait>(&self, rt: &R, came: bool, seen: u64) {
+        if came {
+            return;
+        }
+        if let Some(client) = self.clients.first() {
+            client.signals().await_answer(rt, seen);
+        }
+    }
+
     /// Hands out results until a lane is whole.
     pub fn drain<R: Wait>(
         &mut self,
@@ -111,8 +138,10 @@ impl Lanes {
             if lane::is_whole(&self.clients[place]) {
                 break;
             }
+            let seen = self.answers();
+            let said = text.len();
             self.hand_out(alloc, text)?;
-            thread::yield_now();
+            self.rest(rt, text.len() > said, seen);
         }
         Ok(())
     }
@@ -187,8 +216,10 @@ impl Lanes {
                 Submitted::Closed => return Ok(false),
                 Submitted::Full(refused) => work = refused,
             }
+            let seen = self.answers();
+            let said = text.len();
             self.hand_out(alloc, text)?;
-            thread::yield_now();
+            self.rest(rt, text.len() > said, seen);
         }
         unreachable!()
     }

@@ -14,7 +14,7 @@ use Rattle.lanes.specs.declared.gate.Stepped.TheVariants as stepped
 use Rattle.lanes.specs.declared.port.Held.{Held}
 use Rattle.lanes.specs.declared.port.Held.TheVariants as held
 use Rattle.lanes.specs.declared.port.Port.{Port}
-use Rattle.lanes.specs.Held.{held_in, HoldsJob, HoldsAnswer}
+use Rattle.lanes.specs.Held.{held_in, answers_in, HoldsJob, HoldsAnswer}
 use Rattle.lanes.specs.Ports.{taken_at, sent_at, held_at, SamePort, SameBooks, Finishes}
 use Rattle.lanes.specs.Steps.{Holds, Rests, HoldNothing, Unchanged, Ends, Serves, ServesOne, Steps}
 
@@ -22,6 +22,16 @@ holds_one : {W O : Type 0} (h : Held W O) → HoldsJob h → length (held_in h) 
 holds_one held.Nothing j = absurd j
 holds_one (held.Job job) j = refl
 holds_one (held.Done done) j = absurd j
+
+no_answer : {W O : Type 0} (h : Held W O) → held_in h ≡ [] → answers_in h ≡ []
+no_answer held.Nothing e = refl
+no_answer (held.Job job) e = refl
+no_answer (held.Done done) e = e
+
+job_alone : {W O : Type 0} (h : Held W O) → HoldsJob h → answers_in h ≡ []
+job_alone held.Nothing j = absurd j
+job_alone (held.Job job) j = refl
+job_alone (held.Done done) j = absurd j
 
 same_default : {T : Type 0} (xs : List T) (i : ℕ) (d e : T) → i < length xs → get_or xs i d ≡ get_or xs i e
 same_default [] i d e h = absurd (omega arith)
@@ -32,12 +42,12 @@ module _ {W O : Type 0} {g : Ghosts W O} where
   same_port : (p q r : Port W O g) → SamePort p q → SamePort q r → SamePort p r
   same_port p q r a b = (b.0 ∙ a.0, b.1 ∙ a.1, ((b.2.0.0 ∙ a.2.0.0, b.2.0.1 ∙ a.2.0.1, b.2.0.2 ∙ a.2.0.2, b.2.0.3 ∙ a.2.0.3), b.2.1 ∙ a.2.1))
 
-  ends_of : (result : Stepped) (p0 p q : Port W O g) (hand : List (Ticketed W)) → Finishes p result q → HoldsJob p.held → sent_at p ≡ sent_at p0 → hand ≡ held_at p → Ends hand p0 result q
-  ends_of stepped.Answered p0 p q hand f j s h = (f.0 ∙ (λ i. s i ++ sym h i), f.1)
-  ends_of stepped.Idle p0 p q hand f j s h = let n = holds_one p.held j in let e : length (held_in p.held) ≡ 0 = ap length f.1 in absurd (omega arith)
-  ends_of stepped.Again p0 p q hand f j s h = absurd f
-  ends_of stepped.NoMemory p0 p q hand f j s h = (f.0.1 ∙ s, f.0.2 ∙ sym h, f.2)
-  ends_of stepped.RingFull p0 p q hand f j s h = (f.0.1 ∙ s, f.0.2 ∙ sym h, f.1)
+  ends_of : (result : Stepped) (p0 p q : Port W O g) (hand : List (Ticketed W)) → Finishes p result q → HoldsJob p.held → held_at p0 ≡ [] → sent_at p ≡ sent_at p0 → hand ≡ held_at p → Ends hand p0 result q
+  ends_of stepped.Answered p0 p q hand f j n s h = (f.0 ∙ (λ i. s i ++ sym h i), f.1)
+  ends_of stepped.Idle p0 p q hand f j n s h = let n = holds_one p.held j in let e : length (held_in p.held) ≡ 0 = ap length f.1 in absurd (omega arith)
+  ends_of stepped.Again p0 p q hand f j n s h = absurd f
+  ends_of stepped.NoMemory p0 p q hand f j n s h = (f.0.1 ∙ s, f.0.2 ∙ sym h, f.2, no_answer p0.held n)
+  ends_of stepped.RingFull p0 p q hand f j n s h = (f.0.1 ∙ s, f.0.2 ∙ sym h, f.1)
 
   steps_of : (result : Stepped) (p q : Port W O g) (old new : List (Port W O g)) → Finishes p result q → HoldsJob p.held → ServesOne old result new → Steps old result new
   steps_of stepped.Answered p q old new f j s = s
@@ -94,7 +104,7 @@ module _ {W O : Type 0} {g : Ghosts W O} where
               new = held_at p1;
               taken = taken2 ∙ taken1 ∙ ap (λ l. l ++ held_at p1) rests.1.0;
               one = (let a = holds_one p1.held job in let b : length (held_at p0) ≡ 0 = ap length none in omega arith);
-              ends = ends_of result p0 p1 q (held_at p0 ++ held_at p1) fin job (sent1 ∙ rests.1.1) hand;
+              ends = ends_of result p0 p1 q (held_at p0 ++ held_at p1) fin job none (sent1 ∙ rests.1.1) hand;
             } in
             subst (λ x. Serves p0 result x) (sym here) whole;
         rests = λ c d h apart.
@@ -151,7 +161,7 @@ module _ {W O : Type 0} {g : Ghosts W O} where
   held_ends stepped.Answered p q f one = (f.0 ∙ ap (λ l. sent_at p ++ l) (sym (append-nil (held_at p))), f.1)
   held_ends stepped.Idle p q f one = let e : length (held_at p) ≡ 0 = ap length f.1 in absurd (omega (arith, e, one))
   held_ends stepped.Again p q f one = absurd f
-  held_ends stepped.NoMemory p q f one = (f.0.1, f.0.2 ∙ sym (append-nil (held_at p)), f.2)
+  held_ends stepped.NoMemory p q f one = (f.0.1, f.0.2 ∙ sym (append-nil (held_at p)), f.2, job_alone p.held f.1)
   held_ends stepped.RingFull p q f one = (f.0.1, f.0.2 ∙ sym (append-nil (held_at p)), f.1)
 
   held_steps : (result : Stepped) (p q : Port W O g) (old new : List (Port W O g)) → Finishes p result q → length (held_at p) ≡ 1 → ServesOne old result new → Steps old result new

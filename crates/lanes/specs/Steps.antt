@@ -5,7 +5,7 @@ use Rattle.box_core.specs.declared.work.Work.{Ghosts}
 use Rattle.lanes.specs.declared.gate.Stepped.{Stepped}
 use Rattle.lanes.specs.declared.gate.Stepped.TheVariants as stepped
 use Rattle.lanes.specs.declared.port.Port.{Port}
-use Rattle.lanes.specs.Held.{HoldsJob, HoldsAnswer}
+use Rattle.lanes.specs.Held.{HoldsJob, HoldsAnswer, answers_in}
 use Rattle.lanes.specs.Ports.{taken_at, sent_at, held_at, SamePort, SameBooks}
 
 module _ {W O : Type 0} {g : Ghosts W O} where
@@ -25,12 +25,12 @@ module _ {W O : Type 0} {g : Ghosts W O} where
     pub count : length new ≡ length old
     pub rests : (c : ℕ) (d : Port W O g) → c < length old → Rests (slice_index_or old c d) (slice_index_or new c d)
 
-  -- what became of the one job or answer that was at hand
+  -- what became of the one job or answer that was at hand: where memory was refused, it was no answer before
   abbrev pub Ends : List (Ticketed W) → Port W O g → Stepped → Port W O g → Type 0
   Ends hand p stepped.Answered q = (sent_at q ≡ sent_at p ++ hand) × (held_at q ≡ [])
   Ends hand p stepped.Idle q = ⊥
   Ends hand p stepped.Again q = ⊥
-  Ends hand p stepped.NoMemory q = (sent_at q ≡ sent_at p) × (held_at q ≡ hand) × HoldsJob q.held
+  Ends hand p stepped.NoMemory q = (sent_at q ≡ sent_at p) × (held_at q ≡ hand) × HoldsJob q.held × (answers_in p.held ≡ [])
   Ends hand p stepped.RingFull q = (sent_at q ≡ sent_at p) × (held_at q ≡ hand) × HoldsAnswer q.held
 
   -- One lane was served: what was held for it, or else one job that was taken from it.

@@ -7,6 +7,7 @@ ghost use Rattle.lanes.specs.Books.{ticket_of, work_of, CountsFrom, CountsFrom-p
 ghost use Rattle.lanes.specs.Joined.{received_of};
 
 use crate::book::{Owner, Puts};
+use crate::signals::Signals;
 use box_core::{Done, Job, Mailbox, Refusal, Reply, Work};
 use rtrb::Consumer;
 use std::sync::Arc;
@@ -19,6 +20,7 @@ pub struct Client<W: Work> {
     pub(crate) owner: Owner<W>,
     pub(crate) mailbox: Mailbox<W>,
     pub(crate) rings: Vec<Consumer<Done<W>>>,
+    pub(crate) signals: Arc<Signals>,
     ghost owns: { (worker_port owner ≡ 0) × (worker_flavor owner ≡ 0) },
     // No pass has come back yet.
     ghost lent: { ((worker_view owner).out ≡ vec_len rings) × ((worker_view owner).taken ≡ []) },
@@ -64,12 +66,16 @@ impl<W: Work> Client<W> {
         };
         let job = Job::of(self.mailbox.accepted(), copy);
         match self.owner.push_as::<Puts>(job) {
-            Ok(()) => Ok(accept(&mut self.mailbox, work)),
+            Ok(()) => {
+                self.signals.add_job();
+                Ok(accept(&mut self.mailbox, work))
+            }
             Err(_) => Err((Refusal::Memory, work)),
         }
     }
 
-    /// Takes in every answer that is in its rings, then hands out the next result if it is there. It takes no memory.
+    /// Takes in every answer that is in its rings, then hands out the next result if it is there. It takes no memory. Where
+    /// each request was handed its result, it looks into no ring.
     pub fn poll(&mut self) -> Option<Reply<W>>
         ensures same { client_links self.new ≡ client_links self.old }
         ensures put { put_of self.new ≡ put_of self.old }
@@ -101,6 +107,11 @@ impl<W: Work> Client<W> {
         ensures books { (put_of self.new ≡ put_of self.old) × (came_to self.new ≡ came_to self.old) }
     {
         self.mailbox.resize(capacity)
+    }
+
+    /// What wakes the threads of all lanes.
+    pub fn signals(&self) -> &Signals {
+        &self.signals
     }
 
     /// How many requests were accepted, which is also the next ticket.
@@ -159,11 +170,14 @@ fn take_in_ring<W: Work>(ring: &mut Consumer<Done<W>>, mailbox: &mut Mailbox<W>)
     }
 }
 
-// Takes in the answers that are in the rings.
+// Takes in the answers that are in the rings. Where no request is outstanding there is none that can be kept.
 fn take_in_rings<W: Work>(rings: &mut Vec<Consumer<Done<W>>>, mailbox: &mut Mailbox<W>)
     ensures rings { (vec_len rings.new ≡ vec_len rings.old) × (ring_links rings.new.items ≡ ring_links rings.old.items) }
     ensures taken { (more : List (Ticketed W)) × IsPermutation (received_of rings.new.items) (more ++ received_of rings.old.items) × TakenIn W.request W.result_of mailbox.old more mailbox.new × All (λ x. x.ticket < accepted_in mailbox.old) more }
 {
+    if mailbox.is_whole() {
+        return;
+    }
     for index in 0..rings.len() {
         take_in_ring(&mut rings[index], mailbox);
     }

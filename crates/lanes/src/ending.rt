@@ -36,6 +36,7 @@ pub(crate) fn settle_lane<W: Work>(
         mut owner,
         mut mailbox,
         rings,
+        signals: _,
     } = client;
     join_ports(&mut owner, column, rings, &mut mailbox, &mut left);
     pop_rest(&mut owner, &mut left);

@@ -11,6 +11,7 @@ mod open;
 mod port;
 mod settled;
 mod settling;
+mod signals;
 mod worker;
 
 pub use client::Client;
@@ -19,4 +20,5 @@ pub use gate::{Gate, OpenGate, Stepped};
 pub use open::lanes;
 pub use settled::Settled;
 pub use settling::settle;
+pub use signals::Signals;
 pub use worker::Worker;

@@ -15,10 +15,12 @@ use crate::book::{ForWorker, Owner};
 use crate::client::Client;
 use crate::fault::LaneFault;
 use crate::port::{Held, Port};
+use crate::signals::Signals;
 use crate::worker::Worker;
 use box_core::{Done, Mailbox, Work};
 use rtrb::{Consumer, RingBuffer};
 use std::alloc::{AllocError, Global};
+use std::sync::Arc;
 
 /// The clients and the workers that there may be.
 const CLIENTS: u32 = 64;
@@ -70,22 +72,28 @@ fn open_all<W: Work>(
     ensures new { IfOk result (λ ends. AreNew capacity ends.0.items × AreIdle ends.1.items) }
 {
     let mut ends = Vec::new(alloc);
-    let mut crew = crew_of(alloc, workers)?;
+    let signals = Arc::new(alloc, Signals::new())?;
+    let mut crew = crew_of(alloc, workers, &signals)?;
     for _ in 0..clients {
-        let client = open_lane(alloc, capacity, &mut crew)?;
+        let client = open_lane(alloc, capacity, &mut crew, &signals)?;
         ends.push(client)?;
     }
     Ok((ends, crew))
 }
 
 // Workers without a lane.
-fn crew_of<W: Work>(alloc: Global, workers: u32) -> Result<Vec<Worker<W>>, AllocError>
+fn crew_of<W: Work>(
+    alloc: Global,
+    workers: u32,
+    signals: &Arc<Signals>,
+) -> Result<Vec<Worker<W>>, AllocError>
     ensures empty { IfOk result (λ crew. map ports_of crew.items ≡ empties workers) }
     ensures len { IfOk result (λ crew. vec_len crew ≡ workers) }
 {
     let mut crew = Vec::new(alloc);
     for _ in 0..workers {
-        crew.push(Worker::without_lanes(alloc))?;
+        let theirs = Arc::try_clone(signals)?;
+        crew.push(Worker::without_lanes(alloc, theirs))?;
     }
     Ok(crew)
 }
@@ -95,6 +103,7 @@ fn open_lane<W: Work>(
     alloc: Global,
     capacity: u32,
     crew: &mut Vec<Worker<W>>,
+    signals: &Arc<Signals>,
 ) -> Result<Client<W>, AllocError>
     requires lawful { IsCapacity capacity }
     requires few { All (λ ports. length ports < 64) (map ports_of crew.old.items) }
@@ -105,11 +114,13 @@ fn open_lane<W: Work>(
 {
     let mailbox = empty_mailbox(alloc, capacity)?;
     let mut owner = Owner::fifo_as(alloc, FIRST_SLOTS)?;
+    let signals = Arc::try_clone(signals)?;
     let rings = open_ports(alloc, &mut owner, crew)?;
     Ok(Client {
         owner,
         mailbox,
         rings,
+        signals,
     })
 }
 

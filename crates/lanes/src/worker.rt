@@ -4,9 +4,11 @@ ghost use Rattle.lanes.specs.Ports.{held_at};
 
 use crate::gate::{Gate, Stepped};
 use crate::port::{Held, Port};
+use crate::signals::Signals;
 use box_core::Work;
 use crossbeam_deque::Steal;
 use std::alloc::{AllocError, Global};
+use std::sync::Arc;
 
 /// A worker's end of every lane: it takes jobs, runs them, and sends their answers.
 ///
@@ -15,6 +17,9 @@ use std::alloc::{AllocError, Global};
 pub struct Worker<W: Work> {
     alloc: Global,
     pub(crate) ports: Vec<Port<W>>,
+    // The lane that it looks at first: the one behind the last that gave a job.
+    first: usize,
+    signals: Arc<Signals>,
     ghost few: { vec_len ports ≤ 64 },
     // It holds at most one job or answer.
     ghost one: { sum_by (λ p. length (held_at p)) ports.items ≤ 1 },
@@ -27,12 +32,14 @@ impl<W: Work> Worker<W> {
     ghost use Rattle.lanes.specs.Workers.{worker_links, ports_of};
 
     // A worker without a lane.
-    pub(crate) fn without_lanes(alloc: Global) -> Worker<W>
+    pub(crate) fn without_lanes(alloc: Global, signals: Arc<Signals>) -> Worker<W>
         ensures { ports_of result ≡ [] }
     {
         Worker {
             alloc,
             ports: Vec::new(alloc),
+            first: 0,
+            signals,
         }
     }
 
@@ -54,9 +61,14 @@ impl<W: Work> Worker<W> {
         self.ports.pop()
     }
 
+    /// What wakes the threads of all lanes.
+    pub fn signals(&self) -> &Arc<Signals> {
+        &self.signals
+    }
+
     /// Does one step: what the worker holds is tried first, and is then the whole step. Otherwise it takes the oldest
-    /// job of some lane, where one waits, runs it, and posts the answer. A step that finds nothing looks at each lane
-    /// once and takes no memory.
+    /// job of some lane, where one waits, runs it, and posts the answer. The lanes have their turns: it looks first at the
+    /// lane behind the last that gave a job. A step that finds nothing looks at each lane once and takes no memory.
     pub fn step<G: Gate>(&mut self, gate: &G) -> Stepped
         ensures same { worker_links self.new ≡ worker_links self.old }
         ensures steps { Steps (ports_of self.old) result (ports_of self.new) }
@@ -64,7 +76,7 @@ impl<W: Work> Worker<W> {
         let alloc = self.alloc;
         match first_held(&self.ports) {
             Some(lane) => finish_held(&mut self.ports, alloc, gate, lane),
-            None => look(&mut self.ports, alloc, gate),
+            None => look(&mut self.ports, &mut self.first, alloc, gate),
         }
     }
 }
@@ -104,17 +116,35 @@ fn finish_held<W: Work, G: Gate>(
     port.finish(alloc, gate, lane as u32)
 }
 
+// The lane of a turn, where the lanes have their turns in order from this one on.
+fn lane_of(first: usize, turn: usize, lanes: usize) -> usize
+    requires { turn < lanes }
+    ensures { result < lanes }
+{
+    first.wrapping_add(turn) % lanes
+}
+
 // Takes a job of some lane where one waits, and runs it.
-pub(crate) fn look<W: Work, G: Gate>(ports: &mut Vec<Port<W>>, alloc: Global, gate: &G) -> Stepped
+fn look<W: Work, G: Gate>(
+    ports: &mut Vec<Port<W>>,
+    first: &mut usize,
+    alloc: Global,
+    gate: &G,
+) -> Stepped
     requires nothing { HoldNothing ports.old.items }
     requires few { vec_len ports.old ≤ 64 }
     ensures { Steps ports.old.items result ports.new.items }
 {
+    let lanes = ports.len();
     let mut again = false;
-    for lane in 0..ports.len() {
+    for turn in 0..lanes {
+        let lane = lane_of(*first, turn, lanes);
         let port = &mut ports[lane];
         match port.steal() {
-            Steal::Success(()) => return port.finish(alloc, gate, lane as u32),
+            Steal::Success(()) => {
+                *first = lane + 1;
+                return port.finish(alloc, gate, lane as u32);
+            }
             Steal::Retry => again = true,
             Steal::Empty => {}
         }

@@ -9,15 +9,17 @@ use lanes::{Client, OpenGate, Settled, Worker, lanes, settle};
 use std::alloc::{AllocError, Global};
 use std::sync::{Arc, Wait};
 use std::test::Fail;
-use std::thread::{self, Threads};
+use std::thread::{self, Parker, Threads};
+use std::time::Duration;
 
 /// How many requests each client puts.
 const REQUESTS: u64 = 50;
 
-/// A request for a number.
+/// A request for a number. One that is too large is refused memory each time that it runs.
 #[derive(Drop)]
 struct Task {
     number: u64,
+    is_too_large: bool,
 }
 
 impl Work for Task {
@@ -34,8 +36,23 @@ impl Work for Task {
     }
 
     fn run(&self, _alloc: Global) -> Result<u64, AllocError> {
+        if self.is_too_large {
+            return Err(AllocError);
+        }
         Ok(self.number)
     }
+}
+
+/// When a front that put its requests ends.
+#[derive(Clone, Copy, Drop, PartialEq, Eq)]
+enum Until {
+    /// Each client was handed all its results.
+    Whole,
+    /// The workers have ended, which it stops once the requests are put.
+    Ended,
+    /// The workers starve, and each client but the first was handed all its results. The first client's first request is too
+    /// large.
+    Starved,
 }
 
 /// Puts the requests of its clients, in turn, and keeps what each is handed out.
@@ -44,13 +61,12 @@ struct Asking {
     alloc: Global,
     clients: Vec<Client<Task>>,
     outcomes: Vec<Vec<u64>>,
-    // Whether the workers are stopped once the requests are put, and not once all results were handed out.
-    stops: bool,
+    until: Until,
 }
 
 impl Asking {
     // With so many lists of outcomes as clients.
-    fn of(alloc: Global, clients: Vec<Client<Task>>, stops: bool) -> Result<Asking, AllocError>
+    fn of(alloc: Global, clients: Vec<Client<Task>>, until: Until) -> Result<Asking, AllocError>
         ensures { IfOk result (λ asking. asking.clients ≡ clients) }
     {
         let mut outcomes = Vec::new(alloc);
@@ -61,15 +77,15 @@ impl Asking {
             alloc,
             clients,
             outcomes,
-            stops,
+            until,
         })
     }
 
     // Puts a request, once there is a place for it.
-    fn put<R: Wait>(&mut self, rt: &R, client: usize, number: u64) -> Result<(), AllocError>
+    fn put<R: Wait>(&mut self, rt: &R, client: usize, task: Task) -> Result<(), AllocError>
         ensures { map client_links self.new.clients.items ≡ map client_links self.old.clients.items }
     {
-        let mut work = Arc::new(self.alloc, Task { number })?;
+        let mut work = Arc::new(self.alloc, task)?;
         for _ in rt.forever() {
             match submitted(&mut self.clients, client, work) {
                 Ok(()) => break,
@@ -101,24 +117,39 @@ impl Asking {
         self.clients.iter().all(|client| client.is_whole())
     }
 
+    // Whether each client but the first was handed all its results.
+    fn rest_is_whole(&self) -> bool {
+        self.clients.iter().skip(1).all(|client| client.is_whole())
+    }
+
+    // Whether no result that it waits for will come any more.
+    fn is_done(&self, crew: &Crew) -> bool {
+        match self.until {
+            Until::Whole => self.is_whole(),
+            Until::Ended => crew.has_ended(),
+            Until::Starved => self.rest_is_whole() && crew.signals().is_starved(),
+        }
+    }
+
     // Puts all requests, then takes results to the end.
     fn ask<R: Wait>(&mut self, rt: &R, crew: &Crew) -> Result<(), AllocError>
         ensures { map client_links self.new.clients.items ≡ map client_links self.old.clients.items }
     {
         for number in 0..REQUESTS {
             for client in 0..self.clients.len() {
-                self.put(rt, client, number)?;
+                let is_too_large = self.until == Until::Starved && client == 0 && number == 0;
+                let task = Task {
+                    number,
+                    is_too_large,
+                };
+                self.put(rt, client, task)?;
             }
         }
-        if self.stops {
+        if self.until == Until::Ended {
             crew.stop();
         }
         for _ in rt.forever() {
-            let is_last = if self.stops {
-                crew.has_ended()
-            } else {
-                self.is_whole()
-            };
+            let is_last = self.is_done(crew);
             for client in 0..self.clients.len() {
                 self.take(client)?;
             }
@@ -198,10 +229,10 @@ fn answered_to<R: Threads + Wait + Sync>(
     rt: &R,
     alloc: Global,
     capacity: u32,
-    stops: bool,
+    until: Until,
 ) -> Result<Handed, AllocError> {
     let (clients, workers) = ends_of(alloc, 2, 4, capacity)?;
-    let mut front = Asking::of(alloc, clients, stops)?;
+    let mut front = Asking::of(alloc, clients, until)?;
     let (ran, workers) = beside(rt, &OpenGate, workers, &mut front)?;
     ran?;
     let Asking {
@@ -269,7 +300,7 @@ fn all_results(alloc: Global) -> Result<Vec<u64>, AllocError> {
 fn all_is_handed_out_beside_four_workers(rt: HostRuntime) -> Result<(), Fail> {
     let alloc = rt.alloc();
     let results = all_results(alloc)?;
-    let handed_out = answered_to(&rt, alloc, 8, false)?;
+    let handed_out = answered_to(&rt, alloc, 8, Until::Whole)?;
     assert_eq!(rt; handed_out.outcomes.len(), 2);
     for handed in &handed_out.outcomes {
         assert_eq!(rt; handed.as_slice(), results.as_slice());
@@ -290,7 +321,7 @@ fn what_a_stop_leaves_is_handed_out_after_it(rt: HostRuntime) -> Result<(), Fail
             mut outcomes,
             late,
             mut ends,
-        } = answered_to(&rt, alloc, 64, true)?;
+        } = answered_to(&rt, alloc, 64, Until::Ended)?;
         assert_eq!(rt; late, 0);
         assert_eq!(rt; ends.len(), 2);
         for (end, handed) in ends.iter_mut().zip(outcomes.iter_mut()) {
@@ -298,6 +329,81 @@ fn what_a_stop_leaves_is_handed_out_after_it(rt: HostRuntime) -> Result<(), Fail
             assert_eq!(rt; handed.as_slice(), results.as_slice());
             assert!(rt; end.is_whole());
         }
+    }
+    Ok(())
+}
+
+// The tickets of the jobs that are left.
+fn left_in(alloc: Global, end: &mut Settled<Task>) -> Result<Vec<u64>, AllocError> {
+    let mut tickets = Vec::new(alloc);
+    for _ in 0..REQUESTS {
+        let Some(job) = end.next_left() else {
+            break;
+        };
+        tickets.push(job.ticket())?;
+    }
+    Ok(tickets)
+}
+
+/// How many results each client is handed, and which of its jobs are left, where the first client's first request never fits.
+const HANDED: &[u64] = &[0, REQUESTS];
+
+const LEFT: &[&[u64]] = &[&[0], &[]];
+
+#[test]
+fn a_job_that_never_fits_keeps_no_other_client(rt: HostRuntime) -> Result<(), Fail> {
+    let alloc = rt.alloc();
+    let results = all_results(alloc)?;
+    let Handed {
+        outcomes,
+        late,
+        mut ends,
+    } = answered_to(&rt, alloc, 64, Until::Starved)?;
+    assert_eq!(rt; late, 0);
+    assert_eq!(rt; outcomes.len(), 2);
+    for (handed, count) in outcomes.iter().zip(HANDED) {
+        assert_eq!(rt; handed.len() as u64, *count);
+        assert!(rt; results.as_slice().starts_with(handed.as_slice()));
+    }
+    assert_eq!(rt; ends.len(), 2);
+    for (end, due) in ends.iter_mut().zip(LEFT) {
+        assert_eq!(rt; left_in(alloc, end)?.as_slice(), *due);
+    }
+    Ok(())
+}
+
+/// How long a front gives the workers to fall asleep, in milliseconds.
+const ASLEEP: u64 = 20;
+
+/// Stops the workers while they sleep, and waits until they have ended.
+#[derive(Drop)]
+struct Stopping;
+
+impl Front for Stopping {
+    type Out = ();
+
+    ghost ready = { λ _. Unit {0} };
+
+    ghost done = { λ _ _ _. Unit {0} };
+
+    fn run<R: Wait>(&mut self, rt: &R, crew: &Crew) {
+        Parker::new().park_timeout(rt, Duration::from_millis(ASLEEP));
+        crew.stop();
+        for _ in rt.forever() {
+            if crew.has_ended() {
+                break;
+            }
+            thread::yield_now();
+        }
+    }
+}
+
+#[test]
+fn workers_that_sleep_end_when_they_are_stopped(rt: HostRuntime) -> Result<(), Fail> {
+    for _ in 0..5 {
+        let (_, workers) = ends_of(rt.alloc(), 2, 8, 1)?;
+        let ((), workers) = beside(&rt, &OpenGate, workers, &mut Stopping)?;
+        assert_eq!(rt; workers.len(), 8);
     }
     Ok(())
 }

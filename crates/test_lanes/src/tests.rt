@@ -12,6 +12,8 @@ use std::sync::atomic::{AtomicU64, Ordering};
 use std::test::Fail;
 use std::thread::{self, Threads};
 
+mod full;
+mod gates;
 mod refused;
 
 /// A request for a number. Its run counts itself, and is refused memory as often as it was told.

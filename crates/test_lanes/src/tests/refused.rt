@@ -72,7 +72,7 @@ fn a_refused_opening(rt: HostRuntime) -> Result<(), Fail> {
 }
 
 // Puts as many requests on the second lane as it has room for at first.
-fn fill(
+pub(super) fn fill(
     alloc: Global,
     clients: &mut Vec<Client<Task>>,
     workers: &mut Vec<Worker<Task>>,
@@ -105,7 +105,7 @@ fn submit_again(
 }
 
 // Each of the requests is run, and its result handed out.
-fn are_handed(
+pub(super) fn are_handed(
     rt: &impl Abort,
     alloc: Global,
     clients: &mut Vec<Client<Task>>,

@@ -21,7 +21,7 @@ pub beside-ran-requires-clause-ready : goal.beside-ran-requires-clause-ready
 beside-ran-requires-clause-ready g c κs within = (
   c.requires.read_counts,
   c.requires.write_counts,
-  after_none (record { rt = c.args.rt; lanes = c.new.result; plan = None }) (ap (map string_bytes) c.new.ensures.0) refl
+  after_none (record { rt = c.args.rt; lanes = c.new.result; plan = None; texts = _ }) (ap (map string_bytes) c.new.ensures.0) refl
       (rw (c.new.ensures.1) (new_booked _ c.in-Ok.clients.items c.in-Ok.ensures.new.0)),
 )
 

@@ -23,3 +23,9 @@ loop-index-preserved g c =
 
 pub returns : goal.returns
 returns g c = let h = c.loop-index.invariant.ringing in record { rings = (c.loop-index.invariant.len, h.links); taken = (h.more, h.came, h.taken, h.below) }
+
+pub returns-then-is_whole : goal.returns-then-is_whole
+returns-then-is_whole g c = record {
+  rings = (refl, refl);
+  taken = ([], IsPermutation-refl (received_of c.args.rings.now.items), refl, none (λ x. x.ticket < accepted_in c.args.mailbox.now));
+}

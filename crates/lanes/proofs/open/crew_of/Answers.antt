@@ -17,7 +17,7 @@ loop-preserved g c =
 
 pub returns-in_err-push : goal.returns-in_err-push
 returns-in_err-push g c =
-    let e = (err_from_is_err_and c.from_residual.result c.from_residual.ensures.1).1 in
+    let e = (err_from_is_err_and c.from_residual-in_err-push.result c.from_residual-in_err-push.ensures.1).1 in
     record {
       empty = rw e tt;
       len = rw e tt;

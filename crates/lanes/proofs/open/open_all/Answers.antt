@@ -33,7 +33,7 @@ loop-preserved g c =
 
 pub returns-in_err-crew : goal.returns-in_err-crew
 returns-in_err-crew g c =
-    let e = (err_from_is_err_and c.from_residual.result c.from_residual.ensures.1).1 in
+    let e = (err_from_is_err_and c.from_residual-in_err-crew.result c.from_residual-in_err-crew.ensures.1).1 in
     record {
       count = rw e tt;
       one_call = rw e tt;

@@ -32,7 +32,7 @@ returns-in_ok-end_workers g c =
     let mid = c.answer_lines-ended.new.clerk in
     record {
       answers = ends_more _ _ _ _ _ _ _ (AreHanded (names_in mid.lanes) (lanes_in mid.lanes) (lanes_in c.end_workers.new.lanes)) _
-          (λ lines said more x h. after_more mid (record { rt = mid.rt; lanes = c.end_workers.new.lanes; plan = mid.plan }) lines said more x e.names refl h)
+          (λ lines said more x h. after_more mid (record { rt = mid.rt; lanes = c.end_workers.new.lanes; plan = mid.plan; texts = mid.texts }) lines said more x e.names refl h)
           c.answer_lines-ended.result goes (ends_of _ _ _ _ _ _ c.answer_lines-ended.result a.ok a.fault) e.ok;
       links = e.same ∙ a.same;
       reader = refl;

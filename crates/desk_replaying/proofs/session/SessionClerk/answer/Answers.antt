@@ -1,6 +1,6 @@
 use Rattle.desk_replaying.proofs.Answering.{ok_map}
 use Rattle.desk_replaying.proofs.Turning.{taken_in}
-use Rattle.desk_replaying.proofs.session.DeskClerk.answer.Goals as goal
+use Rattle.desk_replaying.proofs.session.SessionClerk.answer.Goals as goal
 
 pub returns-clause-answers : goal.returns-clause-answers
 returns-clause-answers c =

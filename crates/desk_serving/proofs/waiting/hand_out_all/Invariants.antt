@@ -1,0 +1,13 @@
+use Rattle.std.proofs.Common.{◌≡◌}
+use Rattle.desk_serving.specs.LanesView.{lanes_in, links_in, names_in}
+use Rattle.desk_serving.specs.Owed.{AreHanded}
+use Rattle.desk_serving.specs.Telling.{Tells}
+use Rattle.desk_serving.proofs.waiting.hand_out_all.Given as goal
+
+abbrev pub invariant-loop : goal.invariant-loop
+invariant-loop g l = record {
+  same : links_in l.lanes ≡ links_in l.initial.lanes;
+  names : names_in l.lanes ≡ names_in l.initial.lanes;
+  counts : g.W.Sink.faults l.writer ≡ g.W.Sink.faults l.initial.writer;
+  tells : Tells (AreHanded (names_in l.initial.lanes) (lanes_in l.initial.lanes) (lanes_in l.lanes)) (g.W.Sink.contents l.initial.writer) (g.W.Sink.contents l.writer) l.initial.unwritten.bytes.items l.unwritten.bytes.items;
+}

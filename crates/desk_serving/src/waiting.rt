@@ -1,0 +1,42 @@
+//! While the front waits for results, each is written as soon as no other is at hand.
+ghost use Rattle.std.specs.Prelude.{◌≡◌, ◌≢◌, ◌<◌, ◌-◌, ◌^◌, ℕ, List, Err, IfErr, OnOk};
+ghost use Rattle.desk_serving.specs.LanesView.{lanes_in, links_in, names_in};
+ghost use Rattle.desk_serving.specs.Owed.{AreFirst, AreHanded};
+ghost use Rattle.desk_serving.specs.Telling.{Tells};
+
+use crate::named_lanes::Lanes;
+use desk_lines::{FrontFault, Sink, Unwritten};
+use std::alloc::Global;
+use std::sync::Wait;
+
+/// Hands out results until each lane with a name is whole. Where a round finds nothing more, all that waits is written.
+pub fn hand_out_all<R: Wait, W: Sink>(
+    rt: &R,
+    alloc: Global,
+    lanes: &mut Lanes,
+    writer: &mut W,
+    unwritten: &mut Unwritten,
+) -> Result<(), FrontFault>
+    requires counts { W.faults writer.old < 2 ^ 64 - 1 }
+    ensures same { links_in lanes.new ≡ links_in lanes.old }
+    ensures names { names_in lanes.new ≡ names_in lanes.old }
+    ensures ok { OnOk result (Tells (AreHanded (names_in lanes.old) (lanes_in lanes.old) (lanes_in lanes.new)) (W.contents writer.old) (W.contents writer.new) unwritten.old.bytes.items unwritten.new.bytes.items) }
+    ensures write { (result ≡ Err FrontFault.Write) → (rest : List ℕ) × Tells (AreFirst (names_in lanes.old) (lanes_in lanes.old)) (W.contents writer.old) (W.contents writer.new) unwritten.old.bytes.items rest }
+    ensures memory { (result ≡ Err FrontFault.Memory) → Tells (AreFirst (names_in lanes.old) (lanes_in lanes.old)) (W.contents writer.old) (W.contents writer.new) unwritten.old.bytes.items unwritten.new.bytes.items }
+    ensures only { IfErr result (λ e. (e ≢ FrontFault.Read) × (e ≢ FrontFault.Long)) }
+    ensures counts { (result ≢ Err FrontFault.Write) → W.faults writer.new ≡ W.faults writer.old }
+    ensures fault { (result ≡ Err FrontFault.Write) → W.faults writer.old < W.faults writer.new }
+{
+    let mut text = Vec::new(alloc);
+    for _ in rt.forever() {
+        if lanes.is_whole() {
+            break;
+        }
+        let seen = lanes.answers();
+        text.clear();
+        lanes.hand_out(alloc, &mut text)?;
+        unwritten.pass_on(writer, &text)?;
+        lanes.rest(rt, !text.is_empty(), seen);
+    }
+    Ok(())
+}

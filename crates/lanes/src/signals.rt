@@ -1,0 +1,225 @@
+//! How threads that have nothing to do sleep, and what wakes them. No answer rests on it.
+use std::hint;
+use std::sync::Wait;
+use std::sync::atomic::{AtomicU64, Ordering};
+use std::time::Duration;
+
+/// For how many turns a thread that waits looks at a count before it sleeps: about as long as it takes to fall asleep and
+/// to be woken.
+const TURNS: u32 = 2_000;
+/// How often workers may be refused memory, with nothing answered between, before they count as starved.
+const STARVED: u64 = 2_000;
+
+/// The longest sleep in milliseconds. No wake-up is lost, as `Bell` says; this bounds what one would cost.
+const LONGEST_SLEEP: u64 = 100;
+
+/// It counts things, and threads sleep on it until there is one more.
+///
+/// Who puts a thing puts it first, then counts it by `add`, then wakes. Who looks for things reads the count first, then
+/// looks, and sleeps only where it found nothing, by `sleep` with that count. No wake-up is lost by this: each step is
+/// sequentially consistent. A thing that was counted before the count was read was there for the look. For one that is
+/// counted later, either the sleeper was already one of `sleepers` when the waker read these, and is woken, or it
+/// became one after the count rose, and then the system sees another count than the one given, and does not sleep.
+#[derive(Drop)]
+pub struct Bell {
+    count: AtomicU64,
+    sleepers: AtomicU64,
+}
+
+impl Bell {
+    // A bell for which nothing was counted.
+    fn new() -> Bell {
+        Bell {
+            count: AtomicU64::new(0),
+            sleepers: AtomicU64::new(0),
+        }
+    }
+
+    /// How many things were counted.
+    pub fn count(&self) -> u64 {
+        self.count.load(Ordering::SeqCst)
+    }
+
+    /// Counts one thing more.
+    pub fn add(&self) {
+        self.count.fetch_add(1, Ordering::SeqCst);
+    }
+
+    /// Wakes one thread that sleeps. It costs a read where none does.
+    pub fn wake_one(&self) {
+        if self.has_sleepers() {
+            self.count.wake_one();
+        }
+    }
+
+    /// Wakes all threads that sleep.
+    pub fn wake_all(&self) {
+        if self.has_sleepers() {
+            self.count.wake_all();
+        }
+    }
+
+    /// Whether a thread sleeps, or is about to.
+    pub fn has_sleepers(&self) -> bool {
+        self.sleepers.load(Ordering::SeqCst) > 0
+    }
+
+    // Looks at the count for so many turns, as long as it is this one, and gives how many turns are left.
+    fn watch(&self, seen: u64, turns: u32) -> u32 {
+        for turn in 0..turns {
+            if self.count() != seen {
+                return turns - turn;
+            }
+            hint::spin_loop();
+        }
+        0
+    }
+
+    // Counts one thread more that sleeps.
+    fn add_sleeper(&self) {
+        self.sleepers.fetch_add(1, Ordering::SeqCst);
+    }
+
+    // Sleeps while as many things as this were counted, as one who was counted among the sleepers.
+    fn sleep<R: Wait>(&self, rt: &R, seen: u64) {
+        let longest = Duration::from_millis(LONGEST_SLEEP);
+        self.count
+            .park_timeout(rt, (seen & 0xffff_ffff) as u32, longest);
+        self.sleepers.fetch_sub(1, Ordering::SeqCst);
+    }
+}
+
+/// What the ends of all lanes share beside the lanes.
+///
+/// A worker looks for a job, or runs one, or sleeps. A job that is put wakes a sleeper only where no worker looks: who looks
+/// reads the count of jobs again before it sleeps, and wakes a sleeper where it takes a job as the last that looked and
+/// more jobs wait. So a job is seen by one that looks, or by one that is woken for it; or all workers run jobs, and each
+/// looks again after that.
+///
+/// Who wakes a worker sets `called` first, counts as for a job, and then wakes; while it is set nobody else wakes one. It is
+/// set no longer once a worker sleeps: each clears it before it sleeps and once it looks again. One that read the count
+/// before the waker counted does not sleep, or is woken; one that read it later clears what the waker had set.
+#[derive(Drop)]
+pub struct Signals {
+    jobs: Bell,
+    taken: AtomicU64,
+    looking: AtomicU64,
+    called: AtomicU64,
+    answers: Bell,
+    refusals: AtomicU64,
+}
+
+impl Signals {
+    /// Nobody looks, and nobody sleeps.
+    pub fn new() -> Signals {
+        Signals {
+            jobs: Bell::new(),
+            taken: AtomicU64::new(0),
+            looking: AtomicU64::new(0),
+            called: AtomicU64::new(0),
+            answers: Bell::new(),
+            refusals: AtomicU64::new(0),
+        }
+    }
+
+    /// How many jobs were put, and other things for which workers were woken.
+    pub fn jobs(&self) -> u64 {
+        self.jobs.count()
+    }
+
+    /// A job was put.
+    pub fn add_job(&self) {
+        self.jobs.add();
+        if self.looking.load(Ordering::SeqCst) == 0 {
+            self.call_worker();
+        }
+    }
+
+    // Wakes a worker that sleeps, unless one was woken that does not look yet.
+    fn call_worker(&self) {
+        if self.called.load(Ordering::SeqCst) == 0 && self.jobs.has_sleepers() {
+            self.called.store(1, Ordering::SeqCst);
+            self.jobs.add();
+            self.taken.fetch_add(1, Ordering::SeqCst);
+            self.jobs.wake_one();
+        }
+    }
+
+    /// All workers are woken.
+    pub fn wake_workers(&self) {
+        self.jobs.add();
+        self.taken.fetch_add(1, Ordering::SeqCst);
+        self.jobs.wake_all();
+    }
+
+    /// One worker more looks for jobs.
+    pub fn begin_to_look(&self) {
+        self.looking.fetch_add(1, Ordering::SeqCst);
+    }
+
+    /// One worker less looks for jobs.
+    pub fn end_to_look(&self) {
+        self.looking.fetch_sub(1, Ordering::SeqCst);
+    }
+
+    /// One worker less looks for jobs, since it took one: the last wakes another in its place where more wait.
+    pub fn take_job(&self) {
+        let taken = self.taken.fetch_add(1, Ordering::SeqCst);
+        let looked = self.looking.fetch_sub(1, Ordering::SeqCst);
+        if looked <= 1 && self.jobs().saturating_sub(taken) > 1 {
+            self.call_worker();
+        }
+    }
+
+    /// A worker that looks stays awake for so many turns, unless more jobs were put than this, and is told what is left.
+    pub fn watch_jobs(&self, seen: u64, turns: u32) -> u32 {
+        self.jobs.watch(seen, turns)
+    }
+
+    /// A worker that looks sleeps, unless more jobs were put than this, and looks again after it.
+    pub fn await_job<R: Wait>(&self, rt: &R, seen: u64) {
+        self.jobs.add_sleeper();
+        self.looking.fetch_sub(1, Ordering::SeqCst);
+        self.called.store(0, Ordering::SeqCst);
+        self.jobs.sleep(rt, seen);
+        self.looking.fetch_add(1, Ordering::SeqCst);
+        self.called.store(0, Ordering::SeqCst);
+    }
+
+    /// How many answers were posted.
+    pub fn answers(&self) -> u64 {
+        self.answers.count()
+    }
+
+    /// An answer was posted, or there will be none any more: one who waits for answers is woken.
+    pub fn add_answer(&self) {
+        self.answers.add();
+        self.answers.wake_one();
+        if self.refusals.load(Ordering::SeqCst) > 0 {
+            self.refusals.store(0, Ordering::SeqCst);
+        }
+    }
+
+    /// Waits until more answers than this were posted: at first awake, then asleep. It may return early.
+    pub fn await_answer<R: Wait>(&self, rt: &R, seen: u64) {
+        if self.answers.watch(seen, TURNS) > 0 {
+            return;
+        }
+        self.answers.add_sleeper();
+        self.answers.sleep(rt, seen);
+    }
+
+    /// A run was refused memory.
+    pub fn add_refusal(&self) {
+        self.refusals.fetch_add(1, Ordering::SeqCst);
+        if self.is_starved() {
+            self.answers.add();
+            self.answers.wake_one();
+        }
+    }
+
+    /// Whether workers were refused memory so often, with nothing answered between, that what they hold will hardly fit.
+    pub fn is_starved(&self) -> bool {
+        self.refusals.load(Ordering::SeqCst) >= STARVED
+    }
+}
