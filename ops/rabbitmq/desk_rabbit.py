@@ -180,4 +180,4 @@ def lasting(work: Callable[[Link], Coroutine[Any, Any, Any]]) -> Any:
             return asyncio.run(linked(work))
         except (AMQPError, OSError) as fault:
             say(f"lost: {fault or repr(fault)}; trying again")
-            time.sleep(1)
+            time.sleep(random.uniform(1, 4))  # so that not all come back at once
