@@ -122,7 +122,7 @@ pub fn replay<R: Source, W: Sink>(
 {
     let mut session = Session {
         desk: Desk::new(alloc),
-        texts: JsonReader::new(alloc),
+        texts: JsonReader::new(),
     };
     answer_lines(alloc, &mut session, reader, writer)
 }

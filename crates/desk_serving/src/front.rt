@@ -96,7 +96,7 @@ pub fn serve<T: Threads + Wait + Sync, R: Source, W: Sink, G: Gate + Sync>(
             rt,
             lanes: Lanes::new(alloc, clients),
             plan: None,
-            texts: JsonReader::new(alloc),
+            texts: JsonReader::new(),
         },
         reader,
         writer,

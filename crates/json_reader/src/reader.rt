@@ -15,15 +15,14 @@ const MOST_DEPTH: usize = 127;
 /// Reads JSON texts. It keeps the memory that reading needs: 16 KiB, and the length of the longest text so far.
 #[derive(Drop)]
 pub struct JsonReader {
-    scratch: Scratch,
+    // None before the first text.
+    scratch: Option<Box<Scratch>>,
 }
 
 impl JsonReader {
-    /// A reader that has read nothing. The memory for the texts is taken where they are read.
-    pub fn new(alloc: Global) -> JsonReader {
-        JsonReader {
-            scratch: Scratch::new(alloc),
-        }
+    /// A reader that has read nothing. It takes no memory.
+    pub fn new() -> JsonReader {
+        JsonReader { scratch: None }
     }
 
     /// The JSON value of a text, if it has one.
@@ -33,20 +32,26 @@ impl JsonReader {
         let Ok(text) = str::from_utf8(text) else {
             return Ok(None);
         };
-        self.read_text(alloc, text)
-    }
-
-    // The JSON value of a text of UTF-8.
-    fn read_text(&mut self, alloc: Global, text: &str) -> Result<Option<Value>, AllocError>
-        ensures { IfOk result (λ parsed. MatchOption parsed (read text.now ≡ None) (λ v. read text.now ≡ Some (view v))) }
-    {
-        let mut reader = Reader::new(text, &mut self.scratch)?;
-        let Some(value) = value_in(alloc, &mut reader, MOST_DEPTH)? else {
-            return Ok(None);
+        let mut scratch = match self.scratch.take() {
+            Some(scratch) => scratch,
+            None => Box::new(alloc, Scratch::new(alloc))?,
         };
-        if reader.next().is_some() {
-            return Ok(None);
-        }
-        Ok(Some(value))
+        let parsed = parsed(alloc, text, &mut scratch)?;
+        self.scratch = Some(scratch);
+        Ok(parsed)
     }
+}
+
+// The JSON value of a text of UTF-8.
+fn parsed(alloc: Global, text: &str, scratch: &mut Scratch) -> Result<Option<Value>, AllocError>
+    ensures { IfOk result (λ parsed. MatchOption parsed (read text.now ≡ None) (λ v. read text.now ≡ Some (view v))) }
+{
+    let mut reader = Reader::new(text, scratch)?;
+    let Some(value) = value_in(alloc, &mut reader, MOST_DEPTH)? else {
+        return Ok(None);
+    };
+    if reader.next().is_some() {
+        return Ok(None);
+    }
+    Ok(Some(value))
 }
