@@ -1,4 +1,5 @@
 pub mod Boxes
+pub mod Growing
 pub mod Readings
 pub mod ReadingSteps
 pub mod Unread

@@ -1,4 +1,4 @@
--- Internal: no public contract cites these words. What the code's values of members and entries stand for.
+-- Internal: no public contract cites these words. What the code's values of entries stand for.
 use Rattle.std.specs.Prelude.{ℕ, List, ◌++◌, map, Option, option_map, Vec}
 use Rattle.std.specs.Arc.{arc_str_bytes}
 use Rattle.std.specs.declared.alloc.Global.{Global}
@@ -7,9 +7,6 @@ use Rattle.feel_value.specs.Datum.{Datum}
 use Rattle.feel_value.specs.View.{datum_of}
 use Rattle.feel_value.specs.declared.value.Value.{Value}
 use Rattle.feel_lang.specs.Meaning.{Bindings}
-
-abbrev pub values_view : Vec Value Global → List Datum
-values_view v = map datum_of v.items
 
 abbrev pub pair_view : ArcStr Global × Value → List ℕ × Datum
 pair_view e = (arc_str_bytes e.0, datum_of e.1)

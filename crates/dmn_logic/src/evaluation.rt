@@ -1,21 +1,22 @@
 //! What boxed expressions come to.
 ghost use Rattle.std.specs.Prelude.{◌≡◌, Some, None, IfOk, option_map, if◌then◌else◌, take, length};
 ghost use Rattle.dmn_form.specs.Model.{list, context};
-ghost use Rattle.dmn_logic.specs.Boxed.{boxed, member_values as member_values_of, entry_values as entry_values_of};
+ghost use Rattle.dmn_logic.specs.Boxed.{boxed, entry_values as entry_values_of};
 ghost use Rattle.dmn_logic.specs.LogicView.{logic_view, members_view, entries_view};
-ghost use Rattle.dmn_logic.specs.ValueView.{values_view, pairs_view, bound_behind};
+ghost use Rattle.dmn_logic.specs.ValueView.{pairs_view, bound_behind};
 
 use crate::logic::Logic;
 use dmn_table::decide;
 use feel_lang::{Env, eval};
-use feel_value::{Outcome, Value};
+use feel_value::{Members, Outcome, Value};
 use std::alloc::{AllocError, Global};
 use std::sync::ArcStr;
 
 /// The outcome of a boxed expression, where names have the values that the environment gives them.
 ///
-/// Every member of a list, every entry of a context and its result is evaluated until one breaks a limit. The environment is the
-/// same afterwards, also where memory is refused: what entries bind is cut off again. It goes as deep as the expression is.
+/// Every member of a list, every entry of a context and its result is evaluated until one breaks a limit, or, in a list, until
+/// the members are too many for a value. The environment is the same afterwards, also where memory is refused: what entries
+/// bind is cut off again. It goes as deep as the expression is.
 #[cycle(evaluate)]
 pub fn evaluate(alloc: Global, logic: &Logic, env: &mut Env) -> Result<Outcome, AllocError>
     ensures value { IfOk result (λ o. o ≡ boxed (logic_view logic.now) env.old) }
@@ -45,36 +46,22 @@ pub fn evaluate(alloc: Global, logic: &Logic, env: &mut Env) -> Result<Outcome, 
     }
 }
 
-/// The outcome of a list.
+/// The outcome of a list, whose evaluation ends where its values are too many for one.
 #[cycle(evaluate)]
 fn list_outcome(alloc: Global, members: &[Logic], env: &mut Env) -> Result<Outcome, AllocError>
     ensures value { IfOk result (λ o. o ≡ boxed (list (members_view members.now)) env.old) }
     ensures same { env.new ≡ env.old }
 {
-    match member_values(alloc, members, env)? {
-        Some(values) => Outcome::list(alloc, values),
-        None => Ok(Outcome::Limit),
-    }
-}
-
-/// The values of the members of a list; None where one breaks a limit.
-#[cycle(evaluate)]
-fn member_values(
-    alloc: Global,
-    members: &[Logic],
-    env: &mut Env,
-) -> Result<Option<Vec<Value>>, AllocError>
-    ensures value { IfOk result (λ o. option_map values_view o ≡ member_values_of (members_view members.now) env.old) }
-    ensures same { env.new ≡ env.old }
-{
-    let mut values = Vec::with_capacity(alloc, members.len())?;
+    let mut values = Members::new(alloc);
     for member in members {
-        match evaluate(alloc, member, env)? {
-            Outcome::Is(value) => values.push(value.into_value())?,
-            Outcome::Limit => return Ok(None),
+        let Outcome::Is(value) = evaluate(alloc, member, env)? else {
+            return Ok(Outcome::Limit);
+        };
+        if !values.push(value)? {
+            return Ok(Outcome::Limit);
         }
     }
-    Ok(Some(values))
+    Ok(Outcome::Is(values.into_list(alloc)?))
 }
 
 /// The outcome of a context without a result.

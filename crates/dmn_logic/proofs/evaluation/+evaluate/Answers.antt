@@ -1,16 +1,30 @@
-use Rattle.std.proofs.Common.{◌≡◌, ap, sym, ◌∙◌, subst, option_map, Option, Some, None, Bool, if◌then◌else◌, IfOk}
+use Rattle.std.proofs.Common.{◌≡◌, ap, sym, ◌∙◌, subst, option_map, Option, Some, None, Bool, false, if◌then◌else◌, IfOk, ◌+◌, [], ◌∷◌, ◌++◌, drop}
 use Rattle.feel_lang.specs.Meaning.{Bindings}
-use Rattle.feel_value.specs.Datum.{context as context_value, entries_of}
+use Rattle.feel_value.specs.Datum.{list as list_value, items_of, context as context_value, entries_of}
+use Rattle.feel_value.specs.Limits.{is_value}
 use Rattle.feel_value.specs.Outcome.{held}
 use Rattle.feel_value.proofs.Entries.{entries_view-named}
 use Rattle.dmn_table.specs.Evaluated.{outcome_from}
 use Rattle.dmn_form.specs.Model.{context}
-use Rattle.dmn_logic.specs.Boxed.{boxed}
-use Rattle.dmn_logic.specs.LogicView.{logic_view, entries_view}
+use Rattle.dmn_logic.specs.Boxed.{boxed, member_values}
+use Rattle.dmn_logic.specs.LogicView.{logic_view, members_view, entries_view}
 use Rattle.dmn_logic.specs.ValueView.{pairs_view}
 use Rattle.dmn_logic.proofs.Boxes.{logic_view-Context, entry_turn, bind_turn, from_bound, from_none, with_result}
+use Rattle.dmn_logic.proofs.Growing.{list_from, too_many, one_taken}
 use Rattle.dmn_logic.proofs.evaluation.+evaluate.Goals as goal
 use Rattle.dmn_logic.proofs.evaluation.+evaluate.Goals.{evaluate-in-Ok-true, evaluate-in-Ok-false, evaluate-in-Err}
+
+pub list_outcome-returns-then-not-branch-clause-value : goal.list_outcome-returns-then-not-branch-clause-value
+list_outcome-returns-then-not-branch-clause-value t c =
+    let env = c.args.env.now in
+    let ms = c.loop-member.values in
+    let d = c.in-Is.value in
+    let x = c.member-item.result in
+    let members = c.args.members.now in
+    let rest = member_values (members_view (drop (c.loop-member.member-index + 1) members)) env in
+    let outcome = sym c.in-Is.is ∙ c.in_ok-value.ensures.value ∙ ap (boxed (logic_view x)) c.loop-member.invariant.0 in
+    let refused : is_value (list_value (items_of (ms ++ d ∷ []))) ≡ false = sym c.in_ok-push.ensures.fits ∙ c.if-not-branch.true in
+    sym (c.loop-member.invariant.1 ∙ ap list_from (one_taken env ms d members c.loop-member.member-index x c.member-item.is c.loop-member-test.true outcome) ∙ too_many (ms ++ d ∷ []) rest refused)
 
 pub context_outcome-returns-in-Some-clause-value : goal.context_outcome-returns-in-Some-clause-value
 context_outcome-returns-in-Some-clause-value t c =

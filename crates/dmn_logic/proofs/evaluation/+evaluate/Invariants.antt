@@ -1,13 +1,15 @@
 use Rattle.std.proofs.Common.{◌≡◌, drop, take, length}
 use Rattle.dmn_table.proofs.Each.{after}
-use Rattle.dmn_logic.specs.Boxed.{member_values, entry_values}
+use Rattle.dmn_form.specs.Model.{list}
+use Rattle.dmn_logic.specs.Boxed.{boxed, member_values, entry_values}
 use Rattle.dmn_logic.specs.LogicView.{members_view, entries_view}
-use Rattle.dmn_logic.specs.ValueView.{values_view, pairs_view, bound_behind}
+use Rattle.dmn_logic.specs.ValueView.{pairs_view, bound_behind}
+use Rattle.dmn_logic.proofs.Growing.{list_from}
 use Rattle.dmn_logic.proofs.evaluation.+evaluate.Given as goal
 
-abbrev pub invariant-member_values-loop-member : goal.invariant-member_values-loop-member
-invariant-member_values-loop-member l =
-    (l.env ≡ l.fn.env) × (member_values (members_view l.members) l.fn.env ≡ after (values_view l.values) (member_values (members_view (drop l.member-index l.members)) l.fn.env))
+abbrev pub invariant-list_outcome-loop-member : goal.invariant-list_outcome-loop-member
+invariant-list_outcome-loop-member l =
+    (l.env ≡ l.fn.env) × (boxed (list (members_view l.members)) l.fn.env ≡ list_from (after l.values (member_values (members_view (drop l.member-index l.members)) l.fn.env)))
 
 abbrev pub invariant-entry_values-loop-name : goal.invariant-entry_values-loop-name
 invariant-entry_values-loop-name l =
