@@ -120,6 +120,24 @@ impl Lanes {
         }
     }
 
+    /// The same, but an error where nothing will come: where the workers were refused memory for what they hold again and again,
+    /// and nothing was answered between.
+    pub fn rest_fed<R: Wait>(&self, rt: &R, came: bool, seen: u64) -> Result<(), AllocError> {
+        if !came && self.is_starved() {
+            return Err(AllocError);
+        }
+        self.rest(rt, came, seen);
+        Ok(())
+    }
+
+    /// Whether the workers find no memory for what they hold.
+    fn is_starved(&self) -> bool {
+        match self.clients.first() {
+            Some(client) => client.signals().is_starved(),
+            None => false,
+        }
+    }
+
     /// Hands out results until a lane is whole.
     pub fn drain<R: Wait>(
         &mut self,
@@ -141,7 +159,7 @@ impl Lanes {
             let seen = self.answers();
             let said = text.len();
             self.hand_out(alloc, text)?;
-            self.rest(rt, text.len() > said, seen);
+            self.rest_fed(rt, text.len() > said, seen)?;
         }
         Ok(())
     }
@@ -219,7 +237,7 @@ impl Lanes {
             let seen = self.answers();
             let said = text.len();
             self.hand_out(alloc, text)?;
-            self.rest(rt, text.len() > said, seen);
+            self.rest_fed(rt, text.len() > said, seen)?;
         }
         unreachable!()
     }

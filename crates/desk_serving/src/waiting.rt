@@ -9,7 +9,8 @@ use desk_lines::{FrontFault, Sink, Unwritten};
 use std::alloc::Global;
 use std::sync::Wait;
 
-/// Hands out results until each lane with a name is whole. Where a round finds nothing more, all that waits is written.
+/// Hands out results until each lane with a name is whole. Where a round finds nothing more, all that waits is written. Where
+/// nothing comes since the workers find no memory for what they hold, that is the end.
 pub fn hand_out_all<R: Wait, W: Sink>(
     rt: &R,
     alloc: Global,
@@ -36,7 +37,7 @@ pub fn hand_out_all<R: Wait, W: Sink>(
         text.clear();
         lanes.hand_out(alloc, &mut text)?;
         unwritten.pass_on(writer, &text)?;
-        lanes.rest(rt, !text.is_empty(), seen);
+        lanes.rest_fed(rt, !text.is_empty(), seen)?;
     }
     Ok(())
 }

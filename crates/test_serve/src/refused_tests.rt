@@ -127,8 +127,8 @@ fn a_full_heap_ends_a_run(rt: HostRuntime) -> Result<(), Fail> {
     Ok(())
 }
 
-/// Lines behind the model to which the front never waits for a worker.
-const UNHURRIED: &str = r#"{"client":"a","service":"s","inputs":{"a":1}}
+/// Lines behind the model.
+const TWO_LINES: &str = r#"{"client":"a","service":"s","inputs":{"a":1}}
 {"client":"b","service":"s","inputs":{"a":10}}
 "#;
 
@@ -138,16 +138,16 @@ const RESULTS: [(&str, &str); 3] = [
     ("", "{\"line\":1,\"model\":true}\n"),
 ];
 
-/// Where the heap gives little, a run is right, or ends behind a whole line. Where it gives more, so that the model is read
-/// and a worker finds no memory, the run waits for that worker.
+/// Where the heap gives little, a run is right, or ends behind a whole line: also where the model is read and no worker finds
+/// memory for a request.
 #[test]
 fn a_heap_that_gives_little(rt: HostRuntime) -> Result<(), Fail> {
     let alloc = rt.alloc();
-    let input = with_model(alloc, UNHURRIED.as_bytes())?;
+    let input = with_model(alloc, TWO_LINES.as_bytes())?;
     // With the whole heap first: the stack grows to its size then, which it can't where the address space is full.
     let (whole, _) = serve_once(alloc, &rt, input.as_slice(), Page::empty(), &OpenGate, TWO);
     assert_eq!(rt; whole, Ended::Whole(2));
-    for spare in [100, 1_000, 10_000] {
+    for spare in [1_000, 10_000, 100_000, 1_000_000, 10_000_000, 100_000_000] {
         let full = FullHeap::but(alloc, spare)?;
         let (ended, page) = serve_once(alloc, &rt, input.as_slice(), Page::empty(), &OpenGate, TWO);
         drop(full);

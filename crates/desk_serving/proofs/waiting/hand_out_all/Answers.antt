@@ -42,3 +42,12 @@ pub returns-in_err-hand_out-clause-memory : goal.returns-in_err-hand_out-clause-
 returns-in_err-hand_out-clause-memory g c = λ h.
     let names = names_in c.args.lanes.now in let old = lanes_in c.args.lanes.now in let mid = lanes_in c.loop.lanes in
     tells_weaker (AreHanded names old mid) (AreFirst names old) _ _ _ _ (λ m p. handed_first names old mid m p) c.loop.invariant.tells
+
+pub returns-in_err-rest_fed-clause-memory : goal.returns-in_err-rest_fed-clause-memory
+returns-in_err-rest_fed-clause-memory g c = λ h.
+    let names = names_in c.args.lanes.now in let old = lanes_in c.args.lanes.now in let new = lanes_in c.hand_out.new.self in
+    tells_weaker (AreHanded names old new) (AreFirst names old) _ _ _ _ (λ m p. handed_first names old new m p)
+    (hands_tell names _ _ _ _ _ _ _ _ _ _ _ _ _ c.loop.invariant.names c.clear.ensures.items c.deref.ensures.value c.loop.invariant.tells c.in_ok-hand_out.ensures.hands c.in_ok-pass_on.ensures.said)
+
+pub returns-in_err-rest_fed-clause-counts : goal.returns-in_err-rest_fed-clause-counts
+returns-in_err-rest_fed-clause-counts g c = λ h. c.in_ok-pass_on.ensures.counts (λ e. cc) ∙ c.loop.invariant.counts
