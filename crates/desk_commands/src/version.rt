@@ -5,5 +5,5 @@
 pub const VERSION: &str = concat!(
     "0.9.0\n",
     "proved with rattle-kit-13b logic dac8208d650f15bf\n",
-    "sources e042a34a711c1cfde98007b4f9e3cdc2d7d3e9536329034694a68134fc301d1c",
+    "sources a8c80589d0278a91298a50cc19e2c22dc63bad47d2bce50413038d87cf601831",
 );
