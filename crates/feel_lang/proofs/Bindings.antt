@@ -10,7 +10,7 @@ use Rattle.std.proofs.lemmas.Bool.{cases_Bool, cases_lt}
 use Rattle.std.proofs.lemmas.List.{map-append, length-map, get_or_append_left, get_or_push, take-append-le, take_all, length_push}
 use Rattle.feel_lang.specs.Meaning.{Bindings, bound, first_some}
 use Rattle.feel_lang.specs.Places.{bindings_of, place_after, last_place, IsIndexed}
-use Rattle.feel_lang.specs.declared.env.Binding.{Binding}
+use Rattle.feel_lang.specs.declared.indexed.Binding.{Binding}
 
 some_is_not_none : (o : Option ℕ) → o ≡ None → IsSome o → ⊥
 some_is_not_none None e h = cc

@@ -10,9 +10,11 @@ pub mod Runs
 pub mod Members
 pub mod Rows
 pub mod Bindings
+pub mod Few
 pub mod Modulo
 pub mod ListMembers
 pub mod ExprViews
+pub mod Constants
 pub mod Paths
 pub mod Answers
 pub mod CutLaws

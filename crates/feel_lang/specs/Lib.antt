@@ -1,5 +1,6 @@
 pub mod Token
 pub mod Expr
+pub mod Constants
 pub mod Grammar
 pub mod Reading
 pub mod View
@@ -15,6 +16,7 @@ pub mod Readings
 pub mod Meaning
 pub mod Numbers
 pub mod Places
+pub mod Few
 pub mod Operands
 pub mod Satisfied
 pub mod Parts

@@ -3,7 +3,7 @@ use Rattle.std.specs.Prelude.{◌≡◌, ℕ, suc, ◌<◌, List, [], ◌∷◌,
 use Rattle.std.specs.declared.alloc.Global.{Global}
 use Rattle.std.specs.BTreeMap.{BTreeMap, get_by_text}
 use Rattle.feel_lang.specs.Meaning.{Bindings}
-use Rattle.feel_lang.specs.declared.env.Binding.{Binding}
+use Rattle.feel_lang.specs.declared.indexed.Binding.{Binding}
 
 abbrev pub bindings_of : List Binding → Bindings
 bindings_of = map (λ b. (string_bytes b.name, b.value))

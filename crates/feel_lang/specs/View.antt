@@ -2,6 +2,7 @@
 use Rattle.std.specs.Prelude.{List, [], ◌∷◌, map, string_bytes}
 use Rattle.feel_lang.specs.Expr.{Expr, Exprs, none, more}
 use Rattle.feel_lang.specs.Expr as expr
+use Rattle.feel_lang.specs.Constants.{expr_of_constant}
 use Rattle.feel_lang.specs.declared.expr.Tree.{fold-Tree}
 use Rattle.feel_lang.specs.declared.expr.Tree as code
 use Rattle.feel_lang.specs.declared.expr.Tree.TheOpen.{Tree-F}
@@ -12,10 +13,8 @@ exprs_of (e ∷ es) = more e (exprs_of es)
 
 -- one level, with each expression inside already seen
 abbrev pub view_step : Tree-F Expr → Expr
-view_step Tree-F.Null = expr.Null
-view_step (Tree-F.Boolean b) = expr.Boolean b
+view_step (Tree-F.Constant d) = expr_of_constant d
 view_step (Tree-F.Number n) = expr.Number n
-view_step (Tree-F.Text s) = expr.Text (string_bytes s)
 view_step (Tree-F.Name s) = expr.Name (string_bytes s)
 view_step (Tree-F.Group e) = expr.Group e.value
 view_step (Tree-F.List es) = expr.Members (exprs_of es.items)

@@ -1,20 +1,21 @@
 //! Names with values.
-ghost use Rattle.std.specs.Prelude.{◌≡◌, ◌≤◌, ◌<◌, [], ◌∷◌, ◌++◌, List, ℕ, length, take, option_map, MatchResult, IfOk, OnOk, OnErr, IsSome, Some, vec_len, vec_capacity, bytes_eq, string_bytes, if◌then◌else◌};
-ghost use Rattle.std.specs.BTreeMap.{IsUnchanged, get_by_text};
+ghost use Rattle.std.specs.Prelude.{◌≡◌, ◌≤◌, [], ◌∷◌, ◌++◌, length, take, option_map, MatchResult};
 ghost use Rattle.feel_lang.specs.Meaning.{bound};
+ghost use Rattle.feel_lang.specs.Few.{few_of};
 
+use crate::indexed::Indexed;
 use feel_value::Feel;
 use std::alloc::{AllocError, Global};
-use std::collections::BTreeMap;
 use std::marker::Model;
+
+// So many bindings are looked through one by one. An index finds the others.
+const FEW: usize = 8;
 
 // A name with its value.
 #[derive(Drop)]
-struct Binding {
+struct NamedValue {
     name: String,
     value: Feel,
-    // Where the binding stands that this one hides.
-    hidden: Option<usize>,
 }
 
 /// A list of names with values, of which the last binding of a name counts.
@@ -22,13 +23,13 @@ struct Binding {
 /// Binding, finding and cutting off one name take steps in proportion to the logarithm of how many names there are.
 #[derive(Drop)]
 pub struct Env {
-    bindings: Vec<Binding>,
-    // Where the last binding of each name stands.
-    places: BTreeMap<String, usize>,
+    few: Vec<NamedValue>,
+    // Those behind the first few.
+    more: Indexed,
 }
 
 impl Model for Env {
-    ghost use Rattle.std.specs.Prelude.{List, ℕ};
+    ghost use Rattle.std.specs.Prelude.{◌++◌, List, ℕ};
     ghost use Rattle.std.specs.Coded.{coded_list, coded×, coded_ℕ};
     ghost use Rattle.feel_value.specs.Datum.{Datum};
     ghost use Rattle.feel_value.specs.Code.{datum_code};
@@ -37,11 +38,11 @@ impl Model for Env {
 
     ghost coded = { coded_list (coded× (coded_list coded_ℕ) datum_code) };
 
-    ghost use Rattle.feel_lang.specs.Places.{bindings_of, IsIndexed};
+    ghost use Rattle.feel_lang.specs.Few.{few_of, IsFilled};
 
-    ghost view = { λ e. bindings_of e.bindings.items };
+    ghost view = { λ e. few_of e.few.items ++ e.more };
 
-    ghost invariant = { λ e. IsIndexed e.bindings.items e.places };
+    ghost invariant = { λ e. IsFilled e.few.items e.more };
 }
 
 impl Env {
@@ -50,88 +51,71 @@ impl Env {
         ensures { result ≡ [] }
     {
         Env {
-            bindings: Vec::new(alloc),
-            places: BTreeMap::new(alloc),
+            few: Vec::new(alloc),
+            more: Indexed::new(alloc),
         }
     }
 
     /// Binds a name to a value, which hides what the name was bound to before. Where memory is refused nothing changes,
     /// and the value is gone.
+    #[tactic(auto, using(crate::proofs::Few::one_more, crate::proofs::Few::one_behind))]
     pub fn bind(&mut self, name: &str, value: Feel) -> Result<(), AllocError>
         ensures { MatchResult result (λ _. self.new ≡ self.old ++ (name.now, value) ∷ []) (λ _. self.new ≡ self.old) }
     {
-        let (name, hidden) = placed(&mut self.bindings, &mut self.places, name)?;
-        self.bindings.push(Binding {
-            name,
-            value,
-            hidden,
-        })?;
+        if self.few.len() == FEW {
+            self.more.bind(name, value)?;
+            return Ok(());
+        }
+        let name = String::from_str(*self.few.allocator(), name)?;
+        self.few.push(NamedValue { name, value })?;
         Ok(())
     }
 
     /// The value of the last binding of the name.
+    #[tactic(auto, using(crate::proofs::Few::bound_both))]
     pub fn find(&self, name: &str) -> Option<&Feel>
         ensures { option_map (λ v. v.now) result ≡ bound name.now self.now }
     {
-        let place = *self.places.get(name)?;
-        Some(&self.bindings[place].value)
+        match self.more.find(name) {
+            Some(value) => Some(value),
+            None => last_named(&self.few, name),
+        }
     }
 
     /// How many bindings there are, hidden ones included.
     pub fn len(&self) -> usize
         ensures { result ≡ length self.now }
     {
-        self.bindings.len()
+        self.few.len() + self.more.len()
     }
 
     /// Drops all bindings but the first `len`; what they hid counts again. It takes no memory.
+    #[tactic(auto, using(crate::proofs::Few::cut_within, crate::proofs::Few::cut_behind))]
     pub fn cut(&mut self, len: usize)
         requires { len ≤ length self.old }
         ensures { self.new ≡ take len self.old }
     {
-        while self.bindings.len() > len {
-            if let Some(binding) = self.bindings.pop() {
-                let Binding {
-                    name,
-                    value,
-                    hidden,
-                } = binding;
-                drop(value);
-                uncover(&mut self.places, name, hidden);
-            }
+        let few = self.few.len();
+        if len < few {
+            self.more.cut(0);
+            self.few.truncate(len);
+            return;
+        }
+        self.more.cut(len - few);
+    }
+}
+
+// The value of the last of these that has the name.
+fn last_named<'a>(bindings: &'a [NamedValue], name: &str) -> Option<&'a Feel>
+    ensures { option_map (λ v. v.now) result ≡ bound name.now (few_of bindings.now) }
+{
+    let mut i = bindings.len();
+    while i > 0 {
+        i -= 1;
+        let binding = &bindings[i];
+        if name == binding.name.as_str() {
+            return Some(&binding.value);
         }
     }
-}
-
-// Gives the name the place behind the bindings, where there is then room. Tells a copy of the name, and the place that it had.
-fn placed(
-    bindings: &mut Vec<Binding>,
-    places: &mut BTreeMap<String, usize>,
-    name: &str,
-) -> Result<(String, Option<usize>), AllocError>
-    ensures items { bindings.new.items ≡ bindings.old.items }
-    ensures room { OnOk result (vec_len bindings.new < vec_capacity bindings.new) }
-    ensures name { IfOk result (λ p. string_bytes p.0 ≡ name.now) }
-    ensures hidden { IfOk result (λ p. p.1 ≡ get_by_text places.old name.now) }
-    ensures place { OnOk result ((other : List ℕ) → get_by_text places.new other ≡ (if bytes_eq name.now other then Some (length bindings.old.items) else get_by_text places.old other)) }
-    ensures refused { OnErr result (IsUnchanged places.old places.new) }
-{
-    let alloc = *bindings.allocator();
-    let key = String::from_str(alloc, name)?;
-    let name = String::from_str(alloc, name)?;
-    bindings.reserve(1)?;
-    let hidden = places.insert(key, bindings.len())?;
-    Ok((name, hidden))
-}
-
-// Gives the name the place that its last binding has hidden, where there is one.
-fn uncover(places: &mut BTreeMap<String, usize>, name: String, hidden: Option<usize>)
-    requires { IsSome (get_by_text places.old (string_bytes name)) }
-    ensures { (other : List ℕ) → get_by_text places.new other ≡ (if bytes_eq (string_bytes name) other then hidden else get_by_text places.old other) }
-{
-    match hidden {
-        // The name is there, so this takes no memory.
-        Some(place) => drop(places.insert(name, place)),
-        None => drop(places.remove(name.as_str())),
-    }
+    None
 }

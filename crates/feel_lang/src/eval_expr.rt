@@ -15,9 +15,8 @@ use crate::eval_outcome::{null, number};
 use crate::eval_paths::{path, place};
 use crate::expr::Tree;
 use crate::operands::{Operand, Operands};
-use feel_value::{Members, Outcome, Truth, Value};
+use feel_value::{Members, Outcome, Truth};
 use std::alloc::{AllocError, Global};
-use std::sync::ArcStr;
 
 /// The value of an expression, where names have the values that the environment gives them, and null where it has none; or that
 /// a limit is broken. Every part is evaluated but the branch of an `if` that isn't taken. A bound value is copied only where the result
@@ -27,10 +26,8 @@ pub(crate) fn eval(alloc: Global, expr: &Tree, env: &Env) -> Result<Outcome, All
     ensures { IfOk result (λ o. o ≡ den (view expr.now) env.now) }
 {
     match expr {
-        Tree::Null => Ok(null()),
-        Tree::Boolean(b) => Ok(Outcome::of(Value::Bool(*b))),
+        Tree::Constant(constant) => Ok(Outcome::Is(constant.value().try_clone()?)),
         Tree::Number(n) => Ok(number(i64::try_from(*n).ok())),
-        Tree::Text(text) => Ok(Outcome::of(Value::Text(ArcStr::from_str(alloc, text.as_str())?))),
         Tree::Name(name) => named(name.as_str(), env),
         Tree::Group(inner) => eval(alloc, inner, env),
         Tree::List(exprs) => list(alloc, exprs, env),
@@ -55,20 +52,20 @@ pub(crate) fn eval(alloc: Global, expr: &Tree, env: &Env) -> Result<Outcome, All
 #[cycle(eval)]
 pub(crate) fn operand<'a>(
     alloc: Global,
-    expr: &Tree,
+    expr: &'a Tree,
     env: &'a Env,
 ) -> Result<Option<Operand<'a>>, AllocError>
     ensures { IfOk result (λ o. outcome_of o ≡ den (view expr.now) env.now) }
 {
+    if let Some(value) = place(expr, env) {
+        return Ok(Some(Operand::Lent(value)));
+    }
     if let Tree::If(test, yes, no) = expr {
         return match is_met(alloc, test, env)? {
             Some(true) => operand(alloc, yes, env),
             Some(false) => operand(alloc, no, env),
             None => Ok(None),
         };
-    }
-    if let Some(value) = place(expr, env) {
-        return Ok(Some(Operand::Lent(value)));
     }
     match eval(alloc, expr, env)? {
         Outcome::Is(value) => Ok(Some(Operand::Formed(value))),
@@ -91,8 +88,8 @@ fn is_met(alloc: Global, test: &Tree, env: &Env) -> Result<Option<bool>, AllocEr
 #[cycle(eval)]
 fn operands<'a>(
     alloc: Global,
-    left: &Tree,
-    right: &Tree,
+    left: &'a Tree,
+    right: &'a Tree,
     env: &'a Env,
 ) -> Result<Operands<'a>, AllocError>
     ensures left { IfOk result (λ o. outcome_of o.0 ≡ den (view left.now) env.now) }

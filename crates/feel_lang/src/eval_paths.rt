@@ -38,12 +38,13 @@ fn paths(alloc: Global, items: &[Value], name: &str) -> Result<Vec<Value>, Alloc
     Ok(values)
 }
 
-// The value of a name, or of a path that begins at a name, where it lies in the environment.
-pub(crate) fn place<'a>(expr: &Tree, env: &'a Env) -> Option<&'a Value>
+// The value of a literal where it lies in the tree; of a name, or a path that begins at a name, where it lies in the environment.
+pub(crate) fn place<'a>(expr: &'a Tree, env: &'a Env) -> Option<&'a Value>
     ensures value { IfSome result (λ v. den (view expr.now) env.now ≡ Is (datum_of v.now)) }
     ensures lawful { IfSome result (λ v. is_value (datum_of v.now) ≡ true) }
 {
     match expr {
+        Tree::Constant(constant) => Some(constant.value().value()),
         Tree::Name(name) => Some(env.find(name.as_str())?.value()),
         Tree::Group(inner) => place(inner, env),
         Tree::Path(inner, name) => place(inner, env)?.entry(name.as_str()),

@@ -1,5 +1,7 @@
 //! FEEL expressions.
 
+use crate::constant::Constant;
+
 /// An operator between two operands.
 #[derive(Clone, Copy, Debug, PartialEq, Eq)]
 pub(crate) enum Operator {
@@ -29,10 +31,10 @@ pub(crate) enum Function {
 /// A FEEL expression. Parentheses are kept, since they count in its depth.
 #[derive(Debug, Drop)]
 pub(crate) enum Tree {
-    Null,
-    Boolean(bool),
+    /// A literal.
+    Constant(Constant),
+    /// A number past the range of values, which no text spells.
     Number(u64),
-    Text(String),
     Name(String),
     Group(Box<Tree>),
     List(Vec<Tree>),

@@ -2,6 +2,7 @@
 //! evaluated exactly to what they mean.
 #![tactic(auto)]
 
+mod constant;
 mod env;
 mod eval_calls;
 mod eval_expr;
@@ -13,6 +14,7 @@ mod expr;
 mod expression;
 mod fault;
 mod holds_tests;
+mod indexed;
 mod input_entry;
 mod line;
 mod literal;

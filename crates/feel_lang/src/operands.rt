@@ -5,7 +5,7 @@ ghost use Rattle.feel_lang.specs.Operands.{operand_value};
 
 use feel_value::{Feel, Value};
 
-// The value of an operand. One that lies in the environment is looked at where it lies, and not copied.
+// The value of an operand. One that lies in the expression or in the environment is looked at where it lies, and not copied.
 #[derive(Drop)]
 pub(crate) enum Operand<'a> {
     Lent(&'a Value),

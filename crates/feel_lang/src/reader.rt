@@ -511,12 +511,12 @@ fn primary<'a>(alloc: Global, inner: usize, tokens: &'a [Token]) -> Result<Found
         return Err(ReadFault::Syntax);
     };
     match token {
-        Token::Number(n) => leaf(alloc, Tree::Number(*n), rest),
-        Token::Text(text) => leaf(alloc, Tree::Text(text.clone()?), rest),
+        Token::Number(n) => leaf(alloc, trees::number(*n), rest),
+        Token::Text(text) => leaf(alloc, trees::text(alloc, text.as_str())?, rest),
         Token::Name(name) => named(alloc, inner, name, rest),
-        Token::Keyword(Word::Null) => leaf(alloc, Tree::Null, rest),
-        Token::Keyword(Word::True) => leaf(alloc, Tree::Boolean(true), rest),
-        Token::Keyword(Word::False) => leaf(alloc, Tree::Boolean(false), rest),
+        Token::Keyword(Word::Null) => leaf(alloc, trees::null(), rest),
+        Token::Keyword(Word::True) => leaf(alloc, trees::boolean(true), rest),
+        Token::Keyword(Word::False) => leaf(alloc, trees::boolean(false), rest),
         Token::Keyword(Word::Not) => negated(alloc, inner, rest),
         Token::Symbol(Sign::OpenParen) => group(alloc, inner, rest),
         Token::Symbol(Sign::OpenBracket) => list(alloc, inner, rest),

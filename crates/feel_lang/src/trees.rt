@@ -4,8 +4,55 @@ ghost use Rattle.std.specs.Prelude.{◌≡◌, IfOk, string_bytes};
 ghost use Rattle.feel_lang.specs.Expr as expr_specs;
 ghost use Rattle.feel_lang.specs.View.{view};
 
+use crate::constant::Constant;
 use crate::expr::{Operator, Tree};
+use feel_value::Value;
 use std::alloc::{AllocError, Global};
+use std::sync::ArcStr;
+
+/// The constant null.
+pub(crate) fn null() -> Tree
+    ensures { view result ≡ expr_specs.Null }
+{
+    match Constant::of(Value::Null) {
+        Some(constant) => Tree::Constant(constant),
+        None => unreachable!(),
+    }
+}
+
+/// The constant `true` or `false`.
+pub(crate) fn boolean(holds: bool) -> Tree
+    ensures { view result ≡ expr_specs.Boolean holds }
+{
+    match Constant::of(Value::Bool(holds)) {
+        Some(constant) => Tree::Constant(constant),
+        None => unreachable!(),
+    }
+}
+
+/// A number, as a constant where it is in range.
+pub(crate) fn number(n: u64) -> Tree
+    ensures { view result ≡ expr_specs.Number n }
+{
+    let Ok(whole) = i64::try_from(n) else {
+        return Tree::Number(n);
+    };
+    match Constant::of(Value::Number(whole)) {
+        Some(constant) => Tree::Constant(constant),
+        None => Tree::Number(n),
+    }
+}
+
+/// The constant of a text.
+pub(crate) fn text(alloc: Global, text: &str) -> Result<Tree, AllocError>
+    ensures { IfOk result (λ t. view t ≡ expr_specs.Text text.now) }
+{
+    let text = ArcStr::from_str(alloc, text)?;
+    match Constant::of(Value::Text(text)) {
+        Some(constant) => Ok(Tree::Constant(constant)),
+        None => unreachable!(),
+    }
+}
 
 /// An operator between two operands.
 pub(crate) fn binary(

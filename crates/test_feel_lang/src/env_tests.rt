@@ -26,6 +26,28 @@ const STEPS: &[(&[(&str, i64)], usize, usize, [Option<i64>; 3])] = &[
     ),
     (&[], 6, 4, [Some(3), Some(2), Some(4)]),
     (&[("c", 7)], 5, 2, [Some(1), Some(2), None]),
+    // More than are looked through one by one.
+    (
+        &[
+            ("b", 1),
+            ("b", 2),
+            ("b", 3),
+            ("b", 4),
+            ("b", 5),
+            ("b", 6),
+            ("a", 7),
+            ("b", 8),
+            ("a", 9),
+            ("c", 10),
+        ],
+        12,
+        12,
+        [Some(9), Some(8), Some(10)],
+    ),
+    (&[], 12, 10, [Some(7), Some(8), None]),
+    (&[], 10, 9, [Some(7), Some(6), None]),
+    (&[("b", 11)], 10, 10, [Some(7), Some(11), None]),
+    (&[], 10, 3, [Some(1), Some(1), None]),
 ];
 
 fn number(n: i64) -> Result<Feel, Fail> {

@@ -8,17 +8,20 @@ use std::test::Fail;
 const GROUPINGS: &[(&str, &str)] = &[
     (
         "2 - 3 - 4",
-        "Binary(Subtract, Binary(Subtract, Number(2), Number(3)), Number(4))",
+        "Binary(Subtract, Binary(Subtract, Constant(2), Constant(3)), Constant(4))",
     ),
     (
         "1 + 2 * 3",
-        "Binary(Add, Number(1), Binary(Multiply, Number(2), Number(3)))",
+        "Binary(Add, Constant(1), Binary(Multiply, Constant(2), Constant(3)))",
     ),
-    ("-2 * 3", "Binary(Multiply, Negate(Number(2)), Number(3))"),
-    ("--1", "Negate(Negate(Number(1)))"),
+    (
+        "-2 * 3",
+        "Binary(Multiply, Negate(Constant(2)), Constant(3))",
+    ),
+    ("--1", "Negate(Negate(Constant(1)))"),
     ("-a.b", "Negate(Path(Name(\"a\"), \"b\"))"),
     ("a.b.c", "Path(Path(Name(\"a\"), \"b\"), \"c\")"),
-    ("1 . a", "Path(Number(1), \"a\")"),
+    ("1 . a", "Path(Constant(1), \"a\")"),
     (
         "a or b and c",
         "Binary(Or, Name(\"a\"), Binary(And, Name(\"b\"), Name(\"c\")))",
@@ -29,43 +32,49 @@ const GROUPINGS: &[(&str, &str)] = &[
     ),
     (
         "2 between 1 and 3 and false",
-        "Binary(And, Between(Number(2), Number(1), Number(3)), Boolean(false))",
+        "Binary(And, Between(Constant(2), Constant(1), Constant(3)), Constant(false))",
     ),
     (
         "1 + 1 < 2",
-        "Binary(Less, Binary(Add, Number(1), Number(1)), Number(2))",
+        "Binary(Less, Binary(Add, Constant(1), Constant(1)), Constant(2))",
     ),
     (
         "if a then 1 else 2 or b",
-        "If(Name(\"a\"), Number(1), Binary(Or, Number(2), Name(\"b\")))",
+        "If(Name(\"a\"), Constant(1), Binary(Or, Constant(2), Name(\"b\")))",
     ),
     (
         "(1 = 2) = 3",
-        "Binary(Equal, Group(Binary(Equal, Number(1), Number(2))), Number(3))",
+        "Binary(Equal, Group(Binary(Equal, Constant(1), Constant(2))), Constant(3))",
     ),
-    ("not(1)", "Not(Number(1))"),
+    ("not(1)", "Not(Constant(1))"),
     (
         "if(true)then(1)else(2)",
-        "If(Group(Boolean(true)), Group(Number(1)), Group(Number(2)))",
+        "If(Group(Constant(true)), Group(Constant(1)), Group(Constant(2)))",
     ),
     (
         "- 1 - -1",
-        "Binary(Subtract, Negate(Number(1)), Negate(Number(1)))",
+        "Binary(Subtract, Negate(Constant(1)), Negate(Constant(1)))",
     ),
-    ("1.a", "Path(Number(1), \"a\")"),
-    ("modulo(7, 2)", "Modulo(Number(7), Number(2))"),
-    ("abs - 1", "Binary(Subtract, Name(\"abs\"), Number(1))"),
+    ("1.a", "Path(Constant(1), \"a\")"),
+    ("modulo(7, 2)", "Modulo(Constant(7), Constant(2))"),
+    ("abs - 1", "Binary(Subtract, Name(\"abs\"), Constant(1))"),
     ("count([])", "Call(Count, List([]))"),
-    ("[1, \"a\", null]", "List([Number(1), Text(\"a\"), Null])"),
-    ("1!=-1", "Binary(NotEqual, Number(1), Negate(Number(1)))"),
-    ("000000000000000000000000000007", "Number(7)"),
-    ("9223372036854775807", "Number(9223372036854775807)"),
+    (
+        "[1, \"a\", null]",
+        "List([Constant(1), Constant(\"a\"), Constant(null)])",
+    ),
+    (
+        "1!=-1",
+        "Binary(NotEqual, Constant(1), Negate(Constant(1)))",
+    ),
+    ("000000000000000000000000000007", "Constant(7)"),
+    ("9223372036854775807", "Constant(9223372036854775807)"),
     (
         "\t a\r\n>=\n1 ",
-        "Binary(GreaterEqual, Name(\"a\"), Number(1))",
+        "Binary(GreaterEqual, Name(\"a\"), Constant(1))",
     ),
     ("_a9", "Name(\"_a9\")"),
-    ("\"a\u{e9}b\"", "Text(\"a\u{e9}b\")"),
+    ("\"a\u{e9}b\"", "Constant(\"a\u{e9}b\")"),
 ];
 
 /// How the expression is shown.
@@ -107,79 +116,85 @@ const FORMS: &[(&str, &str)] = &[
     ("-", "Any"),
     (
         "< 3, >= 7",
-        "OneOf([Compares(Below, Number(3)), Compares(AtLeast, Number(7))])",
+        "OneOf([Compares(Below, Constant(3)), Compares(AtLeast, Constant(7))])",
     ),
-    ("<= -1", "OneOf([Compares(AtMost, Negate(Number(1)))])"),
+    ("<= -1", "OneOf([Compares(AtMost, Negate(Constant(1)))])"),
     (
         "[1..5)",
-        "OneOf([Interval(true, Number(1), Number(5), false)])",
+        "OneOf([Interval(true, Constant(1), Constant(5), false)])",
     ),
     (
         "]1..5[",
-        "OneOf([Interval(false, Number(1), Number(5), false)])",
+        "OneOf([Interval(false, Constant(1), Constant(5), false)])",
     ),
     (
         "(1..5]",
-        "OneOf([Interval(false, Number(1), Number(5), true)])",
+        "OneOf([Interval(false, Constant(1), Constant(5), true)])",
     ),
     (
         "[1 .. a + 1]",
-        "OneOf([Interval(true, Number(1), Binary(Add, Name(\"a\"), Number(1)), true)])",
+        "OneOf([Interval(true, Constant(1), Binary(Add, Name(\"a\"), Constant(1)), true)])",
     ),
     (
         "[[1]..[2]]",
-        "OneOf([Interval(true, List([Number(1)]), List([Number(2)]), true)])",
+        "OneOf([Interval(true, List([Constant(1)]), List([Constant(2)]), true)])",
     ),
-    ("[1, 5]", "OneOf([Equals(List([Number(1), Number(5)]))])"),
+    (
+        "[1, 5]",
+        "OneOf([Equals(List([Constant(1), Constant(5)]))])",
+    ),
     (
         "(1), [2..3]",
-        "OneOf([Equals(Group(Number(1))), Interval(true, Number(2), Number(3), true)])",
+        "OneOf([Equals(Group(Constant(1))), Interval(true, Constant(2), Constant(3), true)])",
     ),
     (
         "not(< 3, > 7)",
-        "NoneOf([Compares(Below, Number(3)), Compares(Above, Number(7))])",
+        "NoneOf([Compares(Below, Constant(3)), Compares(Above, Constant(7))])",
     ),
-    ("not(true)", "NoneOf([Equals(Boolean(true))])"),
+    ("not(true)", "NoneOf([Equals(Constant(true))])"),
     (
         "not((1..5))",
-        "NoneOf([Interval(false, Number(1), Number(5), false)])",
+        "NoneOf([Interval(false, Constant(1), Constant(5), false)])",
     ),
-    ("not(not(1))", "NoneOf([Equals(Not(Number(1)))])"),
+    ("not(not(1))", "NoneOf([Equals(Not(Constant(1)))])"),
     (
         "not(1), 2",
-        "OneOf([Equals(Not(Number(1))), Equals(Number(2))])",
+        "OneOf([Equals(Not(Constant(1))), Equals(Constant(2))])",
     ),
     (
         "not(1) = 2",
-        "OneOf([Equals(Binary(Equal, Not(Number(1)), Number(2)))])",
+        "OneOf([Equals(Binary(Equal, Not(Constant(1)), Constant(2)))])",
     ),
-    ("\"a\", null", "OneOf([Equals(Text(\"a\")), Equals(Null)])"),
+    (
+        "\"a\", null",
+        "OneOf([Equals(Constant(\"a\")), Equals(Constant(null))])",
+    ),
     (
         "a > 3",
-        "OneOf([Equals(Binary(Greater, Name(\"a\"), Number(3)))])",
+        "OneOf([Equals(Binary(Greater, Name(\"a\"), Constant(3)))])",
     ),
-    ("-1", "OneOf([Equals(Negate(Number(1)))])"),
-    ("null", "OneOf([Equals(Null)])"),
-    ("< \"b\"", "OneOf([Compares(Below, Text(\"b\"))])"),
+    ("-1", "OneOf([Equals(Negate(Constant(1)))])"),
+    ("null", "OneOf([Equals(Constant(null))])"),
+    ("< \"b\"", "OneOf([Compares(Below, Constant(\"b\"))])"),
     (
         "]1..5]",
-        "OneOf([Interval(false, Number(1), Number(5), true)])",
+        "OneOf([Interval(false, Constant(1), Constant(5), true)])",
     ),
     (
         "[1..5[",
-        "OneOf([Interval(true, Number(1), Number(5), false)])",
+        "OneOf([Interval(true, Constant(1), Constant(5), false)])",
     ),
     (
         "(1..5)",
-        "OneOf([Interval(false, Number(1), Number(5), false)])",
+        "OneOf([Interval(false, Constant(1), Constant(5), false)])",
     ),
     (
         "[[1, 5]]",
-        "OneOf([Equals(List([List([Number(1), Number(5)])]))])",
+        "OneOf([Equals(List([List([Constant(1), Constant(5)])]))])",
     ),
     (
         "9223372036854775807 + 1",
-        "OneOf([Equals(Binary(Add, Number(9223372036854775807), Number(1)))])",
+        "OneOf([Equals(Binary(Add, Constant(9223372036854775807), Constant(1)))])",
     ),
 ];
 

@@ -1,7 +1,7 @@
 use Rattle.std.proofs.Common.{◌≡◌, ◌∙◌, ap, length, vec_len, arith}
 use Rattle.std.specs.BTreeMap.{get_by_text}
 use Rattle.feel_lang.proofs.Bindings.{takes_place}
-use Rattle.feel_lang.proofs.env.placed.Goals as goal
+use Rattle.feel_lang.proofs.indexed.placed.Goals as goal
 
 pub returns-clause-hidden : goal.returns-clause-hidden
 returns-clause-hidden c = c.in_ok-hidden.ensures.old ∙ ap (get_by_text c.args.places.now) c.in_ok-key.ensures.ok

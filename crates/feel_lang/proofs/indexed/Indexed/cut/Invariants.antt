@@ -1,6 +1,6 @@
 use Rattle.std.proofs.Common.{◌≡◌, ◌≤◌, length, take}
 use Rattle.feel_lang.specs.Places.{bindings_of, IsIndexed}
-use Rattle.feel_lang.proofs.env.Env.cut.Given as goal
+use Rattle.feel_lang.proofs.indexed.Indexed.cut.Given as goal
 
 abbrev pub invariant-loop-self : goal.invariant-loop-self
 invariant-loop-self l = record {

@@ -1,6 +1,6 @@
-use Rattle.feel_lang.specs.declared.env.Binding.{Binding}
+use Rattle.feel_lang.specs.declared.indexed.Binding.{Binding}
 use Rattle.feel_lang.proofs.Bindings.{bound_more}
-use Rattle.feel_lang.proofs.env.Env.bind.Goals as goal
+use Rattle.feel_lang.proofs.indexed.Indexed.bind.Goals as goal
 
 pub invariant_of-self-2 : goal.invariant_of-self-2
 invariant_of-self-2 c =

@@ -2,7 +2,7 @@ use Rattle.std.proofs.Common.{◌∙◌, ◌≤◌, sym, ap, take, arith, length
 use Rattle.std.proofs.lemmas.List.{length_push}
 use Rattle.feel_lang.specs.Places.{bindings_of}
 use Rattle.feel_lang.proofs.Bindings.{bound_less, last_is_there, before}
-use Rattle.feel_lang.proofs.env.Env.cut.Goals as goal
+use Rattle.feel_lang.proofs.indexed.Indexed.cut.Goals as goal
 
 pub uncover-requires : goal.uncover-requires
 uncover-requires c = last_is_there c.pop.new.self.items c.in-Some.binding c.loop-self.self-inside.places (rw c.in-Some.ensures.items at c.loop-self.invariant.indexed)

@@ -2,7 +2,7 @@ use Rattle.std.proofs.Common.{◌∙◌, sym, ap, string_bytes, bytes_eq, if◌t
 use Rattle.std.specs.BTreeMap.{get_by_text}
 use Rattle.std.proofs.lemmas.Map.Text.{btree_map_updates_text}
 use Rattle.feel_lang.proofs.Bindings.{replaced}
-use Rattle.feel_lang.proofs.env.uncover.Goals as goal
+use Rattle.feel_lang.proofs.indexed.uncover.Goals as goal
 
 pub returns-in-Some : goal.returns-in-Some
 returns-in-Some c = λ q.

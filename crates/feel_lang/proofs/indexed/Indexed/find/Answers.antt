@@ -1,8 +1,8 @@
 use Rattle.std.proofs.Common.{◌∙◌, sym, ap, Some, None, arith}
 use Rattle.feel_lang.specs.Meaning.{bound}
-use Rattle.feel_lang.specs.declared.env.Binding.{Binding}
+use Rattle.feel_lang.specs.declared.indexed.Binding.{Binding}
 use Rattle.feel_lang.proofs.Bindings.{found_at}
-use Rattle.feel_lang.proofs.env.Env.find.Goals as goal
+use Rattle.feel_lang.proofs.indexed.Indexed.find.Goals as goal
 
 pub returns-in_err-place : goal.returns-in_err-place
 returns-in_err-place c =

@@ -1,0 +1,65 @@
+-- The first bindings, and those behind them.
+use Rattle.std.proofs.Common.{◌≡◌, ◌∙◌, sym, ap, refl, ℕ, ◌+◌, ◌-◌, ◌<◌, ◌≤◌, Bool, true, false, List, [], ◌∷◌, ◌++◌, map, take, length, get_or, Option, Some, None, string_bytes, bytes_eq, if◌then◌else◌, arith}
+use Rattle.std.proofs.Math.Seq.{take-append-add}
+use Rattle.std.proofs.lemmas.List.{append_assoc, append-nil, map-append, length-map, length-append, take-map, take-append-le, take_more}
+use Rattle.feel_value.specs.Datum.{Datum}
+use Rattle.feel_lang.specs.Meaning.{Bindings, bound, first_some}
+use Rattle.feel_lang.specs.Few.{few_of, IsFilled}
+use Rattle.feel_lang.specs.declared.env.NamedValue.{NamedValue}
+
+grouped : (o p q : Option Datum) → first_some (first_some o p) q ≡ first_some o (first_some p q)
+grouped None p q = refl
+grouped (Some d) p q = refl
+
+nothing_more : (o : Option Datum) → first_some o None ≡ o
+nothing_more None = refl
+nothing_more (Some d) = refl
+
+-- what a name is bound to among the last ones counts
+pub bound_both : (name : List ℕ) (xs ys : Bindings) → bound name (xs ++ ys) ≡ first_some (bound name ys) (bound name xs)
+bound_both name [] ys = sym (nothing_more (bound name ys))
+bound_both name (x ∷ xs) ys =
+    ap (λ o. first_some o (if bytes_eq name x.0 then Some x.1 else None)) (bound_both name xs ys)
+    ∙ grouped (bound name ys) (bound name xs) (if bytes_eq name x.0 then Some x.1 else None)
+
+-- the last one has the name, or what it is bound to is among the others
+last_or_before : (t : Bool) (d : Datum) (o : Option Datum) → first_some (if t then Some d else None) o ≡ (if t then Some d else o)
+last_or_before true d o = refl
+last_or_before false d o = refl
+
+pub bound_last : (name : List ℕ) (xs : List NamedValue) (x : NamedValue) → bound name (few_of (xs ++ x ∷ [])) ≡ (if bytes_eq name (string_bytes x.name) then Some x.value else bound name (few_of xs))
+bound_last name xs x =
+    ap (bound name) (map-append (λ (b : NamedValue). (string_bytes b.name, b.value)) xs (x ∷ []))
+    ∙ bound_both name (few_of xs) ((string_bytes x.name, x.value) ∷ [])
+    ∙ last_or_before (bytes_eq name (string_bytes x.name)) x.value (bound name (few_of xs))
+
+-- the same of those up to a place
+pub bound_up_to : (name : List ℕ) (xs : List NamedValue) (i : ℕ) (x : NamedValue) → x ≡ get_or xs i x → i < length xs
+    → bound name (few_of (take (i + 1) xs)) ≡ (if bytes_eq name (string_bytes x.name) then Some x.value else bound name (few_of (take i xs)))
+bound_up_to name xs i x e h =
+    ap (λ ys. bound name (few_of ys)) (take_more xs i x h) ∙ ap (λ (y : NamedValue). bound name (few_of (take i xs ++ y ∷ []))) (sym e)
+    ∙ bound_last name (take i xs) x
+
+-- one more among the first
+pub one_more : (xs : List NamedValue) (x : NamedValue) (ys : Bindings) → ys ≡ [] → few_of (xs ++ x ∷ []) ++ ys ≡ (few_of xs ++ ys) ++ (string_bytes x.name, x.value) ∷ []
+one_more xs x ys h =
+    ap (λ zs. few_of (xs ++ x ∷ []) ++ zs) h ∙ append-nil (few_of (xs ++ x ∷ []))
+    ∙ map-append (λ (b : NamedValue). (string_bytes b.name, b.value)) xs (x ∷ [])
+    ∙ ap (λ zs. zs ++ (string_bytes x.name, x.value) ∷ []) (sym (ap (λ zs. few_of xs ++ zs) h ∙ append-nil (few_of xs)))
+
+-- one more behind the first
+pub one_behind : (xs ys : Bindings) (b : List ℕ × Datum) → xs ++ (ys ++ b ∷ []) ≡ (xs ++ ys) ++ b ∷ []
+one_behind xs ys b = sym (append_assoc xs ys (b ∷ []))
+
+-- cut off within the first
+pub cut_within : (n : ℕ) (xs : List NamedValue) (ys : Bindings) → n ≤ length xs → few_of (take n xs) ++ [] ≡ take n (few_of xs ++ ys)
+cut_within n xs ys h =
+    append-nil (few_of (take n xs)) ∙ sym (take-map (λ (b : NamedValue). (string_bytes b.name, b.value)) n xs)
+    ∙ sym (take-append-le n (few_of xs) ys (rw length-map h))
+
+-- cut off behind the first
+pub cut_behind : (n : ℕ) (xs : List NamedValue) (ys : Bindings) → length xs ≤ n → few_of xs ++ take (n - length xs) ys ≡ take n (few_of xs ++ ys)
+cut_behind n xs ys h =
+    let size : length (few_of xs) ≡ length xs = length-map xs (λ (b : NamedValue). (string_bytes b.name, b.value)) in
+    let whole : length (few_of xs) + (n - length xs) ≡ n = omega (arith, size) in
+    sym (take-append-add (few_of xs) ys (n - length xs)) ∙ ap (λ k. take k (few_of xs ++ ys)) whole

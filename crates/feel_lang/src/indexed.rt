@@ -1,0 +1,138 @@
+//! Names with values, found by an index.
+ghost use Rattle.std.specs.Prelude.{◌≡◌, ◌≤◌, ◌<◌, [], ◌∷◌, ◌++◌, ◌^◌, List, ℕ, length, take, option_map, MatchResult, IfOk, OnOk, OnErr, IsSome, Some, vec_len, vec_capacity, bytes_eq, string_bytes, if◌then◌else◌};
+ghost use Rattle.std.specs.BTreeMap.{IsUnchanged, get_by_text};
+ghost use Rattle.feel_lang.specs.Meaning.{bound};
+
+use feel_value::Feel;
+use std::alloc::{AllocError, Global};
+use std::collections::BTreeMap;
+use std::marker::Model;
+
+// A name with its value.
+#[derive(Drop)]
+struct Binding {
+    name: String,
+    value: Feel,
+    // Where the binding stands that this one hides.
+    hidden: Option<usize>,
+}
+
+/// A list of names with values, of which the last binding of a name counts.
+///
+/// Binding, finding and cutting off one name take steps in proportion to the logarithm of how many names there are.
+#[derive(Drop)]
+pub(crate) struct Indexed {
+    bindings: Vec<Binding>,
+    // Where the last binding of each name stands.
+    places: BTreeMap<String, usize>,
+}
+
+impl Model for Indexed {
+    ghost use Rattle.std.specs.Prelude.{List, ℕ};
+    ghost use Rattle.std.specs.Coded.{coded_list, coded×, coded_ℕ};
+    ghost use Rattle.feel_value.specs.Datum.{Datum};
+    ghost use Rattle.feel_value.specs.Code.{datum_code};
+
+    ghost Value = { List (List ℕ × Datum) };
+
+    ghost coded = { coded_list (coded× (coded_list coded_ℕ) datum_code) };
+
+    ghost use Rattle.feel_lang.specs.Places.{bindings_of, IsIndexed};
+
+    ghost view = { λ e. bindings_of e.bindings.items };
+
+    ghost invariant = { λ e. IsIndexed e.bindings.items e.places };
+}
+
+impl Indexed {
+    /// No names. It takes no memory, and keeps the allocator for its bindings.
+    pub(crate) fn new(alloc: Global) -> Indexed
+        ensures { result ≡ [] }
+    {
+        Indexed {
+            bindings: Vec::new(alloc),
+            places: BTreeMap::new(alloc),
+        }
+    }
+
+    /// Binds a name to a value, which hides what the name was bound to before. Where memory is refused nothing changes,
+    /// and the value is gone.
+    pub(crate) fn bind(&mut self, name: &str, value: Feel) -> Result<(), AllocError>
+        ensures { MatchResult result (λ _. self.new ≡ self.old ++ (name.now, value) ∷ []) (λ _. self.new ≡ self.old) }
+    {
+        let (name, hidden) = placed(&mut self.bindings, &mut self.places, name)?;
+        self.bindings.push(Binding {
+            name,
+            value,
+            hidden,
+        })?;
+        Ok(())
+    }
+
+    /// The value of the last binding of the name.
+    pub(crate) fn find(&self, name: &str) -> Option<&Feel>
+        ensures { option_map (λ v. v.now) result ≡ bound name.now self.now }
+    {
+        let place = *self.places.get(name)?;
+        Some(&self.bindings[place].value)
+    }
+
+    /// How many bindings there are, hidden ones included.
+    pub(crate) fn len(&self) -> usize
+        ensures number { result ≡ length self.now }
+        ensures small { result < 2 ^ 63 }
+    {
+        self.bindings.len()
+    }
+
+    /// Drops all bindings but the first `len`; what they hid counts again. It takes no memory.
+    pub(crate) fn cut(&mut self, len: usize)
+        requires { len ≤ length self.old }
+        ensures { self.new ≡ take len self.old }
+    {
+        while self.bindings.len() > len {
+            if let Some(binding) = self.bindings.pop() {
+                let Binding {
+                    name,
+                    value,
+                    hidden,
+                } = binding;
+                drop(value);
+                uncover(&mut self.places, name, hidden);
+            }
+        }
+    }
+}
+
+// Gives the name the place behind the bindings, where there is then room. Tells a copy of the name, and the place that it had.
+fn placed(
+    bindings: &mut Vec<Binding>,
+    places: &mut BTreeMap<String, usize>,
+    name: &str,
+) -> Result<(String, Option<usize>), AllocError>
+    ensures items { bindings.new.items ≡ bindings.old.items }
+    ensures room { OnOk result (vec_len bindings.new < vec_capacity bindings.new) }
+    ensures name { IfOk result (λ p. string_bytes p.0 ≡ name.now) }
+    ensures hidden { IfOk result (λ p. p.1 ≡ get_by_text places.old name.now) }
+    ensures place { OnOk result ((other : List ℕ) → get_by_text places.new other ≡ (if bytes_eq name.now other then Some (length bindings.old.items) else get_by_text places.old other)) }
+    ensures refused { OnErr result (IsUnchanged places.old places.new) }
+{
+    let alloc = *bindings.allocator();
+    let key = String::from_str(alloc, name)?;
+    let name = String::from_str(alloc, name)?;
+    bindings.reserve(1)?;
+    let hidden = places.insert(key, bindings.len())?;
+    Ok((name, hidden))
+}
+
+// Gives the name the place that its last binding has hidden, where there is one.
+fn uncover(places: &mut BTreeMap<String, usize>, name: String, hidden: Option<usize>)
+    requires { IsSome (get_by_text places.old (string_bytes name)) }
+    ensures { (other : List ℕ) → get_by_text places.new other ≡ (if bytes_eq (string_bytes name) other then hidden else get_by_text places.old other) }
+{
+    match hidden {
+        // The name is there, so this takes no memory.
+        Some(place) => drop(places.insert(name, place)),
+        None => drop(places.remove(name.as_str())),
+    }
+}
