@@ -1,5 +1,6 @@
 -- What is found for each of a list, one element at a time.
-use Rattle.std.proofs.Common.{◌≡◌, ℕ, ◌+◌, ◌<◌, ◌≤◌, List, [], ◌∷◌, ◌++◌, map, length, get_or, drop, refl, sym, ap, ◌∙◌, append_assoc, Option, None, Some, option_map}
+use Rattle.std.proofs.Common.{◌≡◌, ℕ, suc, ◌+◌, ◌<◌, ◌≤◌, List, [], ◌∷◌, ◌++◌, map, length, get_or, drop, refl, sym, ap, ◌∙◌, append_assoc, Option, None, Some, option_map}
+use Rattle.std.proofs.lemmas.Option.{same_Some}
 use Rattle.std.proofs.lemmas.List.{append-nil, at_drop_more, drop_all}
 use Rattle.dmn_table.specs.Evaluated.{each, ◌>>=◌}
 
@@ -31,7 +32,7 @@ rest_done rest ended whole ys xs i before h =
     sym (before ∙ ap (λ bs. after ys (rest bs)) (drop_all i xs h) ∙ ap (after ys) ended ∙ ap Some (append-nil ys))
 
 -- what is found from the element at i on, by what is found for that
-rest_from : {A Y : Type 0} (f : A → Option Y) (rest : List A → Option (List Y)) → ((a : A) (bs : List A) → rest (a ∷ bs) ≡ (f a >>= λ y. rest bs >>= λ ys. Some (y ∷ ys)))
+pub rest_from : {A Y : Type 0} (f : A → Option Y) (rest : List A → Option (List Y)) → ((a : A) (bs : List A) → rest (a ∷ bs) ≡ (f a >>= λ y. rest bs >>= λ ys. Some (y ∷ ys)))
     → (xs : List A) (i : ℕ) (a : A) (o : Option Y) → a ≡ get_or xs i a → i < length xs → f a ≡ o → rest (drop i xs) ≡ (o >>= λ y. rest (drop (i + 1) xs) >>= λ ys. Some (y ∷ ys))
 rest_from f rest step xs i a o e h found =
     at_drop_more rest xs i a h ∙ ap (λ b. rest (b ∷ drop (i + 1) xs)) (sym e) ∙ step a (drop (i + 1) xs)
@@ -70,3 +71,13 @@ pub each_more : {A X Y : Type 0} (f : X → Option Y) (shown : A → X) (whole :
     → whole ≡ after ys (each f (map shown (drop i xs))) → a ≡ get_or xs i a → i < length xs → f (shown a) ≡ Some y → zs ≡ ys ++ y ∷ []
     → whole ≡ after zs (each f (map shown (drop (i + 1) xs)))
 each_more f shown = rest_more (λ a. f (shown a)) (λ xs. each f (map shown xs)) (λ a bs. refl)
+
+-- each list that is found has as many elements
+pub each_length : {X Y : Type 0} (f : X → Option Y) (xs : List X) (ys : List Y) → each f xs ≡ Some ys → length ys ≡ length xs
+each_length f [] ys e = sym (ap length (same_Some _ _ e))
+each_length {X} {Y} f (x ∷ xs) ys e = go (f x) (each f xs) (λ zs g. each_length f xs zs g) e
+  where
+    go : (o : Option Y) (p : Option (List Y)) → ((zs : List Y) → p ≡ Some zs → length zs ≡ length xs) → (o >>= λ y. p >>= λ zs. Some (y ∷ zs)) ≡ Some ys → length ys ≡ suc (length xs)
+    go None p g e = cc
+    go (Some y) None g e = cc
+    go (Some y) (Some zs) g e = sym (ap length (same_Some _ _ e)) ∙ ap suc (g zs refl)

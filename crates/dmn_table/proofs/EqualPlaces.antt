@@ -1,5 +1,5 @@
 -- The hits of a table have a place for each of its output columns.
-use Rattle.std.proofs.Common.{◌≡◌, ℕ, zero, suc, ◌<◌, List, [], ◌∷◌, map, length, refl, sym, ap, ◌∙◌, subst, arith, Bool, true, false, ◌&&◌, Option, Some, None}
+use Rattle.std.proofs.Common.{eq-eqb, ◌≡◌, ℕ, zero, suc, ◌<◌, List, [], ◌∷◌, map, length, refl, sym, ap, ◌∙◌, subst, arith, Bool, true, false, ◌&&◌, Option, Some, None}
 use Rattle.std.specs.Prelude.{⊤, nat_eq, nat_lt, slice_index_or, string_bytes}
 use Rattle.std.specs.List.{AllPairs, list_all}
 use Rattle.std.proofs.lemmas.Option.{same_Some}
@@ -11,8 +11,10 @@ use Rattle.dmn_table.specs.declared.priority.Hit as hit
 use Rattle.dmn_table.specs.declared.table.Output.{Output}
 use Rattle.dmn_table.specs.declared.table.Rule as rule
 use Rattle.dmn_table.specs.Evaluated.{each, ◌>>=◌, value_of}
+use Rattle.dmn_table.specs.RuleOutputs.{hits_among, have_entries}
+use Rattle.dmn_table.proofs.Each.{each_length}
 use Rattle.dmn_table.specs.Faults.{columns_fit, fits_columns, are_distinct}
-use Rattle.dmn_table.specs.Hits.{hit_of, kept, values_of, output_of}
+use Rattle.dmn_table.specs.Hits.{does_hit, hit_of, kept, values_of, output_of}
 use Rattle.dmn_table.specs.Parts.{column_view, rule_view, names_of, entry_counts}
 use Rattle.dmn_table.specs.Priority.{Hit, places_of}
 use Rattle.dmn_table.specs.Table.{Column, Rule}
@@ -25,16 +27,6 @@ and_second false b e = cc
 and_first : (a b : Bool) → (a && b) ≡ true → a ≡ true
 and_first true b e = refl
 and_first false b e = cc
-
--- each list that is found has as many elements
-each_length : {X Y : Type 0} (f : X → Option Y) (xs : List X) (ys : List Y) → each f xs ≡ Some ys → length ys ≡ length xs
-each_length f [] ys e = sym (ap length (same_Some _ _ e))
-each_length {X} {Y} f (x ∷ xs) ys e = go (f x) (each f xs) (λ zs g. each_length f xs zs g) e
-  where
-    go : (o : Option Y) (p : Option (List Y)) → ((zs : List Y) → p ≡ Some zs → length zs ≡ length xs) → (o >>= λ y. p >>= λ zs. Some (y ∷ zs)) ≡ Some ys → length ys ≡ suc (length xs)
-    go None p g e = cc
-    go (Some y) None g e = cc
-    go (Some y) (Some zs) g e = sym (ap length (same_Some _ _ e)) ∙ ap suc (g zs refl)
 
 places_length : (cs : List Column) (values : List Datum) → length values ≡ length cs → length (places_of cs values) ≡ length cs
 places_length [] values e = refl
@@ -88,14 +80,39 @@ placed_at n [] g j d l = absurd (omega arith)
 placed_at n (h ∷ hs) g zero d l = g.0
 placed_at n (h ∷ hs) g (suc j) d l = placed_at n hs g.1 j d (omega arith)
 
--- what is found for the rules that hit, where the rules fit the columns
-pub equal_places : (inputs : ℕ) (os : List Output) (rules : List rule.Rule) (m : Bindings) (answers : List Bool) (hs : List hit.Hit) → columns_fit inputs (names_of os) (entry_counts rules) ≡ true
-    → Some (map hit_view hs) ≡ each (hit_of (map column_view os) m) (kept (map rule_view rules) answers)
+each_have : (n : ℕ) (rs : List Rule) → EachGives n rs → have_entries n rs ≡ true
+each_have n [] g = refl
+each_have n (r ∷ rs) g =
+    let one : nat_eq (length r.gives) n ≡ true = eq-eqb _ _ g.0 in
+    ap (λ b. b && have_entries n rs) one ∙ each_have n rs g.1
+
+have_each : (n : ℕ) (rs : List Rule) → have_entries n rs ≡ true → EachGives n rs
+have_each n [] e = tt
+have_each n (r ∷ rs) e =
+    let one : nat_eq (length r.gives) n ≡ true = and_first _ (have_entries n rs) e in
+    let count : length r.gives ≡ n = grind (arith, nat_tests) in
+    (count, have_each n rs (and_second (nat_eq (length r.gives) n) _ e))
+
+-- the rules that hit have an entry for each output, where all rules fit the columns
+pub entries_of_hits : (inputs : ℕ) (os : List Output) (rules : List rule.Rule) (m : Bindings) (values : List Datum) (hits : List Rule) → columns_fit inputs (names_of os) (entry_counts rules) ≡ true
+    → Some hits ≡ hits_among m values (map rule_view rules) → have_entries (length os) hits ≡ true
+entries_of_hits inputs os rules m values hits fits found = go (each (does_hit m values) (map rule_view rules)) found
+  where
+    gives : EachGives (length os) (map rule_view rules)
+    gives =
+        let n = length (names_of os) in
+        let all : list_all (fits_columns inputs n) (entry_counts rules) ≡ true = and_second (nat_lt 0 n && are_distinct (names_of os)) _ fits in
+        subst (λ k. EachGives k (map rule_view rules)) (length-map os (λ o. string_bytes o.name)) (gives_fit inputs n rules all)
+
+    go : (o : Option (List Bool)) → Some hits ≡ (o >>= λ answers. Some (kept (map rule_view rules) answers)) → have_entries (length os) hits ≡ true
+    go None e = cc
+    go (Some answers) e = ap (have_entries (length os)) (same_Some _ _ e) ∙ each_have (length os) _ (kept_gives (length os) (map rule_view rules) answers gives)
+
+-- what is found for rules that have an entry for each output
+pub equal_places : (os : List Output) (rules : List Rule) (m : Bindings) (hs : List hit.Hit) → have_entries (length os) rules ≡ true
+    → Some (map hit_view hs) ≡ each (hit_of (map column_view os) m) rules
     → AllPairs (λ h k. length h.places.items ≡ length k.places.items) hs
-equal_places inputs os rules m answers hs fits found i j d below l =
-    let n = length (names_of os) in
-    let named : n ≡ length (map column_view os) = length-map os (λ o. string_bytes o.name) ∙ sym (length-map os column_view) in
-    let all : list_all (fits_columns inputs n) (entry_counts rules) ≡ true = and_second (nat_lt 0 n && are_distinct (names_of os)) _ fits in
-    let gives : EachGives (length (map column_view os)) (kept (map rule_view rules) answers) = kept_gives _ (map rule_view rules) answers (subst (λ k. EachGives k (map rule_view rules)) named (gives_fit inputs n rules all)) in
-    let placed = each_placed (map column_view os) m (kept (map rule_view rules) answers) (map hit_view hs) gives (sym found) in
+equal_places os rules m hs fits found i j d below l =
+    let gives : EachGives (length (map column_view os)) rules = subst (λ k. EachGives k rules) (sym (length-map os column_view)) (have_each (length os) rules fits) in
+    let placed = each_placed (map column_view os) m rules (map hit_view hs) gives (sym found) in
     placed_at _ hs placed i d (omega arith) ∙ sym (placed_at _ hs placed j d l)

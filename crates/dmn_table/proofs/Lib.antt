@@ -1,6 +1,10 @@
 mod Examples
 pub mod Each
 pub mod Outputs
+pub mod ByOutputs
+pub mod Turns
+pub mod Wholes
+pub mod FromRules
 pub mod ZipEnd
 pub mod MappedTests
 pub mod Distinct

@@ -3,7 +3,7 @@ ghost use Rattle.std.specs.Prelude.{◌≡◌, IfOk, map};
 ghost use Rattle.dmn_table.specs.Result.{table_result, defaults as defaults_of};
 ghost use Rattle.dmn_table.specs.Parts.{column_view};
 
-use crate::hits::{answers, found_hits};
+use crate::hits::rules_that_hit;
 use crate::output::{default_values, evaluated, has_no_default, one_or_context};
 use crate::policy::result_of;
 use crate::table::{Output, Table};
@@ -19,16 +19,13 @@ pub fn decide(alloc: Global, table: &Table, env: &Env) -> Result<Outcome, AllocE
     let Some(values) = evaluated(alloc, &table.inputs, env)? else {
         return Ok(Outcome::Limit);
     };
-    let Some(answers) = answers(alloc, &table.rules, &values, env)? else {
+    let Some(rules) = rules_that_hit(alloc, &table.rules, &values, env)? else {
         return Ok(Outcome::Limit);
     };
-    let Some(hits) = found_hits(alloc, &table.rules, &answers, &table.outputs, env)? else {
-        return Ok(Outcome::Limit);
-    };
-    if hits.is_empty() {
+    if rules.is_empty() {
         return defaults(alloc, &table.outputs, env);
     }
-    result_of(alloc, table.policy, hits)
+    result_of(alloc, table.policy, &rules, &table.outputs, env)
 }
 
 /// The result where no rule hits.

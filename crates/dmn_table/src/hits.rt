@@ -1,9 +1,10 @@
-//! The rules that hit.
+//! The rules that hit, and the places of their values.
 ghost use Rattle.std.specs.Prelude.{◌≡◌, IfOk, map, option_map};
 ghost use Rattle.dmn_table.specs.Evaluated.{each};
-ghost use Rattle.dmn_table.specs.Hits.{does_hit as does_hit_of, hit_of as hit_of_rule, kept};
+ghost use Rattle.dmn_table.specs.Hits.{does_hit as does_hit_of, hit_of as hit_of_rule};
 ghost use Rattle.dmn_table.specs.Priority.{place as place_of, places_of};
 ghost use Rattle.dmn_table.specs.Parts.{rule_view, column_view};
+ghost use Rattle.dmn_table.specs.RuleOutputs.{rules_view, hits_among};
 ghost use Rattle.dmn_table.specs.View.{hit_view};
 
 use crate::output::{evaluated, one_or_context};
@@ -34,23 +35,25 @@ fn does_hit(
     Ok(Some(hit))
 }
 
-/// Whether each rule hits; None where an entry breaks a limit.
-pub(crate) fn answers(
+/// The rules that hit, in their order; None where an entry breaks a limit. The entries of all rules are evaluated.
+pub(crate) fn rules_that_hit<'a>(
     alloc: Global,
-    rules: &[Rule],
+    rules: &'a [Rule],
     values: &[Feel],
     env: &Env,
-) -> Result<Option<Vec<bool>>, AllocError>
-    ensures { IfOk result (λ found. option_map (λ v. v.items) found ≡ each (does_hit_of env.now values.now) (map rule_view rules.now)) }
+) -> Result<Option<Vec<&'a Rule>>, AllocError>
+    ensures { IfOk result (λ found. option_map (λ v. rules_view v.items) found ≡ hits_among env.now values.now (map rule_view rules.now)) }
 {
-    let mut answers = Vec::with_capacity(alloc, rules.len())?;
+    let mut hits = Vec::new(alloc);
     for rule in rules {
-        match does_hit(alloc, rule, values, env)? {
-            Some(hit) => answers.push(hit)?,
-            None => return Ok(None),
+        let Some(hit) = does_hit(alloc, rule, values, env)? else {
+            return Ok(None);
+        };
+        if hit {
+            hits.push(rule)?;
         }
     }
-    Ok(Some(answers))
+    Ok(Some(hits))
 }
 
 /// The position of the first listed value that equals the value; the length of the list where none does.
@@ -76,7 +79,7 @@ fn places(alloc: Global, outputs: &[Output], values: &[Feel]) -> Result<Vec<usiz
     Ok(places)
 }
 
-/// A rule that hit, with its output; None where a limit is broken.
+/// A rule that hit, with its output and the places of its values; None where a limit is broken.
 fn hit_of(
     alloc: Global,
     rule: &Rule,
@@ -95,23 +98,20 @@ fn hit_of(
     }
 }
 
-/// The rules with the answer true, with their outputs; None where a limit is broken.
+/// These rules, with their outputs and places; None where a limit is broken.
 pub(crate) fn found_hits(
     alloc: Global,
-    rules: &[Rule],
-    answers: &[bool],
+    rules: &[&Rule],
     outputs: &[Output],
     env: &Env,
 ) -> Result<Option<Vec<Hit>>, AllocError>
-    ensures { IfOk result (λ found. option_map (λ v. map hit_view v.items) found ≡ each (hit_of_rule (map column_view outputs.now) env.now) (kept (map rule_view rules.now) answers.now)) }
+    ensures { IfOk result (λ found. option_map (λ v. map hit_view v.items) found ≡ each (hit_of_rule (map column_view outputs.now) env.now) (rules_view rules.now)) }
 {
-    let mut hits = Vec::new(alloc);
-    for (rule, hit) in rules.iter().zip(answers) {
-        if *hit {
-            match hit_of(alloc, rule, outputs, env)? {
-                Some(hit) => hits.push(hit)?,
-                None => return Ok(None),
-            }
+    let mut hits = Vec::with_capacity(alloc, rules.len())?;
+    for rule in rules {
+        match hit_of(alloc, rule, outputs, env)? {
+            Some(hit) => hits.push(hit)?,
+            None => return Ok(None),
         }
     }
     Ok(Some(hits))

@@ -2,6 +2,7 @@
 //! result of the outputs of the rules that hit.
 #![tactic(auto)]
 
+mod collected;
 mod decision;
 mod fault;
 mod hit_policy;

@@ -8,9 +8,11 @@ ghost use Rattle.feel_value.specs.declared.feel.Outcome.TheVariants.{Is};
 ghost use Rattle.feel_value.specs.View.{datum_of};
 ghost use Rattle.dmn_table.specs.Hits.{values_of, output_of};
 ghost use Rattle.dmn_table.specs.Result.{first_of, default_of, default_values as default_values_of};
-ghost use Rattle.dmn_table.specs.Parts.{column_view};
+ghost use Rattle.dmn_table.specs.Parts.{column_view, rule_view};
+ghost use Rattle.dmn_table.specs.RuleOutputs.{rule_output as rule_output_of};
+ghost use Rattle.dmn_table.specs.Evaluated.{value_of};
 
-use crate::table::Output;
+use crate::table::{Output, Rule};
 use feel_lang::{Env, Expr, eval};
 use feel_value::{Feel, Outcome, Value};
 use std::alloc::{AllocError, Global};
@@ -32,6 +34,21 @@ pub(crate) fn evaluated(
         }
     }
     Ok(Some(values))
+}
+
+/// The output of a rule.
+pub(crate) fn rule_output(
+    alloc: Global,
+    rule: &Rule,
+    outputs: &[Output],
+    env: &Env,
+) -> Result<Outcome, AllocError>
+    ensures { IfOk result (λ o. value_of o ≡ rule_output_of (map column_view outputs.now) env.now (rule_view rule.now)) }
+{
+    match evaluated(alloc, &rule.gives, env)? {
+        Some(values) => one_or_context(alloc, outputs, values),
+        None => Ok(Outcome::Limit),
+    }
 }
 
 /// The value of a column's default, null where it has none.

@@ -1,0 +1,31 @@
+-- Internal: no public contract cites these words. The rules that hit, and their outputs without the places.
+use Rattle.std.specs.Prelude.{List, map, length, nat_eq, Option, Some, ℕ, Bool}
+use Rattle.std.specs.List.{list_all}
+use denote.Ref.{Bor}
+use Rattle.feel_value.specs.Datum.{Datum}
+use Rattle.feel_lang.specs.Meaning.{Bindings}
+use Rattle.dmn_table.specs.declared.table.Rule as rule
+use Rattle.dmn_table.specs.Evaluated.{value_of, ◌>>=◌, each}
+use Rattle.dmn_table.specs.Hits.{does_hit, kept, values_of, output_of}
+use Rattle.dmn_table.specs.Parts.{rule_view}
+use Rattle.dmn_table.specs.Table.{Column, Rule}
+
+-- the rules behind references
+abbrev pub rules_view : List (Bor rule.Rule) → List Rule
+rules_view rules = map (λ r. rule_view r.now) rules
+
+-- the rules that hit, for these values of the input expressions
+abbrev pub hits_among : Bindings → List Datum → List Rule → Option (List Rule)
+hits_among m values rules = each (does_hit m values) rules >>= λ answers. Some (kept rules answers)
+
+-- the output of a rule; None where a limit was broken
+abbrev pub rule_output : List Column → Bindings → Rule → Option Datum
+rule_output columns m rule = values_of m rule.gives >>= λ values. value_of (output_of columns values)
+
+-- the outputs of rules
+abbrev pub outputs_of : List Column → Bindings → List Rule → Option (List Datum)
+outputs_of columns m rules = each (rule_output columns m) rules
+
+-- each rule has so many output entries
+abbrev pub have_entries : ℕ → List Rule → Bool
+have_entries n rules = list_all (λ r. nat_eq (length r.gives) n) rules
