@@ -1,5 +1,5 @@
 -- The decision of a name among items with distinct names.
-use Rattle.std.proofs.Common.{◌≡◌, ◌∙◌, sym, ap, refl, ℕ, zero, suc, ◌<◌, List, [], ◌∷◌, map, length, get_or, Bool, true, false, not, Option, None, Some, option_map, string_bytes, inl, inr, arith}
+use Rattle.std.proofs.Common.{◌≡◌, ◌∙◌, ap, refl, ℕ, zero, suc, ◌<◌, List, [], ◌∷◌, map, length, get_or, true, false, not, Option, None, Some, option_map, string_bytes, inl, inr, arith}
 use Rattle.std.specs.Prelude.{bytes_eq, nat_eq, ◌||◌, ◌≢◌, ◌⊎◌, if◌then◌else◌}
 use Rattle.std.specs.List.{list_any, filter_map, cons_option}
 use Rattle.std.proofs.lemmas.Bool.Decides.{eqb_tells}

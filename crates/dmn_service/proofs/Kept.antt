@@ -1,34 +1,59 @@
 -- What a run keeps at the places, one place after the other.
-use Rattle.std.proofs.Common.{◌≡◌, ◌∙◌, sym, ap, refl, ℕ, ◌+◌, ◌<◌, Bool, true, false, cond, List, ◌∷◌, map, length, drop, get_or, Option, None, Some, option_map, string_bytes, inl, inr, ◌⊎◌, arith}
-use Rattle.std.specs.Prelude.{nat_eq, nat_lt, ◌≢◌}
-use Rattle.std.specs.BTreeMap.{BTreeMap, Updates, get}
-use Rattle.std.specs.Ordering.{nat_cmp, is_eq}
-use Rattle.std.specs.Cmp.{nat_cmp_is}
-use Rattle.std.proofs.lemmas.Bool.Decides.{eqb_tells, nat_tests}
+use Rattle.std.proofs.Common.{◌≡◌, ◌∙◌, sym, ap, refl, ℕ, ◌+◌, ◌<◌, Bool, true, false, cond, List, [], ◌∷◌, ◌++◌, zero, suc, length, drop, get_or, Option, None, Some, option_map, string_bytes, inl, inr, ◌⊎◌, arith}
+use Rattle.std.specs.Prelude.{nat_eq, slice_set, ◌≢◌}
+use Rattle.std.specs.List.{slice_get}
+use Rattle.std.proofs.lemmas.Bool.Decides.{eqb_tells}
 use Rattle.std.proofs.lemmas.List.{at_drop_more, get_or-map}
 use Rattle.feel_value.specs.Datum.{Datum}
 use Rattle.feel_value.specs.declared.feel.Outcome.{Outcome}
-use Rattle.feel_value.specs.declared.feel.Outcome.TheVariants.{Is}
+use Rattle.feel_value.specs.declared.feel.Outcome.TheVariants.{Is, Limit}
 use Rattle.dmn_table.specs.Evaluated.{value_of, ◌>>=◌}
 use Rattle.dmn_logic.specs.LogicView.{logic_view}
 use Rattle.dmn_service.specs.Places.{name_at, needs_at}
-use Rattle.dmn_service.specs.Run.{logic_at, Found, values_in, kept_at, outcome_at, filled_by, given_at}
+use Rattle.dmn_service.specs.Run.{logic_at, Found, values_in, nothing_found, kept_at, outcome_at, filled_by, given_at}
 use Rattle.dmn_service.specs.declared.plan.Item.{Item}
 
-is_eq-nat_cmp : (k q : ℕ) → is_eq (nat_cmp k q) ≡ nat_eq k q
-is_eq-nat_cmp k q = grind (arith, nat_tests)
+get-set_here : (found : List Outcome) (k : ℕ) (o : Outcome) → k < length found → slice_get (slice_set found k o) k ≡ Some o
+get-set_here [] k o inside = absurd (omega (arith, inside))
+get-set_here (x ∷ found) zero o inside = refl
+get-set_here (x ∷ found) (suc k) o inside = get-set_here found k o (omega (arith, inside))
+
+get-set_apart : (found : List Outcome) (k q : ℕ) (o : Outcome) → k ≢ q → slice_get (slice_set found k o) q ≡ slice_get found q
+get-set_apart [] k q o apart = refl
+get-set_apart (x ∷ found) zero zero o apart = absurd (apart refl)
+get-set_apart (x ∷ found) zero (suc q) o apart = refl
+get-set_apart (x ∷ found) (suc k) zero o apart = refl
+get-set_apart (x ∷ found) (suc k) (suc q) o apart = get-set_apart found k q o (λ e. apart (ap suc e))
+
+get-set : (found : List Outcome) (k q : ℕ) (o : Outcome) → k < length found → slice_get (slice_set found k o) q ≡ cond (nat_eq k q) (Some o) (slice_get found q)
+get-set found k q o inside = go (eqb_tells k q)
+  where
+    go : ((nat_eq k q ≡ true) × (k ≡ q)) ⊎ ((nat_eq k q ≡ false) × (k ≢ q)) → slice_get (slice_set found k o) q ≡ cond (nat_eq k q) (Some o) (slice_get found q)
+    go (inl e) = ap (slice_get (slice_set found k o)) (sym e.1) ∙ get-set_here found k o inside ∙ sym (ap (λ b. cond b (Some o) (slice_get found q)) e.0)
+    go (inr e) = get-set_apart found k q o e.1 ∙ sym (ap (λ b. cond b (Some o) (slice_get found q)) e.0)
 
 read_kept : (b : Bool) (o : Outcome) (w : Option Outcome) → (cond b (Some o) w >>= value_of) ≡ cond b (value_of o) (w >>= value_of)
 read_kept true o w = refl
 read_kept false o w = refl
 
 -- after a place was written
-pub values_in-updates : (old new : BTreeMap ℕ Outcome) (k : ℕ) (o : Outcome) → Updates nat_cmp old new k (Some o) → values_in new ≡ kept_at (values_in old) k o
-values_in-updates old new k o updates =
-    let at : (q : ℕ) → values_in new q ≡ kept_at (values_in old) k o q =
-    λ q. ap (λ (w : Option Outcome). w >>= value_of) (updates.0 q)
-    ∙ read_kept (is_eq (nat_cmp k q)) o (get nat_cmp old q)
-    ∙ ap (λ b. cond b (value_of o) (values_in old q)) (is_eq-nat_cmp k q) in
+pub values_in-set : (found : List Outcome) (k : ℕ) (o : Outcome) → k < length found → values_in (slice_set found k o) ≡ kept_at (values_in found) k o
+values_in-set found k o inside =
+    let at : (q : ℕ) → values_in (slice_set found k o) q ≡ kept_at (values_in found) k o q =
+    λ q. ap (λ (w : Option Outcome). w >>= value_of) (get-set found k q o inside)
+    ∙ read_kept (nat_eq k q) o (slice_get found q) in
+    λ i q. at q i
+
+none_more : (found : List Outcome) → ((q : ℕ) → values_in found q ≡ None) → (q : ℕ) → values_in (found ++ Limit ∷ []) q ≡ None
+none_more [] none zero = refl
+none_more [] none (suc q) = refl
+none_more (o ∷ found) none zero = none 0
+none_more (o ∷ found) none (suc q) = none_more found (λ p. none (suc p)) q
+
+-- one place more where nothing was found
+pub nothing_more : (found : List Outcome) → values_in found ≡ nothing_found → values_in (found ++ Limit ∷ []) ≡ nothing_found
+nothing_more found none =
+    let at = none_more found (λ q. ap (λ (f : Found). f q) none) in
     λ i q. at q i
 
 -- the name at a place

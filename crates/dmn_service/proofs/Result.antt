@@ -1,9 +1,9 @@
 -- What is found along the places of a plan is what its names stand for in the model.
-use Rattle.std.proofs.Common.{◌≡◌, ◌∙◌, sym, ap, refl, subst, ℕ, zero, suc, ◌+◌, ◌<◌, ◌≤◌, ◌⊎◌, inl, inr, List, [], ◌∷◌, map, length, get_or, Bool, true, false, cond, ◌||◌, Option, None, Some, option_map, arith}
-use Rattle.std.specs.Prelude.{bytes_eq, nat_eq, ◌≢◌}
+use Rattle.std.proofs.Common.{◌≡◌, ◌∙◌, sym, ap, refl, subst, ℕ, zero, suc, ◌+◌, ◌<◌, ◌≤◌, ◌⊎◌, inl, inr, List, [], ◌∷◌, map, length, true, false, cond, ◌||◌, Option, None, Some, option_map, arith}
+use Rattle.std.specs.Prelude.{nat_eq, ◌≢◌}
 use Rattle.std.specs.List.{list_any, zip, All}
 use Rattle.std.proofs.lemmas.Bool.Decides.{eqb_tells}
-use Rattle.feel_value.specs.Datum.{Datum, null}
+use Rattle.feel_value.specs.Datum.{Datum}
 use Rattle.feel_value.specs.declared.feel.Outcome.{Outcome}
 use Rattle.feel_value.specs.declared.feel.Outcome.TheVariants.{Is}
 use Rattle.feel_lang.specs.Expr.{Expr}
@@ -12,7 +12,7 @@ use Rattle.dmn_table.specs.Evaluated.{value_of, ◌>>=◌, each, outcome_from}
 use Rattle.dmn_table.specs.Faults.{are_distinct}
 use Rattle.dmn_table.specs.Hits.{one_or_context}
 use Rattle.dmn_table.specs.Table.{Table}
-use Rattle.dmn_form.specs.Model.{Name, Boxed, Decision, Service, Model}
+use Rattle.dmn_form.specs.Model.{Name, Boxed, Service, Model}
 use Rattle.dmn_logic.specs.Boxed.{boxed}
 use Rattle.dmn_service.specs.Decision.{parameters_of, Given, given_value, given_or, decision_named, decided_if, bindings_to, stands_for, outcome_within, outcome_of, outputs_result, service_result}
 use Rattle.dmn_service.specs.Places.{names_of, name_at, needs_at}

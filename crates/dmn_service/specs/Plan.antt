@@ -64,7 +64,7 @@ IsServiceOutcome items plan values o =
 abbrev pub ObeysRecursion : Model Expr Table → Given → (Name → Outcome) → Type 0
 ObeysRecursion m given outcome = (n : Name) → outcome n ≡ stands_for m given outcome n
 
--- The outcome is that of the outputs wherever names have outcomes that obey the recursion, so in however many steps.
+-- The outcome is that of the outputs wherever names have outcomes that obey the recursion.
 abbrev pub IsRecursionOutcome : List Item → ServicePlan → List Datum → Outcome → Type 0
 IsRecursionOutcome items plan values o =
     (m : Model Expr Table) (s : Service) → IsPlanOf m s items plan → (outcome : Name → Outcome) → ObeysRecursion m (zip (parameters_of s) values) outcome

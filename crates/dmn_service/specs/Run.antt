@@ -1,8 +1,7 @@
 -- Internal: no public contract cites these words. What a run finds at the places of a plan.
 use Rattle.std.specs.Prelude.{ℕ, List, [], ◌∷◌, map, Option, None, Some, option_map, nat_eq, slice_index_or}
-use Rattle.std.specs.BTreeMap.{BTreeMap, get}
 use Rattle.std.specs.Map.{update}
-use Rattle.std.specs.Ordering.{nat_cmp}
+use Rattle.std.specs.List.{slice_get}
 use Rattle.feel_value.specs.Datum.{Datum, null}
 use Rattle.feel_value.specs.declared.feel.Outcome.{Outcome}
 use Rattle.feel_value.specs.declared.feel.Outcome.TheVariants.{Is}
@@ -27,8 +26,8 @@ Found = ℕ → Option Datum
 abbrev pub nothing_found : Found
 nothing_found q = None
 
-abbrev pub values_in : BTreeMap ℕ Outcome → Found
-values_in found q = get nat_cmp found q >>= value_of
+abbrev pub values_in : List Outcome → Found
+values_in found q = slice_get found q >>= value_of
 
 -- the outcome at a place in the place of what was there before
 abbrev pub kept_at : Found → ℕ → Outcome → Found

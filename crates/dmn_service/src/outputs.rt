@@ -14,7 +14,6 @@ use crate::found::value_at;
 use crate::plan::Item;
 use feel_value::{Feel, Outcome, Value};
 use std::alloc::{AllocError, Global};
-use std::collections::BTreeMap;
 use std::sync::ArcStr;
 
 /// The outcome of the outputs: the value of the only one, or the context of all in their order.
@@ -22,7 +21,7 @@ pub(crate) fn output_outcome(
     alloc: Global,
     items: &[Item],
     outputs: &[usize],
-    found: &BTreeMap<usize, Outcome>,
+    found: &[Outcome],
 ) -> Result<Outcome, AllocError>
     requires { All (λ q. q < length items.now) outputs.now }
     ensures { IfOk result (λ o. o ≡ outputs_at (name_at items.now) (values_in found.now) outputs.now) }
@@ -38,7 +37,7 @@ pub(crate) fn output_outcome(
 fn values(
     alloc: Global,
     places: &[usize],
-    found: &BTreeMap<usize, Outcome>,
+    found: &[Outcome],
 ) -> Result<Option<Vec<Feel>>, AllocError>
     ensures { IfOk result (λ copies. option_map (λ v. v.items) copies ≡ each (values_in found.now) places.now) }
 {

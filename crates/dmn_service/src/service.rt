@@ -1,24 +1,23 @@
 //! The result of a decision service.
-ghost use Rattle.std.specs.Prelude.{◌≡◌, ◌<◌, IfOk, length, option_map};
+ghost use Rattle.std.specs.Prelude.{◌≡◌, ◌<◌, IfOk, OnOk, length, option_map};
 ghost use Rattle.std.specs.List.{All};
 ghost use Rattle.dmn_logic.specs.LogicView.{logic_view};
 ghost use Rattle.dmn_service.specs.Places.{name_at};
 ghost use Rattle.dmn_service.specs.Run.{values_in, nothing_found, needed_at, outcome_at, filled_by, given_at};
 ghost use Rattle.dmn_service.specs.Plan.{HasPlacesWithin, IsServiceOutcome, IsRecursionOutcome};
 
-use crate::found::{keep, value_at};
+use crate::found::{keep, nothing, value_at};
 use crate::outputs::output_outcome;
 use crate::plan::{Item, ServicePlan};
 use dmn_logic::evaluate;
 use feel_lang::Env;
 use feel_value::{Feel, Outcome, Value};
 use std::alloc::{AllocError, Global};
-use std::collections::BTreeMap;
 
 /// The outcome of a decision service, for these values of its parameters in their order.
 ///
 /// Each decision of the plan's order is evaluated once, also behind one that breaks a limit. So the steps are those of the
-/// decisions' own logic, and for each need of each of them a search among the places of the plan and a copy of the value.
+/// decisions' own logic, and for each need of each of them a look at its place and a copy of the value.
 pub fn service_outcome(
     alloc: Global,
     items: &[Item],
@@ -30,27 +29,25 @@ pub fn service_outcome(
     ensures result { IfOk result (IsServiceOutcome items.now service.now values.now) }
     ensures recursion { IfOk result (IsRecursionOutcome items.now service.now values.now) }
 {
-    let mut found = given(alloc, &service.parameters, values)?;
+    let mut found = nothing(alloc, items.len())?;
+    give(&service.parameters, values, &mut found)?;
     fill(alloc, items, &service.order, &mut found)?;
     let outcome = output_outcome(alloc, items, &service.outputs, &found)?;
     Ok(outcome)
 }
 
-/// What is found at the parameters: a copy of the value given for each.
-fn given(
-    alloc: Global,
-    parameters: &[usize],
-    values: &[Feel],
-) -> Result<BTreeMap<usize, Outcome>, AllocError>
+/// Keeps at each parameter a copy of the value given for it.
+fn give(parameters: &[usize], values: &[Feel], found: &mut Vec<Outcome>) -> Result<(), AllocError>
+    requires parameters { All (λ q. q < length found.old.items) parameters.now }
     requires values { length values.now ≡ length parameters.now }
-    ensures { IfOk result (λ found. values_in found ≡ given_at parameters.now values.now nothing_found) }
+    ensures given { OnOk result (values_in found.new.items ≡ given_at parameters.now values.now (values_in found.old.items)) }
+    ensures count { OnOk result (length found.new.items ≡ length found.old.items) }
 {
-    let mut found = BTreeMap::new(alloc);
     for (i, place) in parameters.iter().enumerate() {
         let value = values[i].try_clone()?;
-        keep(&mut found, *place, Outcome::Is(value))?;
+        keep(found, *place, Outcome::Is(value));
     }
-    Ok(found)
+    Ok(())
 }
 
 /// Evaluates the items at these places one after another, each from what was found before it.
@@ -58,15 +55,16 @@ fn fill(
     alloc: Global,
     items: &[Item],
     order: &[usize],
-    found: &mut BTreeMap<usize, Outcome>,
+    found: &mut Vec<Outcome>,
 ) -> Result<(), AllocError>
     requires order { All (λ q. q < length items.now) order.now }
     requires needs { All (λ x. All (λ q. q < length items.now) x.needs.items) items.now }
-    ensures { IfOk result (λ _. values_in found.new ≡ filled_by items.now order.now (values_in found.old)) }
+    requires count { length found.old.items ≡ length items.now }
+    ensures { OnOk result (values_in found.new.items ≡ filled_by items.now order.now (values_in found.old.items)) }
 {
     for place in order {
         let outcome = item_outcome(alloc, items, &items[*place], found)?;
-        keep(found, *place, outcome)?;
+        keep(found, *place, outcome);
     }
     Ok(())
 }
@@ -76,7 +74,7 @@ fn item_outcome(
     alloc: Global,
     items: &[Item],
     item: &Item,
-    found: &BTreeMap<usize, Outcome>,
+    found: &[Outcome],
 ) -> Result<Outcome, AllocError>
     requires needs { All (λ q. q < length items.now) item.now.needs.items }
     ensures { IfOk result (λ o. o ≡ outcome_at (name_at items.now) (values_in found.now) item.now.needs.items (option_map logic_view item.now.logic)) }
@@ -96,7 +94,7 @@ fn needed(
     alloc: Global,
     items: &[Item],
     needs: &[usize],
-    found: &BTreeMap<usize, Outcome>,
+    found: &[Outcome],
 ) -> Result<Option<Env>, AllocError>
     requires needs { All (λ q. q < length items.now) needs.now }
     ensures { IfOk result (λ env. env ≡ needed_at (name_at items.now) (values_in found.now) needs.now) }

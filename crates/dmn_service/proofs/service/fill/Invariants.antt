@@ -1,6 +1,9 @@
-use Rattle.std.proofs.Common.{◌≡◌, drop}
+use Rattle.std.proofs.Common.{◌≡◌, drop, length}
 use Rattle.dmn_service.specs.Run.{values_in, filled_by}
 use Rattle.dmn_service.proofs.service.fill.Given as goal
 
 abbrev pub invariant-loop-place : goal.invariant-loop-place
-invariant-loop-place l = filled_by l.items l.order (values_in l.fn.found) ≡ filled_by l.items (drop l.place-index l.order) (values_in l.found)
+invariant-loop-place l = record {
+  filled : filled_by l.items l.order (values_in l.initial.found.items) ≡ filled_by l.items (drop l.place-index l.order) (values_in l.found.items);
+  count : length l.found.items ≡ length l.items;
+}

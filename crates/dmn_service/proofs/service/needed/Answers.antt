@@ -1,4 +1,4 @@
-use Rattle.std.proofs.Common.{◌≡◌, ◌∙◌, sym, ap, refl, ℕ, List, Option, Some, None, get_or}
+use Rattle.std.proofs.Common.{◌∙◌, sym, ap, Option, Some, get_or}
 use Rattle.feel_value.specs.Datum.{Datum}
 use Rattle.dmn_table.specs.Evaluated.{◌>>=◌}
 use Rattle.dmn_form.specs.Model.{Name}
