@@ -23,14 +23,16 @@ module _ {R W X : Type 0} (remaining : R → Option (List ℕ)) (failures came :
     (lanes : ℕ) where
   pub served_whole : (Said : X → List (List ℕ) → List (List ℕ) → Type 0) → ((x : X) (lines output : List (List ℕ)) → Said x lines output → Served lanes lines output) → (result : Result X FrontFault) (x : X) → result ≡ Ok x
       → IfOk result (λ x. Replays (Said x) (remaining reader) (remaining reader') (contents writer) (contents writer'))
+      → OnOk result ((failures reader' ≡ failures reader) × (write_failures writer' ≡ write_failures writer))
       → OnOk result (came reader' ≤ came reader + max_input)
       → ServedBy remaining failures came reader reader' contents write_failures writer writer' lanes (Ok tt)
-  served_whole Said less (Err e) x is whole within = let wrong : ⊥ = cc in absurd wrong
-  served_whole Said less (Ok y) x is whole within = record {
+  served_whole Said less (Err e) x is whole none within = let wrong : ⊥ = cc in absurd wrong
+  served_whole Said less (Ok y) x is whole none within = record {
     ok = weaker _ _ _ _ (less y) whole;
     fault = tt;
     read_only_at_fault = λ e. let wrong : ⊥ = cc in absurd wrong;
     write_only_at_fault = λ e. let wrong : ⊥ = cc in absurd wrong;
+    ok_without_fault = none;
     long_only_past_limit = λ e. let wrong : ⊥ = cc in absurd wrong;
     ok_within_limit = within;
     read_within_limit = λ e. let wrong : ⊥ = cc in absurd wrong;
@@ -49,6 +51,7 @@ module _ {R W X : Type 0} (remaining : R → Option (List ℕ)) (failures came :
     fault = let same : f ≡ e = cc in rw same at ends;
     read_only_at_fault = λ at. let same : e ≡ front.Read = cc in read (is ∙ ap Err same);
     write_only_at_fault = λ at. let same : e ≡ front.Write = cc in write (is ∙ ap Err same);
+    ok_without_fault = tt;
     long_only_past_limit = λ at. let same : e ≡ front.Long = cc in long (is ∙ ap Err same);
     ok_within_limit = tt;
     read_within_limit = λ at. let same : e ≡ front.Read = cc in within (is ∙ ap Err same);

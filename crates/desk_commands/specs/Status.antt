@@ -56,6 +56,7 @@ module _ {R W : Type 0} (remaining : R → Option (List ℕ)) (failures came : R
     pub fault : IfErr end (λ e. EndsAs Whole Part (remaining reader) (remaining reader') (contents writer) (contents writer') e)
     pub read_only_at_fault : (end ≡ Err front.Read) → failures reader < failures reader'
     pub write_only_at_fault : (end ≡ Err front.Write) → write_failures writer < write_failures writer'
+    pub ok_without_fault : OnOk end ((failures reader' ≡ failures reader) × (write_failures writer' ≡ write_failures writer))
     pub long_only_past_limit : (end ≡ Err front.Long) → came reader < 2 ^ 63 → max_input < came reader' - came reader
     pub ok_within_limit : OnOk end (came reader' ≤ came reader + max_input)
     pub read_within_limit : (end ≡ Err front.Read) → came reader' ≤ came reader + max_input
@@ -67,7 +68,7 @@ module _ {R W : Type 0} (remaining : R → Option (List ℕ)) (failures came : R
   abbrev pub ServedBy : ℕ → Result (Unit {0}) FrontFault → Type 0
   ServedBy lanes end = Ran (Served lanes) (ServedInPart lanes) end
 
-  -- `serve` where the words name it, with the options that they give, and `replay` where they don't
+  -- `serve` where the words name it, with as many lanes as they say, and `replay` where they don't
   abbrev pub RanAs : Option (List Row) → Result (Unit {0}) FrontFault → Type 0
   RanAs None end = Replayed end
   RanAs (Some rows) end = (options : Options) × AreOptionsOf rows options × ServedBy options.clients end

@@ -59,8 +59,8 @@ pub const SERVE: &str = r#"Each line is one JSON object:
   {"client":"ann","close":true}                    the client makes no more requests
   {"resize":"ann","capacity":3}                    the client has room for three requests
 
-A client's answers come in the order of its lines. They are handed out while lines are read, and the
-rest at the end of the input.
+A client's answers come in the order of its lines. Before the program waits for more input, all that
+was asked for is answered.
 
 Example:
   desk serve --workers 4 < examples/clients.jsonl

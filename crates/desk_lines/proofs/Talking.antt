@@ -7,7 +7,7 @@ use Rattle.desk_lines.specs.Lines.{newline, kept_line, heard, max_input, IsOneLi
 use Rattle.desk_lines.specs.declared.fault.FrontFault.{FrontFault}
 use Rattle.desk_lines.specs.declared.fault.FrontFault.TheVariants.{Read, Write, Long, Memory}
 use Rattle.desk_lines.specs.declared.lines.Next.TheVariants.{Line, Last, End}
-use Rattle.desk_lines.specs.Answering.{SaysMore}
+use Rattle.desk_lines.specs.Answering.{SaysInPart, SaysMore}
 use Rattle.desk_lines.specs.Gathers.{Gathers, Ended}
 use Rattle.desk_lines.specs.LineReader.{Comes, IsInStep, Took}
 use Rattle.desk_lines.specs.Talk.{IsHeard, Replays, IsCut, Stops, EndsAs}
@@ -210,9 +210,6 @@ pub record First (input : List ℕ) (left : Option (List ℕ)) (done : List (Lis
   pub is : lines ≡ (done ++ line ∷ []) ++ others
   pub keeps : kept ≡ kept_line line
 
-append_cons_assoc : (xs : List (List ℕ)) (y : List ℕ) (zs : List (List ℕ)) → (xs ++ y ∷ []) ++ zs ≡ xs ++ (y ∷ zs)
-append_cons_assoc xs y zs = append_assoc xs (y ∷ []) zs
-
 last_lines : (text : List ℕ) → IsOneLine text → 0 < length text → lines_of text ≡ text ∷ []
 last_lines [] h k = absurd (omega arith)
 last_lines (b ∷ text) h k = lines_of-last b text h
@@ -262,68 +259,68 @@ module _ {After : List (List ℕ) → List (List ℕ) → Type 0} {left left' le
       }
 
 module _ (Script : List (List ℕ) → List (List ℕ) → Type 0) {After : List (List ℕ) → List (List ℕ) → Type 0} {left left' left'' wrote wrote' : Option (List ℕ)} {came came'' : ℕ} {rest waits : List ℕ} {number : ℕ} where
-  -- memory was refused at the answer of a line
+  -- memory was refused at a line
   progress_stopped : (p : Progress After left left' wrote wrote' came rest waits number) (bytes : List ℕ) (kept : Option (List ℕ))
-      → Comes left' left'' came came'' bytes → First (p.bytes ++ bytes) left'' p.done kept
-      → ((lines said : List (List ℕ)) → After lines said → Script lines said)
-      → Stops Script left left'' (Some []) (Some (flat_map ended p.said))
-  progress_stopped p bytes kept h f follows =
+      → Comes left' left'' came came'' bytes → (f : First (p.bytes ++ bytes) left'' p.done kept)
+      → (done others more : List (List ℕ)) → p.done ++ f.line ∷ [] ≡ done ++ others → Script done (p.said ++ more)
+      → Stops Script left left'' (Some []) (Some (flat_map ended (p.said ++ more)))
+  progress_stopped p bytes kept h f done others more is script =
       let all : Comes left left'' 0 came'' (p.bytes ++ bytes) = Comes-then left left' left'' 0 came came'' p.bytes bytes p.comes h in
       record {
         input = p.bytes ++ bytes;
         lines = f.lines;
-        answered = p.done;
-        unanswered = f.line ∷ f.others;
-        output = p.said;
+        answered = done;
+        unanswered = others ++ f.others;
+        output = p.said ++ more;
         read = all.taken;
         heard = f.hears;
-        splits = f.is ∙ append_cons_assoc p.done f.line f.others;
+        splits = f.is ∙ ap (λ t. t ++ f.others) is ∙ append_assoc done others f.others;
         written = refl;
-        said = follows p.done p.said p.stands;
+        said = script;
       }
 
   pub progress_refused_by : (Whole : List (List ℕ) → List (List ℕ) → Type 0) {wrote'' : Option (List ℕ)} {waits'' : List ℕ} (p : Progress After left left' wrote wrote' came rest waits number) (bytes : List ℕ) (kept : Option (List ℕ)) (e : FrontFault)
       → Comes left' left'' came came'' bytes → First (p.bytes ++ bytes) left'' p.done kept
-      → (e ≢ Read) × (e ≢ Long) → e ≢ Write → (e ≡ Memory → Gathers wrote' wrote'' waits [] waits'')
-      → ((lines said : List (List ℕ)) → After lines said → Script lines said)
+      → (e ≢ Read) × (e ≢ Long) → e ≢ Write → (e ≡ Memory → SaysInPart After Script kept number wrote' wrote'' waits waits'')
       → Ended (λ w w'. EndsAs Whole Script left left'' w w' e) wrote wrote'' waits''
-  progress_refused_by Whole p bytes kept Read h f only other memory follows = absurd (only.0 refl)
-  progress_refused_by Whole p bytes kept Long h f only other memory follows = absurd (only.1 refl)
-  progress_refused_by Whole p bytes kept Write h f only other memory follows = absurd (other refl)
-  progress_refused_by Whole p bytes kept Memory h f only other memory follows = record {
-    text = flat_map ended p.said;
-    gathers = gathers_quiet p.gathers (memory refl);
-    ends = progress_stopped p bytes kept h f follows;
-  }
+  progress_refused_by Whole p bytes kept Read h f only other memory = absurd (only.0 refl)
+  progress_refused_by Whole p bytes kept Long h f only other memory = absurd (only.1 refl)
+  progress_refused_by Whole p bytes kept Write h f only other memory = absurd (other refl)
+  progress_refused_by Whole {wrote''} {waits''} p bytes kept Memory h f only other memory =
+      let m = memory refl p.done p.said f.line p.stands f.keeps p.counted in
+      let g : Gathers wrote wrote'' [] (flat_map ended p.said ++ flat_map ended m.2) waits'' = gathers_then p.gathers m.5 in
+      record {
+        text = flat_map ended (p.said ++ m.2);
+        gathers = rw (flat_map-append ended p.said m.2) g;
+        ends = progress_stopped p bytes kept h f m.0 m.1 m.2 m.3 m.4;
+      }
 
-module _ (Script : List (List ℕ) → List (List ℕ) → Type 0) {After After' : List (List ℕ) → List (List ℕ) → Type 0} {left left' left'' wrote wrote' wrote'' : Option (List ℕ)} {came came'' : ℕ} {rest waits : List ℕ} {number : ℕ} where
-  -- the writer failed at the answer of a line
-  pub progress_refused : (p : Progress After left left' wrote wrote' came rest waits number) (bytes : List ℕ) (kept : Option (List ℕ))
+  -- the writer failed at a line
+  pub progress_refused : {wrote'' : Option (List ℕ)} {unsaid : List ℕ} (p : Progress After left left' wrote wrote' came rest waits number) (bytes : List ℕ) (kept : Option (List ℕ))
       → Comes left' left'' came came'' bytes → First (p.bytes ++ bytes) left'' p.done kept
-      → ((lines said : List (List ℕ)) (it : List ℕ) → After lines said → kept ≡ kept_line it → number ≡ length lines + 1
-      → (more : List (List ℕ)) × (unsaid : List ℕ) × After' (lines ++ it ∷ []) (said ++ more) × Gathers wrote' wrote'' waits (flat_map ended more) unsaid)
-      → ((lines said : List (List ℕ)) → After' lines said → Script lines said)
+      → SaysInPart After Script kept number wrote' wrote'' waits unsaid
       → IsCut Script left left'' wrote wrote''
-  progress_refused p bytes kept h f write follows' =
+  progress_refused {wrote''} {unsaid} p bytes kept h f write =
       let all : Comes left left'' 0 came'' (p.bytes ++ bytes) = Comes-then left left' left'' 0 came came'' p.bytes bytes p.comes h in
-      let w = write p.done p.said f.line p.stands f.keeps p.counted in
-      let g : Gathers wrote wrote'' [] (flat_map ended p.said ++ flat_map ended w.0) w.1 = gathers_then p.gathers w.3 in
+      let m = write p.done p.said f.line p.stands f.keeps p.counted in
+      let g : Gathers wrote wrote'' [] (flat_map ended p.said ++ flat_map ended m.2) unsaid = gathers_then p.gathers m.5 in
       record {
         input = p.bytes ++ bytes;
         lines = f.lines;
-        answered = p.done ++ f.line ∷ [];
-        unanswered = f.others;
-        output = p.said ++ w.0;
+        answered = m.0;
+        unanswered = m.1 ++ f.others;
+        output = p.said ++ m.2;
         text = g.out;
-        unsaid = w.1;
+        unsaid = unsaid;
         read = all.taken;
         heard = f.hears;
-        splits = f.is;
+        splits = f.is ∙ ap (λ t. t ++ f.others) m.3 ∙ append_assoc m.0 m.1 f.others;
         written = g.written;
-        begins = flat_map-append ended p.said w.0 ∙ g.is;
-        said = follows' (p.done ++ f.line ∷ []) (p.said ++ w.0) w.2;
+        begins = flat_map-append ended p.said m.2 ∙ g.is;
+        said = m.4;
       }
 
+module _ (Script : List (List ℕ) → List (List ℕ) → Type 0) {After After' : List (List ℕ) → List (List ℕ) → Type 0} {left left' left'' wrote wrote' wrote'' : Option (List ℕ)} {came came'' : ℕ} {rest waits : List ℕ} {number : ℕ} where
   -- the last line is answered
   pub progress_last : (p : Progress After left left' wrote wrote' came rest waits number) (bytes rest'' waits'' : List ℕ) (kept : Option (List ℕ))
       → Comes left' left'' came came'' bytes → Took Last (rest ++ heard came bytes) rest'' kept left'' → came'' ≤ max_input

@@ -1,7 +1,7 @@
 //! Lines in, lines out.
 ghost use Rattle.std.specs.Prelude.{◌≡◌, ◌≢◌, ◌<◌, ◌≤◌, ◌+◌, ◌-◌, ◌^◌, ◌++◌, ◌∷◌, [], ℕ, List, length, OnOk, OnErr, IfOk, IfErr, Err, IsTrue, ◌↔◌, false};
 ghost use Rattle.std.specs.List.{flat_map};
-ghost use Rattle.desk_lines.specs.Answering.{SaysMore};
+ghost use Rattle.desk_lines.specs.Answering.{Answers, SaysInPart, SaysMore};
 ghost use Rattle.desk_lines.specs.Gathers.{Ended, Gathers};
 ghost use Rattle.desk_lines.specs.LineReader.{has_newline, IsInStep};
 ghost use Rattle.desk_lines.specs.Lines.{kept_line, ended, max_input};
@@ -11,7 +11,7 @@ use crate::device::{Sink, Source};
 use crate::fault::FrontFault;
 use crate::lines::{LineReader, LineText, Next};
 use crate::write::Unwritten;
-use std::alloc::{AllocError, Global};
+use std::alloc::Global;
 
 /// Answers lines.
 pub trait Clerk {
@@ -26,15 +26,27 @@ pub trait Clerk {
     /// The clerk stands as after these lines, to which those were said.
     ghost After: { Self → List (List ℕ) → List (List ℕ) → Type 0 };
 
-    /// What is said to the line with this number. Of a line that is too long there is nothing to see.
-    fn answer(&mut self, alloc: Global, number: u64, line: &LineText) -> Result<Vec<u8>, AllocError>
+    /// What is said to the line with this number. Of a line that is too long there is nothing to see. What the clerk says
+    /// before, as while it waits until it can answer, it passes on itself.
+    fn answer<W: Sink>(
+        &mut self,
+        alloc: Global,
+        number: u64,
+        line: &LineText,
+        writer: &mut W,
+        unwritten: &mut Unwritten,
+    ) -> Result<Vec<u8>, FrontFault>
+        requires counts { W.faults writer.old < 2 ^ 64 - 1 }
         requires few { number < 2 ^ 60 }
         requires stands { (lines : List (List ℕ)) × (said : List (List ℕ)) × After self.old lines said × (number ≡ length lines + 1) }
         ensures same { kept self.new ≡ kept self.old }
         ensures keeps { (lines said : List (List ℕ)) → Script self.new lines said → Script self.old lines said }
-        ensures answers { IfOk result (λ text. (lines said : List (List ℕ)) (it : List ℕ) →
-            After self.old lines said → line.now ≡ kept_line it → number ≡ length lines + 1 →
-            (more : List (List ℕ)) × After self.new (lines ++ it ∷ []) (said ++ more) × (text.items ≡ flat_map ended more)) };
+        ensures answers { IfOk result (λ text. Answers (After self.old) (Script self.old) (After self.new) line.now number (W.contents writer.old) (W.contents writer.new) unwritten.old.bytes.items unwritten.new.bytes.items text.items) }
+        ensures write { (result ≡ Err FrontFault.Write) → (unsaid : List ℕ) × SaysMore (After self.old) (Script self.old) (W.contents writer.old) (W.contents writer.new) unwritten.old.bytes.items unsaid }
+        ensures memory { (result ≡ Err FrontFault.Memory) → SaysMore (After self.old) (Script self.old) (W.contents writer.old) (W.contents writer.new) unwritten.old.bytes.items unwritten.new.bytes.items }
+        ensures only { IfErr result (λ e. (e ≢ FrontFault.Read) × (e ≢ FrontFault.Long)) }
+        ensures fault { (result ≡ Err FrontFault.Write) → W.faults writer.old < W.faults writer.new }
+        ensures counts { (result ≢ Err FrontFault.Write) → W.faults writer.new ≡ W.faults writer.old };
 
     /// Says what it still owes. It is called before more is read, where no whole line waits.
     fn catch_up<W: Sink>(
@@ -75,16 +87,13 @@ fn answer_line<W: Sink, C: Clerk>(
         C.After clerk.old lines said → line.now ≡ kept_line it → number ≡ length lines + 1 →
         (more : List (List ℕ)) × C.After clerk.new (lines ++ it ∷ []) (said ++ more)
         × Gathers (W.contents writer.old) (W.contents writer.new) unwritten.old.bytes.items (flat_map ended more) unwritten.new.bytes.items) }
-    ensures write { (result ≡ Err FrontFault.Write) → (lines said : List (List ℕ)) (it : List ℕ) →
-        C.After clerk.old lines said → line.now ≡ kept_line it → number ≡ length lines + 1 →
-        (more : List (List ℕ)) × (unsaid : List ℕ) × C.After clerk.new (lines ++ it ∷ []) (said ++ more)
-        × Gathers (W.contents writer.old) (W.contents writer.new) unwritten.old.bytes.items (flat_map ended more) unsaid }
-    ensures memory { (result ≡ Err FrontFault.Memory) → Gathers (W.contents writer.old) (W.contents writer.new) unwritten.old.bytes.items [] unwritten.new.bytes.items }
+    ensures write { (result ≡ Err FrontFault.Write) → (unsaid : List ℕ) × SaysInPart (C.After clerk.old) (C.Script clerk.old) line.now number (W.contents writer.old) (W.contents writer.new) unwritten.old.bytes.items unsaid }
+    ensures memory { (result ≡ Err FrontFault.Memory) → SaysInPart (C.After clerk.old) (C.Script clerk.old) line.now number (W.contents writer.old) (W.contents writer.new) unwritten.old.bytes.items unwritten.new.bytes.items }
     ensures only { IfErr result (λ e. (e ≢ FrontFault.Read) × (e ≢ FrontFault.Long)) }
     ensures fault { (result ≡ Err FrontFault.Write) → W.faults writer.old < W.faults writer.new }
     ensures counts { (result ≢ Err FrontFault.Write) → W.faults writer.new ≡ W.faults writer.old }
 {
-    let text = clerk.answer(alloc, number, line)?;
+    let text = clerk.answer(alloc, number, line, writer, unwritten)?;
     unwritten.add(writer, &text)
 }
 
@@ -135,6 +144,7 @@ fn answer_each<R: Source, W: Sink, C: Clerk>(
 
     ensures read_only_at_fault { (result ≡ Err FrontFault.Read) → R.faults reader.old < R.faults reader.new }
     ensures write_only_at_fault { (result ≡ Err FrontFault.Write) → W.faults writer.old < W.faults writer.new }
+    ensures reads { OnOk result (R.faults reader.new ≡ R.faults reader.old) }
     ensures writes { (result ≢ Err FrontFault.Write) → W.faults writer.new ≡ W.faults writer.old }
 
     ensures same { C.kept clerk.new ≡ C.kept clerk.old }
@@ -182,6 +192,7 @@ pub fn answer_lines<R: Source, W: Sink, C: Clerk>(
 
     ensures read_only_at_fault { (result ≡ Err FrontFault.Read) → R.faults reader.old < R.faults reader.new }
     ensures write_only_at_fault { (result ≡ Err FrontFault.Write) → W.faults writer.old < W.faults writer.new }
+    ensures reads { OnOk result (R.faults reader.new ≡ R.faults reader.old) }
     ensures writes { (result ≢ Err FrontFault.Write) → W.faults writer.new ≡ W.faults writer.old }
 
     // By the reader's own count, also of a reader whose bytes are not known.

@@ -80,13 +80,16 @@ impl Clerk for Session {
 
     ghost After = { λ session. After session.desk };
 
-    fn answer(
+    fn answer<W: Sink>(
         &mut self,
         alloc: Global,
         number: u64,
         line: &LineText,
-    ) -> Result<Vec<u8>, AllocError> {
-        answer_to(alloc, &mut self.texts, &mut self.desk, number, line)
+        _writer: &mut W,
+        _unwritten: &mut Unwritten,
+    ) -> Result<Vec<u8>, FrontFault> {
+        let text = answer_to(alloc, &mut self.texts, &mut self.desk, number, line)?;
+        Ok(text)
     }
 
     /// Nothing: each line is answered at once.
@@ -114,6 +117,9 @@ pub fn replay<R: Source, W: Sink>(
     ensures fault { IfErr result (λ e. EndsBy Script (R.remaining reader.old) (R.remaining reader.new) (W.contents writer.old) (W.contents writer.new) e) }
     ensures read_only_at_fault { (result ≡ Err FrontFault.Read) → R.faults reader.old < R.faults reader.new }
     ensures write_only_at_fault { (result ≡ Err FrontFault.Write) → W.faults writer.old < W.faults writer.new }
+
+    // No error of a device is passed over.
+    ensures ok_without_fault { OnOk result ((R.faults reader.new ≡ R.faults reader.old) × (W.faults writer.new ≡ W.faults writer.old)) }
 
     // By the reader's own count, also of a reader whose bytes are not known.
     ensures long_only_past_limit { (result ≡ Err FrontFault.Long) → R.came reader.old < 2 ^ 63 → max_input < R.came reader.new - R.came reader.old }

@@ -1,6 +1,7 @@
 -- From what the calls promise to what a line that is heard comes to.
-use Rattle.std.proofs.Common.{◌≡◌, ◌≢◌, ◌+◌, ◌<◌, ◌≤◌, ◌^◌, ℕ, zero, suc, Bool, true, false, not, is_ok, List, [], ◌∷◌, ◌++◌, Option, Some, None, Result, Ok, Err, OnOk, length, drop, reverse, slice_get, slice_set, codes, refl, sym, ap, ◌∙◌, arith, append_assoc, subst}
+use Rattle.std.proofs.Common.{◌≡◌, ◌≢◌, ◌+◌, ◌<◌, ◌≤◌, ◌^◌, ℕ, zero, suc, Bool, true, false, not, is_ok, List, [], ◌∷◌, ◌++◌, Option, Some, Result, Ok, Err, OnOk, length, drop, reverse, slice_get, slice_set, codes, refl, sym, ap, ◌∙◌, arith, append_assoc, subst}
 use Rattle.std.specs.List.{flat_map}
+use Rattle.std.specs.declared.sync.Arc.{Arc}
 use Rattle.std.proofs.lemmas.List.{map-append, reverse-append, length-map, length-reverse}
 use Rattle.serde_json.specs.Data.{Data}
 use Rattle.serde_json.specs.Written.{compact_text}
@@ -16,16 +17,20 @@ use Rattle.desk_serving.specs.Asked.{Asked, Request, Close, Resize, Reads}
 use Rattle.desk_reports.specs.Words.{line_refusal, fault_name, line_word}
 use Rattle.lanes.specs.Clients.{client_links}
 use Rattle.desk_serving.specs.LanesView.{lanes_in, links_in, names_in}
-use Rattle.desk_lines.specs.Lines.{ended, kept_line, max_line}
+use Rattle.desk_lines.specs.Lines.{ended}
 use Rattle.desk_serving.specs.Owed.{Lane, AreBooked, Hands, HandsThen, Stands, due_to, lane_of, unhanded, with_closed, with_lane, with_put_if}
-use Rattle.desk_reports.specs.Reading.{Reading, Blank, Long, Syntax, Shape, Says, is_blank}
+use Rattle.desk_reports.specs.Reading.{Reading, Blank, Long, Syntax, Shape, Says}
 use Rattle.desk_reports.specs.Shown.{refusal, named_refusal, loaded, faulty}
 use Rattle.desk_serving.specs.Served.{Entry, AreRead, ServedInPart, close_answer, newer_model, model_answer, number_after, of_name, task_answer, texts_of}
 use Rattle.desk_serving.specs.Said.{close_said, resize_said}
-use Rattle.desk_serving.specs.Serving.{After, HasRoom, HearsText, StandsAs, model_of}
+use Rattle.desk_serving.specs.AskedView.{asked_view}
+use Rattle.desk_serving.specs.Hearing.{Asks, IsHeardAs, IsTaskOf}
+use Rattle.desk_serving.specs.Serving.{After, HasRoom, Hears, HearsText, StandsAs, model_of}
+use Rattle.desk_serving.specs.declared.hearing.Heard.{Heard}
+use Rattle.desk_serving.specs.declared.hearing.Heard.TheVariants as heard
+use Rattle.desk_serving.specs.declared.line.Asked as asking
 use Rattle.desk_serving.specs.declared.named_lanes.Lanes.{Lanes}
 use Rattle.desk_serving.specs.declared.serving.Serving.{Serving}
-use Rattle.desk_lines.proofs.Keeping.{kept_by, lost_by, le_true, le_false}
 use Rattle.desk_serving.proofs.Owing.{among_at, due_to_own, due-whole, hands_then_entry, lines-append, unhanded_at}
 use Rattle.desk_serving.proofs.Standing.{requests-few, stands_handed}
 use Rattle.desk_serving.proofs.Replying.{IsHeard, due_to_closed, heard_blank, heard_close, heard_no_task, heard_none, heard_put, heard_resize, named_close, named_request, named_resize}
@@ -34,11 +39,6 @@ use Rattle.desk_serving.proofs.Replying.{IsHeard, due_to_closed, heard_blank, he
 pub on_ok_both : {T E : Type 0} (r : Result T E) {A B C : Type 0} → (A → B → C) → OnOk r A → OnOk r B → OnOk r C
 on_ok_both (Ok x) f a b = f a b
 on_ok_both (Err e) f a b = tt
-
--- a fact that waits for another
-pub on_ok_when : {T E P Q S : Type 0} (r : Result T E) → ((P → Q) → S) → (P → OnOk r Q) → OnOk r S
-on_ok_when (Ok x) f h = f h
-on_ok_when (Err e) f h = tt
 
 -- ## Models
 
@@ -110,6 +110,12 @@ renamed : (reading : Reading Asked) (earlier : List (Reading Asked)) (names name
     → IsHeard reading earlier names force lanes said text text' → IsHeard reading earlier names' force lanes said text text'
 renamed reading earlier names names' force lanes said text text' is h = subst (λ ns. IsHeard reading earlier ns force lanes said text text') (sym is) h
 
+-- where there is a task or a fault, a model is in force
+pub task_some : {Z : Type 0} (force : Option (List ℕ)) (s : List ℕ) (i : Data) (task : Result (Arc plan.Request Z) TaskFault) → IsTaskOf force s i (Some task)
+    → (text : List ℕ) × (force ≡ Some text)
+task_some force s i (Ok q) h = (h.0, h.1)
+task_some force s i (Err f) h = (h.0, h.1)
+
 module _ {R : Type 0} where
   counted : (serving : Serving R) (lines output : List (List ℕ)) (a : After serving lines output) → length a.readings ≡ length lines
   counted serving lines output a = read-length (reverse lines) a.readings a.read ∙ length-reverse lines
@@ -125,27 +131,13 @@ module _ {R : Type 0} where
 
   -- ## Lines by their bytes
 
-  pub heard_long : (old : Serving R) (k : ℕ) (kept : Option (List ℕ)) (it text text' : List ℕ) (d : Data) → None ≡ kept → kept ≡ kept_line it → d ≡ refusal k (codes "long")
+  pub heard_long : (old : Serving R) (k : ℕ) (it text text' : List ℕ) (d : Data) → Reads it Long → d ≡ refusal k (codes "long")
       → text' ≡ text ++ ended (compact_text d) → HearsText old k it text text' old
-  heard_long old k kept it text text' d none e v is =
-      let over : max_line < length it = le_false (length it) max_line (lost_by _ it (none ∙ e)) in
-      (Long, over, λ earlier said st num. heard_none Long (codes "long") k d earlier _ _ _ said text text' refl st num v is)
+  heard_long old k it text text' d reads v is =
+      (Long, reads, λ earlier said st num. heard_none Long (codes "long") k d earlier _ _ _ said text text' refl st num v is)
 
-  pub heard_skip : (old : Serving R) (k : ℕ) (kept : Option (List ℕ)) (it bytes text : List ℕ) → Some bytes ≡ kept → kept ≡ kept_line it → is_blank bytes ≡ true
-      → HearsText old k it text text old
-  heard_skip old k kept it bytes text some e blank =
-      let b = kept_by _ it bytes (some ∙ e) in
-      let short : length it ≤ max_line = le_true (length it) max_line b.1 in
-      let reads : Reads it Blank = (short, ap is_blank (sym b.0) ∙ blank) in
-      (Blank, reads, λ earlier said st num. heard_blank earlier _ _ _ said text st)
-
-  pub heard_kept : (old new : Serving R) (k : ℕ) (kept : Option (List ℕ)) (it bytes text text' : List ℕ) → Some bytes ≡ kept → kept ≡ kept_line it
-      → (length bytes ≤ max_line → HearsText old k bytes text text' new) → HearsText old k it text text' new
-  heard_kept old new k kept it bytes text text' some e f =
-      let b = kept_by _ it bytes (some ∙ e) in
-      let short : length it ≤ max_line = le_true (length it) max_line b.1 in
-      let same : length bytes ≡ length it = ap length b.0 in
-      subst (λ t. HearsText old k t text text' new) b.0 (f (omega (arith, same, short)))
+  pub heard_skip : (old : Serving R) (k : ℕ) (it text : List ℕ) → Reads it Blank → HearsText old k it text text old
+  heard_skip old k it text reads = (Blank, reads, λ earlier said st num. heard_blank earlier _ _ _ said text st)
 
   pub heard_syntax : (old : Serving R) (k : ℕ) (bytes text text' : List ℕ) (d : Data) → Reads bytes Syntax → d ≡ refusal k (codes "syntax")
       → text' ≡ text ++ ended (compact_text d) → HearsText old k bytes text text' old
@@ -156,6 +148,15 @@ module _ {R : Type 0} where
       → text' ≡ text ++ ended (compact_text d) → HearsText old k bytes text text' old
   heard_shape old k bytes text text' d reads v is =
       (Shape, reads, λ earlier said st num. heard_none Shape (codes "shape") k d earlier _ _ _ said text text' refl st num v is)
+
+  -- a line that asks something
+  pub heard_said : (old new : Serving R) (k : ℕ) (heard : Heard) (line : asking.Asked) (it text text' : List ℕ) → IsHeardAs it heard → Asks heard (Some line)
+      → Hears old k (Says (asked_view line)) text text' new → HearsText old k it text text' new
+  heard_said old new k (heard.Json value) line it text text' h asks f =
+      (Says (asked_view line), (h.0, h.1, h.2, h.3 ∙ ap Some (sym asks.0), asks.1), f)
+  heard_said old new k heard.Long line it text text' h asks f = absurd asks
+  heard_said old new k heard.Blank line it text text' h asks f = absurd asks
+  heard_said old new k heard.Syntax line it text text' h asks f = absurd asks
 
   -- ## Lines that ask for a lane
 

@@ -1,6 +1,7 @@
 -- What a lane's calls make of it, and what stays of a list of lanes.
 use Rattle.std.proofs.Common.{◌≡◌, ◌≢◌, ℕ, zero, suc, ◌+◌, ◌-◌, ◌<◌, ◌≤◌, ◌⊎◌, ⊎_elim, Bool, List, [], ◌∷◌, ◌++◌, Option, Some, None, IfSome, IfNone, length, map, drop, slice_get, refl, sym, ap, ◌∙◌, arith, append-nil}
 use Rattle.std.proofs.lemmas.List.{length-map}
+use Rattle.std.proofs.lemmas.List.Sorted.{IsPermutation-refl}
 use Rattle.serde_json.specs.Data.{Data}
 use Rattle.serde_json.specs.Written.{compact_text}
 use Rattle.box_core.specs.Answer.{Ticketed}
@@ -72,6 +73,20 @@ module _ {W R O : Type 0} (request : W → R) (result_of : R → O) where
         handed = ap (λ m. m.handed) p.released.2 ∙ ap (λ n. n + 1) same.handed;
         closed = ap (λ m. m.closed) p.released.2 ∙ same.closed;
       }
+
+  none_next : (places : List (Place W O)) → 0 ≡ length places → kept_of_place (slice_get places 0) ≡ None
+  none_next [] e = refl
+  none_next (p ∷ places) e = absurd (omega (arith, e))
+
+  -- where nothing is outstanding, nothing would have come of a poll
+  pub unpolled : (came : List (Ticketed W)) (mail : Mail W O) → accepted_in mail ≡ mail.handed → Polls request result_of came came mail mail None
+  unpolled came mail whole = record {
+    answers = [];
+    came = IsPermutation-refl came;
+    mid = mail;
+    taken_in = refl;
+    released = (none_next mail.outstanding (let e : mail.handed + length mail.outstanding ≡ mail.handed = whole in omega (arith, e)), refl);
+  }
 
   pub polled_none : (came came' : List (Ticketed W)) (old new : Mail W O) → Polls request result_of came came' old new None → (new.handed ≡ old.handed) × (new.closed ≡ old.closed)
   polled_none came came' old new p =

@@ -33,6 +33,7 @@ module _ {T R W : Type 0} (remaining : R → Option (List ℕ)) (reader_faults c
     pub writer : new.writer.ghost_name ≡ old.writer.ghost_name
     pub read_fault : (ended ≡ Err Read) → reader_faults old.reader.now < reader_faults new.reader.now
     pub write_fault : (ended ≡ Err Write) → writer_faults old.writer.now < writer_faults new.writer.now
+    pub reads : OnOk ended (reader_faults new.reader.now ≡ reader_faults old.reader.now)
     pub writes : (ended ≢ Err Write) → writer_faults new.writer.now ≡ writer_faults old.writer.now
     pub long : (ended ≡ Err Long) → came old.reader.now < 2 ^ 63 → max_input < came new.reader.now - came old.reader.now
     pub within : OnOk ended (came new.reader.now ≤ came old.reader.now + max_input)

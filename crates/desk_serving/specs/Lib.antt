@@ -1,5 +1,6 @@
 pub mod Asked
 pub mod AskedView
+pub mod Hearing
 pub mod Served
 pub mod Said
 pub mod Owed

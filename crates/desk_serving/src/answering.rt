@@ -1,20 +1,23 @@
 //! Each line is answered, or put into its client's lane.
-ghost use Rattle.std.specs.Prelude.{◌≡◌, ◌<◌, ◌≤◌, ◌≢◌, ◌^◌, ℕ, List, false, length, true, IfOk, OnOk};
+ghost use Rattle.std.specs.Prelude.{◌≡◌, ◌<◌, ◌^◌, ℕ, List, false, length, IfOk, IfSome, OnOk};
+ghost use Rattle.serde_json.specs.Data.{Data};
 ghost use Rattle.serde_json.specs.View.{view};
 ghost use Rattle.desk_serving.specs.Asked.{Model, Request, Close, Resize};
 ghost use Rattle.desk_serving.specs.AskedView.{asked_view};
 ghost use Rattle.desk_serving.specs.LanesView.{links_in};
-ghost use Rattle.desk_lines.specs.Lines.{kept_line, max_line};
-ghost use Rattle.desk_reports.specs.Reading.{Says, is_blank};
-ghost use Rattle.desk_serving.specs.Serving.{HasRoom, Hears, HearsText};
+ghost use Rattle.desk_reports.specs.Reading.{Says};
+ghost use Rattle.desk_serving.specs.Hearing.{Asks, IsHeardAs, IsTaskFor, IsTaskOf};
+ghost use Rattle.desk_serving.specs.Serving.{HasRoom, Hears, HearsText, model_of};
 
-use crate::line::{Asked, asked_in};
+use crate::hearing::{Heard, asked_by, hear};
+use crate::line::Asked;
+use crate::named_lanes::Until;
 use crate::reports::{self, refuse, refuse_line, say_resized};
 use crate::serving::Serving;
-use crate::waiting::hand_out_all;
+use crate::waiting::hand_out_until;
 use desk_lines::{Clerk, FrontFault, LineText, Sink, Unwritten};
 use desk_reports::report::{self, say};
-use desk_reports::{LineRefusal, is_blank, model_word, refusal_of};
+use desk_reports::{LineRefusal, model_word, refusal_of};
 use dmn_plan::{ModelFault, Plan, Task, TaskFault};
 use serde_json::Value;
 use std::alloc::{AllocError, Global};
@@ -48,41 +51,96 @@ impl<'a, R: Wait> Serving<'a, R> {
         }
     }
 
+    /// The task of a service with these inputs, or why there is none; nothing where no model is in force.
+    fn task_of(
+        &self,
+        alloc: Global,
+        service: &str,
+        inputs: &Value,
+    ) -> Result<Option<Result<Arc<Task>, TaskFault>>, AllocError>
+        ensures { IfOk result (λ task. IsTaskOf (model_of self.now) service.now (view inputs.now) task) }
+    {
+        let Some(plan) = &self.plan else {
+            return Ok(None);
+        };
+        let plan = Arc::try_clone(plan)?;
+        match Task::new(alloc, plan, service, inputs) {
+            Ok(task) => {
+                let work = Arc::new(alloc, task)?;
+                Ok(Some(Ok(work)))
+            }
+            Err(fault) => match fault {
+                TaskFault::Memory => Err(AllocError),
+                fault => Ok(Some(Err(fault))),
+            },
+        }
+    }
+
+    /// The task of a request; nothing of another line.
+    fn task_for(
+        &self,
+        alloc: Global,
+        asked: &Option<Asked<'_>>,
+    ) -> Result<Option<Result<Arc<Task>, TaskFault>>, AllocError>
+        ensures { IfOk result (λ task. IfSome asked.now (λ line. IsTaskFor (model_of self.now) line task)) }
+    {
+        let Some(asked) = asked else {
+            return Ok(None);
+        };
+        match asked {
+            Asked::Request(_, service, inputs) => self.task_of(alloc, service, inputs),
+            Asked::Model(_) => Ok(None),
+            Asked::Close(_) => Ok(None),
+            Asked::Resize(_, _) => Ok(None),
+        }
+    }
+
+    /// What has to come before a line can be answered at once.
+    fn turn_of(
+        &self,
+        asked: &Option<Asked<'_>>,
+        task: &Option<Result<Arc<Task>, TaskFault>>,
+    ) -> Until {
+        match asked {
+            Some(Asked::Request(name, _, _)) => match task {
+                Some(Ok(_)) => self.lanes.until_room(name),
+                _ => self.lanes.until_whole(name),
+            },
+            Some(Asked::Close(name)) => self.lanes.until_whole(name),
+            Some(Asked::Resize(name, _)) => self.lanes.until_whole(name),
+            _ => Until::Now,
+        }
+    }
+
     /// A client's request is put into its lane, or the first refusal that applies is told behind the client's earlier results.
     fn answer_request(
         &mut self,
         alloc: Global,
         number: u64,
         name: &str,
-        service: &str,
-        inputs: &Value,
+        task: Option<Result<Arc<Task>, TaskFault>>,
         text: &mut Vec<u8>,
     ) -> Result<(), AllocError>
         requires few { HasRoom self.old }
         ensures same { links_in self.new.lanes ≡ links_in self.old.lanes }
-        ensures hears { OnOk result (Hears self.old number (Says (Request name.now service.now (view inputs.now))) text.old.items text.new.items self.new) }
+        ensures hears { OnOk result ((service : List ℕ) (inputs : Data) → IsTaskOf (model_of self.old) service inputs task →
+            Hears self.old number (Says (Request name.now service inputs)) text.old.items text.new.items self.new) }
     {
-        let Some(plan) = &self.plan else {
+        let Some(task) = task else {
             return refuse(alloc, name, number, "model", text);
         };
         let Some(place) = self.lanes.place_for(alloc, name)? else {
             return refuse(alloc, name, number, "clients", text);
         };
-        let plan = Arc::try_clone(plan)?;
-        match Task::new(alloc, plan, service, inputs) {
-            Ok(task) => {
-                let work = Arc::new(alloc, task)?;
+        match task {
+            Ok(work) => self
+                .lanes
+                .put_or_refuse(self.rt, alloc, number, name, place, work, text),
+            Err(fault) => {
+                let word = refusal_of(fault).word();
                 self.lanes
-                    .put_or_refuse(self.rt, alloc, number, name, place, work, text)
+                    .refuse(self.rt, alloc, number, name, place, word, text)
             }
-            Err(fault) => match fault {
-                TaskFault::Memory => Err(AllocError),
-                fault => {
-                    let word = refusal_of(fault).word();
-                    self.lanes
-                        .refuse(self.rt, alloc, number, name, place, word, text)
-                }
-            },
         }
     }
 
@@ -125,23 +183,23 @@ impl<'a, R: Wait> Serving<'a, R> {
         say_resized(alloc, name, number, capacity, why, text)
     }
 
-    /// Answers a line of one of the forms.
+    /// Answers a line of one of the forms, with its task where it is a request.
     fn answer_asked(
         &mut self,
         alloc: Global,
         number: u64,
         asked: &Asked<'_>,
+        task: Option<Result<Arc<Task>, TaskFault>>,
         text: &mut Vec<u8>,
     ) -> Result<(), AllocError>
         requires few { HasRoom self.old }
+        requires task { IsTaskFor (model_of self.old) asked.now task }
         ensures same { links_in self.new.lanes ≡ links_in self.old.lanes }
         ensures hears { OnOk result (Hears self.old number (Says (asked_view asked.now)) text.old.items text.new.items self.new) }
     {
         match asked {
             Asked::Model(model) => self.answer_model(alloc, number, model, text),
-            Asked::Request(name, service, inputs) => {
-                self.answer_request(alloc, number, name, service, inputs, text)
-            }
+            Asked::Request(name, _, _) => self.answer_request(alloc, number, name, task, text),
             Asked::Close(name) => self.answer_close(alloc, number, name, text),
             Asked::Resize(name, capacity) => {
                 self.answer_resize(alloc, number, name, *capacity, text)
@@ -149,46 +207,31 @@ impl<'a, R: Wait> Serving<'a, R> {
         }
     }
 
-    /// Answers a line that is neither too long nor blank.
-    fn answer_text(
+    /// Answers a line that is heard so and asks this: nothing is said to one that is blank.
+    fn answer_heard(
         &mut self,
         alloc: Global,
         number: u64,
-        line: &[u8],
+        heard: &Heard,
+        asked: &Option<Asked<'_>>,
+        task: Option<Result<Arc<Task>, TaskFault>>,
         text: &mut Vec<u8>,
     ) -> Result<(), AllocError>
         requires few { HasRoom self.old }
+        requires asks { Asks heard.now asked.now }
+        requires task { IfSome asked.now (λ line. IsTaskFor (model_of self.old) line task) }
         ensures same { links_in self.new.lanes ≡ links_in self.old.lanes }
-        ensures hears { is_blank line.now ≢ true → length line.now ≤ max_line → OnOk result (HearsText self.old number line.now text.old.items text.new.items self.new) }
+        ensures hears { OnOk result ((it : List ℕ) → IsHeardAs it heard.now → HearsText self.old number it text.old.items text.new.items self.new) }
     {
-        let Some(value) = self.texts.read(alloc, line)? else {
-            return refuse_line(alloc, number, LineRefusal::Syntax, text);
-        };
-        let Some(asked) = asked_in(&value) else {
-            return refuse_line(alloc, number, LineRefusal::Shape, text);
-        };
-        self.answer_asked(alloc, number, &asked, text)
-    }
-
-    /// Answers a line: nothing is said to one that is blank.
-    fn answer_line(
-        &mut self,
-        alloc: Global,
-        number: u64,
-        line: &LineText,
-        text: &mut Vec<u8>,
-    ) -> Result<(), AllocError>
-        requires few { HasRoom self.old }
-        ensures same { links_in self.new.lanes ≡ links_in self.old.lanes }
-        ensures hears { OnOk result ((it : List ℕ) → line.now ≡ kept_line it → HearsText self.old number it text.old.items text.new.items self.new) }
-    {
-        let Some(bytes) = line.text() else {
-            return refuse_line(alloc, number, LineRefusal::Long, text);
-        };
-        if is_blank(bytes) {
-            return Ok(());
+        if let Some(asked) = asked {
+            return self.answer_asked(alloc, number, asked, task, text);
         }
-        self.answer_text(alloc, number, bytes, text)
+        match heard {
+            Heard::Long => refuse_line(alloc, number, LineRefusal::Long, text),
+            Heard::Blank => Ok(()),
+            Heard::Syntax => refuse_line(alloc, number, LineRefusal::Syntax, text),
+            Heard::Json(_) => refuse_line(alloc, number, LineRefusal::Shape, text),
+        }
     }
 }
 
@@ -215,15 +258,24 @@ impl<'a, R: Wait> Clerk for Serving<'a, R> {
       each = λ who. (due_to who (names_in serving.lanes) (lanes_in serving.lanes), a.stands.owed who);
     } };
 
-    fn answer(
+    /// Hands out results, each written as soon as no other is at hand, until the line can be answered at once. So no client's
+    /// results wait for another's.
+    fn answer<W: Sink>(
         &mut self,
         alloc: Global,
         number: u64,
         line: &LineText,
-    ) -> Result<Vec<u8>, AllocError> {
+        writer: &mut W,
+        unwritten: &mut Unwritten,
+    ) -> Result<Vec<u8>, FrontFault> {
+        let heard = hear(alloc, &mut self.texts, line)?;
+        let asked = asked_by(&heard);
+        let task = self.task_for(alloc, &asked)?;
+        let until = self.turn_of(&asked, &task);
+        hand_out_until(self.rt, alloc, &mut self.lanes, until, writer, unwritten)?;
         let mut text = Vec::new(alloc);
-        self.lanes.hand_out(alloc, &mut text)?;
-        self.answer_line(alloc, number, line, &mut text)?;
+        self.lanes.hand_out_some(alloc, until, &mut text)?;
+        self.answer_heard(alloc, number, &heard, &asked, task, &mut text)?;
         Ok(text)
     }
 
@@ -233,6 +285,13 @@ impl<'a, R: Wait> Clerk for Serving<'a, R> {
         writer: &mut W,
         unwritten: &mut Unwritten,
     ) -> Result<(), FrontFault> {
-        hand_out_all(self.rt, alloc, &mut self.lanes, writer, unwritten)
+        hand_out_until(
+            self.rt,
+            alloc,
+            &mut self.lanes,
+            Until::AllWhole,
+            writer,
+            unwritten,
+        )
     }
 }

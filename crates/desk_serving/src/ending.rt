@@ -217,6 +217,7 @@ fn hand_out_rest<W: Sink>(
     ensures write { (result ≡ Err FrontFault.Write) → ToldInPart (AreFirst (map string_bytes names.now.items) (ends_lanes ends.old.items)) (W.contents writer.old) (W.contents writer.new) }
     ensures memory { (result ≡ Err FrontFault.Memory) → Told (AreFirst (map string_bytes names.now.items) (ends_lanes ends.old.items)) (W.contents writer.old) (W.contents writer.new) }
     ensures only { IfErr result (λ e. (e ≢ FrontFault.Read) × (e ≢ FrontFault.Long)) }
+    ensures counts { OnOk result (W.faults writer.new ≡ W.faults writer.old) }
     ensures fault { (result ≡ Err FrontFault.Write) → W.faults writer.old < W.faults writer.new }
 {
     let mut unwritten = Unwritten::new(alloc);
@@ -244,9 +245,10 @@ pub fn end_lanes<W: Sink>(
     ensures write { (result ≡ Err FrontFault.Write) → ToldInPart (AreFirst (names_in lanes) (lanes_in lanes)) (W.contents writer.old) (W.contents writer.new) }
     ensures memory { (result ≡ Err FrontFault.Memory) → Told (AreFirst (names_in lanes) (lanes_in lanes)) (W.contents writer.old) (W.contents writer.new) }
     ensures only { IfErr result (λ e. (e ≢ FrontFault.Read) × (e ≢ FrontFault.Long)) }
+    ensures counts { OnOk result (W.faults writer.new ≡ W.faults writer.old) }
     ensures fault { (result ≡ Err FrontFault.Write) → W.faults writer.old < W.faults writer.new }
 {
-    let Lanes { names, clients } = lanes;
+    let Lanes { names, clients, .. } = lanes;
     let Ok(mut ends) = settle(clients, workers) else {
         return Err(FrontFault::Memory);
     };

@@ -81,6 +81,9 @@ pub fn serve<T: Threads + Wait + Sync, R: Source, W: Sink, G: Gate + Sync>(
     ensures read_only_at_fault { (result ≡ Err FrontFault.Read) → R.faults reader.old < R.faults reader.new }
     ensures write_only_at_fault { (result ≡ Err FrontFault.Write) → W.faults writer.old < W.faults writer.new }
 
+    // No error of a device is passed over.
+    ensures ok_without_fault { OnOk result ((R.faults reader.new ≡ R.faults reader.old) × (W.faults writer.new ≡ W.faults writer.old)) }
+
     // By the reader's own count, also of a reader whose bytes are not known.
     ensures long_only_past_limit { (result ≡ Err FrontFault.Long) → R.came reader.old < 2 ^ 63 → max_input < R.came reader.new - R.came reader.old }
     ensures ok_within_limit { OnOk result (R.came reader.new ≤ R.came reader.old + max_input) }
@@ -94,7 +97,7 @@ pub fn serve<T: Threads + Wait + Sync, R: Source, W: Sink, G: Gate + Sync>(
         alloc,
         serving: Serving {
             rt,
-            lanes: Lanes::new(alloc, clients),
+            lanes: Lanes::new(alloc, clients, options.capacity),
             plan: None,
             texts: JsonReader::new(),
         },
@@ -126,6 +129,7 @@ fn finish<W: Sink>(
     requires counts { GoesOn ended → W.faults writer.old < 2 ^ 64 - 1 }
     ensures ok { IfOk result (λ ends. (ended ≡ Ok tt) × IsHandedOut (names_in lanes) (lanes_in lanes) (W.contents writer.old) (W.contents writer.new) ends.items) }
     ensures err { IfErr result (FinishesBy (names_in lanes) (lanes_in lanes) (W.contents writer.old) (W.contents writer.new) ended) }
+    ensures counts { OnOk result (W.faults writer.new ≡ W.faults writer.old) }
     ensures fault { GoesOn ended → (result ≡ Err FrontFault.Write) → W.faults writer.old < W.faults writer.new }
     ensures same { ¬ GoesOn ended → writer.new ≡ writer.old }
 {

@@ -54,7 +54,7 @@ fn poll(client: &mut Client<Task>) -> Option<Reply<Task>>
     client.poll()
 }
 
-/// Hands out the next result, if it is there, as a line at the end of the text.
+/// Hands out the next result, if it is there, as a line at the end of the text. A whole lane costs a look at two numbers.
 pub fn hand_out(
     alloc: Global,
     client: &mut Client<Task>,
@@ -65,6 +65,9 @@ pub fn hand_out(
     ensures polled { IsPolled client.old client.new }
     ensures hands { OnOk result (HandsOwn name.now (lane_of client.old) (lane_of client.new) text.old.items text.new.items) }
 {
+    if client.is_whole() {
+        return Ok(());
+    }
     let Some(reply) = poll(client) else {
         return Ok(());
     };

@@ -4,6 +4,7 @@
 mod answering;
 mod ending;
 mod front;
+mod hearing;
 mod lane;
 mod line;
 mod named_lanes;

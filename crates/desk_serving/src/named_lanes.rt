@@ -19,11 +19,43 @@ use serde_json::Value;
 use std::alloc::{AllocError, Global};
 use std::sync::{Arc, Wait};
 
+/// The most lanes.
+const MOST: usize = 64;
+
+/// What may have to come before the front goes on.
+#[derive(Clone, Copy)]
+pub enum Until {
+    /// Nothing.
+    Now,
+    /// A lane has a place for a request, or is whole.
+    Room(usize),
+    /// A lane is whole.
+    Whole(usize),
+    /// Each lane with a name is whole.
+    AllWhole,
+}
+
+impl Until {
+    /// Where the lane is that is waited for; past all lanes where it is no single one.
+    fn place(&self) -> usize {
+        match self {
+            Until::Room(place) => *place,
+            Until::Whole(place) => *place,
+            Until::Now => MOST,
+            Until::AllWhole => MOST,
+        }
+    }
+}
+
 /// The clients' ends of the lanes, and the names of the first of them: lane by lane.
 #[derive(Drop)]
 pub struct Lanes {
     pub(crate) names: Vec<String>,
     pub(crate) clients: Vec<Client<Task>>,
+    /// How many requests of each may be outstanding; of a closed lane none.
+    rooms: [u32; MOST],
+    /// The lane whose turn it is to be looked at.
+    turn: usize,
     ghost named: { length names.items ≤ length clients.items },
     ghost distinct: { AreDistinct (map string_bytes names.items) } by { AreDistinct-prop (map string_bytes names.items) },
 }
@@ -31,13 +63,15 @@ pub struct Lanes {
 impl Lanes {
     ghost use Rattle.desk_serving.specs.LanesView.{ArePolled, lanes_in, links_in, names_in};
 
-    /// Lanes without a name.
-    pub fn new(alloc: Global, clients: Vec<Client<Task>>) -> Lanes
+    /// Lanes of this capacity without a name.
+    pub fn new(alloc: Global, clients: Vec<Client<Task>>, capacity: u32) -> Lanes
         ensures { (result.names.items ≡ []) × (result.clients ≡ clients) }
     {
         Lanes {
             names: Vec::new(alloc),
             clients,
+            rooms: [capacity; MOST],
+            turn: 0,
         }
     }
 
@@ -92,8 +126,116 @@ impl Lanes {
         Ok(())
     }
 
+    /// Hands out at most one result from the lane that is waited for, and one from another, in lines at the end of the text. The
+    /// others take turns, so this costs the same however many lanes there are.
+    pub fn hand_out_some(
+        &mut self,
+        alloc: Global,
+        until: Until,
+        text: &mut Vec<u8>,
+    ) -> Result<(), AllocError>
+        ensures same { links_in self.new ≡ links_in self.old }
+        ensures names { names_in self.new ≡ names_in self.old }
+        ensures hands { OnOk result (Hands (names_in self.old) (lanes_in self.old) (lanes_in self.new) text.old.items text.new.items) }
+    {
+        self.hand_out_at(alloc, until.place(), text)?;
+        let turn = self.next_turn();
+        self.hand_out_at(alloc, turn, text)
+    }
+
+    /// Hands out the next result of the lane at a place, if there is a lane with a name and its result is there.
+    fn hand_out_at(
+        &mut self,
+        alloc: Global,
+        place: usize,
+        text: &mut Vec<u8>,
+    ) -> Result<(), AllocError>
+        ensures same { links_in self.new ≡ links_in self.old }
+        ensures names { names_in self.new ≡ names_in self.old }
+        ensures hands { OnOk result (Hands (names_in self.old) (lanes_in self.old) (lanes_in self.new) text.old.items text.new.items) }
+    {
+        if place >= self.names.len() {
+            return Ok(());
+        }
+        lane::hand_out(
+            alloc,
+            &mut self.clients[place],
+            self.names[place].as_str(),
+            text,
+        )
+    }
+
+    /// Whose turn it is. The next lane has the next turn.
+    fn next_turn(&mut self) -> usize
+        ensures names { names_in self.new ≡ names_in self.old }
+        ensures lanes { lanes_in self.new ≡ lanes_in self.old }
+        ensures same { links_in self.new ≡ links_in self.old }
+    {
+        let turn = self.turn;
+        let next = turn.wrapping_add(1);
+        self.turn = if next < self.names.len() { next } else { 0 };
+        turn
+    }
+
+    /// What has to come before a request of this name finds a place.
+    pub fn until_room(&self, name: &str) -> Until {
+        match self.place_of(name) {
+            Some(place) => Until::Room(place),
+            None => Until::Now,
+        }
+    }
+
+    /// What has to come before all earlier results of this name are handed out.
+    pub fn until_whole(&self, name: &str) -> Until {
+        match self.place_of(name) {
+            Some(place) => Until::Whole(place),
+            None => Until::Now,
+        }
+    }
+
+    /// Whether it has come.
+    pub fn has_come(&self, until: Until) -> bool {
+        match until {
+            Until::Now => true,
+            Until::Room(place) => self.has_room(place),
+            Until::Whole(place) => self.is_whole_at(place),
+            Until::AllWhole => self.is_whole(),
+        }
+    }
+
+    /// Whether a lane has a place for a request, or is whole.
+    fn has_room(&self, place: usize) -> bool {
+        let Some(client) = self.clients.get(place) else {
+            return true;
+        };
+        let Some(room) = self.rooms.get(place) else {
+            return true;
+        };
+        let outstanding = client.accepted().saturating_sub(client.handed());
+        outstanding == 0 || outstanding < *room as u64
+    }
+
+    /// Whether a lane is whole.
+    fn is_whole_at(&self, place: usize) -> bool {
+        match self.clients.get(place) {
+            Some(client) => client.is_whole(),
+            None => true,
+        }
+    }
+
+    /// Notes how many requests of a lane may be outstanding.
+    fn set_room(&mut self, place: usize, capacity: u32)
+        ensures names { names_in self.new ≡ names_in self.old }
+        ensures lanes { lanes_in self.new ≡ lanes_in self.old }
+        ensures same { links_in self.new ≡ links_in self.old }
+    {
+        if let Some(room) = self.rooms.get_mut(place) {
+            *room = capacity;
+        }
+    }
+
     /// Whether each lane with a name is whole.
-    pub fn is_whole(&self) -> bool {
+    fn is_whole(&self) -> bool {
         for place in 0..self.names.len() {
             if !lane::is_whole(&self.clients[place]) {
                 return false;
@@ -120,8 +262,8 @@ impl Lanes {
         }
     }
 
-    /// The same, but an error where nothing will come: where the workers were refused memory for what they hold again and again,
-    /// and nothing was answered between.
+    /// The same, but answers an error where nothing will come: where the workers have been refused memory for what they
+    /// hold again and again, and nothing was answered between.
     pub fn rest_fed<R: Wait>(&self, rt: &R, came: bool, seen: u64) -> Result<(), AllocError> {
         if !came && self.is_starved() {
             return Err(AllocError);
@@ -138,7 +280,7 @@ impl Lanes {
         }
     }
 
-    /// Hands out results until a lane is whole.
+    /// Hands out results until a lane is whole. As a line is answered only then, this never waits.
     pub fn drain<R: Wait>(
         &mut self,
         rt: &R,
@@ -159,7 +301,7 @@ impl Lanes {
             let seen = self.answers();
             let said = text.len();
             self.hand_out(alloc, text)?;
-            self.rest_fed(rt, text.len() > said, seen)?;
+            self.rest(rt, text.len() > said, seen);
         }
         Ok(())
     }
@@ -207,7 +349,7 @@ impl Lanes {
     }
 
     /// Puts a request into a lane, once there is a place for it. Answers false where the lane is closed. Until then results
-    /// are handed out, in lines at the end of the text.
+    /// are handed out, in lines at the end of the text. As a line is answered only once there is a place, this never waits.
     pub fn put<R: Wait>(
         &mut self,
         rt: &R,
@@ -237,7 +379,7 @@ impl Lanes {
             let seen = self.answers();
             let said = text.len();
             self.hand_out(alloc, text)?;
-            self.rest_fed(rt, text.len() > said, seen)?;
+            self.rest(rt, text.len() > said, seen);
         }
         unreachable!()
     }
@@ -276,7 +418,9 @@ impl Lanes {
         ensures closes { (lane : Lane) → slice_get (lanes_in self.old) place ≡ Some lane →
             (result ≡ not lane.closed) × (lanes_in self.new ≡ slice_set (lanes_in self.old) place (with_closed lane)) }
     {
-        lane::close(&mut self.clients[place])
+        let was_open = lane::close(&mut self.clients[place]);
+        self.set_room(place, 0);
+        was_open
     }
 
     /// Gives a whole lane a capacity, or says why not.
@@ -288,6 +432,11 @@ impl Lanes {
         ensures lanes { lanes_in self.new ≡ lanes_in self.old }
         ensures refused { IfOk result (λ refused. (lane : Lane) → slice_get (lanes_in self.old) place ≡ Some lane → refused ≡ resize_refusal_by lane.closed 0 0 capacity) }
     {
-        lane::resize(&mut self.clients[place], capacity)
+        let refused = lane::resize(&mut self.clients[place], capacity)?;
+        if refused.is_some() {
+            return Ok(refused);
+        }
+        self.set_room(place, capacity);
+        Ok(refused)
     }
 }

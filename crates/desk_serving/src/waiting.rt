@@ -4,17 +4,18 @@ ghost use Rattle.desk_serving.specs.LanesView.{lanes_in, links_in, names_in};
 ghost use Rattle.desk_serving.specs.Owed.{AreFirst, AreHanded};
 ghost use Rattle.desk_serving.specs.Telling.{Tells};
 
-use crate::named_lanes::Lanes;
+use crate::named_lanes::{Lanes, Until};
 use desk_lines::{FrontFault, Sink, Unwritten};
 use std::alloc::Global;
 use std::sync::Wait;
 
-/// Hands out results until each lane with a name is whole. Where a round finds nothing more, all that waits is written. Where
-/// nothing comes since the workers find no memory for what they hold, that is the end.
-pub fn hand_out_all<R: Wait, W: Sink>(
+/// Hands out results until it has come. Where a round finds nothing more, all that waits is written. Where nothing comes since
+/// the workers find no memory for what they hold, that is the end.
+pub fn hand_out_until<R: Wait, W: Sink>(
     rt: &R,
     alloc: Global,
     lanes: &mut Lanes,
+    until: Until,
     writer: &mut W,
     unwritten: &mut Unwritten,
 ) -> Result<(), FrontFault>
@@ -30,7 +31,7 @@ pub fn hand_out_all<R: Wait, W: Sink>(
 {
     let mut text = Vec::new(alloc);
     for _ in rt.forever() {
-        if lanes.is_whole() {
+        if lanes.has_come(until) {
             break;
         }
         let seen = lanes.answers();

@@ -6,7 +6,7 @@ pub returns-in_default : goal.returns-in_default
 returns-in_default g c =
     let ended = c.serve in
     let whole = served_whole g.R.Source.remaining g.R.Source.faults g.R.Source.came c.args.reader.now ended.new.reader g.W.Sink.contents g.W.Sink.faults c.args.writer.now ended.new.writer
-    c.args.options.clients _ (λ ends lines output h. h.served) ended.result _ c.in_default.is ended.ensures.ok ended.ensures.ok_within_limit in
+    c.args.options.clients _ (λ ends lines output h. h.served) ended.result _ c.in_default.is ended.ensures.ok ended.ensures.ok_without_fault ended.ensures.ok_within_limit in
     (Ok tt, whole, refl, search rules)
 
 pub returns : goal.returns

@@ -1,6 +1,6 @@
 use Rattle.std.proofs.Common.{[], Err, ap, arith, ◌∙◌, sym}
 use Rattle.std.proofs.lemmas.Result.{err_from_is_err_and}
-use Rattle.desk_lines.proofs.CatchingUp.{says_weaker}
+use Rattle.desk_lines.proofs.CatchingUp.{part_weaker, says_weaker}
 use Rattle.desk_lines.proofs.Gathering.{gathers_none}
 use Rattle.desk_lines.proofs.Talking.{progress_caught, progress_cut, progress_held, progress_lost, progress_end, progress_last, progress_refused, progress_refused_by, progress_next, first_line, first_of_last, number_small, less_to_come, stops_at_once, on_err, on_ok}
 use Rattle.desk_lines.proofs.talk.answer_each.Goals as goal
@@ -52,7 +52,7 @@ returns-in_err-answer_line-in-Line-clause-fault g c =
     rw (e.1, e.2) (λ n.
     progress_refused_by (g.C.Clerk.Script c.args.clerk.now) _ p took.0 _ c.in_err-answer_line-in-Line.field-0.0 took.1
     (first_line p (g.R.Source.remaining c.next_line.new.source) took.0 _ _ took.2)
-    told.only n (λ e. told.memory (ap Err e)) (λ lines said a. c.lines.invariant.keeps lines said (c.in_ok-before_read.ensures.keeps lines said (g.met.C.Clerk.follows c.before_read.new.clerk lines said a))))
+    told.only n (λ e. part_weaker (g.C.Clerk.After c.before_read.new.clerk) (g.C.Clerk.Script c.before_read.new.clerk) (g.C.Clerk.Script c.args.clerk.now) (λ lines said a. c.lines.invariant.keeps lines said (c.in_ok-before_read.ensures.keeps lines said a)) (told.memory (ap Err e))))
 
 pub returns-in_err-answer_line-in-Line-clause-cut : goal.returns-in_err-answer_line-in-Line-clause-cut
 returns-in_err-answer_line-in-Line-clause-cut g c = λ h.
@@ -62,7 +62,7 @@ returns-in_err-answer_line-in-Line-clause-cut g c = λ h.
     let e = err_from_is_err_and c.from_residual-in_err-answer_line-in-Line.result c.from_residual-in_err-answer_line-in-Line.ensures.1 in
     progress_refused (g.C.Clerk.Script c.args.clerk.now) p took.0 _ took.1
     (first_line p (g.R.Source.remaining c.next_line.new.source) took.0 _ _ took.2)
-    (told.write (ap Err (sym e.2) ∙ sym e.1 ∙ h)) (λ lines said a. c.lines.invariant.keeps lines said (c.in_ok-before_read.ensures.keeps lines said (told.keeps lines said (g.met.C.Clerk.follows c.answer_line.new.clerk lines said a))))
+    (part_weaker (g.C.Clerk.After c.before_read.new.clerk) (g.C.Clerk.Script c.before_read.new.clerk) (g.C.Clerk.Script c.args.clerk.now) (λ lines said a. c.lines.invariant.keeps lines said (c.in_ok-before_read.ensures.keeps lines said a)) (told.write (ap Err (sym e.2) ∙ sym e.1 ∙ h)).1)
 
 pub returns-in-Last-clause-ok : goal.returns-in-Last-clause-ok
 returns-in-Last-clause-ok g c =
@@ -82,8 +82,8 @@ returns-in-Last-clause-fault g c =
     on_err c.answer_line-in-Last.result _ (λ e is n.
     progress_refused_by (g.C.Clerk.Script c.args.clerk.now) _ p took.0 _ e took.1
     (first_of_last p took.0 _ _ took.1 took.2 (short (λ f. cc)))
-    (rw is at c.answer_line-in-Last.ensures.only) n (λ f. c.answer_line-in-Last.ensures.memory (is ∙ ap Err f))
-    (λ lines said a. c.lines.invariant.keeps lines said (c.in_ok-before_read.ensures.keeps lines said (g.met.C.Clerk.follows c.before_read.new.clerk lines said a))))
+    (rw is at c.answer_line-in-Last.ensures.only) n
+    (λ f. part_weaker (g.C.Clerk.After c.before_read.new.clerk) (g.C.Clerk.Script c.before_read.new.clerk) (g.C.Clerk.Script c.args.clerk.now) (λ lines said a. c.lines.invariant.keeps lines said (c.in_ok-before_read.ensures.keeps lines said a)) (c.answer_line-in-Last.ensures.memory (is ∙ ap Err f))))
 
 pub returns-in-Last-clause-cut : goal.returns-in-Last-clause-cut
 returns-in-Last-clause-cut g c = λ h.
@@ -92,8 +92,7 @@ returns-in-Last-clause-cut g c = λ h.
     let p = progress_caught {After' = g.C.Clerk.After c.before_read.new.clerk} c.lines.invariant.progress c.in_ok-before_read.ensures.said in
     progress_refused (g.C.Clerk.Script c.args.clerk.now) p took.0 _ took.1
     (first_of_last p took.0 _ _ took.1 took.2 (short (λ f. cc)))
-    (c.answer_line-in-Last.ensures.write h)
-    (λ lines said a. c.lines.invariant.keeps lines said (c.in_ok-before_read.ensures.keeps lines said (c.answer_line-in-Last.ensures.keeps lines said (g.met.C.Clerk.follows c.answer_line-in-Last.new.clerk lines said a))))
+    (part_weaker (g.C.Clerk.After c.before_read.new.clerk) (g.C.Clerk.Script c.before_read.new.clerk) (g.C.Clerk.Script c.args.clerk.now) (λ lines said a. c.lines.invariant.keeps lines said (c.in_ok-before_read.ensures.keeps lines said a)) (c.answer_line-in-Last.ensures.write h).1)
 
 pub returns-in-End-clause-ok : goal.returns-in-End-clause-ok
 returns-in-End-clause-ok g c =
@@ -105,6 +104,10 @@ returns-in-End-clause-ok g c =
       gathers = p.gathers;
       ends = progress_end (g.C.Clerk.After c.before_read.new.clerk) p took.0 _ c.next_line.new.line took.1 took.2 (short (λ f. cc)) (λ lines said a. a);
     }
+
+pub returns-in-Last-clause-reads : goal.returns-in-Last-clause-reads
+returns-in-Last-clause-reads g c =
+    on_ok c.answer_line-in-Last.result _ (λ x e. c.in_ok-next_line.ensures.counts ∙ c.lines.invariant.reads)
 
 pub overflow_add-number : goal.overflow_add-number
 overflow_add-number g c = let small = number_small c.lines.invariant.progress in omega arith

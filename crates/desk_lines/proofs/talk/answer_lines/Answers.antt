@@ -9,6 +9,9 @@ pub returns-then-is_cut-clause-fault : goal.returns-then-is_cut-clause-fault
 returns-then-is_cut-clause-fault g c =
     let e = c.is_cut.ensures.0 c.if-is_cut.true in rw e (c.answer_each-ended.ensures.cut e)
 
+pub returns-then-is_cut-clause-reads : goal.returns-then-is_cut-clause-reads
+returns-then-is_cut-clause-reads g c = rw (c.is_cut.ensures.0 c.if-is_cut.true) tt
+
 pub returns-in_err-write_out-clause-fault : goal.returns-in_err-write_out-clause-fault
 returns-in_err-write_out-clause-fault g c =
     let each = c.answer_each-ended.ensures in

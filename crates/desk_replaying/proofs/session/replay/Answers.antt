@@ -12,3 +12,7 @@ returns-clause-ok g c =
 pub returns-clause-fault : goal.returns-clause-fault
 returns-clause-fault g c =
     on_err c.answer_lines.result _ (λ x e. ends_weaker _ _ _ _ (λ lines said a. a.script) (λ lines said a. a) x (rw e at c.answer_lines.ensures.fault))
+
+pub returns-clause-ok_without_fault : goal.returns-clause-ok_without_fault
+returns-clause-ok_without_fault g c =
+    on_ok c.answer_lines.result _ (λ x e. (rw e at c.answer_lines.ensures.reads, c.answer_lines.ensures.writes (λ h. cc)))

@@ -1,6 +1,7 @@
 use Rattle.std.proofs.Common.{arith, length, ◌≡◌, None, ap, refl, sym, ◌∙◌, map, string_bytes}
 use denote.Param.Send.{sendable}
 use Rattle.std.proofs.lemmas.Result.{IfErr-weaker, IfOk-weaker, err_from_is_err_and}
+use Rattle.desk_lines.proofs.Talking.{on_ok}
 use Rattle.desk_serving.proofs.EndingLanes.{booked_rest}
 use Rattle.desk_serving.proofs.Finishing.{ends_by, ends_whole, lanes_begun}
 use Rattle.desk_serving.proofs.Fronting.{after_none}
@@ -62,3 +63,11 @@ returns-clause-fault g c =
     (λ fault h. rw (c.reader-1.given.1 (sym done.reader) ∙ c.take_back.ensures, c.writer-2-1.given.1 (sym done.writer))
     (ends_by c.new.result c.beside-ran.new.front.serving c.args.options.clients (lanes_begun c.new.result c.in-Ok.clients c.args.options.clients c.new.ensures.1 count) done.links _ _ _ _ _ c.in_ok-ended.ended done.answers fault h))
     c.finish.ensures.err
+
+pub returns-clause-ok_without_fault : goal.returns-clause-ok_without_fault
+returns-clause-ok_without_fault g c =
+    let done = c.in_ok-ended.ensures.done in
+    on_ok c.finish.result _ (λ ends e.
+    let told = rw e at c.finish.ensures.ok in
+    rw (c.reader-1.given.1 (sym done.reader) ∙ c.take_back.ensures, c.writer-2-1.given.1 (sym done.writer))
+    (rw told.0 at done.reads, (rw e at c.finish.ensures.counts) ∙ done.writes (λ h. let both = sym told.0 ∙ h in cc)))

@@ -1,11 +1,11 @@
-use Rattle.std.proofs.Common.{◌≡◌, ◌∙◌}
+use Rattle.std.proofs.Common.{◌≡◌, ◌∙◌, None}
 use Rattle.std.proofs.lemmas.Result.{on_ok_weaker}
 use Rattle.serde_json.specs.View.{view}
-use Rattle.dmn_plan.specs.Request.{request_result}
-use Rattle.lanes.specs.Clients.{reply_of}
+use Rattle.dmn_plan.specs.Request.{Request, request_result}
+use Rattle.lanes.specs.Clients.{came_to, mail_of, reply_of}
 use Rattle.desk_serving.specs.Owed.{lane_of}
 use Rattle.desk_reports.specs.Shown.{reply}
-use Rattle.desk_serving.proofs.Laning.{own_one}
+use Rattle.desk_serving.proofs.Laning.{own_one, unpolled}
 use Rattle.desk_serving.proofs.lane.hand_out.Goals as goal
 
 pub returns-clause-hands : goal.returns-clause-hands
@@ -18,3 +18,8 @@ returns-clause-hands c =
 
 pub returns-clause-polled : goal.returns-clause-polled
 returns-clause-polled c = (reply_of c.poll.result, c.poll.ensures.polls)
+
+pub returns-then-is_whole-clause-polled : goal.returns-then-is_whole-clause-polled
+returns-then-is_whole-clause-polled c =
+    let client = c.args.client.now in
+    (None, unpolled (λ (q : Request). q) request_result (came_to client) (mail_of client) (c.is_whole.ensures.0 c.if-is_whole.true))

@@ -97,8 +97,3 @@ loop-preserved g c =
           (subst (λ (ls : List Lane). Hands (names_in self) ls (lanes_in new) c.loop.text.items c.hand_out.new.text.items) kept c.in_ok-hand_out.ensures.hands));
       work = told.0 ∙ inv.work;
     }
-
-pub returns-in_err-rest_fed-clause-same : goal.returns-in_err-rest_fed-clause-same
-returns-in_err-rest_fed-clause-same g c =
-    c.hand_out.ensures.same
-    ∙ links_kept client_links c.loop.self.clients.items c.args.place c.index_mut.result.now c.submit.new.client c.index_mut.ensures.value c.submit.ensures.same ∙ c.loop.invariant.links

@@ -4,7 +4,7 @@ use Rattle.desk_serving.specs.LanesView.{lanes_in, names_in}
 use Rattle.desk_serving.specs.Owed.{AreFirst, AreHanded}
 use Rattle.desk_serving.proofs.Owing.{handed_first}
 use Rattle.desk_serving.proofs.Saying.{hands_tell, tells_none, tells_quiet, tells_weaker}
-use Rattle.desk_serving.proofs.waiting.hand_out_all.Goals as goal
+use Rattle.desk_serving.proofs.waiting.hand_out_until.Goals as goal
 
 pub loop-init : goal.loop-init
 loop-init g c =

@@ -2,7 +2,7 @@ use Rattle.std.proofs.Common.{◌≡◌}
 use Rattle.desk_serving.specs.LanesView.{lanes_in, links_in, names_in}
 use Rattle.desk_serving.specs.Owed.{AreHanded}
 use Rattle.desk_serving.specs.Telling.{Tells}
-use Rattle.desk_serving.proofs.waiting.hand_out_all.Given as goal
+use Rattle.desk_serving.proofs.waiting.hand_out_until.Given as goal
 
 abbrev pub invariant-loop : goal.invariant-loop
 invariant-loop g l = record {

@@ -1,0 +1,17 @@
+use Rattle.std.proofs.Common.{◌∙◌, List, ℕ, subst}
+use Rattle.std.proofs.lemmas.Result.{on_ok_weaker}
+use Rattle.desk_serving.specs.LanesView.{lanes_in, names_in}
+use Rattle.desk_serving.specs.Owed.{Hands, Lane}
+use Rattle.desk_serving.proofs.Owing.{hands_then}
+use Rattle.desk_serving.proofs.named_lanes.Lanes.hand_out_some.Goals as goal
+
+pub returns-clause-hands : goal.returns-clause-hands
+returns-clause-hands c =
+    let was = c.args.self.now in let mid = c.hand_out_at.new.self in let next = c.next_turn-turn.new.self in let new = c.hand_out_at-2.new.self in
+    let ns = names_in was in let first = c.hand_out_at.new.text.items in let last = c.hand_out_at-2.new.text.items in
+    on_ok_weaker c.hand_out_at-2.result
+    (λ h.
+    hands_then ns (lanes_in was) (lanes_in mid) (lanes_in new) c.args.text.now.items first last c.in_ok-hand_out_at.ensures.hands
+    (subst (λ (ls : List Lane). Hands ns ls (lanes_in new) first last) c.next_turn-turn.ensures.lanes
+    (subst (λ (xs : List (List ℕ)). Hands xs (lanes_in next) (lanes_in new) first last) (c.next_turn-turn.ensures.names ∙ c.hand_out_at.ensures.names) h)))
+    c.hand_out_at-2.ensures.hands
