@@ -436,6 +436,84 @@ fn fault_of(alloc: Global, capacity: u32) -> Option<BoxFault> {
     made.err()
 }
 
+// The mailbox says this to a resize.
+fn resizes(
+    rt: &impl Abort,
+    mailbox: &mut Mailbox<Successor>,
+    capacity: u32,
+    due: Result<(), Refusal>,
+) {
+    assert_eq!(rt; mailbox.resize(capacity), due);
+}
+
+// Two requests are outstanding when the mailbox is closed; it is whole once both results are handed.
+fn closed_with_two(
+    rt: &impl Abort,
+    alloc: Global,
+    mailbox: &mut Mailbox<Successor>,
+) -> Result<(), Fail> {
+    fill(rt, alloc, mailbox, 2)?;
+    assert!(rt; mailbox.close());
+    admits(rt, alloc, mailbox, 2, Err(Refusal::Closed))?;
+    answer_backwards(rt, alloc, mailbox, 2)?;
+    hands(rt, mailbox, Some((0, 1)));
+    assert!(rt; !mailbox.is_whole());
+    hands(rt, mailbox, Some((1, 2)));
+    assert!(rt; mailbox.is_whole());
+    hands(rt, mailbox, None);
+    assert!(rt; !mailbox.close());
+    Ok(())
+}
+
+#[test]
+fn a_closed_mailbox_hands_what_it_accepted(rt: HostRuntime) -> Result<(), Fail> {
+    let mut mailbox = mailbox_of(rt.alloc(), 2)?;
+    closed_with_two(&rt, rt.alloc(), &mut mailbox)
+}
+
+// A second place is given, and taken back once one request is left.
+fn a_place_more_and_less(
+    rt: &impl Abort,
+    alloc: Global,
+    mailbox: &mut Mailbox<Successor>,
+) -> Result<(), AllocError> {
+    admits(rt, alloc, mailbox, 0, Ok(0))?;
+    admits(rt, alloc, mailbox, 1, Err(Refusal::Full))?;
+    resizes(rt, mailbox, 2, Ok(()));
+    admits(rt, alloc, mailbox, 1, Ok(1))?;
+    resizes(rt, mailbox, 1, Err(Refusal::Small));
+    resizes(rt, mailbox, 0, Err(Refusal::Capacity));
+    resizes(rt, mailbox, 4097, Err(Refusal::Capacity));
+    keeps(rt, alloc, mailbox, 0, 0)?;
+    hands(rt, mailbox, Some((0, 1)));
+    resizes(rt, mailbox, 1, Ok(()));
+    admits(rt, alloc, mailbox, 2, Err(Refusal::Full))
+}
+
+// A closed mailbox gets no other capacity, and is whole once its last result is handed.
+fn closes_and_is_whole(
+    rt: &impl Abort,
+    alloc: Global,
+    mailbox: &mut Mailbox<Successor>,
+) -> Result<(), AllocError> {
+    assert!(rt; mailbox.close());
+    resizes(rt, mailbox, 3, Err(Refusal::Closed));
+    resizes(rt, mailbox, 0, Err(Refusal::Closed));
+    assert!(rt; !mailbox.is_whole());
+    keeps(rt, alloc, mailbox, 1, 1)?;
+    hands(rt, mailbox, Some((1, 2)));
+    assert!(rt; mailbox.is_whole());
+    Ok(())
+}
+
+#[test]
+fn a_mailbox_gets_other_capacities(rt: HostRuntime) -> Result<(), Fail> {
+    let mut mailbox = mailbox_of(rt.alloc(), 1)?;
+    a_place_more_and_less(&rt, rt.alloc(), &mut mailbox)?;
+    closes_and_is_whole(&rt, rt.alloc(), &mut mailbox)?;
+    Ok(())
+}
+
 /// The last ticket that is given.
 const LAST: u64 = 1152921504606846975;
 

@@ -170,6 +170,41 @@ fn wrong_words_are_refused(rt: HostRuntime) -> Result<(), Fail> {
 }
 
 #[test]
+fn numbers_past_their_limits_are_refused(rt: HostRuntime) -> Result<(), Fail> {
+    for (option, number) in [
+        ("--clients", "65"),
+        ("--clients", "x"),
+        ("--workers", "0"),
+        ("--capacity", "0"),
+        ("--capacity", "4097"),
+    ] {
+        let words = &["desk", "serve", option, number];
+        let left = run(&rt, rt.alloc(), words, b"".as_slice())?;
+        assert!(rt; left.is_refused(), "{option} {number}");
+    }
+    Ok(())
+}
+
+#[test]
+fn numbers_at_their_limits_are_taken(rt: HostRuntime) -> Result<(), Fail> {
+    for (option, number) in [
+        ("--clients", "64"),
+        ("--workers", "8"),
+        ("--workers", "1"),
+        ("--capacity", "1"),
+        ("--capacity", "4096"),
+    ] {
+        let words = &["desk", "serve", option, number];
+        let left = run(&rt, rt.alloc(), words, b"".as_slice())?;
+        assert!(rt;
+            left.is(0, b"".as_slice(), b"".as_slice()),
+            "{option} {number}"
+        );
+    }
+    Ok(())
+}
+
+#[test]
 fn help_is_told(rt: HostRuntime) -> Result<(), Fail> {
     let alloc = rt.alloc();
     let input = b"{\"release\":\"a\"}\n".as_slice();

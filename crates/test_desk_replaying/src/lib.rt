@@ -5,6 +5,12 @@
 #[cfg(test)]
 mod device_tests;
 #[cfg(test)]
+mod growing_tests;
+#[cfg(test)]
 mod line_tests;
 #[cfg(test)]
 mod refused_tests;
+#[cfg(test)]
+mod script;
+#[cfg(test)]
+mod ticket_tests;

@@ -245,20 +245,22 @@ fn handed_out(alloc: Global, end: &mut Settled<Task>) -> Result<Vec<u64>, AllocE
     Ok(outcomes)
 }
 
-// Runs the jobs that are left, and gives how many were kept.
-fn run_left(alloc: Global, end: &mut Settled<Task>) -> u64 {
-    let mut kept: u64 = 0;
+// Runs the jobs that are left, and gives the tickets of those that were kept, the least first.
+fn run_left(alloc: Global, end: &mut Settled<Task>) -> Result<Vec<u64>, AllocError> {
+    let mut kept = Vec::new(alloc);
     for _ in 0..1000u64 {
         let Some(job) = end.next_left() else {
             break;
         };
+        let ticket = job.ticket();
         if let Ok(done) = job.run(alloc)
             && end.answer(done) == Answered::Kept
         {
-            kept = kept.wrapping_add(1);
+            kept.push(ticket)?;
         }
     }
-    kept
+    kept.sort()?;
+    Ok(kept)
 }
 
 fn are_seen(rt: &impl Abort, seen: &[Seen], due: &[Seen]) {
@@ -278,14 +280,15 @@ fn hands_out(
     Ok(())
 }
 
-// Each end has two jobs left, and hands out the results of all three once these have run.
+// Each end has the last two of three jobs left, and hands out the results of all three once these have run.
 fn all_hand_out(
     rt: &impl Abort,
     alloc: Global,
     ends: &mut Vec<Settled<Task>>,
 ) -> Result<(), AllocError> {
     for end in ends.iter_mut() {
-        assert_eq!(rt; run_left(alloc, end), 2);
+        let left = run_left(alloc, end)?;
+        assert_eq!(rt; left.as_slice(), [1, 2].as_slice());
         hands_out(rt, alloc, end, &[10, 11, 12])?;
     }
     Ok(())
@@ -549,7 +552,7 @@ fn settled_after_threads<R: Threads + Sync>(
 
 // Whether the end hands out these outcomes, once what is left has run, and is whole then.
 fn is_whole_with(alloc: Global, end: &mut Settled<Task>, due: &[u64]) -> Result<bool, AllocError> {
-    run_left(alloc, end);
+    drop(run_left(alloc, end)?);
     let outcomes = handed_out(alloc, end)?;
     Ok(outcomes.as_slice() == due && end.is_whole())
 }

@@ -16,7 +16,8 @@ const TURNS: u64 = 10_000_000;
 
 /// Counts how often each ticket enters and leaves, and keeps ticket 0 from its run until ticket 1 has left.
 #[derive(Drop)]
-struct Holding {
+pub struct Holding {
+    turns: u64,
     entered: Vec<AtomicU64>,
     left: Vec<AtomicU64>,
     gave_up: AtomicBool,
@@ -44,8 +45,10 @@ fn zeros(alloc: Global, tickets: u64) -> Result<Vec<AtomicU64>, AllocError> {
 }
 
 impl Holding {
-    fn new(alloc: Global, tickets: u64) -> Result<Holding, AllocError> {
+    /// Ticket 0 looks so often at most.
+    pub fn new(alloc: Global, tickets: u64, turns: u64) -> Result<Holding, AllocError> {
         Ok(Holding {
+            turns,
             entered: zeros(alloc, tickets)?,
             left: zeros(alloc, tickets)?,
             gave_up: AtomicBool::new(false),
@@ -54,7 +57,7 @@ impl Holding {
 
     /// Waits until ticket 1 has left.
     fn hold(&self) {
-        for _ in 0..TURNS {
+        for _ in 0..self.turns {
             if counted(&self.left, 1) > 0 {
                 return;
             }
@@ -83,7 +86,7 @@ impl Gate for Holding {
 }
 
 /// The model and a request for each of these numbers, and what is due to their client.
-fn requests(alloc: Global, first: u64, last: u64) -> Result<(Vec<u8>, String), AllocError> {
+pub fn requests(alloc: Global, first: u64, last: u64) -> Result<(Vec<u8>, String), AllocError> {
     let mut input = with_model(alloc, b"")?;
     let mut due = String::new(alloc);
     for number in first..last {
@@ -112,7 +115,7 @@ fn holds<T: Threads + Wait + Sync>(
     requires { fault_in options.clients options.workers options.capacity ≡ None }
 {
     let (input, of_a) = requests(alloc, first, last)?;
-    let gate = Holding::new(alloc, last)?;
+    let gate = Holding::new(alloc, last, TURNS)?;
     let (ended, output) = serve_once(alloc, rt, input.as_slice(), Vec::new(alloc), &gate, options);
     let due = [("a", of_a.as_str()), ("", "{\"line\":1,\"model\":true}\n")];
     let mut is_right = ended == Ended::Whole(options.clients as usize) && is_due(&output, &due);

@@ -1,5 +1,5 @@
-//! The tests of `serve` of `desk_front` through its public interface: workers that a gate holds, devices that fail, and memory
-//! that is refused. Whole inputs with their answers are tests of the program.
+//! The tests of `serve` of `desk_front` through its public interface: workers that a gate holds, devices that fail, memory
+//! that is refused, and clients that wait for others. Whole inputs with their answers are tests of the program.
 #![tactic(auto)]
 
 #[cfg(test)]
@@ -7,6 +7,12 @@ mod device_tests;
 #[cfg(test)]
 mod gate_tests;
 #[cfg(test)]
+mod growing_tests;
+#[cfg(test)]
 mod refused_tests;
 #[cfg(test)]
 mod runs;
+#[cfg(test)]
+mod starved_tests;
+#[cfg(test)]
+mod waits_tests;

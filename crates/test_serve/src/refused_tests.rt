@@ -11,7 +11,7 @@ use std::thread::Threads;
 
 /// A writer with room for so many bytes that takes no memory.
 #[derive(Drop)]
-struct Page {
+pub struct Page {
     bytes: [u8; 1_000],
     used: usize,
 }
@@ -34,14 +34,14 @@ impl io::Write for Page {
 }
 
 impl Page {
-    fn empty() -> Page {
+    pub fn empty() -> Page {
         Page {
             bytes: [0; 1_000],
             used: 0,
         }
     }
 
-    fn text(&self) -> &[u8] {
+    pub fn text(&self) -> &[u8] {
         if self.used > self.bytes.len() {
             return &self.bytes;
         }

@@ -1,5 +1,8 @@
 //! Calls while the heap refuses every request.
-use super::{Successor, admits, admitted, mailbox_of, reports, work};
+use super::{
+    Ask, HISTORIES, Said, Successor, admits, admitted, events, is_said, mailbox_of, reports,
+    resizes, work,
+};
 use box_core::{AddRefusal, Answered, Broker, Done, Event, Job, Mailbox, Refusal, Report};
 use full_heap::FullHeap;
 use std::alloc::{AllocError, Global};
@@ -229,6 +232,70 @@ fn a_run_is_refused_whole_or_done(rt: HostRuntime) -> Result<(), Fail> {
     Ok(())
 }
 
+// What a new broker reports to these events, where the heap gives no more than this; None where the run was refused.
+fn reported_within(
+    alloc: Global,
+    spare: usize,
+    events: Vec<Event<Successor>>,
+) -> Result<Option<Vec<Report<Successor>>>, AllocError> {
+    let mut broker = Broker::new(alloc);
+    let full = FullHeap::but(alloc, spare)?;
+    let ran = broker.run(events);
+    drop(full);
+    Ok(ran.ok())
+}
+
+// Whether each report is the one that is due.
+fn are_right(reports: &[Report<Successor>], history: &[(Ask, Said)]) -> bool {
+    let mut are_right = reports.len() == history.len();
+    for (report, (_, said)) in reports.iter().zip(history) {
+        are_right = are_right && is_said(report, *said);
+    }
+    are_right
+}
+
+// Whether no client was added for want of memory, and so each later event has none.
+fn are_of_no_client(reports: &[Report<Successor>], count: usize) -> bool {
+    let Some((first, later)) = reports.split_first() else {
+        return false;
+    };
+    let mut are_refused = is_added(Some(first)) == Some(false) && reports.len() == count;
+    for report in later {
+        are_refused = are_refused && is_said(report, Said::Refused(Refusal::NoClient));
+    }
+    are_refused
+}
+
+// Whether the first history is reported as it is due, where the heap gives no more than this. If not, it is refused whole, or
+// adds no client.
+fn is_reported_within(rt: &impl Abort, alloc: Global, spare: usize) -> Result<bool, AllocError> {
+    let history = HISTORIES[0];
+    let events = events(alloc, history)?;
+    let Some(reports) = reported_within(alloc, spare, events)? else {
+        return Ok(false);
+    };
+    let are_right = are_right(&reports, history);
+    assert!(rt;
+        are_right || are_of_no_client(&reports, history.len()),
+        "{spare}"
+    );
+    Ok(are_right)
+}
+
+/// The room grows until nothing is refused.
+#[test]
+fn a_history_over_growing_heaps(rt: HostRuntime) -> Result<(), Fail> {
+    let mut is_reported = false;
+    for step in 0..200usize {
+        is_reported = is_reported_within(&rt, rt.alloc(), step.saturating_mul(64))?;
+        if is_reported {
+            break;
+        }
+    }
+    assert!(rt; is_reported);
+    Ok(())
+}
+
 // The work, which came back since there was no memory for its run.
 fn unmade(alloc: Global, asked: Arc<Successor>) -> Result<Arc<Successor>, AllocError> {
     let full = FullHeap::but(alloc, 0)?;
@@ -295,16 +362,6 @@ fn a_job_that_finds_no_memory_comes_back(rt: HostRuntime) -> Result<(), Fail> {
     let mut broker = Broker::new(rt.alloc());
     job_comes_back(&rt, rt.alloc(), &mut broker)?;
     Ok(())
-}
-
-// What the mailbox says to a resize.
-fn resizes(
-    rt: &impl Abort,
-    mailbox: &mut Mailbox<Successor>,
-    capacity: u32,
-    due: Result<(), Refusal>,
-) {
-    assert_eq!(rt; mailbox.resize(capacity), due);
 }
 
 // A full mailbox of one place gets no second one while there is no memory.
