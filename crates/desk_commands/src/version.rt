@@ -5,5 +5,5 @@
 pub const VERSION: &str = concat!(
     "0.9.0\n",
     "proved with rattle-kit-13b logic dac8208d650f15bf\n",
-    "sources a8c80589d0278a91298a50cc19e2c22dc63bad47d2bce50413038d87cf601831",
+    "sources 16e250c1e340705b4835a708d63ea5af44eb90fa3de0aef075e1e98e6b4afd79",
 );
