@@ -1,5 +1,6 @@
 //! Texts of models and inputs that no line of the program can have, models of a thousand decisions, and calls while memory is
 //! refused.
+mod growing;
 mod refused;
 
 use box_core::Work;

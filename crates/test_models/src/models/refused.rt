@@ -13,7 +13,7 @@ use std::sync::Arc;
 use std::test::Fail;
 
 /// Both outputs of the first service, for the input 1.
-const RESULT: &str = r#"{"A":4611686018427387906,"B":4611686018427387904}"#;
+pub(super) const RESULT: &str = r#"{"A":4611686018427387906,"B":4611686018427387904}"#;
 
 /// The model, read again where its first reading was refused.
 fn plan_of(alloc: Global, json: &Value, first: Result<Plan, ModelFault>) -> Result<Plan, Fail> {
@@ -25,7 +25,7 @@ fn plan_of(alloc: Global, json: &Value, first: Result<Plan, ModelFault>) -> Resu
 }
 
 /// Whether the model keeps its text.
-fn has_text(alloc: Global, plan: &Plan, json: &Value) -> Result<bool, AllocError> {
+pub(super) fn has_text(alloc: Global, plan: &Plan, json: &Value) -> Result<bool, AllocError> {
     Ok(plan.text() == json.to_string(alloc)?.as_bytes())
 }
 
