@@ -11,3 +11,5 @@ mod reader_tests;
 mod refused_readings;
 #[cfg(test)]
 mod refused_tests;
+#[cfg(test)]
+mod value_tests;
