@@ -2,6 +2,7 @@ pub mod Views
 pub mod Entries
 pub mod Places
 pub mod Room
+pub mod ContextRoom
 pub mod Booleans
 pub mod DistinctNames
 pub mod Same

@@ -1,7 +1,7 @@
 -- The parts of a value are values.
 use Rattle.std.proofs.Common.{◌≡◌, ℕ, Bool, true, false, ◌&&◌, max, ◌+◌, nat_le, if◌then◌else◌, Option, Some, List, sym, ap, ap₂, ◌∙◌, arith, bytes_eq}
 use Rattle.std.proofs.lemmas.Bool.Decides.{nat_tests}
-use Rattle.feel_value.specs.Datum.{Datum, context, Entries, no_entries, entry, value_at}
+use Rattle.feel_value.specs.Datum.{Datum, null, boolean, number, text, list, context, Entries, no_entries, entry, value_at, entry_named}
 use Rattle.feel_value.specs.Limits.{is_value, nodes, depth, entries_nodes, entries_depth, numbers_in_range, names_distinct, entries_in_range, entries_distinct, names_differ}
 use Rattle.feel_value.proofs.Booleans.{both_true}
 
@@ -50,3 +50,12 @@ entry_is_value n es d h e =
       shallow = of_entry (λ c. nat_le (depth c) 100) (λ ds. nat_le (entries_depth ds) 100) (λ m c ds g. both_le (depth c) (entries_depth ds) 100 g) n es d (both_parts 1 (entries_depth es) 100 f.shallow).1 e;
       small = of_entry (λ c. nat_le (nodes c) 10000) (λ ds. nat_le (entries_nodes ds) 10000) (λ m c ds g. both_parts (nodes c) (entries_nodes ds) 10000 g) n es d (both_parts 1 (entries_nodes es) 10000 f.small).1 e;
     }
+
+-- the same of an entry that is named
+pub entry_lawful : (name : List ℕ) (d e : Datum) → is_value d ≡ true → entry_named name d ≡ Some e → is_value e ≡ true
+entry_lawful name null e h q = cc
+entry_lawful name (boolean b) e h q = cc
+entry_lawful name (number z) e h q = cc
+entry_lawful name (text s) e h q = cc
+entry_lawful name (list ds) e h q = cc
+entry_lawful name (context es) e h q = entry_is_value name es e h q

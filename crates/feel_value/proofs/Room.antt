@@ -20,6 +20,10 @@ pub behind-end : (ds : List Datum) → behind ds no_items ≡ items_of ds
 behind-end [] = refl
 behind-end (x ∷ xs) = ap (item x) (behind-end xs)
 
+pub behind-append : (ds fs : List Datum) → items_of (ds ++ fs) ≡ behind ds (items_of fs)
+behind-append [] fs = refl
+behind-append (x ∷ xs) fs = ap (item x) (behind-append xs fs)
+
 -- members that are there leave this room to the others
 in_turn : (f : ℕ → Option ℕ) (g : ℕ → Option ℕ) (o : Option ℕ) → option_and_then (λ q. option_and_then g (f q)) o ≡ option_and_then g (option_and_then f o)
 in_turn f g None = refl
@@ -70,7 +74,7 @@ distinct_behind : (ds : List Datum) (es : Items) → items_distinct (behind ds e
 distinct_behind [] es = refl
 distinct_behind (x ∷ xs) es = ap (λ b. names_distinct x && b) (distinct_behind xs es) ∙ sym (and_assoc (names_distinct x) (items_distinct (items_of xs)) (items_distinct es))
 
-both : (a b : Bool) → (a && b) ≡ true → (a ≡ true) × (b ≡ true)
+pub both : (a b : Bool) → (a && b) ≡ true → (a ≡ true) × (b ≡ true)
 both true b h = (refl, h)
 both false b h = absurd (true≢false (sym h))
 
@@ -85,18 +89,20 @@ some_if : (b : Bool) (n : ℕ) → is_some (if b then Some n else None) ≡ b
 some_if true n = refl
 some_if false n = refl
 
-and_true : (b : Bool) → (b && true) ≡ b
+pub and_true : (b : Bool) → (b && true) ≡ b
 and_true true = refl
 and_true false = refl
 
 limits_by_room : (xs : Items) → keeps_limits (list xs) ≡ is_some (items_left_of xs 99 9999)
 limits_by_room xs = sym (some_if (fits (list xs) 100 10000) _) ∙ ap is_some (left_of-list xs 100 10000 (omega arith) (omega arith))
 
+pub limits_grown : (ds : List Datum) (d : Datum) (room : ℕ) → LeavesRoom ds room → is_some (left_of d 99 room) ≡ keeps_limits (list (items_of (ds ++ d ∷ [])))
+limits_grown ds d room h = sym (limits_by_room (items_of (ds ++ d ∷ [])) ∙ ap is_some (one_more ds d 99 9999 ∙ ap (option_and_then (λ q. left_of d 99 q)) h.0))
+
 pub grown : (ds : List Datum) (d : Datum) (room : ℕ) → LeavesRoom ds room → is_value d ≡ true → is_some (left_of d 99 room) ≡ is_value (list (items_of (ds ++ d ∷ [])))
 grown ds d room h v =
     let xs = items_of (ds ++ d ∷ []) in
-    sym (ap (λ b. keeps_limits (list xs) && b) (distinct_more ds d h.1 v) ∙ and_true (keeps_limits (list xs))
-    ∙ limits_by_room xs ∙ ap is_some (one_more ds d 99 9999 ∙ ap (option_and_then (λ q. left_of d 99 q)) h.0))
+    limits_grown ds d room h ∙ sym (ap (λ b. keeps_limits (list xs) && b) (distinct_more ds d h.1 v) ∙ and_true (keeps_limits (list xs)))
 
 pub room_left : (ds : List Datum) (d : Datum) (room left : ℕ) → LeavesRoom ds room → is_value d ≡ true → left_of d 99 room ≡ Some left → LeavesRoom (ds ++ d ∷ []) left
 room_left ds d room left h v e = (one_more ds d 99 9999 ∙ ap (option_and_then (λ q. left_of d 99 q)) h.0 ∙ e, distinct_more ds d h.1 v)
@@ -109,14 +115,16 @@ some_before : (f : ℕ → Option ℕ) (o : Option ℕ) → is_some (option_and_
 some_before f None h = h
 some_before f (Some q) h = refl
 
+pub limits_begin : (ds : List Datum) (es : Items) → keeps_limits (list (behind ds es)) ≡ true → keeps_limits (list (items_of ds)) ≡ true
+limits_begin ds es h = limits_by_room (items_of ds) ∙ some_before _ _ (sym (ap is_some (left_behind ds es 99 9999)) ∙ sym (limits_by_room (behind ds es)) ∙ h)
+
 begins : (ds : List Datum) (es : Items) → is_value (list (behind ds es)) ≡ true → is_value (list (items_of ds)) ≡ true
 begins ds es h =
     let p = both (keeps_limits (list (behind ds es))) (items_distinct (behind ds es)) h in
     let q = both (items_distinct (items_of ds)) (items_distinct es) (sym (distinct_behind ds es) ∙ p.1) in
-    let r = some_before _ _ (sym (ap is_some (left_behind ds es 99 9999)) ∙ sym (limits_by_room (behind ds es)) ∙ p.0) in
-    ap₂ (λ a b. a && b) (limits_by_room (items_of ds) ∙ r) q.0
+    ap₂ (λ a b. a && b) (limits_begin ds es p.0) q.0
 
-by_begin : (a b : Bool) → (a ≡ true → b ≡ true) → b ≡ false → a ≡ false
+pub by_begin : (a b : Bool) → (a ≡ true → b ≡ true) → b ≡ false → a ≡ false
 by_begin true b f h = sym (f refl) ∙ h
 by_begin false b f h = refl
 

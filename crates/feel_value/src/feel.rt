@@ -4,13 +4,14 @@ ghost use Rattle.serde_json.specs.View.{view};
 ghost use Rattle.feel_value.specs.Faults.{json_reading, IsDueUnlessMemory};
 ghost use Rattle.feel_value.specs.Json.{json_of};
 ghost use Rattle.feel_value.specs.Limits.{is_value};
-ghost use Rattle.feel_value.specs.Datum.{list};
-ghost use Rattle.feel_value.specs.View.{datum_of, items_view};
+ghost use Rattle.feel_value.specs.Datum.{list, context};
+ghost use Rattle.feel_value.specs.View.{datum_of, items_view, entries_view};
 
 use crate::copy::copy;
 use crate::fault::ValueFault;
 use crate::json::{read, write};
-use crate::limits::keeps_limits;
+use crate::limits::{is_in_range, keeps_limits};
+use crate::logic::Truth;
 use crate::names::has_distinct_names;
 use crate::value::Value;
 use std::alloc::{AllocError, Global};
@@ -67,6 +68,18 @@ impl Feel {
         Ok(Feel { value })
     }
 
+    // The context of these entries, which is a value.
+    pub(crate) fn of_entries(
+        alloc: Global,
+        entries: Vec<(ArcStr, Value)>,
+    ) -> Result<Feel, AllocError>
+        requires { is_value (context (entries_view entries.items)) ≡ true }
+        ensures { IfOk result (λ f. f ≡ context (entries_view entries.items)) }
+    {
+        let value = Value::Context(Arc::new(alloc, entries)?);
+        Ok(Feel { value })
+    }
+
     /// The value that a JSON value stands for. An object is a context of its members in the order of their keys.
     ///
     /// `Number` where some number is no whole number in range, otherwise `Size` where there are too many nodes or they are too
@@ -86,6 +99,15 @@ impl Feel {
         ensures { IfOk result (λ j. view j ≡ json_of self.now) }
     {
         write(alloc, self.value())
+    }
+
+    // A copy of a part of a value.
+    pub(crate) fn copy_of(part: &Value) -> Result<Feel, AllocError>
+        requires { is_value (datum_of part.now) ≡ true }
+        ensures { IfOk result (λ f. f ≡ datum_of part.now) }
+    {
+        let value = copy(part)?;
+        Ok(Feel { value })
     }
 
     /// A copy, which shares its texts, lists and contexts with this value. The time is constant.
@@ -122,9 +144,43 @@ pub enum Outcome {
 }
 
 impl Outcome {
-    ghost use Rattle.feel_value.specs.Datum.{list, context};
+    ghost use Rattle.feel_value.specs.Datum.{null, number, list, context};
+    ghost use Rattle.feel_value.specs.Logic.{truth_datum};
     ghost use Rattle.feel_value.specs.Outcome.{held};
+    ghost use Rattle.feel_value.specs.declared.feel.Outcome.TheVariants.{Is};
     ghost use Rattle.feel_value.specs.View.{items_view, entries_view};
+
+    /// Null.
+    pub fn null() -> Outcome
+        ensures { result ≡ Is null }
+    {
+        Outcome::Is(Feel { value: Value::Null })
+    }
+
+    /// The number held against the range.
+    pub fn number(n: i64) -> Outcome
+        ensures { result ≡ held (number n) }
+    {
+        if is_in_range(n) {
+            Outcome::Is(Feel {
+                value: Value::Number(n),
+            })
+        } else {
+            Outcome::Limit
+        }
+    }
+
+    /// A truth value as a value.
+    pub fn truth(truth: Truth) -> Outcome
+        ensures { result ≡ Is (truth_datum truth) }
+    {
+        let value = match truth {
+            Truth::Yes => Value::Bool(true),
+            Truth::No => Value::Bool(false),
+            Truth::Unknown => Value::Null,
+        };
+        Outcome::Is(Feel { value })
+    }
 
     /// The list of the members, held against the limits.
     pub fn list(alloc: Global, members: Vec<Value>) -> Result<Outcome, AllocError>

@@ -2,6 +2,7 @@
 #![tactic(auto)]
 
 mod comparison;
+mod context_entries;
 mod copy;
 mod fault;
 mod feel;
@@ -10,13 +11,16 @@ mod limits;
 mod logic;
 mod members;
 mod names;
+mod part;
 mod reading;
 mod value;
 
 pub use comparison::{equal, less};
+pub use context_entries::ContextEntries;
 pub use fault::ValueFault;
 pub use feel::{Feel, Outcome};
 pub use logic::{Truth, and3, decided, not3, or3};
 pub use members::Members;
+pub use part::Part;
 pub use reading::truth;
 pub use value::Value;

@@ -57,7 +57,7 @@ fn entries_have_distinct_names(entries: &[(ArcStr, Value)]) -> bool
 }
 
 // Whether no two entries have one name. Names that rise differ; only among others is each looked for.
-fn names_differ(entries: &[(ArcStr, Value)]) -> bool
+pub(crate) fn names_differ(entries: &[(ArcStr, Value)]) -> bool
     ensures { result ≡ differ (entries_view entries.now) }
 {
     names_rise(entries) || no_name_repeats(entries)
