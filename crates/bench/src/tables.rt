@@ -105,7 +105,7 @@ fn making<R: Clock>(rt: &R, alloc: Global, count: u32) -> Result<u128, Error> {
 }
 
 /// An environment in which each input is this number.
-fn environment(alloc: Global, n: i64) -> Result<Env, AllocError> {
+fn environment(alloc: Global, n: i64) -> Result<Env<'static>, AllocError> {
     let mut env = Env::new(alloc);
     for name in INPUTS {
         if let Some(value) = Feel::of(Value::Number(n)) {

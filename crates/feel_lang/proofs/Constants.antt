@@ -1,8 +1,7 @@
 -- The literals that ready values stand for.
-use Rattle.std.proofs.Common.{◌≡◌, ap, refl, List, Option, Some, None, true, false, if◌then◌else◌, ℤ, pos, negsuc}
+use Rattle.std.proofs.Common.{◌≡◌, ap, refl, true, if◌then◌else◌, pos, negsuc}
 use Rattle.feel_value.specs.Datum.{Datum, null, boolean, number, text, list, context}
 use Rattle.feel_value.specs.Limits.{is_value}
-use Rattle.feel_value.specs.Outcome.{held}
 use Rattle.feel_value.specs.declared.feel.Outcome.TheVariants.{Is, Limit}
 use Rattle.feel_lang.specs.Constants.{is_constant, expr_of_constant}
 use Rattle.feel_lang.specs.Meaning.{Bindings, den}

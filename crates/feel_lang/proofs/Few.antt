@@ -4,7 +4,7 @@ use Rattle.std.proofs.Math.Seq.{take-append-add}
 use Rattle.std.proofs.lemmas.List.{append_assoc, append-nil, map-append, length-map, length-append, take-map, take-append-le, take_more}
 use Rattle.feel_value.specs.Datum.{Datum}
 use Rattle.feel_lang.specs.Meaning.{Bindings, bound, first_some}
-use Rattle.feel_lang.specs.Few.{few_of, IsFilled}
+use Rattle.feel_lang.specs.Few.{named_of, few_of, IsFilled}
 use Rattle.feel_lang.specs.declared.env.NamedValue.{NamedValue}
 
 grouped : (o p q : Option Datum) → first_some (first_some o p) q ≡ first_some o (first_some p q)
@@ -22,30 +22,35 @@ bound_both name (x ∷ xs) ys =
     ap (λ o. first_some o (if bytes_eq name x.0 then Some x.1 else None)) (bound_both name xs ys)
     ∙ grouped (bound name ys) (bound name xs) (if bytes_eq name x.0 then Some x.1 else None)
 
+-- where there are no others, the first ones count
+pub bound_first : (name : List ℕ) (xs ys : Bindings) → length ys ≡ 0 → bound name xs ≡ bound name (xs ++ ys)
+bound_first name xs [] h = sym (ap (bound name) (append-nil xs))
+bound_first name xs (y ∷ ys) h = let none : ⊥ = omega (arith, h) in absurd none
+
 -- the last one has the name, or what it is bound to is among the others
 last_or_before : (t : Bool) (d : Datum) (o : Option Datum) → first_some (if t then Some d else None) o ≡ (if t then Some d else o)
 last_or_before true d o = refl
 last_or_before false d o = refl
 
-pub bound_last : (name : List ℕ) (xs : List NamedValue) (x : NamedValue) → bound name (few_of (xs ++ x ∷ [])) ≡ (if bytes_eq name (string_bytes x.name) then Some x.value else bound name (few_of xs))
+pub bound_last : (name : List ℕ) (xs : List NamedValue) (x : NamedValue) → bound name (few_of (xs ++ x ∷ [])) ≡ (if bytes_eq name (named_of x).0 then Some (named_of x).1 else bound name (few_of xs))
 bound_last name xs x =
-    ap (bound name) (map-append (λ (b : NamedValue). (string_bytes b.name, b.value)) xs (x ∷ []))
-    ∙ bound_both name (few_of xs) ((string_bytes x.name, x.value) ∷ [])
-    ∙ last_or_before (bytes_eq name (string_bytes x.name)) x.value (bound name (few_of xs))
+    ap (bound name) (map-append named_of xs (x ∷ []))
+    ∙ bound_both name (few_of xs) (named_of x ∷ [])
+    ∙ last_or_before (bytes_eq name (named_of x).0) (named_of x).1 (bound name (few_of xs))
 
 -- the same of those up to a place
 pub bound_up_to : (name : List ℕ) (xs : List NamedValue) (i : ℕ) (x : NamedValue) → x ≡ get_or xs i x → i < length xs
-    → bound name (few_of (take (i + 1) xs)) ≡ (if bytes_eq name (string_bytes x.name) then Some x.value else bound name (few_of (take i xs)))
+    → bound name (few_of (take (i + 1) xs)) ≡ (if bytes_eq name (named_of x).0 then Some (named_of x).1 else bound name (few_of (take i xs)))
 bound_up_to name xs i x e h =
     ap (λ ys. bound name (few_of ys)) (take_more xs i x h) ∙ ap (λ (y : NamedValue). bound name (few_of (take i xs ++ y ∷ []))) (sym e)
     ∙ bound_last name (take i xs) x
 
 -- one more among the first
-pub one_more : (xs : List NamedValue) (x : NamedValue) (ys : Bindings) → ys ≡ [] → few_of (xs ++ x ∷ []) ++ ys ≡ (few_of xs ++ ys) ++ (string_bytes x.name, x.value) ∷ []
+pub one_more : (xs : List NamedValue) (x : NamedValue) (ys : Bindings) → ys ≡ [] → few_of (xs ++ x ∷ []) ++ ys ≡ (few_of xs ++ ys) ++ named_of x ∷ []
 one_more xs x ys h =
     ap (λ zs. few_of (xs ++ x ∷ []) ++ zs) h ∙ append-nil (few_of (xs ++ x ∷ []))
-    ∙ map-append (λ (b : NamedValue). (string_bytes b.name, b.value)) xs (x ∷ [])
-    ∙ ap (λ zs. zs ++ (string_bytes x.name, x.value) ∷ []) (sym (ap (λ zs. few_of xs ++ zs) h ∙ append-nil (few_of xs)))
+    ∙ map-append named_of xs (x ∷ [])
+    ∙ ap (λ zs. zs ++ named_of x ∷ []) (sym (ap (λ zs. few_of xs ++ zs) h ∙ append-nil (few_of xs)))
 
 -- one more behind the first
 pub one_behind : (xs ys : Bindings) (b : List ℕ × Datum) → xs ++ (ys ++ b ∷ []) ≡ (xs ++ ys) ++ b ∷ []
@@ -54,12 +59,12 @@ one_behind xs ys b = sym (append_assoc xs ys (b ∷ []))
 -- cut off within the first
 pub cut_within : (n : ℕ) (xs : List NamedValue) (ys : Bindings) → n ≤ length xs → few_of (take n xs) ++ [] ≡ take n (few_of xs ++ ys)
 cut_within n xs ys h =
-    append-nil (few_of (take n xs)) ∙ sym (take-map (λ (b : NamedValue). (string_bytes b.name, b.value)) n xs)
+    append-nil (few_of (take n xs)) ∙ sym (take-map named_of n xs)
     ∙ sym (take-append-le n (few_of xs) ys (rw length-map h))
 
 -- cut off behind the first
 pub cut_behind : (n : ℕ) (xs : List NamedValue) (ys : Bindings) → length xs ≤ n → few_of xs ++ take (n - length xs) ys ≡ take n (few_of xs ++ ys)
 cut_behind n xs ys h =
-    let size : length (few_of xs) ≡ length xs = length-map xs (λ (b : NamedValue). (string_bytes b.name, b.value)) in
+    let size : length (few_of xs) ≡ length xs = length-map xs named_of in
     let whole : length (few_of xs) + (n - length xs) ≡ n = omega (arith, size) in
     sym (take-append-add (few_of xs) ys (n - length xs)) ∙ ap (λ k. take k (few_of xs ++ ys)) whole

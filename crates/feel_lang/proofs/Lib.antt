@@ -24,3 +24,4 @@ pub mod TestsAgain
 pub mod ReadingLaws
 pub mod TestLists
 pub mod Forms
+pub mod WithinLimits

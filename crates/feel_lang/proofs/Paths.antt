@@ -1,26 +1,15 @@
 -- Paths into contexts and lists.
-use Rattle.std.proofs.Common.{◌≡◌, ◌∙◌, sym, ap, ℕ, ◌+◌, ◌<◌, true, List, [], ◌∷◌, ◌++◌, length, get_or, drop, Option, Some, None, if◌then◌else◌, unwrap_or}
-use Rattle.std.specs.Prelude.{option_map, IfSome}
+use Rattle.std.proofs.Common.{◌≡◌, ◌∙◌, sym, ap, ℕ, ◌+◌, ◌<◌, true, List, [], ◌∷◌, ◌++◌, length, get_or, drop, Some, if◌then◌else◌, unwrap_or}
 use Rattle.feel_value.specs.Datum.{Datum, null, boolean, number, text, list, context, item, entry_named}
 use Rattle.feel_value.specs.Limits.{is_value}
 use Rattle.feel_value.specs.Outcome.{held}
 use Rattle.feel_value.specs.View.{datum_of, items_view}
 use Rattle.feel_value.specs.declared.value.Value.{Value}
-use Rattle.feel_value.specs.declared.feel.Outcome.{Outcome}
 use Rattle.feel_value.specs.declared.feel.Outcome.TheVariants.{Is, Limit}
 use Rattle.feel_value.proofs.Entries.{items_from}
 use Rattle.feel_value.proofs.FromJson.{items_after, items_after-push}
-use Rattle.feel_value.proofs.Parts.{entry_is_value}
-use Rattle.feel_lang.specs.Meaning.{path_of, paths_of, with_value}
-
--- an entry of a value is a value
-pub entry_lawful : (name : List ℕ) (d e : Datum) → is_value d ≡ true → entry_named name d ≡ Some e → is_value e ≡ true
-entry_lawful name null e h q = cc
-entry_lawful name (boolean b) e h q = cc
-entry_lawful name (number z) e h q = cc
-entry_lawful name (text s) e h q = cc
-entry_lawful name (list ds) e h q = cc
-entry_lawful name (context es) e h q = entry_is_value name es e h q
+use Rattle.feel_value.proofs.Parts.{entry_lawful}
+use Rattle.feel_lang.specs.Meaning.{path_of, paths_of}
 
 -- the path to an entry is the entry
 entry_path : (name : List ℕ) (d e : Datum) → entry_named name d ≡ Some e → path_of name d ≡ e
@@ -33,16 +22,6 @@ entry_path name (context es) e q = ap (λ o. unwrap_or o null) q
 
 pub entry_held : (name : List ℕ) (d e : Datum) → is_value d ≡ true → entry_named name d ≡ Some e → held (path_of name d) ≡ Is e
 entry_held name d e h q = ap held (entry_path name d e q) ∙ ap (λ t. if t then Is e else Limit) (entry_lawful name d e h q)
-
--- where the whole has a value, the path from it has that of the entry that was found
-pub found_value : {X : Type 0} (f : X → Datum) (name : List ℕ) (d : Datum) (whole : Outcome) (o : Option X) → whole ≡ Is d → is_value d ≡ true → option_map f o ≡ entry_named name d
-    → IfSome o (λ v. with_value whole (λ x. held (path_of name x)) ≡ Is (f v))
-found_value f name d whole None w h q = tt
-found_value f name d whole (Some v) w h q = ap (λ o. with_value o (λ x. held (path_of name x))) w ∙ entry_held name d (f v) h (sym q)
-
-pub found_lawful : {X : Type 0} (f : X → Datum) (name : List ℕ) (d : Datum) (o : Option X) → is_value d ≡ true → option_map f o ≡ entry_named name d → IfSome o (λ v. is_value (f v) ≡ true)
-found_lawful f name d None h q = tt
-found_lawful f name d (Some v) h q = entry_lawful name d (f v) h (sym q)
 
 -- one more member's path
 pub paths_step : (name : List ℕ) (vs xs : List Value) (v x : Value) (i : ℕ) → x ≡ get_or xs i x → i < length xs → datum_of v ≡ path_of name (datum_of x)

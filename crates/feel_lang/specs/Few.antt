@@ -1,10 +1,17 @@
--- Internal but for `few_of`: the first bindings, which have no index.
-use Rattle.std.specs.Prelude.{◌≡◌, ◌<◌, ◌≤◌, List, [], map, length, string_bytes}
+-- Internal but for `few_of` and `named_of`: the first bindings, which have no index.
+use Rattle.std.specs.Prelude.{◌≡◌, ◌<◌, ◌≤◌, ℕ, List, [], map, length, string_bytes}
+use Rattle.feel_value.specs.Datum.{Datum}
 use Rattle.feel_lang.specs.Meaning.{Bindings}
 use Rattle.feel_lang.specs.declared.env.NamedValue.{NamedValue}
+use Rattle.feel_lang.specs.declared.env.NamedValue.TheVariants.{Lent, Owned}
+
+-- what is bound, whether lent or owned
+abbrev pub named_of : NamedValue → List ℕ × Datum
+named_of (Lent name value) = (name.now, value.now)
+named_of (Owned name value) = (string_bytes name, value)
 
 abbrev pub few_of : List NamedValue → Bindings
-few_of = map (λ b. (string_bytes b.name, b.value))
+few_of = map named_of
 
 -- There are at most eight, and others only behind eight.
 pub record IsFilled (few : List NamedValue) (more : Bindings) : Type 0 where

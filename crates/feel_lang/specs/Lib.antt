@@ -20,3 +20,4 @@ pub mod Few
 pub mod Operands
 pub mod Satisfied
 pub mod Parts
+pub mod WithinLimits

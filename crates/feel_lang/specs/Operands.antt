@@ -2,7 +2,6 @@
 use Rattle.std.specs.Prelude.{Bool, Option, Some, None}
 use Rattle.feel_value.specs.Datum.{Datum}
 use Rattle.feel_value.specs.Logic.{is_yes, truth_of}
-use Rattle.feel_value.specs.View.{datum_of}
 use Rattle.feel_value.specs.declared.feel.Outcome.{Outcome}
 use Rattle.feel_value.specs.declared.feel.Outcome.TheVariants.{Is, Limit}
 use Rattle.feel_value.specs.declared.logic.Truth.{Truth}
@@ -11,7 +10,7 @@ use Rattle.feel_lang.specs.declared.operands.Operand.{Operand}
 use Rattle.feel_lang.specs.declared.operands.Operand.TheVariants.{Lent, Formed}
 
 abbrev pub operand_value : Operand → Datum
-operand_value (Lent v) = datum_of v.now
+operand_value (Lent d) = d
 operand_value (Formed d) = d
 
 -- None stands for a limit that is broken

@@ -1,7 +1,7 @@
 //! Names with values.
 ghost use Rattle.std.specs.Prelude.{◌≡◌, ◌≤◌, [], ◌∷◌, ◌++◌, length, take, option_map, MatchResult};
 ghost use Rattle.feel_lang.specs.Meaning.{bound};
-ghost use Rattle.feel_lang.specs.Few.{few_of};
+ghost use Rattle.feel_lang.specs.Few.{few_of, named_of};
 
 use crate::indexed::Indexed;
 use feel_value::Feel;
@@ -13,22 +13,42 @@ const FEW: usize = 8;
 
 // A name with its value.
 #[derive(Drop)]
-struct NamedValue {
-    name: String,
-    value: Feel,
+enum NamedValue<'a> {
+    Lent(&'a str, &'a Feel),
+    Owned(String, Feel),
+}
+
+impl<'a> NamedValue<'a> {
+    fn name(&self) -> &str
+        ensures { result.now ≡ (named_of self.now).0 }
+    {
+        match self {
+            NamedValue::Lent(name, _) => *name,
+            NamedValue::Owned(name, _) => name.as_str(),
+        }
+    }
+
+    fn value(&self) -> &Feel
+        ensures { result.now ≡ (named_of self.now).1 }
+    {
+        match self {
+            NamedValue::Lent(_, value) => *value,
+            NamedValue::Owned(_, value) => value,
+        }
+    }
 }
 
 /// A list of names with values, of which the last binding of a name counts.
 ///
 /// Binding, finding and cutting off one name take steps in proportion to the logarithm of how many names there are.
 #[derive(Drop)]
-pub struct Env {
-    few: Vec<NamedValue>,
+pub struct Env<'a> {
+    few: Vec<NamedValue<'a>>,
     // Those behind the first few.
     more: Indexed,
 }
 
-impl Model for Env {
+impl<'a> Model for Env<'a> {
     ghost use Rattle.std.specs.Prelude.{◌++◌, List, ℕ};
     ghost use Rattle.std.specs.Coded.{coded_list, coded×, coded_ℕ};
     ghost use Rattle.feel_value.specs.Datum.{Datum};
@@ -45,9 +65,9 @@ impl Model for Env {
     ghost invariant = { λ e. IsFilled e.few.items e.more };
 }
 
-impl Env {
+impl<'a> Env<'a> {
     /// An environment with no names. It takes no memory, and keeps the allocator for its bindings.
-    pub fn new(alloc: Global) -> Env
+    pub fn new(alloc: Global) -> Env<'a>
         ensures { result ≡ [] }
     {
         Env {
@@ -67,15 +87,31 @@ impl Env {
             return Ok(());
         }
         let name = String::from_str(*self.few.allocator(), name)?;
-        self.few.push(NamedValue { name, value })?;
+        self.few.push(NamedValue::Owned(name, value))?;
+        Ok(())
+    }
+
+    /// Binds as `bind` does, to a name and a value that are lent: the first few bindings copy neither.
+    #[tactic(auto, using(crate::proofs::Few::one_more, crate::proofs::Few::one_behind))]
+    pub fn bind_lent(&mut self, name: &'a str, value: &'a Feel) -> Result<(), AllocError>
+        ensures { MatchResult result (λ _. self.new ≡ self.old ++ (name.now, value.now) ∷ []) (λ _. self.new ≡ self.old) }
+    {
+        if self.few.len() == FEW {
+            self.more.bind(name, value.try_clone()?)?;
+            return Ok(());
+        }
+        self.few.push(NamedValue::Lent(name, value))?;
         Ok(())
     }
 
     /// The value of the last binding of the name.
-    #[tactic(auto, using(crate::proofs::Few::bound_both))]
+    #[tactic(auto, using(crate::proofs::Few::bound_both, crate::proofs::Few::bound_first))]
     pub fn find(&self, name: &str) -> Option<&Feel>
         ensures { option_map (λ v. v.now) result ≡ bound name.now self.now }
     {
+        if self.more.len() == 0 {
+            return last_named(&self.few, name);
+        }
         match self.more.find(name) {
             Some(value) => Some(value),
             None => last_named(&self.few, name),
@@ -106,15 +142,15 @@ impl Env {
 }
 
 // The value of the last of these that has the name.
-fn last_named<'a>(bindings: &'a [NamedValue], name: &str) -> Option<&'a Feel>
+fn last_named<'a>(bindings: &'a [NamedValue<'_>], name: &str) -> Option<&'a Feel>
     ensures { option_map (λ v. v.now) result ≡ bound name.now (few_of bindings.now) }
 {
     let mut i = bindings.len();
     while i > 0 {
         i -= 1;
         let binding = &bindings[i];
-        if name == binding.name.as_str() {
-            return Some(&binding.value);
+        if name == binding.name() {
+            return Some(binding.value());
         }
     }
     None

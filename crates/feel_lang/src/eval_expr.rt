@@ -12,10 +12,10 @@ use crate::env::Env;
 use crate::eval_calls::call;
 use crate::eval_operators::{between, inverted, modulo, negated, operation};
 use crate::eval_outcome::{null, number};
-use crate::eval_paths::{path, place};
+use crate::eval_paths::entry;
 use crate::expr::Tree;
-use crate::operands::{Operand, Operands};
-use feel_value::{Members, Outcome, Truth};
+use crate::operands::{Operand, Operands, formed, kept};
+use feel_value::{Members, Outcome, Part, Truth};
 use std::alloc::{AllocError, Global};
 
 /// The value of an expression, where names have the values that the environment gives them, and null where it has none; or that
@@ -25,27 +25,8 @@ use std::alloc::{AllocError, Global};
 pub(crate) fn eval(alloc: Global, expr: &Tree, env: &Env) -> Result<Outcome, AllocError>
     ensures { IfOk result (λ o. o ≡ den (view expr.now) env.now) }
 {
-    match expr {
-        Tree::Constant(constant) => Ok(Outcome::Is(constant.value().try_clone()?)),
-        Tree::Number(n) => Ok(number(i64::try_from(*n).ok())),
-        Tree::Name(name) => named(name.as_str(), env),
-        Tree::Group(inner) => eval(alloc, inner, env),
-        Tree::List(exprs) => list(alloc, exprs, env),
-        Tree::Call(function, argument) => Ok(call(*function, operand(alloc, argument, env)?)),
-        Tree::Modulo(left, right) => Ok(modulo(operands(alloc, left, right, env)?)),
-        Tree::Not(inner) => Ok(inverted(operand(alloc, inner, env)?)),
-        Tree::Negate(inner) => Ok(negated(operand(alloc, inner, env)?)),
-        Tree::Path(inner, name) => entry(alloc, inner, name.as_str(), env),
-        Tree::Binary(operator, left, right) => {
-            Ok(operation(*operator, operands(alloc, left, right, env)?))
-        }
-        Tree::Between(value, low, high) => lies_between(alloc, value, low, high, env),
-        Tree::If(test, yes, no) => match is_met(alloc, test, env)? {
-            Some(true) => eval(alloc, yes, env),
-            Some(false) => eval(alloc, no, env),
-            None => Ok(Outcome::Limit),
-        },
-    }
+    let operand = operand(alloc, expr, &*env)?;
+    kept(operand)
 }
 
 // The value of an operand, which is looked at and not kept. None where a limit is broken.
@@ -57,19 +38,34 @@ pub(crate) fn operand<'a>(
 ) -> Result<Option<Operand<'a>>, AllocError>
     ensures { IfOk result (λ o. outcome_of o ≡ den (view expr.now) env.now) }
 {
-    if let Some(value) = place(expr, env) {
-        return Ok(Some(Operand::Lent(value)));
-    }
-    if let Tree::If(test, yes, no) = expr {
-        return match is_met(alloc, test, env)? {
+    match expr {
+        Tree::Constant(constant) => Ok(Some(Operand::Lent(Part::of(constant.value())))),
+        Tree::Number(n) => Ok(formed(number(i64::try_from(*n).ok()))),
+        Tree::Name(name) => Ok(named(name.as_str(), env)),
+        Tree::Group(inner) => operand(alloc, inner, env),
+        Tree::List(exprs) => Ok(formed(list(alloc, exprs, env)?)),
+        Tree::Call(function, argument) => {
+            Ok(formed(call(*function, operand(alloc, argument, env)?)))
+        }
+        Tree::Modulo(left, right) => Ok(formed(modulo(operands(alloc, left, right, env)?))),
+        Tree::Not(inner) => Ok(formed(inverted(operand(alloc, inner, env)?))),
+        Tree::Negate(inner) => Ok(formed(negated(operand(alloc, inner, env)?))),
+        Tree::Path(inner, name) => match operand(alloc, inner, env)? {
+            Some(whole) => entry(alloc, whole, name.as_str()),
+            None => Ok(None),
+        },
+        Tree::Binary(operator, left, right) => Ok(formed(operation(
+            *operator,
+            operands(alloc, left, right, env)?,
+        ))),
+        Tree::Between(value, low, high) => {
+            Ok(formed(lies_between(alloc, value, low, high, env)?))
+        }
+        Tree::If(test, yes, no) => match is_met(alloc, test, env)? {
             Some(true) => operand(alloc, yes, env),
             Some(false) => operand(alloc, no, env),
             None => Ok(None),
-        };
-    }
-    match eval(alloc, expr, env)? {
-        Outcome::Is(value) => Ok(Some(Operand::Formed(value))),
-        Outcome::Limit => Ok(None),
+        },
     }
 }
 
@@ -78,7 +74,7 @@ pub(crate) fn operand<'a>(
 fn is_met(alloc: Global, test: &Tree, env: &Env) -> Result<Option<bool>, AllocError>
     ensures { IfOk result (λ o. o ≡ met_of (den (view test.now) env.now)) }
 {
-    match operand(alloc, test, env)? {
+    match operand(alloc, test, &*env)? {
         Some(test) => Ok(Some(test.value().truth() == Truth::Yes)),
         None => Ok(None),
     }
@@ -110,18 +106,18 @@ fn lies_between(
 ) -> Result<Outcome, AllocError>
     ensures { IfOk result (λ o. o ≡ den (expr_specs.Between (view value.now) (view low.now) (view high.now)) env.now) }
 {
-    let value = operand(alloc, value, env)?;
-    let bounds = operands(alloc, low, high, env)?;
+    let value = operand(alloc, value, &*env)?;
+    let bounds = operands(alloc, low, high, &*env)?;
     Ok(between(value, bounds))
 }
 
 // The value of a name; null where it has none.
-fn named(name: &str, env: &Env) -> Result<Outcome, AllocError>
-    ensures { IfOk result (λ o. o ≡ Is (unwrap_or (bound name.now env.now) null_value)) }
+fn named<'a>(name: &str, env: &'a Env) -> Option<Operand<'a>>
+    ensures { outcome_of result ≡ Is (unwrap_or (bound name.now env.now) null_value) }
 {
     match env.find(name) {
-        Some(value) => Ok(Outcome::Is(value.try_clone()?)),
-        None => Ok(null()),
+        Some(value) => Some(Operand::Lent(Part::of(value))),
+        None => formed(null()),
     }
 }
 
@@ -140,15 +136,4 @@ fn list(alloc: Global, exprs: &[Tree], env: &Env) -> Result<Outcome, AllocError>
         }
     }
     Ok(Outcome::Is(members.into_list(alloc)?))
-}
-
-// A path from an expression.
-#[cycle(eval)]
-fn entry(alloc: Global, expr: &Tree, name: &str, env: &Env) -> Result<Outcome, AllocError>
-    ensures { IfOk result (λ o. o ≡ with_value (den (view expr.now) env.now) (λ d. held (path_of name.now d))) }
-{
-    match operand(alloc, expr, env)? {
-        Some(whole) => Ok(Outcome::of(path(alloc, whole.value(), name)?)),
-        None => Ok(Outcome::Limit),
-    }
 }

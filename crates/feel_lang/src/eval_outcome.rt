@@ -7,12 +7,12 @@ ghost use Rattle.feel_value.specs.View.{datum_of};
 ghost use Rattle.feel_value.specs.declared.feel.Outcome.TheVariants.{Is};
 ghost use Rattle.feel_lang.specs.Numbers.{number_outcome};
 
-use feel_value::{Outcome, Truth, Value};
+use feel_value::{Outcome, Truth};
 
 pub(crate) fn null() -> Outcome
     ensures { result ≡ Is null_value }
 {
-    Outcome::of(Value::Null)
+    Outcome::null()
 }
 
 // A number, held against the range. None is past the range of an i64.
@@ -20,7 +20,7 @@ pub(crate) fn number(number: Option<i64>) -> Outcome
     ensures { result ≡ number_outcome number }
 {
     match number {
-        Some(n) => Outcome::of(Value::Number(n)),
+        Some(n) => Outcome::number(n),
         None => Outcome::Limit,
     }
 }
@@ -43,9 +43,5 @@ pub(crate) fn whole(n: i128) -> Outcome
 pub(crate) fn told(truth: Truth) -> Outcome
     ensures { result ≡ Is (truth_datum truth) }
 {
-    Outcome::of(match truth {
-        Truth::Yes => Value::Bool(true),
-        Truth::No => Value::Bool(false),
-        Truth::Unknown => Value::Null,
-    })
+    Outcome::truth(truth)
 }

@@ -1,14 +1,12 @@
 //! Paths into contexts and lists.
-ghost use Rattle.std.specs.Prelude.{◌≡◌, IfOk, IfSome, true};
-ghost use Rattle.feel_value.specs.Limits.{is_value};
+ghost use Rattle.std.specs.Prelude.{◌≡◌, IfOk};
+ghost use Rattle.feel_value.specs.Outcome.{held};
 ghost use Rattle.feel_value.specs.View.{datum_of, items_view};
-ghost use Rattle.feel_value.specs.declared.feel.Outcome.TheVariants.{Is};
-ghost use Rattle.feel_lang.specs.Meaning.{den, path_of, paths_of};
-ghost use Rattle.feel_lang.specs.View.{view};
+ghost use Rattle.feel_lang.specs.Meaning.{path_of, paths_of};
+ghost use Rattle.feel_lang.specs.Operands.{operand_value, outcome_of};
 
-use crate::env::Env;
-use crate::expr::Tree;
-use feel_value::Value;
+use crate::operands::{Operand, formed};
+use feel_value::{Outcome, Part, Value};
 use std::alloc::{AllocError, Global};
 use std::sync::Arc;
 
@@ -38,16 +36,30 @@ fn paths(alloc: Global, items: &[Value], name: &str) -> Result<Vec<Value>, Alloc
     Ok(values)
 }
 
-// The value of a literal where it lies in the tree; of a name, or a path that begins at a name, where it lies in the environment.
-pub(crate) fn place<'a>(expr: &'a Tree, env: &'a Env) -> Option<&'a Value>
-    ensures value { IfSome result (λ v. den (view expr.now) env.now ≡ Is (datum_of v.now)) }
-    ensures lawful { IfSome result (λ v. is_value (datum_of v.now) ≡ true) }
+// The path from an operand. An entry of a value that is lent is lent too.
+pub(crate) fn entry<'a>(
+    alloc: Global,
+    whole: Operand<'a>,
+    name: &str,
+) -> Result<Option<Operand<'a>>, AllocError>
+    ensures { IfOk result (λ o. outcome_of o ≡ held (path_of name.now (operand_value whole.entry))) }
 {
-    match expr {
-        Tree::Constant(constant) => Some(constant.value().value()),
-        Tree::Name(name) => Some(env.find(name.as_str())?.value()),
-        Tree::Group(inner) => place(inner, env),
-        Tree::Path(inner, name) => place(inner, env)?.entry(name.as_str()),
-        _ => None,
+    match whole {
+        Operand::Lent(part) => entry_of_part(alloc, part, name),
+        Operand::Formed(value) => Ok(formed(Outcome::of(path(alloc, value.value(), name)?))),
     }
+}
+
+#[tactic(auto, using(crate::proofs::Paths::entry_held))]
+fn entry_of_part<'a>(
+    alloc: Global,
+    part: Part<'a>,
+    name: &str,
+) -> Result<Option<Operand<'a>>, AllocError>
+    ensures { IfOk result (λ o. outcome_of o ≡ held (path_of name.now part.entry)) }
+{
+    if let Some(entry) = part.entry(name) {
+        return Ok(Some(Operand::Lent(entry)));
+    }
+    Ok(formed(Outcome::of(path(alloc, part.value(), name)?)))
 }

@@ -2,13 +2,15 @@
 ghost use Rattle.std.specs.Prelude.{◌≡◌, IfOk};
 ghost use Rattle.feel_value.specs.Logic.{and_of, or_of, decided as decided_of};
 ghost use Rattle.feel_value.specs.View.{datum_of, items_view};
-ghost use Rattle.feel_lang.specs.Operands.{outcome_of, answer_of};
+ghost use Rattle.feel_lang.specs.Meaning.{den};
+ghost use Rattle.feel_lang.specs.Operands.{answer_of};
 ghost use Rattle.feel_lang.specs.Satisfied.{satisfied, held_of, tested, tested_any, answer, joined, stands_to, is_in, is_listed, is_member, opposite_answer, low_bound, high_bound};
 ghost use Rattle.feel_lang.specs.TestsView.{tests_view, test_view, test_views, bound_view};
+ghost use Rattle.feel_lang.specs.View.{view};
 
 use crate::env::Env;
 use crate::eval_expr::operand;
-use crate::operands::Operand;
+use crate::expr::Tree;
 use crate::unary::{Bound, Test, TestsTree};
 use feel_value::{Feel, Truth, Value, and3, decided, not3, or3};
 use std::alloc::{AllocError, Global};
@@ -85,13 +87,13 @@ fn one(alloc: Global, test: &Test, value: &Feel, env: &Env) -> Result<Option<Tru
     ensures { IfOk result (λ a. answer_of a ≡ tested (test_view test.now) value.now env.now) }
 {
     match test {
-        Test::Compares(bound, expr) => Ok(compared(*bound, value, operand(alloc, expr, env)?)),
+        Test::Compares(bound, expr) => compared(alloc, *bound, value, expr, env),
         Test::Interval(closed_low, low, high, closed_high) => {
-            let low = compared(low_end(*closed_low), value, operand(alloc, low, env)?);
-            let high = compared(high_end(*closed_high), value, operand(alloc, high, env)?);
+            let low = compared(alloc, low_end(*closed_low), value, low, env)?;
+            let high = compared(alloc, high_end(*closed_high), value, high, env)?;
             Ok(both(low, high))
         }
-        Test::Equals(expr) => Ok(matched(value, operand(alloc, expr, env)?)),
+        Test::Equals(expr) => matched(alloc, value, expr, env),
     }
 }
 
@@ -107,12 +109,23 @@ fn high_end(closed: bool) -> Bound
     if closed { Bound::AtMost } else { Bound::Below }
 }
 
-// Whether the input stands so to an operand.
-fn compared(bound: Bound, input: &Feel, operand: Option<Operand<'_>>) -> Option<Truth>
-    ensures { answer_of result ≡ answer (outcome_of operand.entry) (λ d. stands_to (bound_view bound) input.now d) }
+// Whether the input stands so to the value of an expression. A literal is compared as it lies there.
+fn compared(
+    alloc: Global,
+    bound: Bound,
+    input: &Feel,
+    expr: &Tree,
+    env: &Env,
+) -> Result<Option<Truth>, AllocError>
+    ensures { IfOk result (λ a. answer_of a ≡ answer (den (view expr.now) env.now) (λ d. stands_to (bound_view bound) input.now d)) }
 {
-    let operand = operand?;
-    Some(stands(bound, input.value(), operand.value()))
+    if let Tree::Constant(constant) = expr {
+        return Ok(Some(stands(bound, input.value(), constant.value().value())));
+    }
+    match operand(alloc, expr, env)? {
+        Some(operand) => Ok(Some(stands(bound, input.value(), operand.value()))),
+        None => Ok(None),
+    }
 }
 
 fn stands(bound: Bound, input: &Value, value: &Value) -> Truth
@@ -126,12 +139,17 @@ fn stands(bound: Bound, input: &Value, value: &Value) -> Truth
     }
 }
 
-// Whether the input is an operand, or a member of it.
-fn matched(input: &Feel, operand: Option<Operand<'_>>) -> Option<Truth>
-    ensures { answer_of result ≡ answer (outcome_of operand.entry) (λ d. decided_of (is_in input.now d)) }
+// Whether the input is the value of an expression, or a member of it.
+fn matched(alloc: Global, input: &Feel, expr: &Tree, env: &Env) -> Result<Option<Truth>, AllocError>
+    ensures { IfOk result (λ a. answer_of a ≡ answer (den (view expr.now) env.now) (λ d. decided_of (is_in input.now d))) }
 {
-    let operand = operand?;
-    Some(decided(found(input.value(), operand.value())))
+    if let Tree::Constant(constant) = expr {
+        return Ok(Some(decided(found(input.value(), constant.value().value()))));
+    }
+    match operand(alloc, expr, env)? {
+        Some(operand) => Ok(Some(decided(found(input.value(), operand.value())))),
+        None => Ok(None),
+    }
 }
 
 // Whether the input is the value, or a member of it.

@@ -1,6 +1,7 @@
 //! Bindings that hide one another.
 use feel_lang::Env;
 use feel_value::{Feel, Value};
+use std::alloc::Global;
 use std::process::Abort;
 use std::test::Fail;
 
@@ -13,7 +14,7 @@ fn found(env: &Env, name: &str) -> Option<i64> {
 }
 
 /// Bindings that are made, how many are there then, how many are left of them, and what a, b and c are bound to.
-const STEPS: &[(&[(&str, i64)], usize, usize, [Option<i64>; 3])] = &[
+const STEPS: &[(&[(&str, u8)], usize, usize, [Option<i64>; 3])] = &[
     (&[], 0, 0, [None, None, None]),
     (&[("a", 1), ("a", 2)], 2, 2, [Some(2), None, None]),
     (&[], 2, 1, [Some(1), None, None]),
@@ -50,14 +51,26 @@ const STEPS: &[(&[(&str, i64)], usize, usize, [Option<i64>; 3])] = &[
     (&[], 10, 3, [Some(1), Some(1), None]),
 ];
 
-fn number(n: i64) -> Result<Feel, Fail> {
-    Ok(Feel::of(Value::Number(n)).ok_or("no number")?)
+fn number(n: u8) -> Result<Feel, Fail> {
+    Ok(Feel::of(Value::Number(i64::from(n))).ok_or("no number")?)
 }
 
-/// Makes these bindings.
-fn bind(env: &mut Env, bindings: &[(&str, i64)]) -> Result<(), Fail> {
+/// The numbers below `end`, each at its own place.
+fn numbers(alloc: Global, end: u8) -> Result<Vec<Feel>, Fail> {
+    let mut numbers = Vec::new(alloc);
+    for n in 0..end {
+        numbers.push(number(n)?)?;
+    }
+    Ok(numbers)
+}
+
+/// Makes these bindings, and lends the numbers that are among those of `lent`.
+fn bind<'a>(env: &mut Env<'a>, bindings: &[(&'a str, u8)], lent: &'a [Feel]) -> Result<(), Fail> {
     for (name, n) in bindings {
-        env.bind(name, number(*n)?)?;
+        match lent.get(usize::from(*n)) {
+            Some(value) => env.bind_lent(name, value)?,
+            None => env.bind(name, number(*n)?)?,
+        }
     }
     Ok(())
 }
@@ -74,9 +87,9 @@ fn cut(rt: &impl Abort, env: &mut Env, left: usize) {
 }
 
 /// Goes through all steps.
-fn go_through(rt: &impl Abort, env: &mut Env) -> Result<(), Fail> {
+fn go_through<'a>(rt: &impl Abort, env: &mut Env<'a>, lent: &'a [Feel]) -> Result<(), Fail> {
     for (bindings, there, left, want) in STEPS {
-        bind(env, bindings)?;
+        bind(env, bindings, lent)?;
         assert_eq!(rt; env.len(), *there);
         cut(rt, env, *left);
         assert_eq!(rt; all_found(env), *want);
@@ -84,9 +97,13 @@ fn go_through(rt: &impl Abort, env: &mut Env) -> Result<(), Fail> {
     Ok(())
 }
 
-/// The last binding counts, and what it hid counts again when it is dropped.
+/// The last binding counts, and what it hid counts again when it is dropped: where no number is lent, some are, or all.
 #[test]
 fn bindings_that_hide_one_another(rt: HostRuntime) -> Result<(), Fail> {
-    let mut env = Env::new(rt.alloc());
-    go_through(&rt, &mut env)
+    for end in [0, 6, 12] {
+        let lent = numbers(rt.alloc(), end)?;
+        let mut env = Env::new(rt.alloc());
+        go_through(&rt, &mut env, &lent)?;
+    }
+    Ok(())
 }

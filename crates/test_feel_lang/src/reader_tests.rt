@@ -88,7 +88,7 @@ fn shown_expr(alloc: Global, text: &str) -> Result<String, Fail> {
     shown(alloc, &expr)
 }
 
-/// What is shown of the text is this type's name with this tree.
+/// What is shown of the text is this type's name with this tree and the fields behind it.
 fn is_shown(
     rt: &impl Abort,
     alloc: Global,
@@ -111,90 +111,130 @@ fn expressions_group_as_the_grammar_says(rt: HostRuntime) -> Result<(), Fail> {
     Ok(())
 }
 
-/// Unary tests, and the forms that they are read as.
-const FORMS: &[(&str, &str)] = &[
-    ("-", "Any"),
+/// Unary tests, the forms that they are read as, and whether they are known to break no limit.
+const FORMS: &[(&str, &str, bool)] = &[
+    ("-", "Any", true),
     (
         "< 3, >= 7",
         "OneOf([Compares(Below, Constant(3)), Compares(AtLeast, Constant(7))])",
+        true,
     ),
-    ("<= -1", "OneOf([Compares(AtMost, Negate(Constant(1)))])"),
+    (
+        "<= -1",
+        "OneOf([Compares(AtMost, Negate(Constant(1)))])",
+        true,
+    ),
     (
         "[1..5)",
         "OneOf([Interval(true, Constant(1), Constant(5), false)])",
+        true,
     ),
     (
         "]1..5[",
         "OneOf([Interval(false, Constant(1), Constant(5), false)])",
+        true,
     ),
     (
         "(1..5]",
         "OneOf([Interval(false, Constant(1), Constant(5), true)])",
+        true,
     ),
     (
         "[1 .. a + 1]",
         "OneOf([Interval(true, Constant(1), Binary(Add, Name(\"a\"), Constant(1)), true)])",
+        false,
     ),
     (
         "[[1]..[2]]",
         "OneOf([Interval(true, List([Constant(1)]), List([Constant(2)]), true)])",
+        false,
     ),
     (
         "[1, 5]",
         "OneOf([Equals(List([Constant(1), Constant(5)]))])",
+        false,
     ),
     (
         "(1), [2..3]",
         "OneOf([Equals(Group(Constant(1))), Interval(true, Constant(2), Constant(3), true)])",
+        true,
     ),
     (
         "not(< 3, > 7)",
         "NoneOf([Compares(Below, Constant(3)), Compares(Above, Constant(7))])",
+        true,
     ),
-    ("not(true)", "NoneOf([Equals(Constant(true))])"),
+    ("not(true)", "NoneOf([Equals(Constant(true))])", true),
     (
         "not((1..5))",
         "NoneOf([Interval(false, Constant(1), Constant(5), false)])",
+        true,
     ),
-    ("not(not(1))", "NoneOf([Equals(Not(Constant(1)))])"),
+    ("not(not(1))", "NoneOf([Equals(Not(Constant(1)))])", true),
     (
         "not(1), 2",
         "OneOf([Equals(Not(Constant(1))), Equals(Constant(2))])",
+        true,
     ),
     (
         "not(1) = 2",
         "OneOf([Equals(Binary(Equal, Not(Constant(1)), Constant(2)))])",
+        true,
     ),
     (
         "\"a\", null",
         "OneOf([Equals(Constant(\"a\")), Equals(Constant(null))])",
+        true,
     ),
     (
         "a > 3",
         "OneOf([Equals(Binary(Greater, Name(\"a\"), Constant(3)))])",
+        true,
     ),
-    ("-1", "OneOf([Equals(Negate(Constant(1)))])"),
-    ("null", "OneOf([Equals(Constant(null))])"),
-    ("< \"b\"", "OneOf([Compares(Below, Constant(\"b\"))])"),
+    ("-1", "OneOf([Equals(Negate(Constant(1)))])", true),
+    ("null", "OneOf([Equals(Constant(null))])", true),
+    ("< \"b\"", "OneOf([Compares(Below, Constant(\"b\"))])", true),
     (
         "]1..5]",
         "OneOf([Interval(false, Constant(1), Constant(5), true)])",
+        true,
     ),
     (
         "[1..5[",
         "OneOf([Interval(true, Constant(1), Constant(5), false)])",
+        true,
     ),
     (
         "(1..5)",
         "OneOf([Interval(false, Constant(1), Constant(5), false)])",
+        true,
     ),
     (
         "[[1, 5]]",
         "OneOf([Equals(List([List([Constant(1), Constant(5)])]))])",
+        false,
     ),
     (
         "9223372036854775807 + 1",
         "OneOf([Equals(Binary(Add, Constant(9223372036854775807), Constant(1)))])",
+        false,
+    ),
+    ("-a", "OneOf([Equals(Negate(Name(\"a\")))])", false),
+    ("a.b", "OneOf([Equals(Path(Name(\"a\"), \"b\"))])", false),
+    (
+        "a between -1 and b",
+        "OneOf([Equals(Between(Name(\"a\"), Negate(Constant(1)), Name(\"b\")))])",
+        true,
+    ),
+    (
+        "if a then 1 else not(b)",
+        "OneOf([Equals(If(Name(\"a\"), Constant(1), Not(Name(\"b\"))))])",
+        true,
+    ),
+    (
+        "if a then 1 else abs(b)",
+        "OneOf([Equals(If(Name(\"a\"), Constant(1), Call(Abs, Name(\"b\"))))])",
+        false,
     ),
 ];
 
@@ -206,9 +246,10 @@ fn shown_tests(alloc: Global, text: &str) -> Result<String, Fail> {
 
 #[test]
 fn unary_tests_have_one_form(rt: HostRuntime) -> Result<(), Fail> {
-    for (text, tree) in FORMS {
+    for (text, tree, keep_limits) in FORMS {
         let shown = shown_tests(rt.alloc(), text)?;
-        is_shown(&rt, rt.alloc(), text, &shown, "Tests", tree)?;
+        let fields = format!(in rt.alloc(); "{tree}, keep_limits: {keep_limits:?}")?;
+        is_shown(&rt, rt.alloc(), text, &shown, "Tests", &fields)?;
     }
     Ok(())
 }

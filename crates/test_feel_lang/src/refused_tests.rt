@@ -1,6 +1,7 @@
 //! Calls whose requests for memory are refused. With ample memory each test prints that nothing was refused.
 use feel_lang::{Env, Expr, Held, Tests, eval, holds, read_expr, read_tests};
 use feel_value::{Feel, Outcome, Value};
+use full_heap::FullHeap;
 use std::alloc::{AllocError, Global};
 use std::process::Abort;
 use std::sync::Arc;
@@ -58,8 +59,60 @@ fn a_refused_binding_changes_nothing(rt: HostRuntime) -> Result<(), Fail> {
     Ok(())
 }
 
+/// Whether a is refused the lent value while the heap gives nothing.
+fn refused_while_full<'a>(
+    alloc: Global,
+    env: &mut Env<'a>,
+    value: &'a Feel,
+) -> Result<bool, AllocError> {
+    let full = FullHeap::but(alloc, 0)?;
+    let refused = env.bind_lent("a", value).is_err();
+    drop(full);
+    Ok(refused)
+}
+
+/// Lends a the value so often.
+fn lend<'a>(env: &mut Env<'a>, value: &'a Feel, times: usize) -> Result<(), AllocError> {
+    for _ in 0..times {
+        env.bind_lent("a", value)?;
+    }
+    Ok(())
+}
+
+/// Lends the values, the second one also as the last of nine, and tries each of these while the heap gives nothing.
+fn lend_both<'a>(
+    rt: &impl Abort,
+    alloc: Global,
+    env: &mut Env<'a>,
+    one: &'a Feel,
+    two: &'a Feel,
+) -> Result<(), AllocError> {
+    let first = refused_while_full(alloc, env, one)?;
+    assert!(rt; first && bindings(env) == (0, None));
+    lend(env, one, 1)?;
+    // There is room for this one, and nothing is copied.
+    let second = refused_while_full(alloc, env, two)?;
+    assert!(rt; !second && bindings(env) == (2, Some(2)));
+    lend(env, one, 6)?;
+    let ninth = refused_while_full(alloc, env, two)?;
+    assert!(rt; ninth && bindings(env) == (8, Some(1)));
+    lend(env, two, 1)?;
+    assert!(rt; bindings(env) == (9, Some(2)));
+    Ok(())
+}
+
+/// A lent binding that is refused leaves as many as before, and the name as it was bound before.
+#[test]
+fn a_refused_lent_binding_changes_nothing(rt: HostRuntime) -> Result<(), Fail> {
+    let one = number(&rt, 1);
+    let two = number(&rt, 2);
+    let mut env = Env::new(rt.alloc());
+    lend_both(&rt, rt.alloc(), &mut env, &one, &two)?;
+    Ok(())
+}
+
 /// An environment in which a is this value.
-fn bound(alloc: Global, value: Feel) -> Result<Env, AllocError> {
+fn bound(alloc: Global, value: Feel) -> Result<Env<'static>, AllocError> {
     let mut env = Env::new(alloc);
     env.bind("a", value)?;
     Ok(env)
