@@ -20,11 +20,11 @@ use Rattle.dmn_table.specs.Priority.{Hit, places_of}
 use Rattle.dmn_table.specs.Table.{Column, Rule}
 use Rattle.dmn_table.specs.View.{hit_view}
 
-and_second : (a b : Bool) → (a && b) ≡ true → b ≡ true
+pub and_second : (a b : Bool) → (a && b) ≡ true → b ≡ true
 and_second true b e = e
 and_second false b e = cc
 
-and_first : (a b : Bool) → (a && b) ≡ true → a ≡ true
+pub and_first : (a b : Bool) → (a && b) ≡ true → a ≡ true
 and_first true b e = refl
 and_first false b e = cc
 
@@ -33,7 +33,7 @@ places_length [] values e = refl
 places_length (c ∷ cs) [] e = cc
 places_length (c ∷ cs) (v ∷ values) e = ap suc (places_length cs values (omega arith))
 
-hit_length : (cs : List Column) (m : Bindings) (r : Rule) (h : Hit) → length r.gives ≡ length cs → hit_of cs m r ≡ Some h → length h.places ≡ length cs
+pub hit_length : (cs : List Column) (m : Bindings) (r : Rule) (h : Hit) → length r.gives ≡ length cs → hit_of cs m r ≡ Some h → length h.places ≡ length cs
 hit_length cs m r h fits e = from_values (values_of m r.gives) refl e
   where
     from_output : (ds : List Datum) → length ds ≡ length cs → (o : Option Datum) → (o >>= λ output. Some (record { places = places_of cs ds; output = output })) ≡ Some h → length h.places ≡ length cs
@@ -44,11 +44,11 @@ hit_length cs m r h fits e = from_values (values_of m r.gives) refl e
     from_values None f e = cc
     from_values (Some ds) f e = from_output ds (each_length _ r.gives ds f ∙ fits) (value_of (output_of cs ds)) e
 
-abbrev EachGives : ℕ → List Rule → Type 0
+abbrev pub EachGives : ℕ → List Rule → Type 0
 EachGives n [] = ⊤
 EachGives n (r ∷ rs) = (length r.gives ≡ n) × EachGives n rs
 
-abbrev EachPlaced : ℕ → List Hit → Type 0
+abbrev pub EachPlaced : ℕ → List Hit → Type 0
 EachPlaced n [] = ⊤
 EachPlaced n (h ∷ hs) = (length h.places ≡ n) × EachPlaced n hs
 
@@ -58,7 +58,7 @@ kept_gives n (r ∷ rs) [] g = tt
 kept_gives n (r ∷ rs) (true ∷ answers) g = (g.0, kept_gives n rs answers g.1)
 kept_gives n (r ∷ rs) (false ∷ answers) g = kept_gives n rs answers g.1
 
-each_placed : (cs : List Column) (m : Bindings) (rs : List Rule) (hs : List Hit) → EachGives (length cs) rs → each (hit_of cs m) rs ≡ Some hs → EachPlaced (length cs) hs
+pub each_placed : (cs : List Column) (m : Bindings) (rs : List Rule) (hs : List Hit) → EachGives (length cs) rs → each (hit_of cs m) rs ≡ Some hs → EachPlaced (length cs) hs
 each_placed cs m [] hs g e = subst (EachPlaced (length cs)) (same_Some _ _ e) tt
 each_placed cs m (r ∷ rs) hs g e = go (hit_of cs m r) refl (each (hit_of cs m) rs) (λ more f. each_placed cs m rs more g.1 f) e
   where
@@ -86,7 +86,7 @@ each_have n (r ∷ rs) g =
     let one : nat_eq (length r.gives) n ≡ true = eq-eqb _ _ g.0 in
     ap (λ b. b && have_entries n rs) one ∙ each_have n rs g.1
 
-have_each : (n : ℕ) (rs : List Rule) → have_entries n rs ≡ true → EachGives n rs
+pub have_each : (n : ℕ) (rs : List Rule) → have_entries n rs ≡ true → EachGives n rs
 have_each n [] e = tt
 have_each n (r ∷ rs) e =
     let one : nat_eq (length r.gives) n ≡ true = and_first _ (have_entries n rs) e in

@@ -11,3 +11,5 @@ pub mod Distinct
 pub mod StableOrder
 pub mod PriorityOrder
 pub mod EqualPlaces
+pub mod FirstInPriority
+pub mod FittingHits

@@ -14,7 +14,7 @@ use Rattle.dmn_table.proofs.StableOrder.{put, in_order}
 abbrev pub first_by_places : hit.Hit → hit.Hit → Bool
 first_by_places h k = is_lt (slice_cmp nat_cmp h.places.items k.places.items)
 
-higher_is_first : (ps qs : List ℕ) → length ps ≡ length qs → is_higher ps qs ≡ is_lt (slice_cmp nat_cmp ps qs)
+pub higher_is_first : (ps qs : List ℕ) → length ps ≡ length qs → is_higher ps qs ≡ is_lt (slice_cmp nat_cmp ps qs)
 higher_is_first [] [] e = refl
 higher_is_first [] (q ∷ qs) e = cc
 higher_is_first (p ∷ ps) [] e = cc

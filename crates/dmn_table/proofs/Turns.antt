@@ -4,7 +4,6 @@ use Rattle.std.specs.Option.{is_some}
 use denote.Ref.{Bor}
 use Rattle.feel_value.specs.Datum.{Datum, list, item, items_of}
 use Rattle.feel_value.specs.Limits.{is_value}
-use Rattle.feel_value.specs.Outcome.{held}
 use Rattle.feel_value.specs.declared.feel.Outcome.TheVariants.{Is, Limit}
 use Rattle.feel_value.proofs.Room.{behind, too_much}
 use Rattle.feel_lang.specs.Meaning.{Bindings}
@@ -24,11 +23,14 @@ appended : (ms ds : List Datum) → items_of (ms ++ ds) ≡ behind ms (items_of 
 appended [] ds = refl
 appended (m ∷ ms) ds = ap (item m) (appended ms ds)
 
--- members that are too many for a value leave no list, whatever comes behind them
+-- members that are too many for a value are so with more behind them
+pub more_than_fit : (ms ds : List Datum) → is_value (list (items_of ms)) ≡ false → is_value (list (items_of (ms ++ ds))) ≡ false
+more_than_fit ms ds h = ap (λ xs. is_value (list xs)) (appended ms ds) ∙ too_much ms (items_of ds) h
+
+-- they leave no list, whatever comes behind them
 too_many : (ms : List Datum) (o : Option (List Datum)) → is_value (list (items_of ms)) ≡ false → outcome_from list_of (after ms o) ≡ Limit
 too_many ms None h = refl
-too_many ms (Some ds) h =
-    ap (λ xs. held (list xs)) (appended ms ds) ∙ ap (λ b. if b then Is (list (behind ms (items_of ds))) else Limit) (too_much ms (items_of ds) h)
+too_many ms (Some ds) h = ap (λ b. if b then Is (list (items_of (ms ++ ds))) else Limit) (more_than_fit ms ds h)
 
 module _ (cs : List Column) (m : Bindings) (rs : List (Bor Rule)) where
   module _ (i : ℕ) (r : Bor Rule) (here : r ≡ get_or rs i r) (more : i < length rs) where

@@ -1,13 +1,15 @@
--- Internal: no public contract cites these words. The rules that hit, and their outputs without the places.
-use Rattle.std.specs.Prelude.{List, map, length, nat_eq, Option, Some, ℕ, Bool}
+-- Internal: no public contract cites these words. The rules that hit, and their outputs.
+use Rattle.std.specs.Prelude.{List, map, length, nat_eq, Option, Some, None, ℕ, Bool, if◌then◌else◌}
 use Rattle.std.specs.List.{list_all}
 use denote.Ref.{Bor}
-use Rattle.feel_value.specs.Datum.{Datum}
+use Rattle.feel_value.specs.Datum.{Datum, list, items_of}
+use Rattle.feel_value.specs.Limits.{is_value}
 use Rattle.feel_lang.specs.Meaning.{Bindings}
 use Rattle.dmn_table.specs.declared.table.Rule as rule
 use Rattle.dmn_table.specs.Evaluated.{value_of, ◌>>=◌, each}
 use Rattle.dmn_table.specs.Hits.{does_hit, kept, values_of, output_of}
 use Rattle.dmn_table.specs.Parts.{rule_view}
+use Rattle.dmn_table.specs.Priority.{Hit}
 use Rattle.dmn_table.specs.Table.{Column, Rule}
 
 -- the rules behind references
@@ -25,6 +27,11 @@ rule_output columns m rule = values_of m rule.gives >>= λ values. value_of (out
 -- the outputs of rules
 abbrev pub outputs_of : List Column → Bindings → List Rule → Option (List Datum)
 outputs_of columns m rules = each (rule_output columns m) rules
+
+-- the hits, where the list of their outputs is a value
+abbrev pub fitting : Option (List Hit) → Option (List Hit)
+fitting None = None
+fitting (Some hs) = if is_value (list (items_of (map (λ h. h.output) hs))) then Some hs else None
 
 -- each rule has so many output entries
 abbrev pub have_entries : ℕ → List Rule → Bool

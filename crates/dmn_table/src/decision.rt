@@ -11,8 +11,9 @@ use feel_lang::Env;
 use feel_value::{Outcome, Value};
 use std::alloc::{AllocError, Global};
 
-/// The outcome of a table under an environment. All input expressions and all input entries of all rules are evaluated,
-/// then the output entries of the rules that hit, or, where none hits, the defaults.
+/// The outcome of a table under an environment. All input expressions are evaluated, and all input entries of all rules but
+/// those after a miss in their rule that are known to break no limit; then the output entries of the rules that hit, or,
+/// where none hits, the defaults.
 pub fn decide(alloc: Global, table: &Table, env: &Env) -> Result<Outcome, AllocError>
     ensures { IfOk result (λ o. o ≡ table_result table.now env.now) }
 {

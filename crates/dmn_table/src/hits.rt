@@ -4,18 +4,18 @@ ghost use Rattle.dmn_table.specs.Evaluated.{each};
 ghost use Rattle.dmn_table.specs.Hits.{does_hit as does_hit_of, hit_of as hit_of_rule};
 ghost use Rattle.dmn_table.specs.Priority.{place as place_of, places_of};
 ghost use Rattle.dmn_table.specs.Parts.{rule_view, column_view};
-ghost use Rattle.dmn_table.specs.RuleOutputs.{rules_view, hits_among};
+ghost use Rattle.dmn_table.specs.RuleOutputs.{rules_view, hits_among, fitting};
 ghost use Rattle.dmn_table.specs.View.{hit_view};
 
 use crate::output::{evaluated, one_or_context};
 use crate::priority::Hit;
 use crate::table::{Output, Rule};
 use feel_lang::{Env, Held, holds};
-use feel_value::{Feel, Outcome, Truth, equal};
+use feel_value::{Feel, Members, Outcome, Truth, equal};
 use std::alloc::{AllocError, Global};
 
 /// Whether the rule hits, for these values of the input expressions; None where an entry breaks a limit. All entries are
-/// evaluated, those after a miss too.
+/// evaluated but those after a miss that are known to break no limit, since these change nothing.
 fn does_hit(
     alloc: Global,
     rule: &Rule,
@@ -26,6 +26,9 @@ fn does_hit(
 {
     let mut hit = true;
     for (tests, value) in rule.tests.iter().zip(values) {
+        if !hit && tests.keep_limits() {
+            continue;
+        }
         match holds(alloc, tests, value, env)? {
             Held::Yes => {}
             Held::No => hit = false,
@@ -35,7 +38,8 @@ fn does_hit(
     Ok(Some(hit))
 }
 
-/// The rules that hit, in their order; None where an entry breaks a limit. The entries of all rules are evaluated.
+/// The rules that hit, in their order; None where an entry breaks a limit. The entries of all rules are evaluated, but those
+/// after a miss in their rule that are known to break no limit.
 pub(crate) fn rules_that_hit<'a>(
     alloc: Global,
     rules: &'a [Rule],
@@ -80,7 +84,7 @@ fn places(alloc: Global, outputs: &[Output], values: &[Feel]) -> Result<Vec<usiz
 }
 
 /// A rule that hit, with its output and the places of its values; None where a limit is broken.
-fn hit_of(
+pub(crate) fn found_hit(
     alloc: Global,
     rule: &Rule,
     outputs: &[Output],
@@ -98,21 +102,26 @@ fn hit_of(
     }
 }
 
-/// These rules, with their outputs and places; None where a limit is broken.
-pub(crate) fn found_hits(
+/// These rules, with their outputs and places; None where a limit is broken, or the list of the outputs would be no value. The
+/// evaluation ends at the first output too many.
+pub(crate) fn fitting_hits(
     alloc: Global,
     rules: &[&Rule],
     outputs: &[Output],
     env: &Env,
 ) -> Result<Option<Vec<Hit>>, AllocError>
-    ensures { IfOk result (λ found. option_map (λ v. map hit_view v.items) found ≡ each (hit_of_rule (map column_view outputs.now) env.now) (rules_view rules.now)) }
+    ensures { IfOk result (λ found. option_map (λ v. map hit_view v.items) found ≡ fitting (each (hit_of_rule (map column_view outputs.now) env.now) (rules_view rules.now))) }
 {
-    let mut hits = Vec::with_capacity(alloc, rules.len())?;
+    let mut hits = Vec::new(alloc);
+    let mut values = Members::new(alloc);
     for rule in rules {
-        match hit_of(alloc, rule, outputs, env)? {
-            Some(hit) => hits.push(hit)?,
-            None => return Ok(None),
+        let Some(hit) = found_hit(alloc, rule, outputs, env)? else {
+            return Ok(None);
+        };
+        if !values.push(hit.output.try_clone()?)? {
+            return Ok(None);
         }
+        hits.push(hit)?;
     }
     Ok(Some(hits))
 }

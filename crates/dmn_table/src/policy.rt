@@ -11,7 +11,7 @@ ghost use Rattle.dmn_table.specs.View.{hit_view};
 
 use crate::collected::{common_one, count, first, list_of, only_one};
 use crate::hit_policy::HitPolicy;
-use crate::hits::found_hits;
+use crate::hits::{fitting_hits, found_hit};
 use crate::numbers::{greatest, least, sum};
 use crate::priority::{Hit, in_priority};
 use crate::table::{Output, Rule};
@@ -45,7 +45,7 @@ pub(crate) fn result_of(
     }
 }
 
-/// The output of the highest priority.
+/// The output of the highest priority. The output of each rule is evaluated; of the hits, only the best so far is kept.
 fn highest(
     alloc: Global,
     rules: &[&Rule],
@@ -55,13 +55,25 @@ fn highest(
     requires { have_entries (length outputs.now) (rules_view rules.now) ≡ true }
     ensures { IfOk result (λ o. o ≡ outcome_from (λ hs. Is (first_of (map (λ h. h.output) (in_priority_of hs)))) (each (hit_of (map column_view outputs.now) env.now) (rules_view rules.now))) }
 {
-    match found_hits(alloc, rules, outputs, env)? {
-        Some(hits) => Ok(first_output(in_priority(hits)?)),
-        None => Ok(Outcome::Limit),
+    let Some((rule, rest)) = rules.split_first() else {
+        return Ok(Outcome::of(Value::Null));
+    };
+    let Some(mut best) = found_hit(alloc, rule, outputs, env)? else {
+        return Ok(Outcome::Limit);
+    };
+    for rule in rest {
+        let Some(hit) = found_hit(alloc, rule, outputs, env)? else {
+            return Ok(Outcome::Limit);
+        };
+        if hit.is_higher(&best) {
+            best = hit;
+        }
     }
+    Ok(Outcome::Is(best.output))
 }
 
-/// The list of the outputs in decreasing priority.
+/// The list of the outputs in decreasing priority. The evaluation ends where they are too many for a value, whatever their
+/// order.
 fn ordered(
     alloc: Global,
     rules: &[&Rule],
@@ -71,19 +83,9 @@ fn ordered(
     requires { have_entries (length outputs.now) (rules_view rules.now) ≡ true }
     ensures { IfOk result (λ o. o ≡ outcome_from (λ hs. list_of_values (map (λ h. h.output) (in_priority_of hs))) (each (hit_of (map column_view outputs.now) env.now) (rules_view rules.now))) }
 {
-    match found_hits(alloc, rules, outputs, env)? {
+    match fitting_hits(alloc, rules, outputs, env)? {
         Some(hits) => list_of_hits(alloc, in_priority(hits)?),
         None => Ok(Outcome::Limit),
-    }
-}
-
-/// The first output.
-fn first_output(hits: Vec<Hit>) -> Outcome
-    ensures { result ≡ Is (first_of (map (λ h. h.output) (map hit_view hits.items))) }
-{
-    match hits.into_iter().next() {
-        Some(hit) => Outcome::Is(hit.output),
-        None => Outcome::of(Value::Null),
     }
 }
 

@@ -1,7 +1,7 @@
 //! The order of hits by their output values.
 ghost use Rattle.std.specs.Prelude.{◌≡◌, IfOk, map, length};
 ghost use Rattle.std.specs.List.{AllPairs};
-ghost use Rattle.dmn_table.specs.Priority.{in_priority as in_priority_of};
+ghost use Rattle.dmn_table.specs.Priority.{is_higher as is_higher_of, in_priority as in_priority_of};
 ghost use Rattle.dmn_table.specs.View.{hit_view};
 
 use feel_value::Feel;
@@ -12,6 +12,16 @@ use std::alloc::AllocError;
 pub(crate) struct Hit {
     pub(crate) places: Vec<usize>,
     pub(crate) output: Feel,
+}
+
+impl Hit {
+    /// Whether this one has the higher priority: its places are less.
+    pub(crate) fn is_higher(&self, other: &Hit) -> bool
+        requires { length self.now.places.items ≡ length other.now.places.items }
+        ensures { result ≡ is_higher_of self.now.places.items other.now.places.items }
+    {
+        self.places.cmp(&other.places).is_lt()
+    }
 }
 
 /// The hits in decreasing priority, ties in their order.

@@ -30,7 +30,7 @@ const OUTCOMES: &[(&str, &str)] = &[
 ];
 
 /// An environment in which `a` is this number.
-pub fn env_of(alloc: Global, a: i64) -> Result<Env, Fail> {
+pub fn env_of(alloc: Global, a: i64) -> Result<Env<'static>, Fail> {
     let mut env = Env::new(alloc);
     env.bind("a", Feel::of(Value::Number(a)).ok_or("no number")?)?;
     Ok(env)

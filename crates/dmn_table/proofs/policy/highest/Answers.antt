@@ -1,10 +1,51 @@
-use Rattle.std.proofs.Common.{map, sym, ap, ◌∙◌, option_map}
-use Rattle.dmn_table.specs.RuleOutputs.{rules_view}
+use Rattle.std.proofs.Common.{◌≡◌, ◌∷◌, ◌+◌, map, sym, ap, ◌∙◌, Some, option_map, rules, length}
+use Rattle.std.proofs.lemmas.List.{length-map}
+use Rattle.dmn_table.specs.Hits.{hit_of}
+use Rattle.dmn_table.specs.Parts.{column_view, rule_view}
+use Rattle.dmn_table.specs.Priority.{Hit}
+use Rattle.dmn_table.specs.RuleOutputs.{have_entries, rules_view}
 use Rattle.dmn_table.specs.View.{hit_view}
-use Rattle.dmn_table.proofs.EqualPlaces.{equal_places}
+use Rattle.dmn_table.proofs.FirstInPriority.{better, better_higher, better_lower, better_places, first_hit, from_best, hits_from, one_hit}
 use Rattle.dmn_table.proofs.policy.highest.Goals as goal
+use Rattle.dmn_table.proofs.policy.highest.Goals.{then-is_higher, else-is_higher+in-Text-1, else-is_higher+in-List-1, else-is_higher+in-Context-1, else-is_higher+in-Null-1}
 
-pub in_priority-requires : goal.in_priority-requires
-in_priority-requires c =
-    equal_places c.args.outputs.now (rules_view c.args.rules.now) c.args.env.now c.in-Some.hits.items c.requires
-    (sym (ap (option_map (λ v. map hit_view v.items)) c.in-Some.is) ∙ c.in_ok-hits.ensures)
+pub loop-rule-init : goal.loop-rule-init
+loop-rule-init c =
+    let cs = map column_view c.args.outputs.now in
+    let m = c.args.env.now in
+    let split : c.args.rules.now ≡ c.in-Some.rule.now ∷ c.in-Some.rest.now = search rules in
+    let found : hit_of cs m (rule_view c.in-Some.rule.now.now) ≡ Some (hit_view c.in-Some-2.best) = sym c.in_ok-best.ensures ∙ ap (option_map hit_view) c.in-Some-2.is in
+    first_hit cs m c.args.rules.now c.in-Some.rest.now c.in-Some.rule.now (hit_view c.in-Some-2.best) split found
+    (ap (λ n. have_entries n (rules_view c.args.rules.now)) (length-map c.args.outputs.now column_view) ∙ c.requires)
+
+pub is_higher-requires : goal.is_higher-requires
+is_higher-requires c =
+    let cs = map column_view c.args.outputs.now in
+    let m = c.args.env.now in
+    let kept = c.loop-rule.invariant in
+    let found : hit_of cs m (rule_view c.rule-item.result.now) ≡ Some (hit_view c.in-Some-3.hit) = sym c.in_ok-hit.ensures ∙ ap (option_map hit_view) c.in-Some-3.is in
+    let turn = one_hit cs m c.in-Some.rest.now c.loop-rule.rule-index c.rule-item.result (hit_view c.loop-rule.best) (hit_view c.in-Some-3.hit) c.rule-item.is c.loop-rule-test.true found kept.1 kept.2 in
+    turn.1 ∙ sym kept.1
+
+pub loop-rule-preserved : goal.loop-rule-preserved
+loop-rule-preserved c =
+    let cs = map column_view c.args.outputs.now in
+    let m = c.args.env.now in
+    let rest = c.in-Some.rest.now in
+    let next = c.loop-rule.rule-index + 1 in
+    let best = hit_view c.loop-rule.best in
+    let hit = hit_view c.in-Some-3.hit in
+    let kept = c.loop-rule.invariant in
+    let found : hit_of cs m (rule_view c.rule-item.result.now) ≡ Some hit = sym c.in_ok-hit.ensures ∙ ap (option_map hit_view) c.in-Some-3.is in
+    let turn = one_hit cs m rest c.loop-rule.rule-index c.rule-item.result best hit c.rule-item.is c.loop-rule-test.true found kept.1 kept.2 in
+    let chosen : hit_view c.if-is_higher.best ≡ better best hit = elim c.if-is_higher.branch [
+      | then-is_higher w ↦ ap hit_view w.best-is ∙ sym (better_higher best hit (sym c.is_higher.ensures ∙ w.if-is_higher.true))
+      | else-is_higher+in-Text-1 w ↦ ap hit_view w.best-is ∙ sym (better_lower best hit (sym c.is_higher.ensures ∙ w.if-is_higher.false))
+      | else-is_higher+in-List-1 w ↦ ap hit_view w.best-is ∙ sym (better_lower best hit (sym c.is_higher.ensures ∙ w.if-is_higher.false))
+      | else-is_higher+in-Context-1 w ↦ ap hit_view w.best-is ∙ sym (better_lower best hit (sym c.is_higher.ensures ∙ w.if-is_higher.false))
+      | else-is_higher+in-Null-1 w ↦ ap hit_view w.best-is ∙ sym (better_lower best hit (sym c.is_higher.ensures ∙ w.if-is_higher.false))
+    ] in (
+      kept.0 ∙ turn.0 ∙ ap (λ g. from_best g (hits_from cs m rest next)) (sym chosen),
+      ap (λ (g : Hit). length g.places) chosen ∙ better_places (length cs) best hit kept.1 turn.1,
+      turn.2,
+    )
