@@ -145,27 +145,6 @@ abbrev mutual
       then (logic_of e >>= λ b. text_of n >>= λ name. Some (name, b)) else None
   entry_members _ = None
 
--- what stands under the one key of an object
-abbrev pub logic_under : List ℕ → Data → Option Logic
-logic_under k d =
-    if bytes_eq k (codes "list") then option_map (λ bs. list (members_of bs)) (members_at d)
-    else (if bytes_eq k (codes "context") then option_map (λ es. context (entries_of es)) (entries_at d)
-    else (if bytes_eq k (codes "table") then option_map table (table_of d) else None))
-
--- the context with a result, and what stands under the two keys of an object
-abbrev pub context_with_of : Data → Data → Option Logic
-context_with_of d r = entries_at d >>= λ es. logic_of r >>= λ b. Some (context_with (entries_of es) b)
-
-abbrev pub logic_under_both : List ℕ → Data → List ℕ → Data → Option Logic
-logic_under_both k d l r = if bytes_eq k (codes "context") && bytes_eq l (codes "result") then context_with_of d r else None
-
--- the entry of a context, and what stands under its two keys
-abbrev pub named_logic : Data → Data → Option (Name × Logic)
-named_logic e n = logic_of e >>= λ b. text_of n >>= λ name. Some (name, b)
-
-abbrev pub entry_under : List ℕ → Data → List ℕ → Data → Option (Name × Logic)
-entry_under k e l n = if bytes_eq k (codes "expr") && bytes_eq l (codes "name") then named_logic e n else None
-
 abbrev pub decision_of : Data → Option (Decision (List ℕ) WrittenTable)
 decision_of = object_of (codes "name" ∷ codes "needs" ∷ codes "expr" ∷ []) (λ ms.
     at (codes "name") text_of ms >>= λ name.

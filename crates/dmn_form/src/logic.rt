@@ -1,7 +1,8 @@
 //! Boxed expressions as they are written.
 ghost use Rattle.std.specs.Prelude.{◌≡◌, ◌&&◌, IfOk, option_map, bytes_eq};
 ghost use Rattle.serde_json.specs.View.{view, members_view};
-ghost use Rattle.dmn_form.specs.Draft.{logic_of as logic_from, logic_in as logic_among, logic_under as logic_by_key, members_at, entries_at, entry_at};
+ghost use Rattle.dmn_form.specs.Draft.{logic_of as logic_from, logic_in as logic_among, members_at, entries_at, entry_at};
+ghost use Rattle.dmn_form.specs.LogicParts.{logic_under as logic_by_key};
 ghost use Rattle.dmn_form.specs.LogicView.{logic_view, members_view as members_read, entries_view as entries_read, entry_view};
 
 use crate::fields::text_of;

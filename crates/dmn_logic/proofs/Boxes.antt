@@ -1,21 +1,17 @@
 -- Boxed expressions, one member or one entry at a time.
 use Rattle.std.proofs.Common.{◌≡◌, ℕ, ◌+◌, ◌<◌, List, [], ◌∷◌, ◌++◌, map, length, get_or, take, drop, refl, sym, ap, ◌∙◌, append_assoc, String, Vec, Box, Global, string_bytes, rules, Option, None, Some, arith}
-use Rattle.std.specs.Arc.{arc_str_bytes}
-use Rattle.std.specs.declared.sync.ArcStr.{ArcStr}
-use Rattle.std.proofs.lemmas.List.{at_drop_more, map-append}
+use Rattle.std.proofs.lemmas.List.{at_drop_more}
 use Rattle.std.proofs.lemmas.Grind.{common_steps}
 use Rattle.feel_value.specs.Datum.{Datum}
-use Rattle.feel_value.specs.View.{datum_of}
 use Rattle.feel_value.specs.declared.feel.Outcome.{Outcome}
 use Rattle.feel_value.specs.declared.feel.Outcome.TheVariants.{Is, Limit}
-use Rattle.feel_value.specs.declared.value.Value.{Value}
 use Rattle.feel_lang.specs.Meaning.{Bindings}
 use Rattle.dmn_table.specs.Evaluated.{value_of, ◌>>=◌, outcome_from}
 use Rattle.dmn_table.proofs.Each.{after}
 use Rattle.dmn_form.specs.Model.{member, entry, context, context_with, entries_of}
 use Rattle.dmn_logic.specs.Boxed.{boxed, member_values, entry_values}
 use Rattle.dmn_logic.specs.LogicView.{logic_view, members_view, entries_view, named_view, entry_view}
-use Rattle.dmn_logic.specs.ValueView.{pair_view, bound_behind}
+use Rattle.dmn_logic.specs.Bound.{bound_behind}
 use Rattle.dmn_logic.specs.declared.logic.Logic.{Logic, Context, ContextWith, the_lemmas}
 
 pub after-more : {X : Type 0} (vs : List X) (v : X) (o : Option (List X)) → after vs (o >>= λ ds. Some (v ∷ ds)) ≡ after (vs ++ v ∷ []) o
@@ -65,27 +61,8 @@ logic_view-Context v = context_in v ∙ ap (λ es. context (entries_of es)) (fus
 pub logic_view-ContextWith : (v : Vec Named Global) (b : Box Logic Global) → logic_view (ContextWith v b) ≡ context_with (entries_view v.items) (logic_view b.value)
 logic_view-ContextWith v b = context_with_in v b ∙ ap (λ es. context_with (entries_of es) (logic_view b.value)) (fused v.items)
 
-kept_in_front : (outer m r : Bindings) → take (length outer) m ≡ outer → take (length outer) (m ++ r) ≡ outer
+pub kept_in_front : (outer m r : Bindings) → take (length outer) m ≡ outer → take (length outer) (m ++ r) ≡ outer
 kept_in_front outer m r e = grind (arith, common_steps)
-
--- one turn of the loop over the entries of a context
-pub entry_turn : (whole : Option (List (List ℕ × Datum))) (outer m0 m1 m2 : Bindings) (vs ws : List (ArcStr Global × Value)) (xs : List Named) (i : ℕ) (x : Named)
-    (key : ArcStr Global) (name : List ℕ) (v : Value) (d e : Datum)
-    → (take (length outer) m0 ≡ outer) × (whole ≡ after (map pair_view vs) (entry_values (entries_view (drop i xs)) m0))
-    → x ≡ get_or xs i x → i < length xs → Is d ≡ boxed (logic_view x.1) m0 → m1 ≡ m0 → m2 ≡ m1 ++ (name, e) ∷ [] → e ≡ d → name ≡ string_bytes x.0
-    → arc_str_bytes key ≡ string_bytes x.0 → datum_of v ≡ d → ws ≡ vs ++ (key, v) ∷ []
-    → (take (length outer) m2 ≡ outer) × (whole ≡ after (map pair_view ws) (entry_values (entries_view (drop (i + 1) xs)) m2))
-entry_turn whole outer m0 m1 m2 vs ws xs i x key name v d e before here more outcome kept bound copied named keyed same pushed =
-    let pair : List ℕ × Datum = (string_bytes x.0, d) in
-    let paired : pair_view (key, v) ≡ pair = ap (λ k. (k, datum_of v)) keyed ∙ ap (λ z. (string_bytes x.0, z)) same in
-    let new : map pair_view ws ≡ map pair_view vs ++ pair ∷ [] = ap (map pair_view) pushed ∙ map-append pair_view vs ((key, v) ∷ []) ∙ ap (λ p. map pair_view vs ++ p ∷ []) paired in
-    let next : m2 ≡ m0 ++ pair ∷ [] = bound ∙ ap (λ m. m ++ (name, e) ∷ []) kept ∙ ap (λ n. m0 ++ (n, e) ∷ []) named ∙ ap (λ z. m0 ++ (string_bytes x.0, z) ∷ []) copied in (
-      ap (take (length outer)) next ∙ kept_in_front outer m0 (pair ∷ []) before.0,
-      before.1 ∙ ap (after (map pair_view vs)) (entries_step m0 xs i x (Is d) here more outcome)
-          ∙ after-more (map pair_view vs) pair (entry_values (entries_view (drop (i + 1) xs)) (m0 ++ pair ∷ []))
-          ∙ ap (λ ps. after ps (entry_values (entries_view (drop (i + 1) xs)) (m0 ++ pair ∷ []))) (sym new)
-          ∙ ap (λ m. after (map pair_view ws) (entry_values (entries_view (drop (i + 1) xs)) m)) (sym next),
-    )
 
 -- one turn of the loop that binds the entries of a context
 pub bind_turn : (whole : Option Bindings) (outer m0 m1 m2 : Bindings) (xs : List Named) (i : ℕ) (x : Named) (name : List ℕ) (d : Datum)

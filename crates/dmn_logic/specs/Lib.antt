@@ -1,6 +1,6 @@
 pub mod Boxed
 pub mod LogicView
-pub mod ValueView
+pub mod Bound
 pub mod Parts
 pub mod Faults
 pub mod ReadLogic

@@ -1,22 +1,22 @@
 //! What boxed expressions come to.
-ghost use Rattle.std.specs.Prelude.{◌≡◌, Some, None, IfOk, option_map, if◌then◌else◌, take, length};
+ghost use Rattle.std.specs.Prelude.{◌≡◌, Some, None, IfOk, if◌then◌else◌, take, length};
 ghost use Rattle.dmn_form.specs.Model.{list, context};
 ghost use Rattle.dmn_logic.specs.Boxed.{boxed, entry_values as entry_values_of};
 ghost use Rattle.dmn_logic.specs.LogicView.{logic_view, members_view, entries_view};
-ghost use Rattle.dmn_logic.specs.ValueView.{pairs_view, bound_behind};
+ghost use Rattle.dmn_logic.specs.Bound.{bound_behind};
 
 use crate::logic::Logic;
 use dmn_table::decide;
 use feel_lang::{Env, eval};
-use feel_value::{Members, Outcome, Value};
+use feel_value::{ContextEntries, Members, Outcome};
 use std::alloc::{AllocError, Global};
 use std::sync::ArcStr;
 
 /// The outcome of a boxed expression, where names have the values that the environment gives them.
 ///
-/// Every member of a list, every entry of a context and its result is evaluated until one breaks a limit, or, in a list, until
-/// the members are too many for a value. The environment is the same afterwards, also where memory is refused: what entries
-/// bind is cut off again. It goes as deep as the expression is.
+/// Every member of a list, every entry of a context and its result is evaluated until one breaks a limit, or, in a list and in a
+/// context without a result, until the values are too many for one. The environment is the same afterwards, also where memory is
+/// refused: what entries bind is cut off again. It goes as deep as the expression is.
 #[cycle(evaluate)]
 pub fn evaluate(alloc: Global, logic: &Logic, env: &mut Env) -> Result<Outcome, AllocError>
     ensures value { IfOk result (λ o. o ≡ boxed (logic_view logic.now) env.old) }
@@ -75,34 +75,33 @@ fn context_outcome(
     ensures same { env.new ≡ env.old }
 {
     let before = env.len();
-    let values = entry_values(alloc, entries, env);
+    let outcome = entries_outcome(alloc, entries, env);
     env.cut(before);
-    match values? {
-        Some(values) => Outcome::context(alloc, values),
-        None => Ok(Outcome::Limit),
-    }
+    outcome
 }
 
-/// The entries of a context with their values, which are bound behind the outer names; None where one breaks a limit.
+/// The same, whose entries stay bound behind the outer names. It ends where the values are too many for a context.
 #[cycle(evaluate)]
-fn entry_values(
+fn entries_outcome(
     alloc: Global,
     entries: &[(String, Logic)],
     env: &mut Env,
-) -> Result<Option<Vec<(ArcStr, Value)>>, AllocError>
-    ensures value { IfOk result (λ o. option_map pairs_view o ≡ entry_values_of (entries_view entries.now) env.old) }
+) -> Result<Outcome, AllocError>
+    ensures value { IfOk result (λ o. o ≡ boxed (context (entries_view entries.now)) env.old) }
     ensures outer { take (length env.old) env.new ≡ env.old }
 {
-    let mut values = Vec::with_capacity(alloc, entries.len())?;
+    let mut values = ContextEntries::new(alloc);
     for (name, logic) in entries {
         let Outcome::Is(value) = evaluate(alloc, logic, env)? else {
-            return Ok(None);
+            return Ok(Outcome::Limit);
         };
         let key = ArcStr::from_str(alloc, name.as_str())?;
-        env.bind(name.as_str(), value.try_clone()?)?;
-        values.push((key, value.into_value()))?;
+        if !values.push(key, value.try_clone()?)? {
+            return Ok(Outcome::Limit);
+        }
+        env.bind(name.as_str(), value)?;
     }
-    Ok(Some(values))
+    values.into_context(alloc)
 }
 
 /// Binds the entries of a context, each to its value, behind the outer names; false where one breaks a limit.

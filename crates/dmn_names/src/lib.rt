@@ -12,4 +12,4 @@ mod size;
 pub use distinct::has_name_twice;
 pub use lawful::has_bad_name;
 pub use places::{Places, ServicePlaces};
-pub use size::{MOST_DECISIONS, is_large};
+pub use size::is_large;

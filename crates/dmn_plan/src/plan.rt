@@ -83,7 +83,7 @@ impl Plan {
     }
 
     /// The outcome of the service of this name, for these values of its parameters: its input decisions, then its input data.
-    pub fn outcome(
+    pub(crate) fn outcome(
         &self,
         alloc: Global,
         service: &str,

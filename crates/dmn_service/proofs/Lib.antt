@@ -3,3 +3,4 @@ pub mod Kept
 pub mod Given
 pub mod Decisions
 pub mod Result
+pub mod OneOrContext

@@ -156,11 +156,11 @@ free_of items distinct ps vs (q ∷ qs) inside within apart = (
   free_of items distinct ps vs qs inside within.1 apart.1,
 )
 
--- What a run finds for the outputs, from the values of the parameters, is what the recursion has at a late stage.
-found_is_late : (m : Model Expr Table) (s : Service) (items : List Item) (plan : ServicePlan) (values : List Datum) → IsPlanOf m s items plan → HasPlacesWithin items plan
-    → length values ≡ length plan.parameters.items → (stage : ℕ → Name → Outcome) → ((n : ℕ) (name : Name) → stage (suc n) name ≡ stands_for m (zip (parameters_of s) values) (stage n) name)
-    → outputs_at (name_at items) (filled_by items plan.order.items (given_at plan.parameters.items values nothing_found)) plan.outputs.items ≡ outputs_result s (stage (suc (length m.decisions)))
-found_is_late m s items plan values h inside same stage step =
+-- What a run finds for the outputs, from the values of the parameters, is what the recursion has at each late stage.
+found_is_late : (late_stage : ℕ) (m : Model Expr Table) (s : Service) (items : List Item) (plan : ServicePlan) (values : List Datum) → IsPlanOf m s items plan → HasPlacesWithin items plan
+    → length values ≡ length plan.parameters.items → suc (length m.decisions) ≤ late_stage → (stage : ℕ → Name → Outcome) → ((n : ℕ) (name : Name) → stage (suc n) name ≡ stands_for m (zip (parameters_of s) values) (stage n) name)
+    → outputs_at (name_at items) (filled_by items plan.order.items (given_at plan.parameters.items values nothing_found)) plan.outputs.items ≡ outputs_result s (stage late_stage)
+found_is_late late_stage m s items plan values h inside same enough stage step =
     let given : Given = zip (parameters_of s) values in
     let ps = plan.parameters.items in
     let order = plan.order.items in
@@ -178,19 +178,28 @@ found_is_late m s items plan values h inside same stage step =
     let settled = settled_along m given items fit stage step order ps 1 start turns (settled_parameters m given items fit stage step ps values nothing_found same own) h.behind in
     let late = 1 + length order in
     let ends = each_all (IsAmong order) (Settled m given items fit stage step late found) (λ q a. each_at (Settled m given items fit stage step late found) order q settled.0 a) outs h.ends in
-    let few : 1 + length order ≤ suc (length m.decisions) = (let e = h.short in omega arith) in
-    ap (outcome_from (one_or_context (map (name_at items) outs))) (outputs_same m given items fit stage step late (suc (length m.decisions)) found outs few ends)
-    ∙ ap (λ ns. outcome_from (one_or_context ns) (each (λ n. value_of (stage (suc (length m.decisions)) n)) ns)) (sym h.outputs)
+    let few : 1 + length order ≤ late_stage = (let e = h.short in omega (arith, enough)) in
+    ap (outcome_from (one_or_context (map (name_at items) outs))) (outputs_same m given items fit stage step late late_stage found outs few ends)
+    ∙ ap (λ ns. outcome_from (one_or_context ns) (each (λ n. value_of (stage late_stage n)) ns)) (sym h.outputs)
 
--- So it is the service's result.
+-- So it is what the recursion gives in as many steps as there are decisions, and one, or in more.
+pub found_within : (steps : ℕ) (m : Model Expr Table) (s : Service) (items : List Item) (plan : ServicePlan) (values : List Datum) → IsPlanOf m s items plan → HasPlacesWithin items plan
+    → length values ≡ length plan.parameters.items → suc (length m.decisions) ≤ steps
+    → outputs_at (name_at items) (filled_by items plan.order.items (given_at plan.parameters.items values nothing_found)) plan.outputs.items
+    ≡ outputs_result s (outcome_within steps m (zip (parameters_of s) values))
+unfolding outcome_within
+found_within steps m s items plan values h inside same enough = found_is_late steps m s items plan values h inside same enough (λ n. outcome_within n m (zip (parameters_of s) values)) (λ n name. refl)
+
+-- And it is the service's result.
 pub found_is_result : (m : Model Expr Table) (s : Service) (items : List Item) (plan : ServicePlan) (values : List Datum) → IsPlanOf m s items plan → HasPlacesWithin items plan
     → length values ≡ length plan.parameters.items
     → outputs_at (name_at items) (filled_by items plan.order.items (given_at plan.parameters.items values nothing_found)) plan.outputs.items ≡ service_result m s (zip (parameters_of s) values)
-unfolding service_result outcome_of outcome_within
-found_is_result m s items plan values h inside same = found_is_late m s items plan values h inside same (λ n. outcome_within n m (zip (parameters_of s) values)) (λ n name. refl)
+unfolding service_result outcome_of
+found_is_result m s items plan values h inside same = found_within (suc (length m.decisions)) m s items plan values h inside same (omega arith)
 
 -- It is what any outcomes give that obey the recursion.
 pub found_obeys : (m : Model Expr Table) (s : Service) (items : List Item) (plan : ServicePlan) (values : List Datum) → IsPlanOf m s items plan → HasPlacesWithin items plan
     → length values ≡ length plan.parameters.items → (outcome : Name → Outcome) → ObeysRecursion m (zip (parameters_of s) values) outcome
     → outputs_at (name_at items) (filled_by items plan.order.items (given_at plan.parameters.items values nothing_found)) plan.outputs.items ≡ outputs_result s outcome
-found_obeys m s items plan values h inside same outcome obeys = found_is_late m s items plan values h inside same (λ n. outcome) (λ n name. obeys name)
+found_obeys m s items plan values h inside same outcome obeys =
+    found_is_late (suc (length m.decisions)) m s items plan values h inside same (omega arith) (λ n. outcome) (λ n name. obeys name)

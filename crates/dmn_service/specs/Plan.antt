@@ -1,5 +1,5 @@
 -- When places and their order are a plan of a service of a model.
-use Rattle.std.specs.Prelude.{◌≡◌, ◌<◌, ◌≤◌, ℕ, List, [], ◌∷◌, map, length, Option, option_map, string_bytes, nat_eq, true, false, ⊤}
+use Rattle.std.specs.Prelude.{◌≡◌, ◌<◌, ◌≤◌, ℕ, suc, List, [], ◌∷◌, map, length, Option, option_map, string_bytes, nat_eq, true, false, ⊤}
 use Rattle.std.specs.List.{list_any, filter_map, zip, All}
 use Rattle.feel_value.specs.Datum.{Datum}
 use Rattle.feel_value.specs.declared.feel.Outcome.{Outcome}
@@ -8,7 +8,7 @@ use Rattle.dmn_table.specs.Faults.{are_distinct}
 use Rattle.dmn_table.specs.Table.{Table}
 use Rattle.dmn_form.specs.Model.{Name, Decision, Service, Model}
 use Rattle.dmn_logic.specs.LogicView.{logic_view}
-use Rattle.dmn_service.specs.Decision.{Given, parameters_of, stands_for, outputs_result, service_result}
+use Rattle.dmn_service.specs.Decision.{Given, parameters_of, stands_for, outcome_within, outputs_result, service_result}
 use Rattle.dmn_service.specs.Places.{names_of, name_at, needs_at}
 use Rattle.dmn_service.specs.declared.plan.Item.{Item}
 use Rattle.dmn_service.specs.declared.plan.ServicePlan.{ServicePlan}
@@ -59,6 +59,12 @@ pub record IsPlanOf (m : Model Expr Table) (s : Service) (items : List Item) (pl
 abbrev pub IsServiceOutcome : List Item → ServicePlan → List Datum → Outcome → Type 0
 IsServiceOutcome items plan values o =
     (m : Model Expr Table) (s : Service) → IsPlanOf m s items plan → o ≡ service_result m s (zip (parameters_of s) values)
+
+-- The outcome is that of the outputs by recursion down to any number of steps that is more than the model's decisions.
+abbrev pub IsOutcomeWithin : List Item → ServicePlan → List Datum → Outcome → Type 0
+IsOutcomeWithin items plan values o =
+    (m : Model Expr Table) (s : Service) → IsPlanOf m s items plan → (steps : ℕ) → suc (length m.decisions) ≤ steps
+    → o ≡ outputs_result s (outcome_within steps m (zip (parameters_of s) values))
 
 -- each name has the outcome that it stands for
 abbrev pub ObeysRecursion : Model Expr Table → Given → (Name → Outcome) → Type 0

@@ -4,19 +4,18 @@ ghost use Rattle.std.specs.List.{All, zip};
 ghost use Rattle.feel_value.specs.Datum.{context, entries_of};
 ghost use Rattle.feel_value.specs.Outcome.{held};
 ghost use Rattle.feel_value.specs.declared.feel.Outcome.TheVariants.{Is};
-ghost use Rattle.dmn_table.specs.Evaluated.{each};
-ghost use Rattle.dmn_table.specs.Hits.{one_or_context as one_or_context_of};
-ghost use Rattle.dmn_table.specs.Result.{first_of};
+ghost use Rattle.dmn_table.specs.Evaluated.{each, outcome_from};
 ghost use Rattle.dmn_service.specs.Places.{name_at};
 ghost use Rattle.dmn_service.specs.Run.{values_in, outputs_at};
 
 use crate::found::value_at;
 use crate::plan::Item;
-use feel_value::{Feel, Outcome, Value};
+use feel_value::{Feel, Outcome};
 use std::alloc::{AllocError, Global};
 use std::sync::ArcStr;
 
 /// The outcome of the outputs: the value of the only one, or the context of all in their order.
+#[tactic(auto, using(crate::proofs::OneOrContext::only_output, crate::proofs::OneOrContext::many_outputs))]
 pub(crate) fn output_outcome(
     alloc: Global,
     items: &[Item],
@@ -26,11 +25,24 @@ pub(crate) fn output_outcome(
     requires { All (λ q. q < length items.now) outputs.now }
     ensures { IfOk result (λ o. o ≡ outputs_at (name_at items.now) (values_in found.now) outputs.now) }
 {
+    if outputs.len() == 1 {
+        return outcome_found(found, outputs[0]);
+    }
     let Some(values) = values(alloc, outputs, found)? else {
         return Ok(Outcome::Limit);
     };
-    let outcome = one_or_context(alloc, items, outputs, values)?;
+    let outcome = named(alloc, items, outputs, values)?;
     Ok(outcome)
+}
+
+/// A copy of the value found at a place, as an outcome.
+fn outcome_found(found: &[Outcome], place: usize) -> Result<Outcome, AllocError>
+    ensures { IfOk result (λ o. o ≡ outcome_from Is (values_in found.now place)) }
+{
+    match value_at(found, place) {
+        Some(value) => Ok(Outcome::Is(value.try_clone()?)),
+        None => Ok(Outcome::Limit),
+    }
 }
 
 /// Copies of the values found at these places; None where one breaks a limit.
@@ -49,35 +61,6 @@ fn values(
         values.push(value.try_clone()?)?;
     }
     Ok(Some(values))
-}
-
-/// The values of the outputs as one value: the only one itself, otherwise a context.
-fn one_or_context(
-    alloc: Global,
-    items: &[Item],
-    outputs: &[usize],
-    values: Vec<Feel>,
-) -> Result<Outcome, AllocError>
-    requires { All (λ q. q < length items.now) outputs.now }
-    ensures { IfOk result (λ o. o ≡ one_or_context_of (map (name_at items.now) outputs.now) values.items) }
-{
-    if outputs.len() != 1 {
-        return named(alloc, items, outputs, values);
-    }
-    if values.len() != 1 {
-        return named(alloc, items, outputs, values);
-    }
-    Ok(only(values))
-}
-
-/// The first value.
-fn only(values: Vec<Feel>) -> Outcome
-    ensures { result ≡ Is (first_of values.items) }
-{
-    match values.into_iter().next() {
-        Some(value) => Outcome::Is(value),
-        None => Outcome::of(Value::Null),
-    }
 }
 
 /// The context of the values under the outputs' names.

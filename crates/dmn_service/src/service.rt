@@ -4,7 +4,7 @@ ghost use Rattle.std.specs.List.{All};
 ghost use Rattle.dmn_logic.specs.LogicView.{logic_view};
 ghost use Rattle.dmn_service.specs.Places.{name_at};
 ghost use Rattle.dmn_service.specs.Run.{values_in, nothing_found, needed_at, outcome_at, filled_by, given_at};
-ghost use Rattle.dmn_service.specs.Plan.{HasPlacesWithin, IsServiceOutcome, IsRecursionOutcome};
+ghost use Rattle.dmn_service.specs.Plan.{HasPlacesWithin, IsServiceOutcome, IsOutcomeWithin, IsRecursionOutcome};
 
 use crate::found::{keep, nothing, value_at};
 use crate::outputs::output_outcome;
@@ -17,7 +17,8 @@ use std::alloc::{AllocError, Global};
 /// The outcome of a decision service, for these values of its parameters in their order.
 ///
 /// Each decision of the plan's order is evaluated once, also behind one that breaks a limit. So the steps are those of the
-/// decisions' own logic, and for each need of each of them a look at its place and a copy of the value.
+/// decisions' own logic, and for each need of each of them a look at its place. What was found there is lent: of the first
+/// eight needs of a decision neither the name nor the value is copied.
 pub fn service_outcome(
     alloc: Global,
     items: &[Item],
@@ -27,6 +28,7 @@ pub fn service_outcome(
     requires places { HasPlacesWithin items.now service.now }
     requires values { length values.now ≡ length service.now.parameters.items }
     ensures result { IfOk result (IsServiceOutcome items.now service.now values.now) }
+    ensures steps { IfOk result (IsOutcomeWithin items.now service.now values.now) }
     ensures recursion { IfOk result (IsRecursionOutcome items.now service.now values.now) }
 {
     let mut found = nothing(alloc, items.len())?;
@@ -89,13 +91,13 @@ fn item_outcome(
     Ok(outcome)
 }
 
-/// The names at these places, each bound to a copy of the value found there; None where one breaks a limit.
-fn needed(
+/// The names at these places, each bound to the value found there; None where one breaks a limit.
+fn needed<'a>(
     alloc: Global,
-    items: &[Item],
+    items: &'a [Item],
     needs: &[usize],
-    found: &[Outcome],
-) -> Result<Option<Env>, AllocError>
+    found: &'a [Outcome],
+) -> Result<Option<Env<'a>>, AllocError>
     requires needs { All (λ q. q < length items.now) needs.now }
     ensures { IfOk result (λ env. env ≡ needed_at (name_at items.now) (values_in found.now) needs.now) }
 {
@@ -104,7 +106,7 @@ fn needed(
         let Some(value) = value_at(found, *need) else {
             return Ok(None);
         };
-        env.bind(items[*need].name.as_str(), value.try_clone()?)?;
+        env.bind_lent(items[*need].name.as_str(), value)?;
     }
     Ok(Some(env))
 }

@@ -183,12 +183,17 @@ fn contexts(alloc: Global) -> Result<String, AllocError> {
     format!(in alloc; r#"{{"b":[{list}]}}"#)
 }
 
-/// Whether a decision with this logic is told as `limit` in little room.
-fn is_limit_in_little_room(alloc: Global, logic: &str) -> Result<bool, Fail> {
+/// The outcome of a decision with this logic in little room; None where memory was refused.
+fn in_little_room(alloc: Global, logic: &str) -> Result<Option<Outcome>, Fail> {
     let model = model(alloc, logic)?;
     let inputs = contexts(alloc)?;
     let task = task(alloc, model.as_str(), "s", inputs.as_str())?;
-    let outcome = run_within(alloc, LITTLE, &task)?;
+    Ok(run_within(alloc, LITTLE, &task)?)
+}
+
+/// Whether a decision with this logic is told as `limit` in little room.
+fn is_limit_in_little_room(alloc: Global, logic: &str) -> Result<bool, Fail> {
+    let outcome = in_little_room(alloc, logic)?;
     Ok(matches!(outcome, Some(Outcome::Limit)))
 }
 
@@ -208,13 +213,50 @@ fn a_boxed_list_far_past_its_limit_takes_little_room(rt: HostRuntime) -> Result<
     Ok(())
 }
 
+/// So many entries of a boxed context, each of which is `b.x`.
+fn named_paths(alloc: Global) -> Result<String, AllocError> {
+    let mut text = String::from_str(alloc, r#"{"name":"e0","expr":"b.x"}"#)?;
+    for i in 1..MANY {
+        text.push_str(format!(in alloc; r#",{{"name":"e{i}","expr":"b.x"}}"#)?.as_str())?;
+    }
+    Ok(text)
+}
+
+#[test]
+fn a_boxed_context_far_past_its_limit_takes_little_room(rt: HostRuntime) -> Result<(), Fail> {
+    let entries = named_paths(rt.alloc())?;
+    let logic = format!(in rt.alloc(); r#"{{"context":[{entries}]}}"#)?;
+    assert!(rt; is_limit_in_little_room(rt.alloc(), logic.as_str())?);
+    Ok(())
+}
+
+/// A table under this hit policy whose every rule hits: many give `b.x`, and the last 1, which has the highest priority.
+fn table_of_paths(alloc: Global, hit: &str) -> Result<String, AllocError> {
+    let rules = repeated(alloc, r#"{"when":["-"],"then":["b.x"]}"#)?;
+    format!(in alloc;
+        r#"{{"table":{{"inputs":["1"],"hit":"{hit}","outputs":[{{"name":"o","values":["1"]}}],"rules":[{rules},{{"when":["-"],"then":["1"]}}]}}}}"#
+    )
+}
+
 #[test]
 fn hits_far_past_their_limit_take_little_room(rt: HostRuntime) -> Result<(), Fail> {
-    let rules = repeated(rt.alloc(), r#"{"when":["-"],"then":["b.x"]}"#)?;
-    let logic = format!(in rt.alloc();
-        r#"{{"table":{{"inputs":["1"],"hit":"C","outputs":[{{"name":"o"}}],"rules":[{rules}]}}}}"#
-    )?;
-    assert!(rt; is_limit_in_little_room(rt.alloc(), logic.as_str())?);
+    for hit in ["C", "R", "O"] {
+        let logic = table_of_paths(rt.alloc(), hit)?;
+        assert!(rt;
+            is_limit_in_little_room(rt.alloc(), logic.as_str())?,
+            "{hit}"
+        );
+    }
+    Ok(())
+}
+
+#[test]
+fn the_best_of_many_hits_takes_little_room(rt: HostRuntime) -> Result<(), Fail> {
+    let logic = table_of_paths(rt.alloc(), "P")?;
+    let Some(outcome) = in_little_room(rt.alloc(), logic.as_str())? else {
+        return Err("memory was refused".into());
+    };
+    assert!(rt; shown(rt.alloc(), &outcome)?.as_str() == "1");
     Ok(())
 }
 

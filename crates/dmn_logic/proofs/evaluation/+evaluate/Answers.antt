@@ -1,16 +1,13 @@
-use Rattle.std.proofs.Common.{◌≡◌, ap, sym, ◌∙◌, subst, option_map, Option, Some, None, Bool, false, if◌then◌else◌, IfOk, ◌+◌, [], ◌∷◌, ◌++◌, drop}
+use Rattle.std.proofs.Common.{◌≡◌, ap, sym, ◌∙◌, subst, Option, Some, None, Bool, false, if◌then◌else◌, IfOk, ◌+◌, [], ◌∷◌, ◌++◌, drop, string_bytes}
+use Rattle.std.specs.Arc.{arc_str_bytes}
 use Rattle.feel_lang.specs.Meaning.{Bindings}
 use Rattle.feel_value.specs.Datum.{list as list_value, items_of, context as context_value, entries_of}
-use Rattle.feel_value.specs.Limits.{is_value}
-use Rattle.feel_value.specs.Outcome.{held}
-use Rattle.feel_value.proofs.Entries.{entries_view-named}
-use Rattle.dmn_table.specs.Evaluated.{outcome_from}
+use Rattle.feel_value.specs.Limits.{is_value, keeps_limits}
 use Rattle.dmn_form.specs.Model.{context}
-use Rattle.dmn_logic.specs.Boxed.{boxed, member_values}
+use Rattle.dmn_logic.specs.Boxed.{boxed, member_values, entry_values}
 use Rattle.dmn_logic.specs.LogicView.{logic_view, members_view, entries_view}
-use Rattle.dmn_logic.specs.ValueView.{pairs_view}
-use Rattle.dmn_logic.proofs.Boxes.{logic_view-Context, entry_turn, bind_turn, from_bound, from_none, with_result}
-use Rattle.dmn_logic.proofs.Growing.{list_from, too_many, one_taken}
+use Rattle.dmn_logic.proofs.Boxes.{logic_view-Context, bind_turn, from_bound, from_none, with_result}
+use Rattle.dmn_logic.proofs.Growing.{list_from, too_many, one_taken, context_from, too_many_named, one_named, entry_turn}
 use Rattle.dmn_logic.proofs.evaluation.+evaluate.Goals as goal
 use Rattle.dmn_logic.proofs.evaluation.+evaluate.Goals.{evaluate-in-Ok-true, evaluate-in-Ok-false, evaluate-in-Err}
 
@@ -26,18 +23,29 @@ list_outcome-returns-then-not-branch-clause-value t c =
     let refused : is_value (list_value (items_of (ms ++ d ∷ []))) ≡ false = sym c.in_ok-push.ensures.fits ∙ c.if-not-branch.true in
     sym (c.loop-member.invariant.1 ∙ ap list_from (one_taken env ms d members c.loop-member.member-index x c.member-item.is c.loop-member-test.true outcome) ∙ too_many (ms ++ d ∷ []) rest refused)
 
-pub context_outcome-returns-in-Some-clause-value : goal.context_outcome-returns-in-Some-clause-value
-context_outcome-returns-in-Some-clause-value t c =
-    let same = ap (λ es. held (context_value es)) (entries_view-named c.in-Some.values.items)
-    ∙ ap (outcome_from (λ ds. held (context_value (entries_of ds)))) (sym (ap (option_map pairs_view) c.in-Some.is) ∙ c.in_ok-values.ensures.value) in
-    subst (λ d. IfOk c.context.result (λ o. o ≡ d)) same c.context.ensures
+pub entries_outcome-returns-then-not-branch-clause-value : goal.entries_outcome-returns-then-not-branch-clause-value
+entries_outcome-returns-then-not-branch-clause-value t c =
+    let env = c.loop-name.env in
+    let ps = c.loop-name.values in
+    let d = c.in-Is.value in
+    let x = c.loop-name-item.result in
+    let entries = c.args.entries.now in
+    let i = c.loop-name.name-index in
+    let rest = entry_values (entries_view (drop (i + 1) entries)) (env ++ (string_bytes x.0, d) ∷ []) in
+    let outcome = sym c.in-Is.is ∙ c.in_ok-value.ensures.value in
+    let same : ps ++ (arc_str_bytes c.in_ok-key.key, c.in_ok-try_clone.field-0) ∷ [] ≡ ps ++ (string_bytes x.0, d) ∷ [] =
+    ap (λ k. ps ++ (k, c.in_ok-try_clone.field-0) ∷ []) (c.in_ok-key.ensures.ok ∙ c.as_str.ensures.value) ∙ ap (λ z. ps ++ (string_bytes x.0, z) ∷ []) c.in_ok-try_clone.ensures in
+    let refused : keeps_limits (context_value (entries_of (ps ++ (string_bytes x.0, d) ∷ []))) ≡ false =
+    ap (λ qs. keeps_limits (context_value (entries_of qs))) (sym same) ∙ sym c.in_ok-push.ensures.fits ∙ c.if-not-branch.true in
+    sym (c.loop-name.invariant.1 ∙ ap context_from (one_named env ps d entries i x c.loop-name-item.is c.loop-name-test.true outcome) ∙ too_many_named (ps ++ (string_bytes x.0, d) ∷ []) rest refused)
 
-pub entry_values-loop-name-preserved : goal.entry_values-loop-name-preserved
-entry_values-loop-name-preserved t c =
-    entry_turn _ c.args.env.now c.loop-name.env c.evaluate.new.env c.bind.new.self c.loop-name.values.items c.push.new.self.items c.args.entries.now c.loop-name.name-index c.loop-name-item.result
-    c.in_ok-key.key c.as_str-in-loop-name.result.now c.into_value.result c.in-Is.value c.in_ok-try_clone.field-0
+pub entries_outcome-loop-name-preserved : goal.entries_outcome-loop-name-preserved
+entries_outcome-loop-name-preserved t c =
+    entry_turn _ c.args.env.now c.loop-name.env c.evaluate.new.env c.bind.new.self c.loop-name.values c.push.new.self c.args.entries.now c.loop-name.name-index c.loop-name-item.result
+    (arc_str_bytes c.in_ok-key.key) c.as_str-in-loop-name.result.now c.in-Is.value c.in_ok-try_clone.field-0
     c.loop-name.invariant c.loop-name-item.is c.loop-name-test.true (sym c.in-Is.is ∙ c.in_ok-value.ensures.value) c.in_ok-value.ensures.same c.in_ok-bind.ensures
-    c.in_ok-try_clone.ensures c.as_str-in-loop-name.ensures.value (c.in_ok-key.ensures.ok ∙ c.as_str.ensures.value) c.into_value.ensures.same c.in_ok-push.ensures.items
+    c.as_str-in-loop-name.ensures.value (c.in_ok-key.ensures.ok ∙ c.as_str.ensures.value) c.in_ok-try_clone.ensures
+    (c.in_ok-push.ensures.taken ∙ ap (λ b. if b then c.loop-name.values ++ (arc_str_bytes c.in_ok-key.key, c.in_ok-try_clone.field-0) ∷ [] else c.loop-name.values) c.if-not-branch.false)
 
 pub evaluate-returns-in_ok-outcome-in-Context-clause-value : goal.evaluate-returns-in_ok-outcome-in-Context-clause-value
 evaluate-returns-in_ok-outcome-in-Context-clause-value t c =

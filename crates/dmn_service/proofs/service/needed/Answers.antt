@@ -24,9 +24,9 @@ loop-need-preserved c =
     let name = name_at c.args.items.now in
     let found = values_in c.args.found.now in
     let q = get_or c.args.needs.now c.loop-need.need-index 0 in
-    let v = c.in_ok-try_clone.field-0 in
-    let value = sym c.in-Some.ensures ∙ ap Some (sym c.in_ok-try_clone.ensures) in
+    let v = c.in-Some.value.now in
+    let value = sym c.in-Some.ensures in
     let named = name_here c.args.items.now q c.index-items-need.result (c.requires.needs c.loop-need.need-index 0 c.loop-need-test.true) ∙ sym c.as_str.ensures.value in
     let here = each_more (λ q. found q >>= λ v. Some (name q, v)) c.args.needs.now c.loop-need.need-index c.loop-need.env (c.as_str.result.now, v) (needed_at name found c.args.needs.now) c.loop-need.invariant c.loop-need-test.true
     (ap (λ (o : Option Datum). o >>= with_name (name q)) value ∙ ap (λ (n : Name). with_name n v) named) in
-    rw c.in_ok-bind.ensures here
+    rw c.in_ok-bind_lent.ensures here

@@ -1,7 +1,7 @@
 use Rattle.std.proofs.Common.{◌∙◌, ap}
 use Rattle.dmn_service.specs.Places.{name_at}
 use Rattle.dmn_service.specs.Run.{values_in, nothing_found, filled_by, given_at, outputs_at}
-use Rattle.dmn_service.proofs.Result.{found_is_result, found_obeys}
+use Rattle.dmn_service.proofs.Result.{found_is_result, found_within, found_obeys}
 use Rattle.dmn_service.proofs.service.service_outcome.Goals as goal
 
 pub returns : goal.returns
@@ -22,5 +22,6 @@ returns c =
     ∙ ap (λ ps. outputs_at name (filled_by items order (given_at ps c.args.values.now nothing_found)) outputs) c.deref.ensures.value in
     record {
       result = λ m s plan. found ∙ found_is_result m s items service c.args.values.now plan c.requires.places c.requires.values;
+      steps = λ m s plan steps enough. found ∙ found_within steps m s items service c.args.values.now plan c.requires.places c.requires.values enough;
       recursion = λ m s plan outcome obeys. found ∙ found_obeys m s items service c.args.values.now plan c.requires.places c.requires.values outcome obeys;
     }
