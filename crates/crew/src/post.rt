@@ -8,7 +8,7 @@ use std::thread::Parker;
 use std::time::Duration;
 
 /// For how many turns a worker that has nothing to do, or can't get rid of what it holds, stays awake.
-const TURNS: u32 = 2_000;
+const TURNS: u32 = 200;
 /// How many of these turns pass between two tries to get rid of what it holds.
 const BETWEEN: u32 = 50;
 /// The first and the longest pause, in microseconds, of a worker that holds what it can't get rid of.
@@ -71,7 +71,10 @@ impl<'a, G: Gate> Post<'a, G> {
                 self.signals.add_refusal();
                 self.pause(rt);
             }
-            Stepped::RingFull => self.pause(rt),
+            Stepped::RingFull => {
+                self.signals.end_to_post();
+                self.pause(rt);
+            }
         }
     }
 
@@ -87,6 +90,7 @@ impl<'a, G: Gate> Post<'a, G> {
 
     // It looked in vain: it stays awake for some turns, and then sleeps until a job is put.
     fn rest<R: Wait>(&self, rt: &R, seen: u64) {
+        self.signals.end_to_post();
         let turns = self.turns.get();
         if turns == 0 {
             self.signals.await_job(rt, seen);

@@ -59,7 +59,10 @@ impl<W: Work> Client<W> {
     {
         match self.mailbox.admits() {
             Ok(()) => {}
-            Err(why) => return Err((why, work)),
+            Err(why) => {
+                self.signals.begin_to_wait();
+                return Err((why, work));
+            }
         }
         let Ok(copy) = Arc::try_clone(&work) else {
             return Err((Refusal::Memory, work));

@@ -7,6 +7,8 @@ use std::time::Duration;
 /// For how many turns a thread that waits looks at a count before it sleeps: about as long as it takes to fall asleep and
 /// to be woken.
 const TURNS: u32 = 2_000;
+/// From so many on things are many: a thread that waits for things is woken once as many are there, or nothing more comes.
+const MANY: u64 = 16;
 /// How often workers may be refused memory, with nothing answered between, before they count as starved.
 const STARVED: u64 = 2_000;
 
@@ -40,9 +42,9 @@ impl Bell {
         self.count.load(Ordering::SeqCst)
     }
 
-    /// Counts one thing more.
-    pub fn add(&self) {
-        self.count.fetch_add(1, Ordering::SeqCst);
+    /// Counts one thing more, and tells how many there are.
+    pub fn add(&self) -> u64 {
+        self.count.fetch_add(1, Ordering::SeqCst).wrapping_add(1)
     }
 
     /// Wakes one thread that sleeps. It costs a read where none does.
@@ -85,16 +87,25 @@ impl Bell {
         let longest = Duration::from_millis(LONGEST_SLEEP);
         self.count
             .park_timeout(rt, (seen & 0xffff_ffff) as u32, longest);
+        self.end_sleep();
+    }
+
+    // Counts one thread less that sleeps.
+    fn end_sleep(&self) {
         self.sleepers.fetch_sub(1, Ordering::SeqCst);
     }
 }
 
 /// What the ends of all lanes share beside the lanes.
 ///
-/// A worker looks for a job, or runs one, or sleeps. A job that is put wakes a sleeper only where no worker looks: who looks
-/// reads the count of jobs again before it sleeps, and wakes a sleeper where it takes a job as the last that looked and
-/// more jobs wait. So a job is seen by one that looks, or by one that is woken for it; or all workers run jobs, and each
-/// looks again after that.
+/// A worker looks for a job, or runs one, or sleeps. A job that is put wakes a sleeper only where no worker looks and many
+/// jobs wait; for fewer one is woken once the front waits, or finds a mailbox full. Who looks reads the count of jobs again
+/// before it sleeps, and wakes a sleeper where it takes a job as the last that looked and more jobs wait. So a job is seen by
+/// one that looks, or by one that is woken for it; or all workers run jobs, and each looks again after that.
+///
+/// A front that waits while many jobs are out sleeps until there are many answers, or a worker finds no job, or no place for
+/// its answer. It counts as a sleeper before it reads that something is out. So the worker that posts the last answer of
+/// these looks for a job after that, finds none, and sees the sleeper.
 ///
 /// Who wakes a worker sets `called` first, counts as for a job, and then wakes; while it is set nobody else wakes one. It is
 /// set no longer once a worker sleeps: each clears it before it sleeps and once it looks again. One that read the count
@@ -105,7 +116,11 @@ pub struct Signals {
     taken: AtomicU64,
     looking: AtomicU64,
     called: AtomicU64,
+    // How many jobs were put.
+    put: AtomicU64,
     answers: Bell,
+    // From how many answers on the front wants to be woken.
+    wanted: AtomicU64,
     refusals: AtomicU64,
 }
 
@@ -117,7 +132,9 @@ impl Signals {
             taken: AtomicU64::new(0),
             looking: AtomicU64::new(0),
             called: AtomicU64::new(0),
+            put: AtomicU64::new(0),
             answers: Bell::new(),
+            wanted: AtomicU64::new(0),
             refusals: AtomicU64::new(0),
         }
     }
@@ -129,10 +146,34 @@ impl Signals {
 
     /// A job was put.
     pub fn add_job(&self) {
+        self.put.fetch_add(1, Ordering::SeqCst);
         self.jobs.add();
-        if self.looking.load(Ordering::SeqCst) == 0 {
+        self.call_worker_for(MANY);
+    }
+
+    /// Jobs may wait, and no other is put before some are run: a worker is woken for them where none looks.
+    pub fn begin_to_wait(&self) {
+        self.call_worker_for(1);
+    }
+
+    // Wakes a worker that sleeps, where none looks and so many jobs wait.
+    fn call_worker_for(&self, jobs: u64) {
+        if self.looking.load(Ordering::SeqCst) == 0 && self.waiting() >= jobs {
             self.call_worker();
         }
+    }
+
+    // How many jobs wait for a worker.
+    fn waiting(&self) -> u64 {
+        self.jobs()
+            .saturating_sub(self.taken.load(Ordering::SeqCst))
+    }
+
+    // How many jobs were put and not answered yet.
+    fn outstanding(&self) -> u64 {
+        self.put
+            .load(Ordering::SeqCst)
+            .saturating_sub(self.answers())
     }
 
     // Wakes a worker that sleeps, unless one was woken that does not look yet.
@@ -191,22 +232,50 @@ impl Signals {
         self.answers.count()
     }
 
-    /// An answer was posted, or there will be none any more: one who waits for answers is woken.
+    /// An answer was posted, or there will be none any more: one who waits for answers is woken, unless it wants more.
     pub fn add_answer(&self) {
-        self.answers.add();
-        self.answers.wake_one();
+        let answers = self.answers.add();
+        if answers >= self.wanted.load(Ordering::SeqCst) {
+            self.answers.wake_one();
+        }
         if self.refusals.load(Ordering::SeqCst) > 0 {
             self.refusals.store(0, Ordering::SeqCst);
         }
     }
 
-    /// Waits until more answers than this were posted: at first awake, then asleep. It may return early.
+    /// A worker posts no more for now: a front that waits for many answers is woken for those that are there.
+    pub fn end_to_post(&self) {
+        if self.wanted.load(Ordering::SeqCst) > 0 {
+            self.answers.wake_one();
+        }
+    }
+
+    /// Waits until more answers than this were posted: at first awake, then asleep. Where much is out, it sleeps at once,
+    /// until there are many. It may return early.
     pub fn await_answer<R: Wait>(&self, rt: &R, seen: u64) {
+        self.begin_to_wait();
+        if self.outstanding() >= MANY {
+            self.await_many(rt, seen.wrapping_add(MANY));
+            return;
+        }
         if self.answers.watch(seen, TURNS) > 0 {
             return;
         }
         self.answers.add_sleeper();
         self.answers.sleep(rt, seen);
+    }
+
+    // Sleeps until so many answers were posted, or a worker posts no more for now.
+    fn await_many<R: Wait>(&self, rt: &R, wanted: u64) {
+        self.wanted.store(wanted, Ordering::SeqCst);
+        self.answers.add_sleeper();
+        let answers = self.answers();
+        if answers < wanted && self.outstanding() > 0 {
+            self.answers.sleep(rt, answers);
+        } else {
+            self.answers.end_sleep();
+        }
+        self.wanted.store(0, Ordering::SeqCst);
     }
 
     /// A run was refused memory.
