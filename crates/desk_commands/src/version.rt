@@ -5,5 +5,5 @@
 pub const VERSION: &str = concat!(
     "0.9.0\n",
     "proved with rattle-kit-13b logic dac8208d650f15bf\n",
-    "sources 16e250c1e340705b4835a708d63ea5af44eb90fa3de0aef075e1e98e6b4afd79",
+    "sources b4fdeb5a2820cf27735fe5da0d7d64ed1e576e6eb039e8bb3183481fbbb77684",
 );
