@@ -6,7 +6,7 @@ use Rattle.dmn_service.specs.Places.{name_at}
 use Rattle.dmn_service.specs.Run.{values_in, needed_at}
 use Rattle.dmn_service.proofs.Along.{each_none, each_more}
 use Rattle.dmn_service.proofs.Kept.{name_here}
-use Rattle.dmn_service.proofs.service.needed.Goals as goal
+use Rattle.dmn_service.proofs.service.bind_needs.Goals as goal
 
 abbrev with_name : Name → Datum → Option (Name × Datum)
 with_name n v = Some (n, v)
