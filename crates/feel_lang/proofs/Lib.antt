@@ -25,3 +25,4 @@ pub mod ReadingLaws
 pub mod TestLists
 pub mod Forms
 pub mod WithinLimits
+pub mod ReadyTests

@@ -66,7 +66,7 @@ operation_kept operator.Multiply d e h = cc
 
 -- ---- numbers
 
-number_is_value : (z : ℤ) → in_range z ≡ true → is_value (number z) ≡ true
+pub number_is_value : (z : ℤ) → in_range z ≡ true → is_value (number z) ≡ true
 number_is_value z h = rw h refl
 
 number_kept : (z : ℤ) → in_range z ≡ true → is_kept (held (number z)) ≡ true

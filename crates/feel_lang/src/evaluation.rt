@@ -24,5 +24,8 @@ pub fn eval(alloc: Global, expr: &Expr, env: &Env) -> Result<Outcome, AllocError
 pub fn holds(alloc: Global, tests: &Tests, value: &Feel, env: &Env) -> Result<Held, AllocError>
     ensures { IfOk result (λ h. h ≡ held_of (satisfied tests.now value.now env.now)) }
 {
+    if let Some(met) = tests.told(value) {
+        return Ok(if met { Held::Yes } else { Held::No });
+    }
     holds_tests::holds(alloc, tests.tree(), value, env)
 }

@@ -1,17 +1,18 @@
 //! Whether a value meets unary tests.
 ghost use Rattle.std.specs.Prelude.{◌≡◌, IfOk};
 ghost use Rattle.feel_value.specs.Logic.{and_of, or_of, decided as decided_of};
-ghost use Rattle.feel_value.specs.View.{datum_of, items_view};
+ghost use Rattle.feel_value.specs.View.{datum_of};
 ghost use Rattle.feel_lang.specs.Meaning.{den};
 ghost use Rattle.feel_lang.specs.Operands.{answer_of};
-ghost use Rattle.feel_lang.specs.Satisfied.{satisfied, held_of, tested, tested_any, answer, joined, stands_to, is_in, is_listed, is_member, opposite_answer, low_bound, high_bound};
+ghost use Rattle.feel_lang.specs.Satisfied.{satisfied, held_of, tested, tested_any, answer, joined, stands_to, is_in, is_listed, opposite_answer};
 ghost use Rattle.feel_lang.specs.TestsView.{tests_view, test_view, test_views, bound_view};
 ghost use Rattle.feel_lang.specs.View.{view};
 
 use crate::env::Env;
 use crate::eval_expr::operand;
 use crate::expr::Tree;
-use crate::unary::{Bound, Test, TestsTree};
+use crate::ready::contains;
+use crate::unary::{Bound, Test, TestsTree, high_end, low_end};
 use feel_value::{Feel, Truth, Value, and3, decided, not3, or3};
 use std::alloc::{AllocError, Global};
 
@@ -26,6 +27,7 @@ pub enum Held {
 
 /// Whether the value meets the tests. All of them are evaluated, whatever the first ones answer. The only error is that memory was
 /// refused.
+#[inline(never)]
 pub(crate) fn holds(
     alloc: Global,
     tests: &TestsTree,
@@ -97,18 +99,6 @@ fn one(alloc: Global, test: &Test, value: &Feel, env: &Env) -> Result<Option<Tru
     }
 }
 
-fn low_end(closed: bool) -> Bound
-    ensures { bound_view result ≡ low_bound closed }
-{
-    if closed { Bound::AtLeast } else { Bound::Above }
-}
-
-fn high_end(closed: bool) -> Bound
-    ensures { bound_view result ≡ high_bound closed }
-{
-    if closed { Bound::AtMost } else { Bound::Below }
-}
-
 // Whether the input stands so to the value of an expression. A literal is compared as it lies there.
 fn compared(
     alloc: Global,
@@ -167,16 +157,4 @@ fn listed(input: &Value, value: &Value) -> bool
         Value::List(items) => contains(items, input),
         _ => false,
     }
-}
-
-// Whether a member of the list is equal to the input.
-fn contains(items: &[Value], input: &Value) -> bool
-    ensures { result ≡ is_member (datum_of input.now) (items_view items.now) }
-{
-    for item in items {
-        if input.is_equal(item) {
-            return true;
-        }
-    }
-    false
 }

@@ -1,22 +1,28 @@
 //! Unary tests as callers see them.
 
-ghost use Rattle.std.specs.Prelude.{◌≡◌, ◌≢◌, IsTrue};
+ghost use Rattle.std.specs.Prelude.{◌≡◌, ◌≢◌, IsTrue, IfOk, IfSome};
 ghost use Rattle.feel_value.specs.Datum.{Datum};
 ghost use Rattle.feel_lang.specs.Meaning.{Bindings};
+ghost use Rattle.feel_lang.specs.Ready.{Meets};
 ghost use Rattle.feel_lang.specs.Satisfied.{satisfied, Broken};
 ghost use Rattle.feel_lang.specs.Spells.{TestsHaveText};
 ghost use Rattle.feel_lang.specs.TestsView.{tests_view};
 
+use crate::ready::Ready;
 use crate::unary::TestsTree;
 use crate::within_limits::tests_stay;
+use feel_value::Feel;
+use std::alloc::{AllocError, Global};
+use std::fmt;
 use std::marker::Model;
 
 /// Unary tests, an input entry of a decision table, that some text spells. So each of their
-/// expressions is at most 64 deep. Whether they are known to break no limit is found once, when
-/// they are read.
-#[derive(Debug, Drop)]
+/// expressions is at most 64 deep. What they ask of a value, and whether they are known to break
+/// no limit, is found once, when they are read.
+#[derive(Drop)]
 pub struct Tests {
     tree: TestsTree,
+    ready: Ready,
     keep_limits: bool,
 }
 
@@ -31,21 +37,27 @@ impl Model for Tests {
     ghost use Rattle.std.specs.Prelude.{◌≡◌};
     ghost use Rattle.feel_lang.specs.Spells.{TestsHaveText};
     ghost use Rattle.feel_lang.specs.TestsView.{tests_view};
+    ghost use Rattle.feel_lang.specs.Ready.{AreReady};
     ghost use Rattle.feel_lang.specs.WithinLimits.{tests_stay};
 
     ghost view = { λ t. tests_view t.tree };
 
-    ghost invariant = { λ t. TestsHaveText (tests_view t.tree) × (t.keep_limits ≡ tests_stay (tests_view t.tree)) };
+    ghost invariant = { λ t. TestsHaveText (tests_view t.tree) × (t.keep_limits ≡ tests_stay (tests_view t.tree)) × AreReady t.ready (tests_view t.tree) };
 }
 
 impl Tests {
     /// The tests of a tree that some text spells.
-    pub(crate) fn of(tree: TestsTree) -> Tests
+    pub(crate) fn of(alloc: Global, tree: TestsTree) -> Result<Tests, AllocError>
         requires { TestsHaveText (tests_view tree) }
-        ensures { result ≡ tests_view tree }
+        ensures { IfOk result (λ t. t ≡ tests_view tree) }
     {
         let keep_limits = tests_stay(&tree);
-        Tests { tree, keep_limits }
+        let ready = Ready::of(alloc, &tree)?;
+        Ok(Tests {
+            tree,
+            ready,
+            keep_limits,
+        })
     }
 
     /// The tree of the tests.
@@ -55,10 +67,33 @@ impl Tests {
         &self.tree
     }
 
+    /// Whether the value meets the tests, whatever the names stand for; None where that has to be
+    /// evaluated.
+    pub(crate) fn told(&self, value: &Feel) -> Option<bool>
+        ensures { IfSome result (λ met. (bindings : Bindings) → Meets (satisfied self.now value.now bindings) met) }
+    {
+        let met = self.ready.told(value.value())?;
+        Some(met)
+    }
+
     /// Whether the tests are known to break no limit, whatever the value and whatever the names stand for.
     pub fn keep_limits(&self) -> bool
         ensures { IsTrue result → (value : Datum) (bindings : Bindings) → satisfied self.now value bindings ≢ Broken }
     {
         self.keep_limits
+    }
+}
+
+impl fmt::Debug for Tests {
+    fn fmt<W: fmt::Write>(&self, f: &mut fmt::Formatter<W>) -> fmt::Result {
+        let Tests {
+            tree,
+            keep_limits,
+            ..
+        } = self;
+        write!(
+            f,
+            "Tests {{ tree: {tree:?}, keep_limits: {keep_limits:?} }}"
+        )
     }
 }

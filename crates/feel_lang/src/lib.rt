@@ -23,6 +23,7 @@ mod names;
 mod operands;
 mod reader;
 mod scalar;
+mod ready;
 mod scanner;
 mod texts;
 mod token;

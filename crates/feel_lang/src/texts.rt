@@ -62,7 +62,7 @@ pub fn read_tests(alloc: Global, text: &str) -> Result<Tests, ReadFault>
     ensures reading { Gives (λ t. t) result (tests_of text.now) }
 {
     let tree = tests_tree(alloc, text)?;
-    Ok(Tests::of(tree))
+    Ok(Tests::of(alloc, tree)?)
 }
 
 /// The literal that a text spells: a number with an optional `-`, a string, `true`, `false` or

@@ -1,4 +1,8 @@
 //! Unary tests, the input entries of decision tables.
+ghost use Rattle.std.specs.Prelude.{◌≡◌};
+ghost use Rattle.feel_lang.specs.Satisfied.{low_bound, high_bound};
+ghost use Rattle.feel_lang.specs.TestsView.{bound_view};
+
 use crate::expr::Tree;
 
 /// How an input stands to a value: `<`, `<=`, `>` and `>=`.
@@ -30,4 +34,18 @@ pub(crate) enum TestsTree {
     OneOf(Vec<Test>),
     /// No test is met.
     NoneOf(Vec<Test>),
+}
+
+/// How an input stands to the low end of an interval that it lies in.
+pub(crate) fn low_end(closed: bool) -> Bound
+    ensures { bound_view result ≡ low_bound closed }
+{
+    if closed { Bound::AtLeast } else { Bound::Above }
+}
+
+/// How an input stands to the high end of an interval that it lies in.
+pub(crate) fn high_end(closed: bool) -> Bound
+    ensures { bound_view result ≡ high_bound closed }
+{
+    if closed { Bound::AtMost } else { Bound::Below }
 }

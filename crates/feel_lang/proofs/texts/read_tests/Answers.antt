@@ -15,7 +15,7 @@ pub of-requires : goal.of-requires
 of-requires c = record { text = c.args.text.now; spells = (tests_of_spells c.args.text.now (tests_view c.in_ok-tree.tree)).0 c.in_ok-tree.ensures }
 
 pub returns-clause-found : goal.returns-clause-found
-returns-clause-found c = rw c.of.ensures ((tests_of_spells c.args.text.now (tests_view c.in_ok-tree.tree)).0 c.in_ok-tree.ensures)
+returns-clause-found c = rw c.in_ok-of.ensures ((tests_of_spells c.args.text.now (tests_view c.in_ok-tree.tree)).0 c.in_ok-tree.ensures)
 
 pub returns-clause-alone : goal.returns-clause-alone
-returns-clause-alone c = rw c.of.ensures (only_spelled (tests_of c.args.text.now) (SpellsTests c.args.text.now) (tests_view c.in_ok-tree.tree) (tests_of_spells c.args.text.now) c.in_ok-tree.ensures)
+returns-clause-alone c = rw c.in_ok-of.ensures (only_spelled (tests_of c.args.text.now) (SpellsTests c.args.text.now) (tests_view c.in_ok-tree.tree) (tests_of_spells c.args.text.now) c.in_ok-tree.ensures)
