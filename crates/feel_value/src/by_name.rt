@@ -9,7 +9,7 @@ use std::alloc::AllocError;
 use std::sync::ArcStr;
 
 // Up to so many entries are searched name by name, which takes no memory.
-pub(crate) const FEW: usize = 8;
+pub(crate) const FEW: usize = 16;
 
 // The entries in the order of their names, where no two of them have one name. The list is on the heap that the entries are on.
 #[inline(never)]

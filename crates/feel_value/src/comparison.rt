@@ -17,7 +17,7 @@ use std::sync::ArcStr;
 ///
 /// Lists and contexts are compared part by part. Nothing but null is equal to null, and of values of two other kinds the
 /// answer is unknown. The time is linear in the nodes where the entries of two contexts come in one order, or one of the two
-/// has at most 8. Others are put in the order of their names: for `n` entries that takes about `n * log n` comparisons of
+/// has at most 16. Others are put in the order of their names: for `n` entries that takes about `n * log n` comparisons of
 /// names, and memory that is given back. Where the heap has none left each name is looked for, in up to `2 * n * n` comparisons.
 pub fn equal(a: &Feel, b: &Feel) -> Truth
     ensures answer { result ≡ equal_of a.now b.now }

@@ -15,11 +15,23 @@ const THREE: &[&[&str]] = &[
     &["c", "b", "a"],
 ];
 
-const TEN: &[&[&str]] = &[
-    &["a", "b", "c", "d", "e", "f", "g", "h", "i", "j"],
-    &["j", "i", "h", "g", "f", "e", "d", "c", "b", "a"],
-    &["f", "g", "h", "i", "j", "a", "b", "c", "d", "e"],
-    &["b", "a", "d", "c", "f", "e", "h", "g", "j", "i"],
+const TWENTY: &[&[&str]] = &[
+    &[
+        "a", "b", "c", "d", "e", "f", "g", "h", "i", "j", "k", "l", "m", "n", "o", "p", "q", "r",
+        "s", "t",
+    ],
+    &[
+        "t", "s", "r", "q", "p", "o", "n", "m", "l", "k", "j", "i", "h", "g", "f", "e", "d", "c",
+        "b", "a",
+    ],
+    &[
+        "j", "k", "l", "m", "n", "o", "p", "q", "r", "s", "t", "a", "b", "c", "d", "e", "f", "g",
+        "h", "i",
+    ],
+    &[
+        "b", "a", "d", "c", "f", "e", "h", "g", "j", "i", "l", "k", "n", "m", "p", "o", "r", "q",
+        "t", "s",
+    ],
 ];
 
 /// An entry with a text.
@@ -57,22 +69,22 @@ fn are_equal(alloc: Global, orders: &[&[&str]]) -> Result<bool, Fail> {
 #[test]
 fn contexts_in_other_orders(rt: HostRuntime) -> Result<(), Fail> {
     assert!(rt; are_equal(rt.alloc(), THREE)?);
-    assert!(rt; are_equal(rt.alloc(), TEN)?);
+    assert!(rt; are_equal(rt.alloc(), TWENTY)?);
     Ok(())
 }
 
 /// Further entries of two contexts, and whether the contexts are then equal. A name may be there twice, which is no value.
 const FURTHER: &[(&[(&str, &str)], &[(&str, &str)], bool)] = &[
-    (&[("k", "1")], &[("k", "1")], true),
-    (&[("k", "1")], &[("k", "2")], false),
-    (&[("k", "1")], &[("l", "1")], false),
-    (&[("k", "1")], &[], false),
-    (&[], &[("k", "1")], false),
+    (&[("x", "1")], &[("x", "1")], true),
+    (&[("x", "1")], &[("x", "2")], false),
+    (&[("x", "1")], &[("y", "1")], false),
+    (&[("x", "1")], &[], false),
+    (&[], &[("x", "1")], false),
     (&[("c", "c")], &[], true),
     (&[], &[("c", "c")], true),
     (&[("c", "1")], &[], false),
-    (&[("k", "1"), ("k", "2")], &[("k", "2"), ("k", "1")], true),
-    (&[("k", "1"), ("k", "2")], &[("k", "1")], false),
+    (&[("x", "1"), ("x", "2")], &[("x", "2"), ("x", "1")], true),
+    (&[("x", "1"), ("x", "2")], &[("x", "1")], false),
 ];
 
 /// Checks the further entries behind the same ones in each two of the orders.
@@ -92,11 +104,11 @@ fn check_further(rt: &impl Abort, alloc: Global, orders: &[&[&str]]) -> Result<(
 #[test]
 fn further_entries(rt: HostRuntime) -> Result<(), Fail> {
     check_further(&rt, rt.alloc(), THREE)?;
-    check_further(&rt, rt.alloc(), TEN)?;
+    check_further(&rt, rt.alloc(), TWENTY)?;
     Ok(())
 }
 
-/// A context of ten contexts, the outer and the inner ones in these orders of their names.
+/// A context of contexts, the outer and the inner ones in these orders of their names.
 fn nested(alloc: Global, outer: &[&str], inner: &[&str]) -> Result<Value, AllocError> {
     let mut entries = Vec::new(alloc);
     for name in outer {
@@ -108,9 +120,9 @@ fn nested(alloc: Global, outer: &[&str], inner: &[&str]) -> Result<Value, AllocE
 
 #[test]
 fn contexts_within_contexts(rt: HostRuntime) -> Result<(), Fail> {
-    for names in TEN {
-        let a = nested(rt.alloc(), TEN[0], names)?;
-        let b = nested(rt.alloc(), names, TEN[1])?;
+    for names in TWENTY {
+        let a = nested(rt.alloc(), TWENTY[0], names)?;
+        let b = nested(rt.alloc(), names, TWENTY[1])?;
         assert!(rt; a.is_equal(&b), "at {names:?}");
         let others = nested(rt.alloc(), names, &["a"])?;
         assert!(rt; !a.is_equal(&others), "at {names:?}");
@@ -120,7 +132,7 @@ fn contexts_within_contexts(rt: HostRuntime) -> Result<(), Fail> {
 
 #[test]
 fn many_names_are_distinct_or_not(rt: HostRuntime) -> Result<(), Fail> {
-    for names in TEN {
+    for names in TWENTY {
         assert!(rt;
             Feel::of(context(rt.alloc(), names, &[])?).is_some(),
             "at {names:?}"
@@ -134,10 +146,10 @@ fn many_names_are_distinct_or_not(rt: HostRuntime) -> Result<(), Fail> {
 /// Names are put in order on the heap; what is told is the same where it is full.
 #[test]
 fn contexts_are_compared_without_memory(rt: HostRuntime) -> Result<(), Fail> {
-    for names in TEN {
-        let a = context(rt.alloc(), TEN[1], &[])?;
+    for names in TWENTY {
+        let a = context(rt.alloc(), TWENTY[1], &[])?;
         let b = context(rt.alloc(), names, &[])?;
-        let other = context(rt.alloc(), names, &[("k", "1")])?;
+        let other = context(rt.alloc(), names, &[("x", "1")])?;
         let twice = context(rt.alloc(), names, &[("e", "1")])?;
         let full = FullHeap::but(rt.alloc(), 0)?;
         let equal = a.is_equal(&b);
