@@ -12,7 +12,7 @@ use Rattle.feel_value.specs.View.{entries_view}
 use Rattle.feel_value.proofs.Entries.{Entry, entries_from}
 use Rattle.feel_value.proofs.Booleans.{both_true}
 
-abbrev cmp : List ℕ → List ℕ → Ordering
+abbrev pub cmp : List ℕ → List ℕ → Ordering
 cmp = slice_cmp nat_cmp
 
 less_by_test : (o : Ordering) → is_lt o ≡ true → o ≡ Less
@@ -27,13 +27,13 @@ other_name k l e = sym (is_eq-slice_cmp k l) ∙ ap is_eq (less_by_test (cmp k l
 before_both : (k l m : List ℕ) → is_lt (cmp k l) ≡ true → is_lt (cmp l m) ≡ true → is_lt (cmp k m) ≡ true
 before_both k l m d e = ap is_lt (nat_list_cmp_total.trans k l m (less_by_test (cmp k l) d) (less_by_test (cmp l m) e))
 
-after_both : (k n : List ℕ) (es : Entries) → is_lt (cmp k n) ≡ true → rises_after n es ≡ true → rises_after k es ≡ true
+pub after_both : (k n : List ℕ) (es : Entries) → is_lt (cmp k n) ≡ true → rises_after n es ≡ true → rises_after k es ≡ true
 after_both k n no_entries e h = refl
 after_both k n (entry m d es) e h =
     let p = both_true (is_lt (cmp n m)) (rises_after m es) h in
     ap₂ (λ a b. a && b) (before_both k n m e p.0) p.1
 
-missing : (k : List ℕ) (es : Entries) → rises_after k es ≡ true → has_name k es ≡ false
+pub missing : (k : List ℕ) (es : Entries) → rises_after k es ≡ true → has_name k es ≡ false
 missing k no_entries h = refl
 missing k (entry n d es) h =
     let p = both_true (is_lt (cmp k n)) (rises_after n es) h in

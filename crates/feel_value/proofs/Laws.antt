@@ -26,10 +26,10 @@ among_rest n d ds es h test m e = h test m (second_true (bytes_eq m n && test d)
 first_found : (test : Datum → Bool) (n : List ℕ) (d : Datum) (ds : Entries) → test d ≡ true → has_entry test n (entry n d ds) ≡ true
 first_found test n d ds e = ap₂ (λ a b. (a && b) || has_entry test n ds) (bytes_itself n) e
 
-abbrev NamesAreAmong : Entries → Entries → Type 0
+abbrev pub NamesAreAmong : Entries → Entries → Type 0
 NamesAreAmong ds es = (n : List ℕ) → has_name n ds ≡ true → has_name n es ≡ true
 
-names_there : (ds es : Entries) → NamesAreAmong ds es → names_within ds es ≡ true
+pub names_there : (ds es : Entries) → NamesAreAmong ds es → names_within ds es ≡ true
 names_there no_entries es h = refl
 names_there (entry n d ds) es h =
     ap₂ (λ a b. a && b) (h n (ap (λ a. a || has_name n ds) (bytes_itself n))) (names_there ds es (λ m e. h m (second_true (bytes_eq m n) (has_name m ds) e)))
@@ -53,7 +53,7 @@ mutual
       let test : Datum → Bool = λ e. is_yes (equal d e) in
       ap₂ (λ a b. a && b) (h test n (first_found test n d ds (ap is_yes (equal_itself d)))) (values_itself ds es (among_rest n d ds es h))
 
-no_entry : (test : Datum → Bool) (n : List ℕ) (es : Entries) → has_name n es ≡ false → has_entry test n es ≡ false
+pub no_entry : (test : Datum → Bool) (n : List ℕ) (es : Entries) → has_name n es ≡ false → has_entry test n es ≡ false
 no_entry test n no_entries h = refl
 no_entry test n (entry m d es) h =
     let p = both_false (bytes_eq n m) (has_name n es) h in

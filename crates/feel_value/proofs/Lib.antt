@@ -5,7 +5,9 @@ pub mod Room
 pub mod ContextRoom
 pub mod Booleans
 pub mod DistinctNames
+pub mod ByName
 pub mod Same
+pub mod Pairs
 pub mod FromJson
 pub mod ToJson
 pub mod CodePoints

@@ -1,10 +1,12 @@
 //! Which values are equal, and which is less.
-ghost use Rattle.std.specs.Prelude.{◌≡◌};
+ghost use Rattle.std.specs.Prelude.{◌≡◌, ◌&&◌, IfSome};
 ghost use Rattle.feel_value.specs.Comparison.{equal as equal_of, less as less_of, items_equal, values_equal as values_match, names_within as has_names, has_entry};
 ghost use Rattle.feel_value.specs.Limits.{has_name as is_name_of};
+ghost use Rattle.feel_value.specs.Names.{lent, same_names, pairs_equal};
 ghost use Rattle.feel_value.specs.Logic.{is_yes};
 ghost use Rattle.feel_value.specs.View.{datum_of, items_view, entries_view};
 
+use crate::by_name::{FEW, by_name};
 use crate::feel::Feel;
 use crate::logic::{Truth, decided};
 use crate::names::find;
@@ -14,8 +16,9 @@ use std::sync::ArcStr;
 /// Whether two values are equal.
 ///
 /// Lists and contexts are compared part by part. Nothing but null is equal to null, and of values of two other kinds the
-/// answer is unknown. The time is linear in the nodes where the entries of the contexts come in one order. Where they do not,
-/// each name is looked for: in two contexts of `n` entries that is up to `2 * n * n` comparisons of names.
+/// answer is unknown. The time is linear in the nodes where the entries of two contexts come in one order, or one of the two
+/// has at most 16. Others are put in the order of their names: for `n` entries that takes about `n * log n` comparisons of
+/// names, and memory that is given back. Where the heap has none left each name is looked for, in up to `2 * n * n` comparisons.
 pub fn equal(a: &Feel, b: &Feel) -> Truth
     ensures answer { result ≡ equal_of a.now b.now }
     ensures itself { a.now ≡ b.now → result ≡ Truth.Yes }
@@ -51,9 +54,7 @@ pub(crate) fn same_value(a: &Value, b: &Value) -> Truth
         (Value::Number(x), Value::Number(y)) => decided(*x == *y),
         (Value::Text(x), Value::Text(y)) => decided(x.as_str() == y.as_str()),
         (Value::List(x), Value::List(y)) => decided(same_items(x, y)),
-        (Value::Context(x), Value::Context(y)) => {
-            decided(same_entries(x, y) && names_within(y, x))
-        }
+        (Value::Context(x), Value::Context(y)) => decided(same_contexts(x, y)),
         _ => Truth::Unknown,
     }
 }
@@ -68,6 +69,50 @@ fn same_items(a: &[Value], b: &[Value]) -> bool
     }
     for (i, item) in a.iter().enumerate() {
         if same_value(item, &b[i]) != Truth::Yes {
+            return false;
+        }
+    }
+    true
+}
+
+// Whether they have the same names, and equal values at each name.
+#[cycle(same)]
+fn same_contexts(a: &Vec<(ArcStr, Value)>, b: &Vec<(ArcStr, Value)>) -> bool
+    ensures { result ≡ (values_match (entries_view a.now.items) (entries_view b.now.items) && has_names (entries_view b.now.items) (entries_view a.now.items)) }
+{
+    if names_agree(a, b) {
+        return same_entries(a, b);
+    }
+    if a.len() > FEW && b.len() > FEW {
+        if let Some(same) = same_by_name(a, b) {
+            return same;
+        }
+    }
+    same_entries(a, b) && names_within(b, a)
+}
+
+// The same, told by the entries in the order of their names. None where the heap is full, or a name is there twice.
+#[cycle(same)]
+#[inline(never)]
+fn same_by_name(a: &Vec<(ArcStr, Value)>, b: &Vec<(ArcStr, Value)>) -> Option<bool>
+    ensures { IfSome result (λ same. same ≡ (values_match (entries_view a.now.items) (entries_view b.now.items) && has_names (entries_view b.now.items) (entries_view a.now.items))) }
+{
+    let x = by_name(a).ok()??;
+    let y = by_name(b).ok()??;
+    Some(same_pairs(&x, &y))
+}
+
+// Whether both have the same names in one order, and equal values in their places.
+#[cycle(same)]
+fn same_pairs(a: &[&(ArcStr, Value)], b: &[&(ArcStr, Value)]) -> bool
+    ensures { result ≡ pairs_equal (entries_view (lent a.now)) (entries_view (lent b.now)) }
+{
+    if a.len() != b.len() {
+        return false;
+    }
+    for (i, (name, value)) in a.iter().enumerate() {
+        let (other_name, other) = b[i];
+        if name.as_str() != other_name.as_str() || same_value(value, other) != Truth::Yes {
             return false;
         }
     }
@@ -106,6 +151,21 @@ fn has_equal_among(value: &Value, name: &str, entries: &[(ArcStr, Value)]) -> bo
         }
     }
     false
+}
+
+// Whether both have the same names in one order.
+fn names_agree(a: &[(ArcStr, Value)], b: &[(ArcStr, Value)]) -> bool
+    ensures { result ≡ same_names (entries_view a.now) (entries_view b.now) }
+{
+    if a.len() != b.len() {
+        return false;
+    }
+    for (i, (name, _)) in a.iter().enumerate() {
+        if name.as_str() != b[i].0.as_str() {
+            return false;
+        }
+    }
+    true
 }
 
 // Whether each name of the first is a name of the second.

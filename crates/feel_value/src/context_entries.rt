@@ -65,7 +65,8 @@ impl ContextEntries {
         Ok(true)
     }
 
-    /// The context of the entries, where their names are distinct. No value is walked through again.
+    /// The context of the entries, where their names are distinct. No value is walked through again, and the names cost what
+    /// they cost `Feel::of`.
     pub fn into_context(self, alloc: Global) -> Result<Outcome, AllocError>
         ensures outcome { IfOk result (λ o. o ≡ held (context (entries_of self))) }
         ensures kept { keeps_limits (context (entries_of self)) ≡ true }

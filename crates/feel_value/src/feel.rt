@@ -47,8 +47,9 @@ impl Model for Feel {
 impl Feel {
     /// The value, where it keeps the limits and each context has distinct names.
     ///
-    /// The time is linear in the nodes where the names of each context rise. A context of `n` names in another order costs up
-    /// to `n * n / 2` comparisons of names. A value that is too deep or has too many nodes is left at the first part too many.
+    /// The time is linear in the nodes where the names of each context rise. The names of another context are put in order: for
+    /// `n` names that takes about `n * log n` comparisons, and memory that is given back. Where the heap has none left it takes
+    /// up to `n * n / 2`. A value that is too deep or has too many nodes is left at the first part too many.
     pub fn of(value: Value) -> Option<Feel>
         ensures { result ≡ (if is_value (datum_of value) then Some (datum_of value) else None) }
     {

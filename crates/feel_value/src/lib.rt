@@ -1,6 +1,7 @@
 //! Values of FEEL, their limits and their three-valued logic.
 #![tactic(auto)]
 
+mod by_name;
 mod comparison;
 mod context_entries;
 mod copy;

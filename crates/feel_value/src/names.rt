@@ -5,6 +5,7 @@ ghost use Rattle.feel_value.specs.Limits.{names_distinct, items_distinct, entrie
 ghost use Rattle.feel_value.specs.Names.{names_rise as rise};
 ghost use Rattle.feel_value.specs.View.{datum_of, items_view, entries_view};
 
+use crate::by_name::{FEW, by_name};
 use crate::value::Value;
 use std::sync::ArcStr;
 
@@ -56,11 +57,19 @@ fn entries_have_distinct_names(entries: &[(ArcStr, Value)]) -> bool
     true
 }
 
-// Whether no two entries have one name. Names that rise differ; only among others is each looked for.
-pub(crate) fn names_differ(entries: &[(ArcStr, Value)]) -> bool
-    ensures { result ≡ differ (entries_view entries.now) }
+// Whether no two entries have one name. Names that rise differ. Many others are put in order, where the heap has room for it.
+pub(crate) fn names_differ(entries: &Vec<(ArcStr, Value)>) -> bool
+    ensures { result ≡ differ (entries_view entries.now.items) }
 {
-    names_rise(entries) || no_name_repeats(entries)
+    if names_rise(entries) {
+        return true;
+    }
+    if entries.len() > FEW {
+        if let Ok(sorted) = by_name(entries) {
+            return sorted.is_some();
+        }
+    }
+    no_name_repeats(entries)
 }
 
 // Whether each name is after the one before it.

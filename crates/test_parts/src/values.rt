@@ -1,4 +1,5 @@
 //! What no clause says: that the definitions are the ones meant, at values worked out by hand, and that the calls succeed.
+mod contexts;
 mod refused;
 
 use feel_value::{Feel, Truth, Value, ValueFault, equal};

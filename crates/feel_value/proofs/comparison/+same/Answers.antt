@@ -1,32 +1,19 @@
-use Rattle.std.proofs.Common.{◌≡◌, ◌∙◌, sym, ap, ap₂, ◌+◌, ◌&&◌, ◌||◌, drop}
+use Rattle.std.proofs.Common.{◌≡◌, ◌∙◌, sym, ap, ap₂, ◌+◌, ◌&&◌, ◌||◌, true, drop, Bor, arith}
+use Rattle.feel_value.specs.Limits.{depth, entries_depth}
 use Rattle.feel_value.specs.Logic.{decided, is_yes}
 use Rattle.feel_value.specs.Comparison.{equal, values_equal, names_within, has_entry}
+use Rattle.feel_value.specs.Names.{IsByName, lent, same_names, pairs_equal}
 use Rattle.feel_value.specs.View.{datum_of, entries_view}
 use Rattle.feel_value.proofs.Views.{datum_of-Context}
-use Rattle.feel_value.proofs.Entries.{entries_from}
+use Rattle.feel_value.proofs.Booleans.{and_true}
+use Rattle.feel_value.proofs.Entries.{Entry, entries_from}
 use Rattle.feel_value.proofs.Same.{other_length, has_entry-parts}
+use Rattle.feel_value.proofs.ByName.{list_came}
+use Rattle.feel_value.proofs.Pairs.{same_names_within, in_order_by_places, other_pairs, no_deeper, entry_depth, lent_depth, item_depth}
 use Rattle.feel_value.proofs.comparison.+same.Goals as goal
-use Rattle.feel_value.proofs.comparison.+same.Goals.{same_value-then-same_entries, same_value-else-same_entries}
 
 pub same_items-returns-then-a-b : goal.same_items-returns-then-a-b
 same_items-returns-then-a-b t c = sym (other_length c.args.a.now c.args.b.now c.if-a-b.true)
-
-pub same_value-returns-after-same_entries : goal.same_value-returns-after-same_entries
-same_value-returns-after-same_entries t c =
-    let xs = entries_view c.in-Context-Context.x.value.items in
-    let ys = entries_view c.in-Context-Context.y.value.items in
-    let x_is = ap entries_view (c.deref-in-Context-Context-2.ensures.value ∙ ap (λ v. v.items) c.deref-in-Context-Context.ensures) in
-    let y_is = ap entries_view (c.deref-in-Context-Context-4.ensures.value ∙ ap (λ v. v.items) c.deref-in-Context-Context-3.ensures) in
-    let first : c.same_entries.result ≡ values_equal xs ys = c.same_entries.ensures ∙ ap₂ values_equal x_is y_is in
-    let both : c.if-same_entries.decided ≡ (values_equal xs ys && names_within ys xs) =
-    elim c.if-same_entries.branch [
-      | same_value-then-same_entries w ↦
-          w.decided-is ∙ w.names_within.ensures ∙ ap₂ names_within (ap entries_view (w.deref-then-same_entries-2.ensures.value ∙ ap (λ v. v.items) w.deref-then-same_entries.ensures)) (ap entries_view (w.deref-then-same_entries-4.ensures.value ∙ ap (λ v. v.items) w.deref-then-same_entries-3.ensures))
-          ∙ ap (λ b. b && names_within ys xs) (sym w.if-same_entries.true ∙ first)
-      | same_value-else-same_entries w ↦ w.decided-is ∙ w.if-same_entries.false ∙ ap (λ b. b && names_within ys xs) (sym w.if-same_entries.false ∙ first)
-    ] in
-    c.decided-in-Context-Context.ensures ∙ ap decided both
-    ∙ sym (ap₂ equal (ap datum_of c.in-Context-Context.is-0 ∙ datum_of-Context c.in-Context-Context.x) (ap datum_of c.in-Context-Context.is-1 ∙ datum_of-Context c.in-Context-Context.y))
 
 pub same_entries-loop-i-preserved : goal.same_entries-loop-i-preserved
 same_entries-loop-i-preserved t c =
@@ -49,3 +36,66 @@ has_equal-returns-else-has_equal_among t c =
     let before = has_entry (λ e. is_yes (equal (datum_of c.args.value.now) e)) c.args.name.now (entries_view c.split_at.result.0.now) in
     c.has_equal_among-else-has_equal_among.ensures
     ∙ sym (has_entry-parts (λ e. is_yes (equal (datum_of c.args.value.now) e)) c.args.name.now c.args.entries.now c.split_at.result.0.now c.split_at.result.1.now c.split_at.ensures.by_index.0 ∙ ap (λ b. b || before) here)
+
+pub same_contexts-returns-then-names_agree : goal.same_contexts-returns-then-names_agree
+same_contexts-returns-then-names_agree t c =
+    let xs = entries_view c.args.a.now.items in
+    let ys = entries_view c.args.b.now.items in
+    let agree : same_names xs ys ≡ true = ap₂ (λ us vs. same_names (entries_view us) (entries_view vs)) (sym c.deref.ensures.value) (sym c.deref-2.ensures.value) ∙ sym c.names_agree.ensures ∙ c.if-names_agree.true in
+    c.same_entries.ensures ∙ ap₂ (λ us vs. values_equal (entries_view us) (entries_view vs)) c.deref-then-names_agree.ensures.value c.deref-then-names_agree-2.ensures.value
+    ∙ sym (ap (λ b. values_equal xs ys && b) (same_names_within xs ys agree) ∙ and_true (values_equal xs ys))
+
+pub same_by_name-same_pairs-requires : goal.same_by_name-same_pairs-requires
+same_by_name-same_pairs-requires t c =
+    let x = c.in_ok-x.x in
+    let first = list_came _ (λ s. IsByName c.args.a.now.items s.items) c.by_name.result c.in_ok-ok.field-0 x (sym c.ok.ensures.value ∙ c.in_ok-ok.was) c.in_ok-x.was c.by_name.ensures in
+    let less = no_deeper c.args.a.now.items (lent x.items) first.0 in
+    (omega (arith, c.decreases, less, ap (λ xs. entries_depth (entries_view (lent xs))) c.deref.ensures.value), tt)
+
+pub same_by_name-returns : goal.same_by_name-returns
+same_by_name-returns t c =
+    let x = c.in_ok-x.x in
+    let y = c.in_ok-y.y in
+    let first = list_came _ (λ s. IsByName c.args.a.now.items s.items) c.by_name.result c.in_ok-ok.field-0 x (sym c.ok.ensures.value ∙ c.in_ok-ok.was) c.in_ok-x.was c.by_name.ensures in
+    let second = list_came _ (λ s. IsByName c.args.b.now.items s.items) c.by_name-2.result c.in_ok-ok-2.field-0 y (sym c.ok-2.ensures.value ∙ c.in_ok-ok-2.was) c.in_ok-y.was c.by_name-2.ensures in
+    c.same_pairs.ensures ∙ ap₂ (λ us vs. pairs_equal (entries_view (lent us)) (entries_view (lent vs))) c.deref.ensures.value c.deref-2.ensures.value
+    ∙ in_order_by_places c.args.a.now.items c.args.b.now.items (lent x.items) (lent y.items) first.0 second.0 first.1 second.1
+
+pub same_entries-has_equal-requires : goal.same_entries-has_equal-requires
+same_entries-has_equal-requires t c =
+    let x = c.index-a-i.result in
+    let less = entry_depth c.args.a.now c.loop-i.i x c.loop-i-test.true in
+    (omega (arith, c.decreases, less, ap (λ (y : Entry). depth (datum_of y.1)) c.index-a-i.is), tt)
+
+pub same_entries-returns-then-not-has_equal : goal.same_entries-returns-then-not-has_equal
+same_entries-returns-then-not-has_equal t c =
+    let x = c.index-a-i.result in
+    let ys = entries_view c.args.b.now in
+    let rest = entries_view (drop (c.loop-i.i + 1) c.args.a.now) in
+    let here = ap (λ n. has_entry (λ e. is_yes (equal (datum_of x.1) e)) n ys) (sym c.as_str.ensures.value) ∙ sym c.has_equal.ensures ∙ c.if-not-has_equal.true in
+    sym (c.loop-i.invariant ∙ ap (λ es. values_equal es ys) (entries_from c.args.a.now c.loop-i.i x c.index-a-i.is c.loop-i-test.true) ∙ ap (λ b. b && values_equal rest ys) here)
+
+pub same_items-same_value-requires : goal.same_items-same_value-requires
+same_items-same_value-requires t c =
+    let x = c.index-a-i.result in
+    let less = item_depth c.args.a.now c.loop-i.i x c.loop-i-test.true in
+    (omega (arith, c.decreases, less, ap (λ y. depth (datum_of y)) c.index-a-i.is), tt)
+
+pub same_pairs-returns-then-a-b : goal.same_pairs-returns-then-a-b
+same_pairs-returns-then-a-b t c = sym (other_pairs c.args.a.now c.args.b.now c.if-a-b.true)
+
+pub same_pairs-same_value-requires : goal.same_pairs-same_value-requires
+same_pairs-same_value-requires t c =
+    let x = c.index-a-i.result in
+    let less = lent_depth c.args.a.now c.loop-i.i x c.loop-i-test.true in
+    (omega (arith, c.decreases, less, ap (λ (y : Bor Entry). depth (datum_of y.now.1)) c.index-a-i.is), tt)
+
+pub same_value-returns-in-Context-Context : goal.same_value-returns-in-Context-Context
+same_value-returns-in-Context-Context t c =
+    let xs = c.in-Context-Context.x.value.items in
+    let ys = c.in-Context-Context.y.value.items in
+    let x_is = ap (λ v. v.items) c.deref-in-Context-Context.ensures in
+    let y_is = ap (λ v. v.items) c.deref-in-Context-Context-2.ensures in
+    c.decided-in-Context-Context.ensures
+    ∙ ap decided (c.same_contexts.ensures ∙ ap₂ (λ us vs. values_equal (entries_view us) (entries_view vs) && names_within (entries_view vs) (entries_view us)) x_is y_is)
+    ∙ sym (ap₂ equal (ap datum_of c.in-Context-Context.is-0 ∙ datum_of-Context c.in-Context-Context.x) (ap datum_of c.in-Context-Context.is-1 ∙ datum_of-Context c.in-Context-Context.y))

@@ -1,7 +1,6 @@
 use Rattle.std.proofs.Common.{◌≡◌, ◌∙◌, sym, ap, true, false, if◌then◌else◌}
 use Rattle.feel_value.specs.Datum.{context, entries_of}
-use Rattle.feel_value.specs.Limits.{is_value, names_differ}
-use Rattle.feel_value.specs.View.{entries_view}
+use Rattle.feel_value.specs.Limits.{is_value}
 use Rattle.feel_value.specs.declared.feel.Outcome.TheVariants.{Is, Limit}
 use Rattle.feel_value.proofs.Entries.{entries_view-named}
 use Rattle.feel_value.proofs.ContextRoom.{viewed_kept, viewed_value}
@@ -12,7 +11,7 @@ returns-then-not-names_differ-clause-outcome c =
     let whole = context (entries_of c.args.self) in
     let none : is_value whole ≡ false =
     viewed_value c.self.inside.entries.items c.args.self c.self.inside.room c.self.view_is c.self.invariant
-    ∙ ap (λ xs. names_differ (entries_view xs)) (sym c.deref.ensures.value) ∙ sym c.names_differ.ensures ∙ c.if-not-names_differ.true in
+    ∙ sym c.names_differ.ensures ∙ c.if-not-names_differ.true in
     sym (ap (λ b. if b then Is whole else Limit) none)
 
 pub returns-then-not-names_differ-clause-kept : goal.returns-then-not-names_differ-clause-kept
@@ -23,7 +22,7 @@ of_entries-requires c =
     let xs = c.self.inside.entries.items in
     ap (λ es. is_value (context es)) (entries_view-named xs ∙ ap entries_of c.self.view_is)
     ∙ viewed_value xs c.args.self c.self.inside.room c.self.view_is c.self.invariant
-    ∙ ap (λ ys. names_differ (entries_view ys)) (sym c.deref.ensures.value) ∙ sym c.names_differ.ensures ∙ c.if-not-names_differ.false
+    ∙ sym c.names_differ.ensures ∙ c.if-not-names_differ.false
 
 pub returns-in_err-value-clause-kept : goal.returns-in_err-value-clause-kept
 returns-in_err-value-clause-kept c = viewed_kept c.self.inside.entries.items c.args.self c.self.inside.room c.self.view_is c.self.invariant
@@ -34,7 +33,7 @@ returns-clause-outcome c =
     let whole = context (entries_of c.args.self) in
     let one : is_value whole ≡ true =
     viewed_value xs c.args.self c.self.inside.room c.self.view_is c.self.invariant
-    ∙ ap (λ ys. names_differ (entries_view ys)) (sym c.deref.ensures.value) ∙ sym c.names_differ.ensures ∙ c.if-not-names_differ.false in
+    ∙ sym c.names_differ.ensures ∙ c.if-not-names_differ.false in
     ap Is (c.in_ok-value.ensures ∙ ap context (entries_view-named xs ∙ ap entries_of c.self.view_is)) ∙ sym (ap (λ b. if b then Is whole else Limit) one)
 
 pub returns-clause-kept : goal.returns-clause-kept
