@@ -45,9 +45,10 @@ impl Crew {
         self.stopping.load(Ordering::SeqCst)
     }
 
-    // One worker more has ended. A front that waits for answers is woken.
+    // One worker more has ended. A front that waits for answers is woken, also one that waits for many.
     pub(crate) fn add_ended(&self) {
         self.ended.fetch_add(1, Ordering::SeqCst);
         self.signals.add_answer();
+        self.signals.end_to_post();
     }
 }

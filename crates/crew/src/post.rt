@@ -1,7 +1,7 @@
 //! One worker's thread, as the others see it.
 use crate::crew::Crew;
-use lanes::{Gate, Signals, Stepped};
-use std::cell::Cell;
+use box_core::{Done, Job, Work};
+use lanes::{Signals, Stepped, Watch};
 use std::hint;
 use std::sync::Wait;
 use std::thread::Parker;
@@ -25,30 +25,30 @@ enum Does {
     Works,
 }
 
-/// A worker's place among the others. It sees the worker's runs on their way to the gate of them all.
+/// A worker's place among the others. It sees the worker's runs on their way to a watch.
 #[derive(Drop)]
-pub(crate) struct Post<'a, G> {
-    gate: &'a G,
+pub(crate) struct Post<'a, V> {
+    watch: V,
     signals: &'a Signals,
-    does: Cell<Does>,
+    does: Does,
     // For how many turns it stays awake before it sleeps.
-    turns: Cell<u32>,
+    turns: u32,
     // How long its next pause is.
-    pause: Cell<u64>,
+    pause: u64,
     bed: Parker,
 }
 
-impl<'a, G: Gate> Post<'a, G> {
+impl<'a, V> Post<'a, V> {
     // A worker that begins to look.
-    pub(crate) fn of(crew: &'a Crew, gate: &'a G) -> Post<'a, G> {
+    pub(crate) fn of(crew: &'a Crew, watch: V) -> Post<'a, V> {
         let signals = crew.signals();
         signals.begin_to_look();
         Post {
-            gate,
+            watch,
             signals,
-            does: Cell::new(Does::Looks),
-            turns: Cell::new(TURNS),
-            pause: Cell::new(FIRST_PAUSE),
+            does: Does::Looks,
+            turns: TURNS,
+            pause: FIRST_PAUSE,
             bed: Parker::new(),
         }
     }
@@ -59,7 +59,7 @@ impl<'a, G: Gate> Post<'a, G> {
     }
 
     // What follows a step, before which so many jobs had been put.
-    pub(crate) fn follow<R: Wait>(&self, rt: &R, stepped: Stepped, seen: u64) {
+    pub(crate) fn follow<R: Wait>(&mut self, rt: &R, stepped: Stepped, seen: u64) {
         match stepped {
             Stepped::Answered => {
                 self.signals.add_answer();
@@ -79,61 +79,63 @@ impl<'a, G: Gate> Post<'a, G> {
     }
 
     // It looks for jobs with new patience.
-    fn look(&self) {
-        if self.does.get() != Does::Looks {
+    fn look(&mut self) {
+        if self.does != Does::Looks {
             self.signals.begin_to_look();
-            self.does.set(Does::Looks);
+            self.does = Does::Looks;
         }
-        self.turns.set(TURNS);
-        self.pause.set(FIRST_PAUSE);
+        self.turns = TURNS;
+        self.pause = FIRST_PAUSE;
     }
 
     // It looked in vain: it stays awake for some turns, and then sleeps until a job is put.
-    fn rest<R: Wait>(&self, rt: &R, seen: u64) {
+    fn rest<R: Wait>(&mut self, rt: &R, seen: u64) {
         self.signals.end_to_post();
-        let turns = self.turns.get();
-        if turns == 0 {
+        if self.turns == 0 {
             self.signals.await_job(rt, seen);
         } else {
-            self.turns.set(self.signals.watch_jobs(seen, turns - 1));
+            self.turns = self.signals.watch_jobs(seen, self.turns - 1);
         }
     }
 
     // It holds what it can't get rid of: it tries again after a few turns, and later after pauses that grow.
-    fn pause<R: Wait>(&self, rt: &R) {
-        let turns = self.turns.get();
-        if turns > 0 {
-            self.turns.set(turns.saturating_sub(BETWEEN));
+    fn pause<R: Wait>(&mut self, rt: &R) {
+        if self.turns > 0 {
+            self.turns = self.turns.saturating_sub(BETWEEN);
             for _ in 0..BETWEEN {
                 hint::spin_loop();
             }
             return;
         }
-        let pause = self.pause.get().min(LONGEST_PAUSE);
+        let pause = self.pause.min(LONGEST_PAUSE);
         self.bed.park_timeout(rt, Duration::from_micros(pause));
-        self.pause.set(pause * 2);
+        self.pause = pause * 2;
     }
 
     // It looks no more.
     pub(crate) fn end(&self) {
-        if self.does.get() == Does::Looks {
+        if self.does == Does::Looks {
             self.signals.end_to_look();
         }
     }
 }
 
-impl<'a, G: Gate> Gate for Post<'a, G> {
-    fn enter(&self, client: u32, ticket: u64) {
+impl<'a, V: Watch> Watch for Post<'a, V> {
+    ghost entered = { λ client ticket old new. V.entered client ticket old.watch new.watch };
+
+    ghost left = { λ client ticket old new. V.left client ticket old.watch new.watch };
+
+    fn enter<W: Work>(&mut self, client: u32, job: &Job<W>) {
         // A job that was refused memory comes again while it works: it counts as taken once, and its pauses grow on.
-        if self.does.get() == Does::Looks {
+        if self.does == Does::Looks {
             self.signals.take_job();
-            self.does.set(Does::Works);
-            self.turns.set(TURNS);
+            self.does = Does::Works;
+            self.turns = TURNS;
         }
-        self.gate.enter(client, ticket);
+        self.watch.enter(client, job);
     }
 
-    fn leave(&self, client: u32, ticket: u64) {
-        self.gate.leave(client, ticket);
+    fn leave<W: Work>(&mut self, client: u32, done: &Done<W>) {
+        self.watch.leave(client, done);
     }
 }

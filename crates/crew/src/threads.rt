@@ -7,7 +7,7 @@ use crate::crew::Crew;
 use crate::post::Post;
 use crate::promise::SameEnd;
 use box_core::Work;
-use lanes::{Gate, Stepped, Worker};
+use lanes::{AtGate, Gate, Stepped, Worker};
 use std::alloc::AllocError;
 use std::snapshot::Snapshot;
 use std::sync::Wait;
@@ -22,11 +22,11 @@ pub(crate) fn work<R: Wait, G: Gate, W: Work>(
 ) -> Worker<W>
     ensures { worker_links result ≡ worker_links worker }
 {
-    let post = Post::of(crew, gate);
+    let mut post = Post::of(crew, AtGate(gate));
     for _ in rt.forever() {
         let seen = post.jobs();
         let stopping = crew.is_stopping();
-        let stepped = worker.step(&post);
+        let stepped = worker.step_watched(&mut post);
         if stopping && !matches!(stepped, Stepped::Answered | Stepped::Again) {
             break;
         }

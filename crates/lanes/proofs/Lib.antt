@@ -13,3 +13,4 @@ pub mod Replies
 pub mod Making
 pub mod Columns
 pub mod Ringing
+pub mod Watching

@@ -1,12 +1,11 @@
 -- A worker steals a job of one lane and runs it.
-use Rattle.std.proofs.Common.{◌≡◌, ◌≢◌, ℕ, zero, suc, ◌+◌, ◌<◌, ◌≤◌, All, List, [], ◌∷◌, ◌++◌, length, get_or, set, sym, refl, ap, ◌∙◌, subst, append-nil, arith, get_or-set_same, get_or-set_other}
+use Rattle.std.proofs.Common.{◌≡◌, ◌≢◌, ℕ, zero, suc, ◌+◌, ◌<◌, ◌≤◌, List, [], ◌∷◌, ◌++◌, length, get_or, set, sym, refl, ap, ◌∙◌, subst, append-nil, arith, get_or-set_same, get_or-set_other}
 use lib.ListN.{length-set}
 use Rattle.std.specs.Prelude.{sum_by, map}
 use mathlib.Core.Logic.{dite}
 use native.Mathlib.Decide.{ℕ_discrete}
 use Rattle.std.proofs.lemmas.List.Sums.{sum_by-cons, get_or-le-sum_by}
 use Rattle.lanes.specs.Workers.{port_link, port_links}
-use Rattle.lanes.specs.Links.{Link}
 use Rattle.box_core.specs.Answer.{Ticketed}
 use Rattle.box_core.specs.declared.work.Work.{Ghosts}
 use Rattle.lanes.specs.declared.gate.Stepped.{Stepped}
@@ -14,11 +13,11 @@ use Rattle.lanes.specs.declared.gate.Stepped.TheVariants as stepped
 use Rattle.lanes.specs.declared.port.Held.{Held}
 use Rattle.lanes.specs.declared.port.Held.TheVariants as held
 use Rattle.lanes.specs.declared.port.Port.{Port}
-use Rattle.lanes.specs.Held.{held_in, answers_in, HoldsJob, HoldsAnswer}
+use Rattle.lanes.specs.Held.{held_in, answers_in, HoldsJob}
 use Rattle.lanes.specs.Ports.{taken_at, sent_at, held_at, SamePort, SameBooks, Finishes}
 use Rattle.lanes.specs.Steps.{Holds, Rests, HoldNothing, Unchanged, Ends, Serves, ServesOne, Steps}
 
-holds_one : {W O : Type 0} (h : Held W O) → HoldsJob h → length (held_in h) ≡ 1
+pub holds_one : {W O : Type 0} (h : Held W O) → HoldsJob h → length (held_in h) ≡ 1
 holds_one held.Nothing j = absurd j
 holds_one (held.Job job) j = refl
 holds_one (held.Done done) j = absurd j
@@ -33,7 +32,7 @@ job_alone held.Nothing j = absurd j
 job_alone (held.Job job) j = refl
 job_alone (held.Done done) j = absurd j
 
-same_default : {T : Type 0} (xs : List T) (i : ℕ) (d e : T) → i < length xs → get_or xs i d ≡ get_or xs i e
+pub same_default : {T : Type 0} (xs : List T) (i : ℕ) (d e : T) → i < length xs → get_or xs i d ≡ get_or xs i e
 same_default [] i d e h = absurd (omega arith)
 same_default (x ∷ xs) zero d e h = refl
 same_default (x ∷ xs) (suc i) d e h = same_default xs i d e (omega arith)
@@ -115,7 +114,7 @@ module _ {W O : Type 0} {g : Ghosts W O} where
 
 module _ {T : Type 0} (f : T → ℕ) where
   -- two members are no more than all
-  two_of : (xs : List T) (i c : ℕ) (d e : T) → c ≢ i → i < length xs → c < length xs → f (get_or xs i d) + f (get_or xs c e) ≤ sum_by f xs
+  pub two_of : (xs : List T) (i c : ℕ) (d e : T) → c ≢ i → i < length xs → c < length xs → f (get_or xs i d) + f (get_or xs c e) ≤ sum_by f xs
   two_of [] i c d e ne h k = absurd (omega (arith, h))
   two_of (x ∷ xs) zero zero d e ne h k = absurd (ne refl)
   two_of (x ∷ xs) zero (suc c) d e ne h k = let b = get_or-le-sum_by f xs c e (omega (arith, k)) in omega (arith, b, sum_by-cons f x xs)
@@ -147,7 +146,7 @@ same_map f [] (y ∷ ys) n h = absurd (omega (arith, n))
 same_map f (x ∷ xs) [] n h = absurd (omega (arith, n))
 same_map f (x ∷ xs) (y ∷ ys) n h = let a = h 0 x (omega arith) in let b = same_map f xs ys (omega (arith, n)) (λ c d k. h (suc c) d (omega (arith, k))) in λ i. a i ∷ b i
 
-nothing_is : {T : Type 0} (xs : List T) → length xs ≡ 0 → xs ≡ []
+pub nothing_is : {T : Type 0} (xs : List T) → length xs ≡ 0 → xs ≡ []
 nothing_is [] e = refl
 nothing_is (x ∷ xs) e = absurd (omega (arith, e))
 

@@ -9,6 +9,8 @@ pub mod Polls
 pub mod Ports
 pub mod Rest
 pub mod Rooms
+pub mod Runs
 pub mod Settling
 pub mod Steps
+pub mod Watched
 pub mod Workers

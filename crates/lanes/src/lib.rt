@@ -16,7 +16,7 @@ mod worker;
 
 pub use client::Client;
 pub use fault::LaneFault;
-pub use gate::{Gate, OpenGate, Stepped};
+pub use gate::{AtGate, Gate, OpenGate, Stepped, Watch};
 pub use open::lanes;
 pub use settled::Settled;
 pub use settling::settle;

@@ -29,7 +29,7 @@ const WORKERS: u32 = 8;
 /// The requests that may be outstanding in one lane.
 const LARGEST_CAPACITY: u32 = 4096;
 /// The answers that the ring of one worker and one client has room for.
-const ANSWERS: usize = 4;
+const ANSWERS: usize = 16;
 /// The jobs that a lane's deque has room for before it grows.
 const FIRST_SLOTS: usize = 64;
 

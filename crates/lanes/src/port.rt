@@ -6,7 +6,7 @@ ghost use Rattle.lanes.specs.Books.{ticket_of, Rises, Rises-prop};
 ghost use Rattle.lanes.specs.Held.{held_in};
 
 use crate::book::{Seat, Steals, Thief};
-use crate::gate::{Gate, Stepped};
+use crate::gate::{Stepped, Watch};
 use box_core::{Done, Job, Work};
 use crossbeam_deque::Steal;
 use rtrb::{Producer, PushError};
@@ -39,6 +39,8 @@ impl<W: Work> Port<W> {
     ghost use Rattle.crossbeam_deque.specs.Steals.{MatchSteal};
     ghost use Rattle.lanes.specs.Held.{HoldsJob};
     ghost use Rattle.lanes.specs.Ports.{taken_at, sent_at, held_at, SamePort, SameBooks, Finishes};
+    ghost use Rattle.lanes.specs.Held.{jobs_in};
+    ghost use Rattle.lanes.specs.Runs.{SeesRun};
 
     /// Steals the oldest job that waits, and holds it.
     pub(crate) fn steal(&mut self) -> Steal<()>
@@ -57,14 +59,15 @@ impl<W: Work> Port<W> {
     }
 
     /// Runs the job that is held, and sends its answer. What cannot be done is held still.
-    pub(crate) fn finish<G: Gate>(&mut self, alloc: Global, gate: &G, lane: u32) -> Stepped
+    pub(crate) fn finish<V: Watch>(&mut self, alloc: Global, watch: &mut V, lane: u32) -> Stepped
         ensures same { SamePort self.old self.new × (taken_at self.new ≡ taken_at self.old) }
         ensures finishes { Finishes self.old result self.new }
+        ensures seen { SeesRun V.entered V.left lane (jobs_in self.old.held) result watch.old watch.new }
     {
         let done = match mem::replace(&mut self.held, Held::Nothing) {
             Held::Nothing => return Stepped::Idle,
             Held::Done(done) => done,
-            Held::Job(job) => match run_gated(job, alloc, gate, lane) {
+            Held::Job(job) => match run_watched(job, alloc, watch, lane) {
                 Ok(done) => done,
                 Err(job) => {
                     self.held = Held::Job(job);
@@ -82,20 +85,22 @@ impl<W: Work> Port<W> {
     }
 }
 
-// Runs a job between the two calls of the gate.
-fn run_gated<W: Work, G: Gate>(
+ghost use Rattle.lanes.specs.Runs.{IsRunSeen};
+
+// Runs a job between the two calls of the watch.
+fn run_watched<W: Work, V: Watch>(
     job: Job<W>,
     alloc: Global,
-    gate: &G,
+    watch: &mut V,
     lane: u32,
 ) -> Result<Done<W>, Job<W>>
-    ensures { MatchResult result (λ done. done ≡ job) (λ back. back ≡ job) }
+    ensures run { MatchResult result (λ done. done ≡ job) (λ back. back ≡ job) }
+    ensures seen { IsRunSeen V.entered V.left lane job.ticket result watch.old watch.new }
 {
-    let ticket = job.ticket();
-    gate.enter(lane, ticket);
+    watch.enter(lane, &job);
     match job.run(alloc) {
         Ok(done) => {
-            gate.leave(lane, ticket);
+            watch.leave(lane, &done);
             Ok(done)
         }
         Err((_, job)) => Err(job),

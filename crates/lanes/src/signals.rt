@@ -14,6 +14,8 @@ const STARVED: u64 = 2_000;
 
 /// The longest sleep in milliseconds. No wake-up is lost, as `Bell` says; this bounds what one would cost.
 const LONGEST_SLEEP: u64 = 100;
+/// The longest sleep, in milliseconds, of a front that waits for many answers: so long one that is there may wait for others.
+const LONGEST_GATHERING: u64 = 1;
 
 /// It counts things, and threads sleep on it until there is one more.
 ///
@@ -82,9 +84,10 @@ impl Bell {
         self.sleepers.fetch_add(1, Ordering::SeqCst);
     }
 
-    // Sleeps while as many things as this were counted, as one who was counted among the sleepers.
-    fn sleep<R: Wait>(&self, rt: &R, seen: u64) {
-        let longest = Duration::from_millis(LONGEST_SLEEP);
+    // Sleeps while as many things as this were counted, at most for so many milliseconds, as one who was counted among the
+    // sleepers.
+    fn sleep<R: Wait>(&self, rt: &R, seen: u64, millis: u64) {
+        let longest = Duration::from_millis(millis);
         self.count
             .park_timeout(rt, (seen & 0xffff_ffff) as u32, longest);
         self.end_sleep();
@@ -104,8 +107,9 @@ impl Bell {
 /// one that looks, or by one that is woken for it; or all workers run jobs, and each looks again after that.
 ///
 /// A front that waits while many jobs are out sleeps until there are many answers, or a worker finds no job, or no place for
-/// its answer. It counts as a sleeper before it reads that something is out. So the worker that posts the last answer of
-/// these looks for a job after that, finds none, and sees the sleeper.
+/// its answer, or a millisecond has passed: no answer lies longer while others are slow. It counts as a sleeper before it
+/// reads that something is out. So the worker that posts the last answer of these looks for a job after that, finds none, and
+/// sees the sleeper.
 ///
 /// Who wakes a worker sets `called` first, counts as for a job, and then wakes; while it is set nobody else wakes one. It is
 /// set no longer once a worker sleeps: each clears it before it sleeps and once it looks again. One that read the count
@@ -222,7 +226,7 @@ impl Signals {
         self.jobs.add_sleeper();
         self.looking.fetch_sub(1, Ordering::SeqCst);
         self.called.store(0, Ordering::SeqCst);
-        self.jobs.sleep(rt, seen);
+        self.jobs.sleep(rt, seen, LONGEST_SLEEP);
         self.looking.fetch_add(1, Ordering::SeqCst);
         self.called.store(0, Ordering::SeqCst);
     }
@@ -251,7 +255,7 @@ impl Signals {
     }
 
     /// Waits until more answers than this were posted: at first awake, then asleep. Where much is out, it sleeps at once,
-    /// until there are many. It may return early.
+    /// until there are many, a millisecond at most. It may return early.
     pub fn await_answer<R: Wait>(&self, rt: &R, seen: u64) {
         self.begin_to_wait();
         if self.outstanding() >= MANY {
@@ -262,16 +266,16 @@ impl Signals {
             return;
         }
         self.answers.add_sleeper();
-        self.answers.sleep(rt, seen);
+        self.answers.sleep(rt, seen, LONGEST_SLEEP);
     }
 
-    // Sleeps until so many answers were posted, or a worker posts no more for now.
+    // Sleeps until so many answers were posted, or a worker posts no more for now, or an answer may lie no longer.
     fn await_many<R: Wait>(&self, rt: &R, wanted: u64) {
         self.wanted.store(wanted, Ordering::SeqCst);
         self.answers.add_sleeper();
         let answers = self.answers();
         if answers < wanted && self.outstanding() > 0 {
-            self.answers.sleep(rt, answers);
+            self.answers.sleep(rt, answers, LONGEST_GATHERING);
         } else {
             self.answers.end_sleep();
         }

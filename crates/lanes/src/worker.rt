@@ -2,7 +2,7 @@
 ghost use Rattle.std.specs.Prelude.{◌≡◌, ◌<◌, ◌≤◌, vec_len, length, sum_by};
 ghost use Rattle.lanes.specs.Ports.{held_at};
 
-use crate::gate::{Gate, Stepped};
+use crate::gate::{AtGate, Gate, Stepped, Watch};
 use crate::port::{Held, Port};
 use crate::signals::Signals;
 use box_core::Work;
@@ -29,6 +29,7 @@ impl<W: Work> Worker<W> {
     ghost use Rattle.std.specs.Prelude.{◌≡◌, ◌<◌, ◌++◌, [], ◌∷◌, vec_len, IfOk, IfSome, IfNone};
     ghost use Rattle.lanes.specs.Ports.{held_at};
     ghost use Rattle.lanes.specs.Steps.{Steps};
+    ghost use Rattle.lanes.specs.Watched.{Watches};
     ghost use Rattle.lanes.specs.Workers.{worker_links, ports_of};
 
     // A worker without a lane.
@@ -73,16 +74,27 @@ impl<W: Work> Worker<W> {
         ensures same { worker_links self.new ≡ worker_links self.old }
         ensures steps { Steps (ports_of self.old) result (ports_of self.new) }
     {
+        self.step_watched(&mut AtGate(gate))
+    }
+
+    /// The same. The watch is called before and after the run of the job at hand, with its lane and ticket, and not after a
+    /// run that was refused memory, nor for an answer that was held.
+    pub fn step_watched<V: Watch>(&mut self, watch: &mut V) -> Stepped
+        ensures same { worker_links self.new ≡ worker_links self.old }
+        ensures steps { Steps (ports_of self.old) result (ports_of self.new) }
+        ensures seen { Watches V.entered V.left (ports_of self.old) result (ports_of self.new) watch.old watch.new }
+    {
         let alloc = self.alloc;
         match first_held(&self.ports) {
-            Some(lane) => finish_held(&mut self.ports, alloc, gate, lane),
-            None => look(&mut self.ports, &mut self.first, alloc, gate),
+            Some(lane) => finish_held(&mut self.ports, alloc, watch, lane),
+            None => look(&mut self.ports, &mut self.first, alloc, watch),
         }
     }
 }
 
 ghost use Rattle.std.specs.Prelude.{◌≢◌, [], ℕ, All, IfSome, IfNone, slice_index_or};
 ghost use Rattle.lanes.specs.Steps.{HoldNothing, Holds, Unchanged, Serves, ServesOne, Steps};
+ghost use Rattle.lanes.specs.Watched.{Watches};
 
 // The lane for which something is held.
 fn first_held<W: Work>(ports: &Vec<Port<W>>) -> Option<usize>
@@ -100,20 +112,21 @@ fn first_held<W: Work>(ports: &Vec<Port<W>>) -> Option<usize>
 }
 
 // Tries what is held again.
-fn finish_held<W: Work, G: Gate>(
+fn finish_held<W: Work, V: Watch>(
     ports: &mut Vec<Port<W>>,
     alloc: Global,
-    gate: &G,
+    watch: &mut V,
     lane: usize,
 ) -> Stepped
     requires lane { lane < vec_len ports.old }
     requires held { Holds ports.old.items lane }
     requires few { vec_len ports.old ≤ 64 }
     requires one { sum_by (λ p. length (held_at p)) ports.old.items ≤ 1 }
-    ensures { Steps ports.old.items result ports.new.items }
+    ensures steps { Steps ports.old.items result ports.new.items }
+    ensures seen { Watches V.entered V.left ports.old.items result ports.new.items watch.old watch.new }
 {
     let port = &mut ports[lane];
-    port.finish(alloc, gate, lane as u32)
+    port.finish(alloc, watch, lane as u32)
 }
 
 // The lane of a turn, where the lanes have their turns in order from this one on.
@@ -125,15 +138,16 @@ fn lane_of(first: usize, turn: usize, lanes: usize) -> usize
 }
 
 // Takes a job of some lane where one waits, and runs it.
-fn look<W: Work, G: Gate>(
+fn look<W: Work, V: Watch>(
     ports: &mut Vec<Port<W>>,
     first: &mut usize,
     alloc: Global,
-    gate: &G,
+    watch: &mut V,
 ) -> Stepped
     requires nothing { HoldNothing ports.old.items }
     requires few { vec_len ports.old ≤ 64 }
-    ensures { Steps ports.old.items result ports.new.items }
+    ensures steps { Steps ports.old.items result ports.new.items }
+    ensures seen { Watches V.entered V.left ports.old.items result ports.new.items watch.old watch.new }
 {
     let lanes = ports.len();
     let mut again = false;
@@ -143,7 +157,7 @@ fn look<W: Work, G: Gate>(
         match port.steal() {
             Steal::Success(()) => {
                 *first = lane + 1;
-                return port.finish(alloc, gate, lane as u32);
+                return port.finish(alloc, watch, lane as u32);
             }
             Steal::Retry => again = true,
             Steal::Empty => {}

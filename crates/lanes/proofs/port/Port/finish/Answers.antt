@@ -1,5 +1,7 @@
 use Rattle.lanes.specs.declared.port.Held.TheVariants as held
-use Rattle.lanes.specs.Held.{held_in, HoldsJob}
+use Rattle.lanes.specs.declared.gate.Stepped.TheVariants as stepped
+use Rattle.lanes.specs.Held.{held_in, jobs_in, HoldsJob}
+use Rattle.lanes.specs.Runs.{SeesRun}
 use Rattle.rtrb.specs.Ring.{sent}
 use Rattle.std.proofs.Common.{refl, sym, ap, subst, ◌∙◌, ◌++◌}
 use Rattle.lanes.proofs.port.Port.finish.Goals as goal
@@ -20,6 +22,7 @@ returns-in-Nothing g c =
     record {
       same = ((refl, refl, ((refl, refl, refl, refl), refl)), refl);
       finishes = ((refl, refl, ap (λ h. held_in h) (told.after ∙ told.value)), ap (λ h. held_in h) (sym told.value));
+      seen = subst (λ h. SeesRun g.V.Watch.entered g.V.Watch.left c.args.lane (jobs_in h) stepped.Idle c.args.watch.now c.args.watch.now) told.value refl;
     }
 
 pub invariant_of-self-in-Err : goal.invariant_of-self-in-Err
@@ -29,11 +32,12 @@ invariant_of-self-in-Err g c =
       seated = self.seated;
       live = self.live;
       rises = self.rises;
-      carried = ap (λ h. sent self.sender ++ held_in h) (ap held.Job c.in-Err.ensures ∙ c.in-Job.ensures.value) ∙ self.carried;
+      carried = ap (λ h. sent self.sender ++ held_in h) (ap held.Job c.in-Err.ensures.run ∙ c.in-Job.ensures.value) ∙ self.carried;
     }
 
 pub returns-in-Err : goal.returns-in-Err
 returns-in-Err g c = record {
   same = ((refl, refl, ((refl, refl, refl, refl), refl)), refl);
-  finishes = ((refl, refl, ap (λ h. held_in h) (ap held.Job c.in-Err.ensures ∙ c.in-Job.ensures.value)), subst (λ h. HoldsJob h) c.in-Job.ensures.value tt, tt);
+  finishes = ((refl, refl, ap (λ h. held_in h) (ap held.Job c.in-Err.ensures.run ∙ c.in-Job.ensures.value)), subst (λ h. HoldsJob h) c.in-Job.ensures.value tt, tt);
+  seen = subst (λ h. SeesRun g.V.Watch.entered g.V.Watch.left c.args.lane (jobs_in h) stepped.NoMemory c.args.watch.now c.run_watched.new.watch) c.in-Job.ensures.value (c.run_watched.new.watch, c.in-Err.ensures.seen, refl);
 }

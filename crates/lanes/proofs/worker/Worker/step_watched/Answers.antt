@@ -1,10 +1,10 @@
 use Rattle.std.proofs.Common.{arith}
 use Rattle.lanes.proofs.Serving.{steps_one, steps_links, steps_length}
-use Rattle.lanes.proofs.worker.Worker.step.Goals as goal
+use Rattle.lanes.proofs.worker.Worker.step_watched.Goals as goal
 
 pub invariant_of-self : goal.invariant_of-self
 invariant_of-self g c =
-    let s = c.finish_held.ensures in let self = c.args.self.now in
+    let s = c.finish_held.ensures.steps in let self = c.args.self.now in
     record {
       few = (let n = steps_length _ _ _ s in let f = self.few in omega (arith, n, f, self.ports.ok.0, c.finish_held.new.ports.ok.0));
       one = steps_one _ _ _ s self.one;
@@ -12,14 +12,14 @@ invariant_of-self g c =
 
 pub invariant_of-self-in-None : goal.invariant_of-self-in-None
 invariant_of-self-in-None g c =
-    let s = c.look.ensures in let self = c.args.self.now in
+    let s = c.look.ensures.steps in let self = c.args.self.now in
     record {
       few = (let n = steps_length _ _ _ s in let f = self.few in omega (arith, n, f, self.ports.ok.0, c.look.new.ports.ok.0));
       one = steps_one _ _ _ s self.one;
     }
 
 pub returns-in-Some-clause-same : goal.returns-in-Some-clause-same
-returns-in-Some-clause-same g c = steps_links _ _ _ c.finish_held.ensures
+returns-in-Some-clause-same g c = steps_links _ _ _ c.finish_held.ensures.steps
 
 pub returns-in-None-clause-same : goal.returns-in-None-clause-same
-returns-in-None-clause-same g c = steps_links _ _ _ c.look.ensures
+returns-in-None-clause-same g c = steps_links _ _ _ c.look.ensures.steps
