@@ -21,8 +21,5 @@ pub mod Operands
 pub mod Satisfied
 pub mod Parts
 pub mod WithinLimits
-<<<<<<< HEAD
 pub mod Scalars
-=======
 pub mod Ready
->>>>>>> 180f2a37204b0926d80df72c72767e4dabab42d3
