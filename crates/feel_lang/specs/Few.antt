@@ -1,4 +1,4 @@
--- Internal but for `few_of` and `named_of`: the first bindings, which have no index.
+-- Internal but for `few_of`, `named_of` and `bytes_of`: the first bindings, which have no index.
 use Rattle.std.specs.Prelude.{◌≡◌, ◌<◌, ◌≤◌, ℕ, List, [], map, length, string_bytes}
 use Rattle.feel_value.specs.Datum.{Datum}
 use Rattle.feel_lang.specs.Meaning.{Bindings}
