@@ -1,5 +1,5 @@
 //! The result of a decision service.
-ghost use Rattle.std.specs.Prelude.{◌≡◌, ◌<◌, IfOk, OnOk, length, option_map};
+ghost use Rattle.std.specs.Prelude.{◌≡◌, ◌<◌, [], IfOk, OnOk, length, option_map, Some, None, if◌then◌else◌};
 ghost use Rattle.std.specs.List.{All};
 ghost use Rattle.dmn_logic.specs.LogicView.{logic_view};
 ghost use Rattle.dmn_service.specs.Places.{name_at};
@@ -11,14 +11,14 @@ use crate::outputs::output_outcome;
 use crate::plan::{Item, ServicePlan};
 use dmn_logic::evaluate;
 use feel_lang::Env;
-use feel_value::{Feel, Outcome, Value};
+use feel_value::{Feel, Outcome};
 use std::alloc::{AllocError, Global};
 
 /// The outcome of a decision service, for these values of its parameters in their order.
 ///
 /// Each decision of the plan's order is evaluated once, also behind one that breaks a limit. So the steps are those of the
-/// decisions' own logic, and for each need of each of them a look at its place. What was found there is lent: of the first
-/// eight needs of a decision neither the name nor the value is copied.
+/// decisions' own logic, and for each need of each of them a look at its place. What was found there is shared: a value takes no
+/// memory for a decision that needs it, nor does a name of its first eight needs.
 pub fn service_outcome(
     alloc: Global,
     items: &[Item],
@@ -52,7 +52,7 @@ fn give(parameters: &[usize], values: &[Feel], found: &mut Vec<Outcome>) -> Resu
     Ok(())
 }
 
-/// Evaluates the items at these places one after another, each from what was found before it.
+/// Evaluates the items at these places one after another, each from what was found before it. One environment serves them all.
 fn fill(
     alloc: Global,
     items: &[Item],
@@ -64,49 +64,52 @@ fn fill(
     requires count { length found.old.items ≡ length items.now }
     ensures { OnOk result (values_in found.new.items ≡ filled_by items.now order.now (values_in found.old.items)) }
 {
+    let mut env = Env::new(alloc);
     for place in order {
-        let outcome = item_outcome(alloc, items, &items[*place], found)?;
+        let outcome = item_outcome(alloc, items, &items[*place], found, &mut env)?;
         keep(found, *place, outcome);
     }
     Ok(())
 }
 
-/// The outcome of a decision's logic, from what was found for its needs; null for an input.
-fn item_outcome(
+/// The outcome of a decision's logic, from what was found for its needs; null for an input. What the environment held is dropped.
+fn item_outcome<'a>(
     alloc: Global,
-    items: &[Item],
+    items: &'a [Item],
     item: &Item,
     found: &[Outcome],
+    env: &mut Env<'a>,
 ) -> Result<Outcome, AllocError>
     requires needs { All (λ q. q < length items.now) item.now.needs.items }
     ensures { IfOk result (λ o. o ≡ outcome_at (name_at items.now) (values_in found.now) item.now.needs.items (option_map logic_view item.now.logic)) }
 {
     let Some(logic) = &item.logic else {
-        return Ok(Outcome::of(Value::Null));
+        return Ok(Outcome::null());
     };
-    let Some(mut env) = needed(alloc, items, &item.needs, found)? else {
+    env.cut(0);
+    if !bind_needs(items, &item.needs, found, env)? {
         return Ok(Outcome::Limit);
-    };
-    let outcome = evaluate(alloc, logic, &mut env)?;
+    }
+    let outcome = evaluate(alloc, logic, env)?;
     Ok(outcome)
 }
 
-/// The names at these places, each bound to the value found there; None where one breaks a limit.
-fn needed<'a>(
-    alloc: Global,
+/// Binds the names at these places, each to the value found there; false where one breaks a limit.
+fn bind_needs<'a>(
     items: &'a [Item],
     needs: &[usize],
-    found: &'a [Outcome],
-) -> Result<Option<Env<'a>>, AllocError>
+    found: &[Outcome],
+    env: &mut Env<'a>,
+) -> Result<bool, AllocError>
     requires needs { All (λ q. q < length items.now) needs.now }
-    ensures { IfOk result (λ env. env ≡ needed_at (name_at items.now) (values_in found.now) needs.now) }
+    requires empty { env.old ≡ [] }
+    ensures { IfOk result (λ all. needed_at (name_at items.now) (values_in found.now) needs.now ≡ (if all then Some env.new else None)) }
 {
-    let mut env = Env::new(alloc);
     for need in needs {
         let Some(value) = value_at(found, *need) else {
-            return Ok(None);
+            return Ok(false);
         };
         env.bind_lent(items[*need].name.as_str(), value)?;
     }
-    Ok(Some(env))
+    Ok(true)
 }

@@ -21,3 +21,4 @@ pub mod Operands
 pub mod Satisfied
 pub mod Parts
 pub mod WithinLimits
+pub mod Scalars

@@ -11,29 +11,26 @@ use std::marker::Model;
 // So many bindings are looked through one by one. An index finds the others.
 const FEW: usize = 8;
 
+#[derive(Drop)]
+enum Name<'a> {
+    Lent(&'a str),
+    Owned(String),
+}
+
 // A name with its value.
 #[derive(Drop)]
-enum NamedValue<'a> {
-    Lent(&'a str, &'a Feel),
-    Owned(String, Feel),
+struct NamedValue<'a> {
+    name: Name<'a>,
+    value: Feel,
 }
 
 impl<'a> NamedValue<'a> {
     fn name(&self) -> &str
         ensures { result.now ≡ (named_of self.now).0 }
     {
-        match self {
-            NamedValue::Lent(name, _) => *name,
-            NamedValue::Owned(name, _) => name.as_str(),
-        }
-    }
-
-    fn value(&self) -> &Feel
-        ensures { result.now ≡ (named_of self.now).1 }
-    {
-        match self {
-            NamedValue::Lent(_, value) => *value,
-            NamedValue::Owned(_, value) => value,
+        match &self.name {
+            Name::Lent(name) => *name,
+            Name::Owned(name) => name.as_str(),
         }
     }
 }
@@ -86,21 +83,24 @@ impl<'a> Env<'a> {
             self.more.bind(name, value)?;
             return Ok(());
         }
-        let name = String::from_str(*self.few.allocator(), name)?;
-        self.few.push(NamedValue::Owned(name, value))?;
+        let name = Name::Owned(String::from_str(*self.few.allocator(), name)?);
+        self.few.push(NamedValue { name, value })?;
         Ok(())
     }
 
-    /// Binds as `bind` does, to a name and a value that are lent: the first few bindings copy neither.
+    /// Binds as `bind` does, to a name that is lent and a copy of the value, which shares its parts. The first few bindings
+    /// don't copy the name.
     #[tactic(auto, using(crate::proofs::Few::one_more, crate::proofs::Few::one_behind))]
-    pub fn bind_lent(&mut self, name: &'a str, value: &'a Feel) -> Result<(), AllocError>
+    pub fn bind_lent(&mut self, name: &'a str, value: &Feel) -> Result<(), AllocError>
         ensures { MatchResult result (λ _. self.new ≡ self.old ++ (name.now, value.now) ∷ []) (λ _. self.new ≡ self.old) }
     {
+        let value = value.try_clone()?;
         if self.few.len() == FEW {
-            self.more.bind(name, value.try_clone()?)?;
+            self.more.bind(name, value)?;
             return Ok(());
         }
-        self.few.push(NamedValue::Lent(name, value))?;
+        let name = Name::Lent(name);
+        self.few.push(NamedValue { name, value })?;
         Ok(())
     }
 
@@ -150,7 +150,7 @@ fn last_named<'a>(bindings: &'a [NamedValue<'_>], name: &str) -> Option<&'a Feel
         i -= 1;
         let binding = &bindings[i];
         if name == binding.name() {
-            return Some(binding.value());
+            return Some(&binding.value);
         }
     }
     None

@@ -12,6 +12,7 @@ use crate::operands::Operand;
 use feel_value::{Outcome, Value};
 
 // A function of its argument.
+#[inline(never)]
 pub(crate) fn call(function: Function, argument: Option<Operand<'_>>) -> Outcome
     ensures { result ≡ with_value (outcome_of argument.entry) (λ d. held (call_of function d)) }
 {

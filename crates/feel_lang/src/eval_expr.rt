@@ -15,6 +15,7 @@ use crate::eval_outcome::{null, number};
 use crate::eval_paths::entry;
 use crate::expr::Tree;
 use crate::operands::{Operand, Operands, formed, kept};
+use crate::scalar::{Scalar, scalar_value};
 use feel_value::{Members, Outcome, Part, Truth};
 use std::alloc::{AllocError, Global};
 
@@ -23,6 +24,19 @@ use std::alloc::{AllocError, Global};
 /// keeps it. The only error is that memory was refused.
 #[cycle(eval)]
 pub(crate) fn eval(alloc: Global, expr: &Tree, env: &Env) -> Result<Outcome, AllocError>
+    ensures { IfOk result (λ o. o ≡ den (view expr.now) env.now) }
+{
+    match scalar_value(expr, env) {
+        Scalar::Number(n) => Ok(Outcome::number(n)),
+        Scalar::Truth(truth) => Ok(Outcome::truth(truth)),
+        Scalar::Other => evaluated(alloc, expr, env),
+    }
+}
+
+// The value of an expression of any kind.
+#[inline(never)]
+#[cycle(eval)]
+fn evaluated(alloc: Global, expr: &Tree, env: &Env) -> Result<Outcome, AllocError>
     ensures { IfOk result (λ o. o ≡ den (view expr.now) env.now) }
 {
     let operand = operand(alloc, expr, &*env)?;
@@ -96,6 +110,7 @@ fn operands<'a>(
 }
 
 // Whether a value lies between two others.
+#[inline(never)]
 #[cycle(eval)]
 fn lies_between(
     alloc: Global,
@@ -122,6 +137,7 @@ fn named<'a>(name: &str, env: &'a Env) -> Option<Operand<'a>>
 }
 
 // A list of expressions, whose evaluation ends where its values are too many for one.
+#[inline(never)]
 #[cycle(eval)]
 fn list(alloc: Global, exprs: &[Tree], env: &Env) -> Result<Outcome, AllocError>
     ensures { IfOk result (λ o. o ≡ list_held (dens (views exprs.now) env.now)) }

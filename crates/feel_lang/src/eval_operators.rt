@@ -15,6 +15,7 @@ use crate::operands::{Operand, Operands};
 use feel_value::{Outcome, Value, and3, not3, or3};
 
 // An operator between two operands. None stands for an operand that breaks a limit, here and below.
+#[inline(never)]
 pub(crate) fn operation(operator: Operator, operands: Operands<'_>) -> Outcome
     ensures { result ≡ with_values (outcome_of operands.entry.0) (outcome_of operands.entry.1) (λ d e. held (operation_of operator d e)) }
 {
@@ -81,6 +82,7 @@ fn product(left: &Value, right: &Value) -> Outcome
 }
 
 // The number with its sign turned; null for anything else.
+#[inline(never)]
 pub(crate) fn negated(operand: Option<Operand<'_>>) -> Outcome
     ensures { result ≡ with_value (outcome_of operand.entry) (λ d. held (of_number (λ x. number_of (pos 0 -ℤ x)) d)) }
 {
@@ -100,6 +102,7 @@ fn opposite_number(value: &Value) -> Outcome
 }
 
 // What is left of one number by another, with the sign of the divisor; null where the divisor is 0 or an operand is no number.
+#[inline(never)]
 pub(crate) fn modulo(operands: Operands<'_>) -> Outcome
     ensures { result ≡ with_values (outcome_of operands.entry.0) (outcome_of operands.entry.1) (λ d e. held (modulo_of d e)) }
 {
@@ -135,6 +138,7 @@ fn remainder(x: i64, y: i64) -> Outcome
 }
 
 // Whether a value lies between two others.
+#[inline(never)]
 pub(crate) fn between(value: Option<Operand<'_>>, bounds: Operands<'_>) -> Outcome
     ensures { result ≡ with_value (outcome_of value.entry) (λ d. with_values (outcome_of bounds.entry.0) (outcome_of bounds.entry.1) (λ l h. Is (between_of d l h))) }
 {
@@ -163,6 +167,7 @@ fn within(value: &Value, low: &Value, high: &Value) -> Outcome
 }
 
 // Whether the operand isn't true.
+#[inline(never)]
 pub(crate) fn inverted(operand: Option<Operand<'_>>) -> Outcome
     ensures { result ≡ with_value (outcome_of operand.entry) (λ d. Is (truth_datum (not_of (truth_of d)))) }
 {

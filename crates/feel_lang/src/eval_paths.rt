@@ -37,6 +37,7 @@ fn paths(alloc: Global, items: &[Value], name: &str) -> Result<Vec<Value>, Alloc
 }
 
 // The path from an operand. An entry of a value that is lent is lent too.
+#[inline(never)]
 pub(crate) fn entry<'a>(
     alloc: Global,
     whole: Operand<'a>,

@@ -22,6 +22,7 @@ mod literal;
 mod names;
 mod operands;
 mod reader;
+mod scalar;
 mod scanner;
 mod texts;
 mod token;

@@ -13,7 +13,7 @@ returns-then-eq c =
     let back : i - 1 + 1 ≡ i = omega (arith, c.loop-i-test.true) in
     let here : bytes_eq name (named_of x).0 ≡ true = grind (arith, c.eq.ensures, c.if-eq.true) in
     sym (c.loop-i.invariant.1 ∙ ap (λ n. bound name (few_of (take n xs))) (sym back) ∙ bound_up_to name xs (i - 1) x c.index-bindings-i.is (omega (arith, c.loop-i-test.true, c.loop-i.invariant.0))
-    ∙ ap (λ t. if t then Some (named_of x).1 else bound name (few_of (take (i - 1) xs))) here ∙ ap Some (sym c.value.ensures))
+    ∙ ap (λ t. if t then Some (named_of x).1 else bound name (few_of (take (i - 1) xs))) here)
 
 pub loop-i-preserved : goal.loop-i-preserved
 loop-i-preserved c =

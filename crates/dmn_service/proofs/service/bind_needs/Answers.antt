@@ -6,7 +6,7 @@ use Rattle.dmn_service.specs.Places.{name_at}
 use Rattle.dmn_service.specs.Run.{values_in, needed_at}
 use Rattle.dmn_service.proofs.Along.{each_none, each_more}
 use Rattle.dmn_service.proofs.Kept.{name_here}
-use Rattle.dmn_service.proofs.service.needed.Goals as goal
+use Rattle.dmn_service.proofs.service.bind_needs.Goals as goal
 
 abbrev with_name : Name → Datum → Option (Name × Datum)
 with_name n v = Some (n, v)
@@ -16,8 +16,8 @@ returns-in_default c =
     let name = name_at c.args.items.now in
     let found = values_in c.args.found.now in
     let q = get_or c.args.needs.now c.loop-need.need-index 0 in
-    each_none (λ q. found q >>= λ v. Some (name q, v)) c.args.needs.now c.loop-need.need-index c.loop-need.env (needed_at name found c.args.needs.now) c.loop-need.invariant c.loop-need-test.true
-    (ap (λ (o : Option Datum). o >>= with_name (name q)) (sym c.in_default.ensures))
+    sym (each_none (λ q. found q >>= λ v. Some (name q, v)) c.args.needs.now c.loop-need.need-index c.loop-need.env (needed_at name found c.args.needs.now) c.loop-need.invariant c.loop-need-test.true
+    (ap (λ (o : Option Datum). o >>= with_name (name q)) (sym c.in_default.ensures)))
 
 pub loop-need-preserved : goal.loop-need-preserved
 loop-need-preserved c =

@@ -1,0 +1,230 @@
+//! The evaluation of expressions whose parts are numbers and truth values: nothing is formed, kept or copied for these.
+ghost use Rattle.std.specs.Prelude.{◌≡◌, true, pos, ◌-ℤ◌, unwrap_or};
+ghost use Rattle.feel_value.specs.Datum.{null as null_value, number as number_datum};
+ghost use Rattle.feel_value.specs.Logic.{truth_datum, truth_of, not_of};
+ghost use Rattle.feel_value.specs.Outcome.{held};
+ghost use Rattle.feel_value.specs.declared.feel.Outcome.{Outcome};
+ghost use Rattle.feel_value.specs.declared.feel.Outcome.TheVariants.{Is};
+ghost use Rattle.feel_lang.specs.Expr as expr_specs;
+ghost use Rattle.feel_lang.specs.Meaning.{den, bound, with_value, with_values, of_number, operation as operation_of, modulo as modulo_is, modulo_of, between_of};
+ghost use Rattle.feel_lang.specs.Numbers.{number_outcome};
+ghost use Rattle.feel_lang.specs.Scalars.{IsScalar};
+ghost use Rattle.feel_lang.specs.View.{view};
+
+use crate::env::Env;
+use crate::expr::{Operator, Tree};
+use feel_value::{Feel, Truth, Value, and3, decided, not3, or3};
+
+/// A number in range, or a truth value. `Other` says nothing: what it stands for was not evaluated.
+#[derive(Clone, Copy)]
+pub(crate) enum Scalar {
+    Number(i64),
+    Truth(Truth),
+    Other,
+}
+
+/// The value of an expression, where it and all its parts are numbers and truth values. It ends at the first part that is none.
+#[cycle(scalar)]
+pub(crate) fn scalar_value(expr: &Tree, env: &Env) -> Scalar
+    ensures { IsScalar result (den (view expr.now) env.now) }
+{
+    match expr {
+        Tree::Constant(constant) => of_value(constant.value()),
+        Tree::Name(name) => named(name.as_str(), env),
+        Tree::Group(inner) => scalar_value(inner, env),
+        Tree::Binary(operator, left, right) => binary(*operator, left, right, env),
+        Tree::Modulo(left, right) => remainder(left, right, env),
+        Tree::If(test, yes, no) => branch(test, yes, no, env),
+        Tree::Not(inner) => inverted(scalar_value(inner, env)),
+        Tree::Negate(inner) => negated(scalar_value(inner, env)),
+        Tree::Between(value, low, high) => lies_between(value, low, high, env),
+        _ => Scalar::Other,
+    }
+}
+
+#[cycle(scalar)]
+fn binary(operator: Operator, left: &Tree, right: &Tree, env: &Env) -> Scalar
+    ensures { IsScalar result (den (expr_specs.Binary operator (view left.now) (view right.now)) env.now) }
+{
+    let left = scalar_value(left, env);
+    if is_other(left) {
+        return Scalar::Other;
+    }
+    operation(operator, left, scalar_value(right, env))
+}
+
+#[cycle(scalar)]
+fn remainder(left: &Tree, right: &Tree, env: &Env) -> Scalar
+    ensures { IsScalar result (den (expr_specs.Modulo (view left.now) (view right.now)) env.now) }
+{
+    let left = scalar_value(left, env);
+    if is_other(left) {
+        return Scalar::Other;
+    }
+    modulo(left, scalar_value(right, env))
+}
+
+// The branch of an `if` that its test takes.
+#[cycle(scalar)]
+fn branch(test: &Tree, yes: &Tree, no: &Tree, env: &Env) -> Scalar
+    ensures { IsScalar result (den (expr_specs.If (view test.now) (view yes.now) (view no.now)) env.now) }
+{
+    let Scalar::Truth(test) = scalar_value(test, env) else {
+        return Scalar::Other;
+    };
+    if test == Truth::Yes {
+        return scalar_value(yes, env);
+    }
+    scalar_value(no, env)
+}
+
+#[cycle(scalar)]
+fn lies_between(value: &Tree, low: &Tree, high: &Tree, env: &Env) -> Scalar
+    ensures { IsScalar result (den (expr_specs.Between (view value.now) (view low.now) (view high.now)) env.now) }
+{
+    let value = scalar_value(value, env);
+    if is_other(value) {
+        return Scalar::Other;
+    }
+    between(value, scalar_value(low, env), scalar_value(high, env))
+}
+
+fn is_other(scalar: Scalar) -> bool {
+    matches!(scalar, Scalar::Other)
+}
+
+// The scalar that a value is.
+fn of_value(value: &Feel) -> Scalar
+    ensures { IsScalar result (Is value.now) }
+{
+    match value.value() {
+        Value::Number(n) => Scalar::Number(*n),
+        Value::Bool(holds) => Scalar::Truth(decided(*holds)),
+        Value::Null => Scalar::Truth(Truth::Unknown),
+        _ => Scalar::Other,
+    }
+}
+
+// The value of a name; null where it has none.
+fn named(name: &str, env: &Env) -> Scalar
+    ensures { IsScalar result (Is (unwrap_or (bound name.now env.now) null_value)) }
+{
+    match env.find(name) {
+        Some(value) => of_value(value),
+        None => Scalar::Truth(Truth::Unknown),
+    }
+}
+
+// A number that was formed, where it is in range.
+fn number(n: Option<i64>) -> Scalar
+    ensures { IsScalar result (number_outcome n) }
+{
+    match n {
+        Some(n) => in_range(n),
+        None => Scalar::Other,
+    }
+}
+
+fn in_range(n: i64) -> Scalar
+    ensures { IsScalar result (held (number_datum n)) }
+{
+    if n == i64::MIN {
+        return Scalar::Other;
+    }
+    Scalar::Number(n)
+}
+
+// An operator between two operands.
+fn operation(operator: Operator, left: Scalar, right: Scalar) -> Scalar
+    ensures { (a b : Outcome) → IsScalar left a → IsScalar right b → IsScalar result (with_values a b (λ d e. held (operation_of operator d e))) }
+{
+    match (left, right) {
+        (Scalar::Number(x), Scalar::Number(y)) => of_numbers(operator, x, y),
+        (Scalar::Truth(s), Scalar::Truth(t)) => of_truths(operator, s, t),
+        _ => Scalar::Other,
+    }
+}
+
+fn of_numbers(operator: Operator, x: i64, y: i64) -> Scalar
+    ensures { IsScalar result (held (operation_of operator (number_datum x) (number_datum y))) }
+{
+    match operator {
+        Operator::Or | Operator::And => Scalar::Other,
+        Operator::Equal => Scalar::Truth(decided(x == y)),
+        Operator::NotEqual => Scalar::Truth(not3(decided(x == y))),
+        Operator::Less => Scalar::Truth(decided(x < y)),
+        Operator::LessEqual => Scalar::Truth(not3(decided(y < x))),
+        Operator::Greater => Scalar::Truth(decided(y < x)),
+        Operator::GreaterEqual => Scalar::Truth(not3(decided(x < y))),
+        Operator::Add => number(x.checked_add(y)),
+        Operator::Subtract => number(x.checked_sub(y)),
+        Operator::Multiply => number(x.checked_mul(y)),
+    }
+}
+
+fn of_truths(operator: Operator, s: Truth, t: Truth) -> Scalar
+    ensures { IsScalar result (held (operation_of operator (truth_datum s) (truth_datum t))) }
+{
+    match operator {
+        Operator::Or => Scalar::Truth(or3(s, t)),
+        Operator::And => Scalar::Truth(and3(s, t)),
+        _ => Scalar::Other,
+    }
+}
+
+// What is left of one number by another that is positive.
+fn modulo(left: Scalar, right: Scalar) -> Scalar
+    ensures { (a b : Outcome) → IsScalar left a → IsScalar right b → IsScalar result (with_values a b (λ d e. held (modulo_of d e))) }
+{
+    match (left, right) {
+        (Scalar::Number(x), Scalar::Number(y)) => left_by(x, y),
+        _ => Scalar::Other,
+    }
+}
+
+fn left_by(x: i64, y: i64) -> Scalar
+    ensures { IsScalar result (held (modulo_is x y)) }
+{
+    if y <= 0 {
+        return Scalar::Other;
+    }
+    in_range(x.rem_euclid(y))
+}
+
+// The number with its sign turned.
+fn negated(operand: Scalar) -> Scalar
+    ensures { (a : Outcome) → IsScalar operand a → IsScalar result (with_value a (λ d. held (of_number (λ x. number_datum (pos 0 -ℤ x)) d))) }
+{
+    match operand {
+        Scalar::Number(x) => number(x.checked_neg()),
+        _ => Scalar::Other,
+    }
+}
+
+// Whether the operand isn't true.
+fn inverted(operand: Scalar) -> Scalar
+    ensures { (a : Outcome) → IsScalar operand a → IsScalar result (with_value a (λ d. Is (truth_datum (not_of (truth_of d))))) }
+{
+    match operand {
+        Scalar::Truth(t) => Scalar::Truth(not3(t)),
+        _ => Scalar::Other,
+    }
+}
+
+// Whether a number lies between two others.
+fn between(value: Scalar, low: Scalar, high: Scalar) -> Scalar
+    ensures { (a b c : Outcome) → IsScalar value a → IsScalar low b → IsScalar high c → IsScalar result (with_value a (λ d. with_values b c (λ l h. Is (between_of d l h)))) }
+{
+    match (value, low, high) {
+        (Scalar::Number(x), Scalar::Number(l), Scalar::Number(h)) => within(x, l, h),
+        _ => Scalar::Other,
+    }
+}
+
+fn within(x: i64, low: i64, high: i64) -> Scalar
+    ensures { IsScalar result (Is (between_of (number_datum x) (number_datum low) (number_datum high))) }
+{
+    let reaches_low = not3(decided(x < low));
+    let reaches_high = not3(decided(high < x));
+    Scalar::Truth(and3(reaches_low, reaches_high))
+}
