@@ -1,3 +1,4 @@
+pub mod Searching
 pub mod Splitting
 pub mod Coming
 pub mod Gathering

@@ -6,6 +6,7 @@ ghost use Rattle.desk_lines.specs.Lines.{newline, kept_line, longer, heard, max_
 
 use crate::device::Source;
 use crate::fault::FrontFault;
+use memchr::memchr;
 use std::alloc::{AllocError, Global};
 use std::marker::Model;
 
@@ -101,7 +102,7 @@ pub enum Next {
 fn newline_at(bytes: &[u8]) -> Option<usize>
     ensures { result ≡ position (λ b. b == newline) bytes.now }
 {
-    bytes.iter().position(|b| *b == NEWLINE)
+    memchr(NEWLINE, bytes)
 }
 
 /// Reads a piece of at most so many bytes to the front of the buffer.

@@ -1,5 +1,5 @@
 -- What is said to a line, and the turn that it has.
-use Rattle.std.proofs.Common.{◌≡◌, ℕ, ◌<◌, ◌≤◌, List, [], ◌∷◌, length, true, Option, Some, None, refl, ap, sym, ◌∙◌, arith, append-nil, codes, nat_le, Result, Ok, Err, IfOk}
+use Rattle.std.proofs.Common.{◌≡◌, ℕ, ◌<◌, ◌≤◌, List, [], ◌∷◌, length, true, Option, Some, None, refl, ap, sym, subst, ◌∙◌, arith, append-nil, codes, nat_le, Result, Ok, Err, IfOk}
 use Rattle.std.specs.List.{flat_map}
 use Rattle.serde_json.specs.Data.{Data}
 use Rattle.serde_json.specs.Written.{compact_text}
@@ -90,15 +90,16 @@ blank_answer desk k kept it bytes text s e f t =
     ([], blank_turn desk k it reads, t)
 
 -- a line that is neither too long nor blank
-pub line_answer : (old new : Desk) (k : ℕ) (kept : Option (List ℕ)) (it bytes text : List ℕ) (v : Data) → Some bytes ≡ kept → kept ≡ kept_line it
-    → (length bytes ≤ max_line → TakesReport old k bytes v new) → text ≡ ended (compact_text v)
+pub line_answer : (old new : Desk) (k : ℕ) (kept : Option (List ℕ)) (it bytes text : List ℕ) → Some bytes ≡ kept → kept ≡ kept_line it
+    → (length bytes ≤ max_line → (v : Data) × TakesReport old k bytes v new × (text ≡ ended (compact_text v)))
     → (more : List (List ℕ)) × TakesTurn old k it more new × (text ≡ flat_map ended more)
-line_answer old new k kept it bytes text v s e f t =
+line_answer old new k kept it bytes text s e f =
     let b = kept_by (nat_le (length it) max_line) it bytes (s ∙ e) in
     let short : length it ≤ max_line = le_true (length it) max_line b.1 in
     let same : length bytes ≡ length it = ap length b.0 in
-    let takes : TakesReport old k it v new = rw b.0 at (f (omega (arith, same, short))) in
-    (compact_text v ∷ [], reported_turn old new k it v takes, t ∙ sym (one_line v))
+    let told = f (omega (arith, same, short)) in
+    let takes : TakesReport old k it told.0 new = subst (λ l. TakesReport old k l told.0 new) b.0 told.1 in
+    (compact_text told.0 ∷ [], reported_turn old new k it told.0 takes, told.2 ∙ sym (one_line told.0))
 
 pub ok_map : {T E : Type 0} (r : Result T E) (P Q : T → Type 0) → IfOk r P → ((x : T) → P x → Q x) → IfOk r Q
 ok_map (Ok x) P Q h f = f x h

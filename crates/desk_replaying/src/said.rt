@@ -1,8 +1,8 @@
 //! What is said of a line.
-ghost use Rattle.std.specs.Prelude.{◌≡◌, IfOk, false};
-ghost use Rattle.serde_json.specs.View.{view};
-ghost use Rattle.serde_json.specs.Written.{has_float};
+ghost use Rattle.std.specs.Prelude.{◌≡◌, ◌++◌, OnOk};
+ghost use Rattle.serde_json.specs.Written.{compact_text};
 ghost use Rattle.box_core.specs.Views.{report_of};
+ghost use Rattle.desk_lines.specs.Lines.{ended};
 ghost use Rattle.desk_reports.specs.Reading.{Says};
 ghost use Rattle.desk_reports.specs.Words as words;
 ghost use Rattle.desk_replaying.specs.Said as said;
@@ -14,7 +14,6 @@ use crate::line::Line;
 use box_core::Report;
 use desk_reports::{LineRefusal, model_word, refusal_word, report, unadded_word};
 use dmn_plan::Task;
-use serde_json::Value;
 use std::alloc::{AllocError, Global};
 
 /// The name on a line; a model line has none.
@@ -60,13 +59,13 @@ fn refused(
     number: u64,
     line: &Line<'_>,
     why: LineRefusal,
-) -> Result<Value, AllocError>
-    ensures plain { IfOk result (λ v. has_float (view v) ≡ false) }
-    ensures value { IfOk result (λ v. view v ≡ said.refused (Says (line_view line.now)) number (words.line_word why)) }
+    text: &mut Vec<u8>,
+) -> Result<(), AllocError>
+    ensures { OnOk result (text.new.items ≡ text.old.items ++ ended (compact_text (said.refused (Says (line_view line.now)) number (words.line_word why)))) }
 {
     match line {
-        Line::Model(_) => report::refused_line(alloc, number, why.word()),
-        _ => report::refused(alloc, name_on(line), number, why.word()),
+        Line::Model(_) => report::refused_line(alloc, number, why.word(), text),
+        _ => report::refused(alloc, name_on(line), number, why.word(), text),
     }
 }
 
@@ -75,41 +74,41 @@ fn reported(
     number: u64,
     line: &Line<'_>,
     told: &Report<Task>,
-) -> Result<Value, AllocError>
-    ensures plain { IfOk result (λ v. has_float (view v) ≡ false) }
-    ensures value { IfOk result (λ v. view v ≡ said.reported number (line_view line.now) (report_of told.now)) }
+    text: &mut Vec<u8>,
+) -> Result<(), AllocError>
+    ensures { OnOk result (text.new.items ≡ text.old.items ++ ended (compact_text (said.reported number (line_view line.now) (report_of told.now)))) }
 {
     let name = name_on(line);
     match told {
-        Report::Added(_) => report::opened(alloc, name, number, capacity_on(line)),
-        Report::NotAdded(why) => report::refused(alloc, name, number, unadded_word(*why)),
-        Report::Accepted(ticket) => report::accepted(alloc, name, number, *ticket),
-        Report::Taken(job) => report::taken(alloc, name, number, job.ticket()),
-        Report::Kept => report::kept(alloc, name, number, ticket_on(line)),
-        Report::Strange => report::refused(alloc, name, number, "strange"),
-        Report::Repeated => report::refused(alloc, name, number, "repeated"),
-        Report::Handed(reply) => report::handed(alloc, name, &reply.outcome, reply.ticket),
-        Report::Nothing => report::nothing(alloc, name, number),
-        Report::Closed => report::closed(alloc, name, number),
-        Report::Resized(capacity) => report::resized(alloc, name, number, *capacity),
-        Report::Refused(why) => report::refused(alloc, name, number, refusal_word(*why)),
+        Report::Added(_) => report::opened(alloc, name, number, capacity_on(line), text),
+        Report::NotAdded(why) => report::refused(alloc, name, number, unadded_word(*why), text),
+        Report::Accepted(ticket) => report::accepted(alloc, name, number, *ticket, text),
+        Report::Taken(job) => report::taken(alloc, name, number, job.ticket(), text),
+        Report::Kept => report::kept(alloc, name, number, ticket_on(line), text),
+        Report::Strange => report::refused(alloc, name, number, "strange", text),
+        Report::Repeated => report::refused(alloc, name, number, "repeated", text),
+        Report::Handed(reply) => report::handed(alloc, name, &reply.outcome, reply.ticket, text),
+        Report::Nothing => report::nothing(alloc, name, number, text),
+        Report::Closed => report::closed(alloc, name, number, text),
+        Report::Resized(capacity) => report::resized(alloc, name, number, *capacity, text),
+        Report::Refused(why) => report::refused(alloc, name, number, refusal_word(*why), text),
     }
 }
 
-/// The report on a line, by what became of it.
+/// Adds the report on a line to the text, by what became of it.
 pub fn said_of(
     alloc: Global,
     number: u64,
     line: &Line<'_>,
     effect: &Effect,
-) -> Result<Value, AllocError>
-    ensures plain { IfOk result (λ v. has_float (view v) ≡ false) }
-    ensures value { IfOk result (λ v. view v ≡ told_of number (line_view line.now) effect.now) }
+    text: &mut Vec<u8>,
+) -> Result<(), AllocError>
+    ensures { OnOk result (text.new.items ≡ text.old.items ++ ended (compact_text (told_of number (line_view line.now) effect.now))) }
 {
     match effect {
-        Effect::Loaded => report::loaded(alloc, number),
-        Effect::Faulty(fault) => report::faulty(alloc, number, model_word(*fault)),
-        Effect::Reported(told) => reported(alloc, number, line, told),
-        Effect::Refused(why) => refused(alloc, number, line, *why),
+        Effect::Loaded => report::loaded(alloc, number, text),
+        Effect::Faulty(fault) => report::faulty(alloc, number, model_word(*fault), text),
+        Effect::Reported(told) => reported(alloc, number, line, told, text),
+        Effect::Refused(why) => refused(alloc, number, line, *why, text),
     }
 }

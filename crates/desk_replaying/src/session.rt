@@ -1,8 +1,8 @@
 //! `replay`: each line is answered before the next is read.
-ghost use Rattle.std.specs.Prelude.{◌≡◌, ◌≢◌, ◌<◌, ◌≤◌, ◌+◌, ◌-◌, ◌^◌, ℕ, List, length, OnOk, IfOk, IfErr, Err, true, false};
+ghost use Rattle.std.specs.Prelude.{◌≡◌, ◌≢◌, ◌<◌, ◌≤◌, ◌+◌, ◌-◌, ◌^◌, ◌++◌, ℕ, List, length, OnOk, IfOk, IfErr, Err, true};
 ghost use Rattle.std.specs.List.{flat_map};
-ghost use Rattle.serde_json.specs.View.{view};
-ghost use Rattle.serde_json.specs.Written.{has_float};
+ghost use Rattle.serde_json.specs.Data.{Data};
+ghost use Rattle.serde_json.specs.Written.{compact_text};
 ghost use Rattle.desk_lines.specs.Lines.{ended, kept_line, max_input, max_line};
 ghost use Rattle.desk_reports.specs.Reading.{is_blank};
 ghost use Rattle.desk_lines.specs.Talk.{Replays, EndsBy};
@@ -15,8 +15,10 @@ use crate::said::said_of;
 use desk_lines::{Clerk, FrontFault, LineText, Sink, Source, Unwritten, answer_lines};
 use desk_reports::{LineRefusal, is_blank, report};
 use json_reader::JsonReader;
-use serde_json::Value;
 use std::alloc::{AllocError, Global};
+
+/// The bytes of most reports.
+const ROOM: usize = 128;
 
 /// What answers the lines of `replay`: what stands between them, and the reader of their texts.
 #[derive(Drop)]
@@ -25,25 +27,26 @@ struct Session {
     texts: JsonReader,
 }
 
-/// The report on a line that is neither too long nor blank.
+/// Adds the report on a line that is neither too long nor blank.
 fn report_on(
     alloc: Global,
     texts: &mut JsonReader,
     desk: &mut Desk,
     number: u64,
     text: &[u8],
-) -> Result<Value, AllocError>
-    ensures plain { IfOk result (λ v. has_float (view v) ≡ false) }
-    ensures turn { is_blank text.now ≢ true → length text.now ≤ max_line → IfOk result (λ v. TakesReport desk.old number text.now (view v) desk.new) }
+    said: &mut Vec<u8>,
+) -> Result<(), AllocError>
+    ensures { is_blank text.now ≢ true → length text.now ≤ max_line → OnOk result ((report : Data)
+        × TakesReport desk.old number text.now report desk.new × (said.new.items ≡ said.old.items ++ ended (compact_text report))) }
 {
     let Some(value) = texts.read(alloc, text)? else {
-        return report::refused_line(alloc, number, LineRefusal::Syntax.word());
+        return report::refused_line(alloc, number, LineRefusal::Syntax.word(), said);
     };
     let Some(line) = line_in(&value) else {
-        return report::refused_line(alloc, number, LineRefusal::Shape.word());
+        return report::refused_line(alloc, number, LineRefusal::Shape.word(), said);
     };
     let effect = desk.hear(alloc, &line)?;
-    said_of(alloc, number, &line, &effect)
+    said_of(alloc, number, &line, &effect, said)
 }
 
 /// What is said to a line: nothing where it is blank.
@@ -57,15 +60,16 @@ fn answer_to(
     ensures { IfOk result (λ text. (it : List ℕ) → line.now ≡ kept_line it →
         (more : List (List ℕ)) × TakesTurn desk.old number it more desk.new × (text.items ≡ flat_map ended more)) }
 {
+    let mut said = Vec::with_capacity(alloc, ROOM)?;
     let Some(text) = line.text() else {
-        let refused = report::refused_line(alloc, number, LineRefusal::Long.word())?;
-        return report::report_line(alloc, &refused);
+        report::refused_line(alloc, number, LineRefusal::Long.word(), &mut said)?;
+        return Ok(said);
     };
     if is_blank(text) {
-        return Ok(Vec::new(alloc));
+        return Ok(said);
     }
-    let said = report_on(alloc, texts, desk, number, text)?;
-    report::report_line(alloc, &said)
+    report_on(alloc, texts, desk, number, text, &mut said)?;
+    Ok(said)
 }
 
 impl Clerk for Session {

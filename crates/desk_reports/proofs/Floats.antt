@@ -1,15 +1,12 @@
 -- The JSON of a value has no float.
-use Rattle.std.proofs.Common.{◌≡◌, ℕ, List, [], ◌∷◌, Bor, Bool, false, ◌||◌, Ordering, Less, Equal, Greater, refl, pos, negsuc}
+use Rattle.std.proofs.Common.{◌≡◌, ℕ, List, Bool, false, ◌||◌, Ordering, Less, Equal, Greater, refl, pos, negsuc}
 use Rattle.std.specs.Ordering.{match_ordering, nat_cmp}
 use Rattle.std.specs.Cmp.Lexicographic.{slice_cmp}
 use Rattle.std.proofs.lemmas.Bool.{or_parts}
-use Rattle.serde_json.specs.Data.{Data, Members, no_members, member, object, put}
+use Rattle.serde_json.specs.Data.{Data, Members, no_members, member, put}
 use Rattle.serde_json.specs.Written.{has_float, items_have_float, members_have_float}
 use Rattle.feel_value.specs.Datum.{Datum, null, boolean, number, text, list, context, Items, no_items, item, Entries, no_entries, entry}
 use Rattle.feel_value.specs.Json.{json_of, json_items, json_members}
-use Rattle.desk_reports.specs.Holding.{data_of, with_all}
-use Rattle.desk_reports.specs.declared.object.Held.{Held}
-use Rattle.desk_reports.specs.declared.object.Held.TheVariants as held
 
 neither : (a b : Bool) → a ≡ false → b ≡ false → (a || b) ≡ false
 neither a b h k = rw (h, k) refl
@@ -49,15 +46,3 @@ mutual
 
 pub plain_of : (v : Data) (d : Datum) → v ≡ json_of d → has_float v ≡ false
 plain_of v d e = rw e (no_float d)
-
-held_no_float : (h : Held) → has_float (data_of h) ≡ false
-held_no_float (held.Text said) = refl
-held_no_float (held.Number n) = refl
-held_no_float held.True = refl
-
-with_all_no_float : (parts : List (Bor (List ℕ) × Held)) (ms : Members) → members_have_float ms ≡ false → members_have_float (with_all parts ms) ≡ false
-with_all_no_float [] ms f = f
-with_all_no_float (m ∷ parts) ms f = with_all_no_float parts (put m.0.now (data_of m.1) ms) (put_no_float m.0.now (data_of m.1) ms (held_no_float m.1) f)
-
-pub held_all_no_float : (parts : List (Bor (List ℕ) × Held)) → has_float (object (with_all parts no_members)) ≡ false
-held_all_no_float parts = with_all_no_float parts no_members refl

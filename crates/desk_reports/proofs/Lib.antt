@@ -1,3 +1,4 @@
+pub mod Quoting
 pub mod ReadOnce
 pub mod Floats
 pub mod Deciding

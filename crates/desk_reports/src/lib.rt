@@ -1,6 +1,7 @@
 //! What the lines of both commands share: how a line is read, and what is said of it, in JSON.
 #![tactic(auto)]
 
+mod key;
 mod object;
 mod reading;
 mod refusal;

@@ -12,12 +12,11 @@ ghost use Rattle.desk_serving.specs.Serving.{HasRoom, Hears, HearsText, model_of
 use crate::hearing::{Heard, asked_by, hear};
 use crate::line::Asked;
 use crate::named_lanes::Until;
-use crate::reports::{self, refuse, refuse_line, say_resized};
+use crate::reports::{close_line, refuse, refuse_line, say_resized};
 use crate::serving::Serving;
 use crate::waiting::hand_out_until;
 use desk_lines::{Clerk, FrontFault, LineText, Sink, Unwritten};
-use desk_reports::report::{self, say};
-use desk_reports::{LineRefusal, model_word, refusal_of};
+use desk_reports::{LineRefusal, model_word, refusal_of, report};
 use dmn_plan::{ModelFault, Plan, Task, TaskFault};
 use serde_json::Value;
 use std::alloc::{AllocError, Global};
@@ -38,15 +37,11 @@ impl<'a, R: Wait> Serving<'a, R> {
         match Plan::of(alloc, model) {
             Ok(plan) => {
                 self.plan = Some(Arc::new(alloc, plan)?);
-                let loaded = report::loaded(alloc, number)?;
-                say(alloc, &loaded, text)
+                report::loaded(alloc, number, text)
             }
             Err(fault) => match fault {
                 ModelFault::Memory => Err(AllocError),
-                fault => {
-                    let faulty = report::faulty(alloc, number, model_word(fault))?;
-                    say(alloc, &faulty, text)
-                }
+                fault => report::faulty(alloc, number, model_word(fault), text),
             },
         }
     }
@@ -158,7 +153,7 @@ impl<'a, R: Wait> Serving<'a, R> {
         let Some(place) = self.lanes.place_for(alloc, name)? else {
             return refuse(alloc, name, number, "clients", text);
         };
-        let closed = reports::closed(alloc, name, number, self.lanes.close(place))?;
+        let closed = close_line(alloc, name, number, self.lanes.close(place))?;
         self.lanes.report(self.rt, alloc, place, &closed, text)
     }
 

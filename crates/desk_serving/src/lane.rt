@@ -10,7 +10,7 @@ ghost use Rattle.desk_serving.specs.Owed.{HandsOwn, lane_of, with_closed, with_h
 ghost use Rattle.desk_serving.specs.Submits.{Submits};
 
 use box_core::{Refusal, Reply};
-use desk_reports::report::{self, say};
+use desk_reports::report;
 use dmn_plan::Task;
 use lanes::Client;
 use std::alloc::{AllocError, Global};
@@ -71,8 +71,7 @@ pub fn hand_out(
     let Some(reply) = poll(client) else {
         return Ok(());
     };
-    let report = report::handed(alloc, name, &reply.outcome, reply.ticket)?;
-    say(alloc, &report, text)
+    report::handed(alloc, name, &reply.outcome, reply.ticket, text)
 }
 
 /// Whether each request was handed its result.

@@ -2,20 +2,20 @@
 ghost use Rattle.std.specs.Bool.{OnFalse, OnTrue};
 ghost use Rattle.std.specs.Prelude.{◌≡◌, ◌<◌, ◌≤◌, ◌^◌, [], ℕ, List, drop, false, length, map, not, slice_get, slice_set, string_bytes, IfNone, IfOk, IfSome, Ok, OnOk, Some};
 ghost use Rattle.std.specs.Arc.{arc_value};
-ghost use Rattle.serde_json.specs.View.{view};
-ghost use Rattle.serde_json.specs.Written.{has_float};
+ghost use Rattle.serde_json.specs.Data.{Data};
+ghost use Rattle.serde_json.specs.Written.{compact_text};
 ghost use Rattle.box_core.specs.Mail.{resize_refusal_by};
 ghost use Rattle.dmn_plan.specs.Request.{request_result};
+ghost use Rattle.desk_lines.specs.Lines.{ended};
 ghost use Rattle.desk_serving.specs.Owed.{AreDistinct, AreDistinct-prop, Hands, HandsThen, Lane, unhanded, with_closed, with_lane, with_put, with_put_if};
 ghost use Rattle.desk_serving.specs.Served.{is_among, of_name, task_answer};
 ghost use Rattle.desk_reports.specs.Shown.{named_refusal, reply};
 
 use crate::lane::{self, Submitted};
+use crate::reports::refuse;
 use box_core::Refusal;
-use desk_reports::report::{self, say};
 use dmn_plan::Task;
 use lanes::Client;
-use serde_json::Value;
 use std::alloc::{AllocError, Global};
 use std::sync::{Arc, Wait};
 
@@ -312,19 +312,19 @@ impl Lanes {
         rt: &R,
         alloc: Global,
         place: usize,
-        report: &Value,
+        report: &[u8],
         text: &mut Vec<u8>,
     ) -> Result<(), AllocError>
         requires place { place < length (names_in self.old) }
-        requires plain { has_float (view report.now) ≡ false }
         ensures same { links_in self.new ≡ links_in self.old }
         ensures names { names_in self.new ≡ names_in self.old }
         ensures lanes { OnOk result (unhanded (lanes_in self.new) ≡ unhanded (lanes_in self.old)) }
-        ensures hands { OnOk result ((name : List ℕ) → slice_get (names_in self.old) place ≡ Some name →
-            HandsThen (names_in self.old) (lanes_in self.old) (lanes_in self.new) (of_name name (view report.now)) text.old.items text.new.items) }
+        ensures hands { OnOk result ((name : List ℕ) (told : Data) → slice_get (names_in self.old) place ≡ Some name → report.now ≡ ended (compact_text told) →
+            HandsThen (names_in self.old) (lanes_in self.old) (lanes_in self.new) (of_name name told) text.old.items text.new.items) }
     {
         self.drain(rt, alloc, place, text)?;
-        say(alloc, report, text)
+        text.extend_from_slice(report)?;
+        Ok(())
     }
 
     /// Refuses a line of a client behind all earlier results of that client.
@@ -344,7 +344,8 @@ impl Lanes {
         ensures lanes { OnOk result (unhanded (lanes_in self.new) ≡ unhanded (lanes_in self.old)) }
         ensures hands { OnOk result (HandsThen (names_in self.old) (lanes_in self.old) (lanes_in self.new) (of_name name.now (named_refusal name.now number word.now)) text.old.items text.new.items) }
     {
-        let refused = report::refused(alloc, name, number, word)?;
+        let mut refused = Vec::new(alloc);
+        refuse(alloc, name, number, word, &mut refused)?;
         self.report(rt, alloc, place, &refused, text)
     }
 

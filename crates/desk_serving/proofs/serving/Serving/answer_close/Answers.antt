@@ -1,5 +1,6 @@
-use Rattle.std.proofs.Common.{refl}
+use Rattle.std.proofs.Common.{◌∙◌, refl}
 use Rattle.std.proofs.lemmas.Result.{on_ok_weaker}
+use Rattle.desk_serving.specs.Said.{close_said}
 use Rattle.desk_serving.specs.LanesView.{lanes_in, names_in}
 use Rattle.desk_serving.specs.Serving.{model_of}
 use Rattle.desk_serving.proofs.Asking.{closed_lane, on_ok_both, stands_close}
@@ -18,8 +19,8 @@ returns-in_default-clause-hears g c =
 pub close-requires : goal.close-requires
 close-requires g c = record { place = get_inside _ c.in-Some.place _ (rw c.in-Some.is at c.in_ok-place.ensures.found) }
 
-pub report-requires-clause-place : goal.report-requires-clause-place
-report-requires-clause-place g c = rw c.close.ensures.names (get_inside _ c.in-Some.place _ (rw c.in-Some.is at c.in_ok-place.ensures.found))
+pub report-requires : goal.report-requires
+report-requires g c = record { place = rw c.close.ensures.names (get_inside _ c.in-Some.place _ (rw c.in-Some.is at c.in_ok-place.ensures.found)) }
 
 pub returns-clause-hears : goal.returns-clause-hears
 returns-clause-hears g c =
@@ -28,5 +29,5 @@ returns-clause-hears g c =
     on_ok_both c.report.result (λ same hands earlier said st num.
     closed_lane c.args.self.now c.place_for.new.self c.close.new.self c.report.new.self c.args.name.now c.args.number c.in-Some.place c.close.result _ _ _ earlier said st num
     place.lanes place.names found c.close.ensures.names c.close.ensures.closes
-    c.in_ok-closed.ensures.value c.report.ensures.names same hands)
+    refl c.report.ensures.names same (λ name at. hands name (close_said c.args.number c.args.name.now c.close.result) at (c.deref.ensures.value ∙ c.in_ok-closed.ensures)))
     c.report.ensures.lanes c.report.ensures.hands

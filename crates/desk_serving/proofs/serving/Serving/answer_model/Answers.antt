@@ -10,27 +10,27 @@ use Rattle.desk_serving.proofs.Asking.{due_model, loaded_model, faulty_model}
 use Rattle.desk_serving.proofs.Replying.{heard_model}
 use Rattle.desk_serving.proofs.serving.Serving.answer_model.Goals as goal
 
-pub returns-in_ok-loaded-in-Ok-clause-hears : goal.returns-in_ok-loaded-in-Ok-clause-hears
-returns-in_ok-loaded-in-Ok-clause-hears g c =
+pub returns-in_ok-new-in-Ok-clause-hears : goal.returns-in_ok-new-in-Ok-clause-hears
+returns-in_ok-new-in-Ok-clause-hears g c =
     let old = c.args.self.now in
     let json = view c.args.model.now in
-    on_ok_weaker c.say.result (λ is earlier said st num.
+    on_ok_weaker c.loaded.result (λ is earlier said st num.
     let loads = loaded_model json (read_model json) (in_force earlier) c.args.number c.in-Ok.ensures.read in
     heard_model json c.args.number _ earlier (names_in old.lanes) (model_of old) _ (lanes_in old.lanes) said _ _ st num
-    (c.in_ok-loaded-in-Ok.ensures.value ∙ sym loads.1) is
+    (sym loads.1) is
     (ap Some (c.in_ok-new-in-Ok.ensures.ok ∙ c.in-Ok.ensures.compact) ∙ sym loads.0))
-    c.say.ensures
+    c.loaded.ensures
 
-pub returns-in_ok-faulty-in_default : goal.returns-in_ok-faulty-in_default
-returns-in_ok-faulty-in_default g c =
+pub returns-in_default : goal.returns-in_default
+returns-in_default g c =
     let old = c.args.self.now in
     let json = view c.args.model.now in
     let is_due = due_model (read_model json) c.in-Err.fault c.in-Err.ensures.err c.in_default.not-Memory in record {
       same = refl;
-      hears = on_ok_weaker c.say-in_default.result (λ is earlier said st num.
+      hears = on_ok_weaker c.faulty.result (λ is earlier said st num.
           let tells = faulty_model json (read_model json) (in_force earlier) c.args.number c.in-Err.fault is_due in
           heard_model json c.args.number _ earlier (names_in old.lanes) (model_of old) _ (lanes_in old.lanes) said _ _ st num
-          (c.in_ok-faulty-in_default.ensures.value ∙ ap (faulty c.args.number) c.model_word.ensures ∙ sym tells.1) is
+          (ap (faulty c.args.number) c.model_word.ensures ∙ sym tells.1) is
           (st.model ∙ sym tells.0))
-          c.say-in_default.ensures;
+          c.faulty.ensures;
     }
