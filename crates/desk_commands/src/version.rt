@@ -5,5 +5,5 @@
 pub const VERSION: &str = concat!(
     "0.9.0\n",
     "proved with rattle-kit-13b logic dac8208d650f15bf\n",
-    "sources b4fdeb5a2820cf27735fe5da0d7d64ed1e576e6eb039e8bb3183481fbbb77684",
+    "sources 35dd08dfdaac03876fcd62aff37b5d2a217398d5905db2918622ad769a28e201",
 );
