@@ -5,5 +5,5 @@
 pub const VERSION: &str = concat!(
     "0.9.0\n",
     "proved with rattle-kit-13b logic dac8208d650f15bf\n",
-    "sources 35dd08dfdaac03876fcd62aff37b5d2a217398d5905db2918622ad769a28e201",
+    "sources ab6538cdf8b1cc1f4771b535e2d881dceb2405811a08f948601cf47a8477eefa",
 );

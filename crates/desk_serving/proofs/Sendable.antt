@@ -15,6 +15,8 @@ use Rattle.feel_lang.specs.contracts.constant.Constant as Constant
 use Rattle.feel_lang.specs.contracts.constant.Constant.TheInside as ConstantInside
 use Rattle.feel_lang.specs.contracts.expression.Expr as Expr
 use Rattle.feel_lang.specs.contracts.input_entry.Tests as Tests
+use Rattle.feel_lang.proofs.ready.Span.TheSendSync as span
+use Rattle.feel_value.specs.contracts.value.Value as Value
 use Rattle.dmn_table.specs.contracts.table.Output as Output
 use Rattle.dmn_table.specs.contracts.table.Rule as Rule
 use Rattle.dmn_table.specs.contracts.table.Table as Table
@@ -41,6 +43,9 @@ Text-sync = search (maps.String-send, maps.String-sync, Arc-sync, sendable) dept
 pub Feel-send : IsSend Feel.the_row
 Feel-send = search (Text-send, Text-sync, Vec-send, Vec-sync, Arc-send, Arc-sync, ValueKnot.crosses_both, sendable) depth 60 fits 200000
 
+pub Value-send : IsSend Value.the_row
+Value-send = search (Text-send, Text-sync, Vec-send, Vec-sync, Arc-send, Arc-sync, ValueKnot.crosses_both, sendable) depth 60 fits 200000
+
 pub ConstantInside-send : IsSend ConstantInside.the_row
 ConstantInside-send = declared_send ConstantInside.the_type (Feel-send, tt)
 
@@ -51,7 +56,7 @@ pub Expr-send : IsSend Expr.the_row
 Expr-send = search (Constant-send, operator.the_field_send, function.the_field_send, crosses, TreeKnot.crosses, sendable) depth 60 fits 20000
 
 pub Tests-send : IsSend Tests.the_row
-Tests-send = search (Constant-send, operator.the_field_send, function.the_field_send, bound.the_field_send, crosses, TreeKnot.crosses, sendable) depth 60 fits 20000
+Tests-send = search (Constant-send, Value-send, Vec-send, span.the_field_send, operator.the_field_send, function.the_field_send, bound.the_field_send, crosses, TreeKnot.crosses, sendable) depth 60 fits 20000
 
 pub Output-send : IsSend Output.the_row
 Output-send = declared_send Output.the_type (maps.String-send, (Vec-send Feel.the_row Feel-send, (option.the_send Expr.the_row Expr-send, tt)))
@@ -68,6 +73,9 @@ Table-send = view_send _ _ _ _ _ TableInside-send
 pub Feel-sync : IsSync Feel.the_row
 Feel-sync = search (Text-send, Text-sync, Vec-send, Vec-sync, Arc-send, Arc-sync, ValueKnot.crosses_both, sendable) depth 60 fits 200000
 
+pub Value-sync : IsSync Value.the_row
+Value-sync = search (Text-send, Text-sync, Vec-send, Vec-sync, Arc-send, Arc-sync, ValueKnot.crosses_both, sendable) depth 60 fits 200000
+
 pub ConstantInside-sync : IsSync ConstantInside.the_row
 ConstantInside-sync = declared_sync ConstantInside.the_type (Feel-sync, tt)
 
@@ -78,7 +86,7 @@ pub Expr-sync : IsSync Expr.the_row
 Expr-sync = search (Constant-sync, operator.the_field_sync, function.the_field_sync, crosses, TreeKnot.crosses, sendable) depth 60 fits 20000
 
 pub Tests-sync : IsSync Tests.the_row
-Tests-sync = search (Constant-sync, operator.the_field_sync, function.the_field_sync, bound.the_field_sync, crosses, TreeKnot.crosses, sendable) depth 60 fits 20000
+Tests-sync = search (Constant-sync, Value-sync, Vec-sync, span.the_field_sync, operator.the_field_sync, function.the_field_sync, bound.the_field_sync, crosses, TreeKnot.crosses, sendable) depth 60 fits 20000
 
 pub Output-sync : IsSync Output.the_row
 Output-sync = declared_sync Output.the_type (maps.String-sync, (Vec-sync Feel.the_row Feel-sync, (option.the_sync Expr.the_row Expr-sync, tt)))
