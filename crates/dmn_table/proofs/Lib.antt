@@ -5,6 +5,7 @@ pub mod ByOutputs
 pub mod Turns
 pub mod Wholes
 pub mod FromRules
+pub mod Listing
 pub mod ZipEnd
 pub mod MappedTests
 pub mod Distinct

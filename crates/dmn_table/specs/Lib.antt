@@ -3,6 +3,7 @@ pub mod Faults
 pub mod Evaluated
 pub mod Hits
 pub mod Priority
+pub mod Listed
 pub mod RuleOutputs
 pub mod Result
 pub mod Parts

@@ -1,17 +1,18 @@
-//! The rules that hit, and the places of their values.
+//! The rules that hit, and their outputs and places.
 ghost use Rattle.std.specs.Prelude.{◌≡◌, IfOk, map, option_map};
 ghost use Rattle.dmn_table.specs.Evaluated.{each};
 ghost use Rattle.dmn_table.specs.Hits.{does_hit as does_hit_of, hit_of as hit_of_rule};
-ghost use Rattle.dmn_table.specs.Priority.{place as place_of, places_of};
+ghost use Rattle.dmn_table.specs.Listed.{listed_values, places_among};
 ghost use Rattle.dmn_table.specs.Parts.{rule_view, column_view};
 ghost use Rattle.dmn_table.specs.RuleOutputs.{rules_view, hits_among, fitting};
 ghost use Rattle.dmn_table.specs.View.{hit_view};
 
+use crate::listed::{Listed, lists_of};
 use crate::output::{evaluated, one_or_context};
 use crate::priority::Hit;
 use crate::table::{Output, Rule};
 use feel_lang::{Env, Held, holds};
-use feel_value::{Feel, Members, Outcome, Truth, equal};
+use feel_value::{Feel, Members, Outcome};
 use std::alloc::{AllocError, Global};
 
 /// Whether the rule hits, for these values of the input expressions; None where an entry breaks a limit. All entries are
@@ -60,42 +61,33 @@ pub(crate) fn rules_that_hit<'a>(
     Ok(Some(hits))
 }
 
-/// The position of the first listed value that equals the value; the length of the list where none does.
-fn place(listed: &[Feel], value: &Feel) -> usize
-    ensures { result ≡ place_of listed.now value.now }
-{
-    for (i, other) in listed.iter().enumerate() {
-        if equal(other, value) == Truth::Yes {
-            return i;
-        }
-    }
-    listed.len()
-}
-
 /// The places of a rule's values in the columns' lists of output values.
-fn places(alloc: Global, outputs: &[Output], values: &[Feel]) -> Result<Vec<usize>, AllocError>
-    ensures { IfOk result (λ p. p.items ≡ places_of (map column_view outputs.now) values.now) }
+fn places(alloc: Global, lists: &[Listed], values: &[Feel]) -> Result<Vec<usize>, AllocError>
+    ensures { IfOk result (λ p. p.items ≡ places_among lists.now values.now) }
 {
-    let mut places = Vec::with_capacity(alloc, outputs.len())?;
-    for (output, value) in outputs.iter().zip(values) {
-        places.push(place(&output.values, value))?;
+    let mut places = Vec::with_capacity(alloc, lists.len())?;
+    for (listed, value) in lists.iter().zip(values) {
+        places.push(listed.place(value))?;
     }
     Ok(places)
 }
 
 /// A rule that hit, with its output and the places of its values; None where a limit is broken.
+#[tactic(auto, using(crate::proofs::Listing::places_by_lists))]
 pub(crate) fn found_hit(
     alloc: Global,
     rule: &Rule,
+    lists: &[Listed],
     outputs: &[Output],
     env: &Env,
 ) -> Result<Option<Hit>, AllocError>
+    requires { lists.now ≡ listed_values (map column_view outputs.now) }
     ensures { IfOk result (λ hit. option_map hit_view hit ≡ hit_of_rule (map column_view outputs.now) env.now (rule_view rule.now)) }
 {
     let Some(values) = evaluated(alloc, &rule.gives, env)? else {
         return Ok(None);
     };
-    let places = places(alloc, outputs, &values)?;
+    let places = places(alloc, lists, &values)?;
     match one_or_context(alloc, outputs, values)? {
         Outcome::Is(output) => Ok(Some(Hit { places, output })),
         Outcome::Limit => Ok(None),
@@ -112,10 +104,11 @@ pub(crate) fn fitting_hits(
 ) -> Result<Option<Vec<Hit>>, AllocError>
     ensures { IfOk result (λ found. option_map (λ v. map hit_view v.items) found ≡ fitting (each (hit_of_rule (map column_view outputs.now) env.now) (rules_view rules.now))) }
 {
+    let lists = lists_of(alloc, outputs, rules.len())?;
     let mut hits = Vec::new(alloc);
     let mut values = Members::new(alloc);
     for rule in rules {
-        let Some(hit) = found_hit(alloc, rule, outputs, env)? else {
+        let Some(hit) = found_hit(alloc, rule, &lists, outputs, env)? else {
             return Ok(None);
         };
         if !values.push(hit.output.try_clone()?)? {

@@ -7,6 +7,7 @@ mod decision;
 mod fault;
 mod hit_policy;
 mod hits;
+mod listed;
 mod numbers;
 mod output;
 mod policy;

@@ -12,6 +12,7 @@ ghost use Rattle.dmn_table.specs.View.{hit_view};
 use crate::collected::{common_one, count, first, list_of, only_one};
 use crate::hit_policy::HitPolicy;
 use crate::hits::{fitting_hits, found_hit};
+use crate::listed::lists_of;
 use crate::numbers::{greatest, least, sum};
 use crate::priority::{Hit, in_priority};
 use crate::table::{Output, Rule};
@@ -58,11 +59,12 @@ fn highest(
     let Some((rule, rest)) = rules.split_first() else {
         return Ok(Outcome::of(Value::Null));
     };
-    let Some(mut best) = found_hit(alloc, rule, outputs, env)? else {
+    let lists = lists_of(alloc, outputs, rules.len())?;
+    let Some(mut best) = found_hit(alloc, rule, &lists, outputs, env)? else {
         return Ok(Outcome::Limit);
     };
     for rule in rest {
-        let Some(hit) = found_hit(alloc, rule, outputs, env)? else {
+        let Some(hit) = found_hit(alloc, rule, &lists, outputs, env)? else {
             return Ok(Outcome::Limit);
         };
         if hit.is_higher(&best) {

@@ -1,4 +1,5 @@
 //! Tables that are refused, each for its own reason; entries behind a miss; and calls while the heap refuses requests.
+mod listed;
 mod memory;
 
 use crate::logic::{env_of, logic, shown};
