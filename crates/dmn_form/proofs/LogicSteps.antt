@@ -7,7 +7,8 @@ use Rattle.serde_json.specs.View.{view, items_view, members_view}
 use Rattle.serde_json.specs.declared.value.Value.{Value, Object}
 use Rattle.serde_json.proofs.Views.{view-Object}
 use Rattle.dmn_form.specs.Model.{context, context_with, entries_of}
-use Rattle.dmn_form.specs.Draft.{◌>>=◌, Logic, logic_of, text_of, logic_in, members_in, entries_at, entry_at, entry_members}
+use Rattle.dmn_form.specs.Draft.{Logic, logic_of, text_of, logic_in, members_in, entries_at, entry_at, entry_members}
+use Rattle.feel_value.specs.Found.{◌>>=◌}
 use Rattle.dmn_form.specs.LogicParts.{logic_under, context_with_of, named_logic}
 use Rattle.dmn_form.specs.LogicView.{logic_view, named_view, entry_view, entries_view}
 use Rattle.dmn_form.specs.declared.written.WrittenLogic.{WrittenLogic, Context, ContextWith, the_lemmas}

@@ -5,7 +5,8 @@ use Rattle.serde_json.specs.Data.{Data, Items, no_items, item, array}
 use Rattle.serde_json.specs.View.{view, items_view}
 use Rattle.serde_json.specs.declared.value.Value.{Value, Array}
 use Rattle.serde_json.proofs.Views.{view-Array}
-use Rattle.dmn_form.specs.Draft.{◌>>=◌, each_in, list_of}
+use Rattle.dmn_form.specs.Draft.{each_in, list_of}
+use Rattle.feel_value.specs.Found.{◌>>=◌}
 
 -- what was read, and then the rest
 abbrev pub read_after : {X : Type 0} → List X → Option (List X) → Option (List X)

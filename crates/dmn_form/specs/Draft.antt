@@ -4,6 +4,7 @@ use Rattle.std.specs.List.{list_any}
 use Rattle.serde_json.specs.Data.{Data, null, boolean, number, string, array, object, Items, no_items, item, depth}
 use Rattle.serde_json.specs.Data as json
 use Rattle.serde_json.specs.Find.{get_member}
+use Rattle.feel_value.specs.Found.{◌>>=◌}
 use Rattle.dmn_form.specs.Model.{Name, Boxed, expression, table, list, context, context_with, members_of, entries_of, Decision, Service, Model}
 
 -- ---- a model as written
@@ -33,11 +34,6 @@ abbrev pub Draft : Type 0
 Draft = Model (List ℕ) WrittenTable
 
 -- ---- reading the form
-
-infixl 20 ◌>>=◌
-abbrev pub ◌>>=◌ : {X Y : Type 0} → Option X → (X → Option Y) → Option Y
-None >>= f = None
-Some x >>= f = f x
 
 abbrev pub each_in : {Y : Type 0} → (Data → Option Y) → Items → Option (List Y)
 each_in f no_items = Some []

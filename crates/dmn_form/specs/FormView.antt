@@ -3,7 +3,8 @@ use Rattle.std.specs.Prelude.{ℕ, List, [], map, String, Vec, string_bytes, Opt
 use Rattle.std.specs.declared.alloc.Global.{Global}
 use Rattle.serde_json.specs.Data.{Data, object}
 use Rattle.serde_json.specs.Find.{get}
-use Rattle.dmn_form.specs.Draft.{text_of, texts_of, list_of, some_text, or_else, has_only, column_of, rule_of, WrittenColumn, WrittenRule, WrittenTable, ◌>>=◌}
+use Rattle.dmn_form.specs.Draft.{text_of, texts_of, list_of, some_text, or_else, has_only, column_of, rule_of, WrittenColumn, WrittenRule, WrittenTable}
+use Rattle.feel_value.specs.Found.{◌>>=◌}
 use Rattle.dmn_form.specs.declared.written.WrittenColumn as column
 use Rattle.dmn_form.specs.declared.written.WrittenRule as rule
 use Rattle.dmn_form.specs.declared.written.WrittenTable as table

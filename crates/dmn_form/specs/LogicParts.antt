@@ -2,7 +2,8 @@
 use Rattle.std.specs.Prelude.{ℕ, List, Option, None, Some, option_map, bytes_eq, codes, if◌then◌else◌}
 use Rattle.serde_json.specs.Data.{Data}
 use Rattle.dmn_form.specs.Model.{Name, table, list, context, context_with, members_of, entries_of}
-use Rattle.dmn_form.specs.Draft.{◌>>=◌, Logic, text_of, table_of, logic_of, members_at, entries_at}
+use Rattle.dmn_form.specs.Draft.{Logic, text_of, table_of, logic_of, members_at, entries_at}
+use Rattle.feel_value.specs.Found.{◌>>=◌}
 
 -- what stands under the one key of an object
 abbrev pub logic_under : List ℕ → Data → Option Logic

@@ -4,7 +4,8 @@ use Rattle.std.specs.declared.alloc.Global.{Global}
 use Rattle.serde_json.specs.Data.{Data}
 use Rattle.serde_json.specs.Find.{get}
 use Rattle.dmn_form.specs.Model.{Service}
-use Rattle.dmn_form.specs.Draft.{Logic, Draft, Written, list_of, logic_of, decision_of, service_of, ◌>>=◌}
+use Rattle.dmn_form.specs.Draft.{Logic, Draft, Written, list_of, logic_of, decision_of, service_of}
+use Rattle.feel_value.specs.Found.{◌>>=◌}
 use Rattle.dmn_form.specs.FormView.{texts_view}
 use Rattle.dmn_form.specs.LogicView.{logic_view}
 use Rattle.dmn_form.specs.declared.written.WrittenDecision as decision

@@ -6,7 +6,7 @@ use Rattle.feel_value.specs.Datum.{Datum}
 use Rattle.feel_value.specs.declared.feel.Outcome.{Outcome}
 use Rattle.feel_value.specs.declared.feel.Outcome.TheVariants.{Is, Limit}
 use Rattle.feel_lang.specs.Meaning.{Bindings}
-use Rattle.dmn_table.specs.Evaluated.{value_of, ◌>>=◌, outcome_from}
+use Rattle.feel_value.specs.Found.{value_of, ◌>>=◌, outcome_from}
 use Rattle.dmn_table.proofs.Each.{after}
 use Rattle.dmn_form.specs.Model.{member, entry, context, context_with, entries_of}
 use Rattle.dmn_logic.specs.Boxed.{boxed, member_values, entry_values}

@@ -4,7 +4,8 @@ use Rattle.feel_lang.specs.Expr.{Expr}
 use Rattle.dmn_table.specs.declared.fault.TableFault.{TableFault}
 use Rattle.dmn_table.specs.declared.table.Output.{Output}
 use Rattle.dmn_table.specs.declared.table.Rule as rule
-use Rattle.dmn_table.specs.Faults.{are_distinct, policy_of, fault_under, table_fault}
+use Rattle.dmn_table.specs.Faults.{policy_of, fault_under, table_fault}
+use Rattle.feel_value.specs.Distinct.{are_distinct}
 use Rattle.dmn_table.specs.declared.hit_policy.HitPolicy.{HitPolicy}
 use Rattle.dmn_table.specs.Parts.{column_view, rule_view, names_of, entry_counts, fault_of_parts, MakesTable}
 use Rattle.dmn_table.specs.Table.{Column, Rule, Table}

@@ -7,7 +7,7 @@ use Rattle.feel_lang.specs.Readings.{expr_of, tests_of, literal_of}
 use Rattle.feel_value.specs.Datum.{Datum}
 use Rattle.dmn_table.specs.declared.fault.TableFault.{TableFault}
 use Rattle.dmn_table.specs.declared.hit_policy.HitPolicy.{HitPolicy}
-use Rattle.dmn_table.specs.Evaluated.{◌>>=◌, each}
+use Rattle.feel_value.specs.Found.{◌>>=◌, each}
 use Rattle.dmn_table.specs.Faults.{policy_of, table_fault, fault_under}
 use Rattle.dmn_table.specs.Table.{Column, Rule}
 use Rattle.dmn_form.specs.Draft.{WrittenColumn, WrittenRule, WrittenTable}

@@ -6,7 +6,7 @@ use Rattle.feel_value.specs.Outcome.{held}
 use Rattle.feel_value.specs.declared.feel.Outcome.{Outcome}
 use Rattle.feel_lang.specs.Expr.{Expr}
 use Rattle.feel_lang.specs.Meaning.{den, Bindings}
-use Rattle.dmn_table.specs.Evaluated.{value_of, ◌>>=◌, outcome_from}
+use Rattle.feel_value.specs.Found.{value_of, ◌>>=◌, outcome_from}
 use Rattle.dmn_table.specs.Table.{Table}
 use Rattle.dmn_table.specs.Result.{table_result}
 use Rattle.dmn_form.specs.Model.{Boxed, expression, table, list, context, context_with, Members, no_members, member, Entries, no_entries, entry}

@@ -2,7 +2,7 @@
 use Rattle.std.specs.Prelude.{ℕ, List, Option, None, Some, option_map}
 use Rattle.feel_lang.specs.Expr.{Expr}
 use Rattle.feel_lang.specs.Readings.{expr_of, tests_of, literal_of}
-use Rattle.dmn_table.specs.Evaluated.{◌>>=◌, each}
+use Rattle.feel_value.specs.Found.{◌>>=◌, each}
 use Rattle.dmn_table.specs.Faults.{policy_of}
 use Rattle.dmn_table.specs.Table.{Column, Rule, Table}
 use Rattle.dmn_form.specs.Model.{Boxed, expression, table, list, context, context_with, Members, no_members, member, Entries, no_entries, entry, Decision}

@@ -3,7 +3,7 @@
 use Rattle.std.specs.Prelude.{ℕ, List, [], ◌∷◌, map, length, Option, None, Some}
 use Rattle.feel_lang.specs.Expr.{Expr}
 use Rattle.feel_lang.specs.Readings.{expr_of}
-use Rattle.dmn_table.specs.Evaluated.{each}
+use Rattle.feel_value.specs.Found.{each}
 use Rattle.dmn_table.specs.Faults.{table_fault, policy_of}
 use Rattle.dmn_table.specs.Table.{Column, Rule, Table}
 use Rattle.dmn_table.specs.declared.fault.TableFault.{TableFault}

@@ -1,8 +1,8 @@
 //! Decision tables, read from the texts of their cells.
 ghost use Rattle.std.specs.Prelude.{◌≡◌, IfOk, option_map, map};
 ghost use Rattle.dmn_form.specs.FormView.{column_view as written_column, rule_view as written_rule, table_view};
-ghost use Rattle.dmn_table.specs.Evaluated.{each};
-ghost use Rattle.dmn_table.specs.Faults.{are_distinct};
+ghost use Rattle.feel_value.specs.Found.{each};
+ghost use Rattle.feel_value.specs.Distinct.{are_distinct};
 ghost use Rattle.dmn_table.specs.Parts.{column_view, names_of, rule_view};
 ghost use Rattle.dmn_logic.specs.ReadLogic.{read_column, read_rule};
 ghost use Rattle.dmn_logic.specs.Reading.{made_table, table_reading};

@@ -1,7 +1,7 @@
 //! The texts of expressions, unary tests and literals.
 ghost use Rattle.std.specs.Prelude.{◌≡◌, IfOk, option_map, map, string_bytes};
 ghost use Rattle.feel_lang.specs.Readings.{expr_of, tests_of as tests_in, literal_of as literal_in};
-ghost use Rattle.dmn_table.specs.Evaluated.{each};
+ghost use Rattle.feel_value.specs.Found.{each};
 ghost use Rattle.dmn_logic.specs.ReadLogic.{read_if};
 
 use feel_lang::{Expr, ReadFault, Tests, read_expr, read_literal, read_tests};

@@ -6,10 +6,12 @@ use Rattle.std.proofs.lemmas.List.{get_or-append-add}
 use Rattle.std.proofs.lemmas.List.Folds.{list_any_at}
 use Rattle.std.proofs.lemmas.Slice.Eq.{bytes_eq-Decides}
 use Rattle.dmn_form.specs.Model.{Name}
-use Rattle.dmn_form.specs.Draft.{Draft, ◌>>=◌}
+use Rattle.dmn_form.specs.Draft.{Draft}
+use Rattle.feel_value.specs.Found.{◌>>=◌, each}
 use Rattle.dmn_names.specs.Parts.{decision_names, value_names, part_lists, service_names}
-use Rattle.dmn_names.specs.Names.{is_among, are_distinct, have_twice, has_name_twice}
-use Rattle.dmn_names.specs.Places.{place_among, decision_place, each}
+use Rattle.dmn_names.specs.Names.{have_twice, has_name_twice}
+use Rattle.feel_value.specs.Distinct.{is_among, are_distinct}
+use Rattle.dmn_names.specs.Places.{place_among, decision_place}
 
 first_or_later : (b : Bool) (o : Option ℕ) (n m : Name) (ms : List Name) (p : ℕ) (d : Name) → (b ≡ true → n ≡ m) → ((k : ℕ) → o ≡ Some k → get_or ms k d ≡ n)
     → (if b then Some 0 else option_map suc o) ≡ Some p → get_or (m ∷ ms) p d ≡ n

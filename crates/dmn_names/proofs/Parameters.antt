@@ -7,7 +7,8 @@ use Rattle.std.proofs.lemmas.Slice.Eq.{bytes_eq-Decides}
 use Rattle.dmn_form.specs.Model.{Name, Service}
 use Rattle.dmn_form.specs.Draft.{Draft}
 use Rattle.dmn_names.specs.Parts.{decision_names, value_names, service_names, part_lists, service_lists, decision_lists}
-use Rattle.dmn_names.specs.Names.{is_among, are_distinct, have_twice, has_name_twice}
+use Rattle.dmn_names.specs.Names.{have_twice, has_name_twice}
+use Rattle.feel_value.specs.Distinct.{is_among, are_distinct}
 use Rattle.dmn_names.specs.Places.{has_stranger}
 use Rattle.dmn_names.proofs.NamesBack.{both, not_so, so}
 

@@ -6,10 +6,11 @@ use Rattle.dmn_form.specs.Model.{Name}
 use Rattle.dmn_form.specs.ModelView.{model_view}
 use Rattle.dmn_form.specs.declared.written.WrittenModel.{WrittenModel}
 use Rattle.dmn_form.specs.declared.written.WrittenDecision.{WrittenDecision}
-use Rattle.dmn_form.specs.Draft.{Draft, ◌>>=◌}
+use Rattle.dmn_form.specs.Draft.{Draft}
+use Rattle.feel_value.specs.Found.{◌>>=◌, each}
 use Rattle.dmn_form.proofs.Readings.{read_after, read_after-more}
 use Rattle.dmn_names.specs.Parts.{decision_names}
-use Rattle.dmn_names.specs.Places.{place_among, input_place, decision_place, value_place, each}
+use Rattle.dmn_names.specs.Places.{place_among, input_place, decision_place, value_place}
 use Rattle.dmn_names.specs.Index.{first_of}
 use Rattle.dmn_names.proofs.Walks.{decision_names_view}
 

@@ -7,7 +7,8 @@ use Rattle.std.specs.BTreeSet.{BTreeSet, contains_by, Updates}
 use Rattle.std.proofs.lemmas.List.{at_drop_more}
 use Rattle.std.proofs.lemmas.Map.Text.{is_eq-slice_cmp}
 use Rattle.dmn_form.specs.Model.{Name}
-use Rattle.dmn_names.specs.Names.{is_among, are_distinct, have_twice}
+use Rattle.dmn_names.specs.Names.{have_twice}
+use Rattle.feel_value.specs.Distinct.{is_among, are_distinct}
 
 -- whether the set has the name
 abbrev pub is_seen : BTreeSet (Bor (List ℕ)) → Name → Bool

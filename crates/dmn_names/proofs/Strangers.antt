@@ -4,10 +4,12 @@ use Rattle.std.specs.Prelude.{bytes_eq}
 use Rattle.std.specs.List.{list_any}
 use Rattle.std.proofs.lemmas.List.Folds.{list_any-append}
 use Rattle.dmn_form.specs.Model.{Name, Service}
-use Rattle.dmn_form.specs.Draft.{Draft, ◌>>=◌}
+use Rattle.dmn_form.specs.Draft.{Draft}
+use Rattle.feel_value.specs.Found.{◌>>=◌, each}
 use Rattle.dmn_names.specs.Parts.{decision_names, value_names}
-use Rattle.dmn_names.specs.Names.{is_among, has_unknown_name}
-use Rattle.dmn_names.specs.Places.{place_among, input_place, decision_place, value_place, each, needed_places, needs_by_place, placed_service, has_stranger}
+use Rattle.dmn_names.specs.Names.{has_unknown_name}
+use Rattle.feel_value.specs.Distinct.{is_among}
+use Rattle.dmn_names.specs.Places.{place_among, input_place, decision_place, value_place, needed_places, needs_by_place, placed_service, has_stranger}
 
 pub none_mapped : {X Y : Type 0} (f : X → Y) (o : Option X) → is_none (option_map f o) ≡ is_none o
 none_mapped f None = refl

@@ -4,9 +4,11 @@ use Rattle.std.specs.Prelude.{All, IfSome}
 use Rattle.std.proofs.lemmas.List.{length-map, length-append}
 use Rattle.std.proofs.lemmas.List.Elements.{All-nil, All-cons, All-same}
 use Rattle.dmn_form.specs.Model.{Name, Service}
-use Rattle.dmn_form.specs.Draft.{Draft, ◌>>=◌}
+use Rattle.dmn_form.specs.Draft.{Draft}
+use Rattle.feel_value.specs.Found.{◌>>=◌, each}
 use Rattle.dmn_names.specs.Parts.{decision_names, value_names}
-use Rattle.dmn_names.specs.Places.{place_among, input_place, decision_place, value_place, each, needed_places, needs_by_place, AreNeedsBelow, PlacedService, placed_service, AreInputPlaces, AreDecisionPlaces, ArePlacesOf}
+use Rattle.dmn_names.specs.Places.{place_among, input_place, decision_place, value_place, needed_places, needs_by_place, PlacedService, placed_service, AreInputPlaces, AreDecisionPlaces, ArePlacesOf}
+use Rattle.dmn_graph.specs.Needs.{AreNeedsBelow}
 use Rattle.dmn_names.specs.PlacedModel.{needs_view, placed_service_view}
 use Rattle.dmn_names.specs.declared.places.ServicePlaces.{ServicePlaces}
 use Rattle.dmn_names.proofs.Placing.{place_within}

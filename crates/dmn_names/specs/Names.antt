@@ -1,18 +1,11 @@
 -- Which names of a model as written are lawful, distinct and known.
-use Rattle.std.specs.Prelude.{List, [], ◌∷◌, Bool, true, not, ◌&&◌, bytes_eq}
+use Rattle.std.specs.Prelude.{List, Bool, not}
 use Rattle.std.specs.List.{list_any}
+use Rattle.feel_value.specs.Distinct.{is_among, are_distinct}
 use Rattle.feel_lang.specs.Lexical.{is_name}
 use Rattle.dmn_form.specs.Model.{Name}
 use Rattle.dmn_form.specs.Draft.{Draft}
 use Rattle.dmn_names.specs.Parts.{value_names, name_lists}
-
-abbrev pub is_among : List Name → Name → Bool
-is_among ns n = list_any (bytes_eq n) ns
-
--- no name stands twice
-abbrev pub are_distinct : List Name → Bool
-are_distinct [] = true
-are_distinct (n ∷ ns) = not (is_among ns n) && are_distinct ns
 
 -- one of these texts is no name
 abbrev pub have_bad : List Name → Bool

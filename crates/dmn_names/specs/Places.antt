@@ -2,9 +2,10 @@
 use Rattle.std.specs.Prelude.{ℕ, ◌+◌, suc, List, [], ◌∷◌, ◌++◌, map, length, ◌<◌, ◌≤◌, All, Bool, not, ◌||◌, Option, None, Some, option_map, bytes_eq, if◌then◌else◌}
 use Rattle.std.specs.List.{list_any}
 use Rattle.dmn_form.specs.Model.{Name, Service}
-use Rattle.dmn_form.specs.Draft.{Draft, ◌>>=◌}
+use Rattle.dmn_form.specs.Draft.{Draft}
+use Rattle.feel_value.specs.Found.{◌>>=◌, each}
 use Rattle.dmn_names.specs.Parts.{decision_names, value_names}
-use Rattle.dmn_names.specs.Names.{is_among}
+use Rattle.feel_value.specs.Distinct.{is_among}
 
 -- the place of the first of these names that is this one
 abbrev pub place_among : List Name → Name → Option ℕ
@@ -22,11 +23,6 @@ input_place m n = place_among m.inputs n
 abbrev pub decision_place : Draft → Name → Option ℕ
 decision_place m n = option_map (λ i. length m.inputs + i) (place_among (decision_names m) n)
 
--- what f gives for each, if it gives something for each
-abbrev pub each : {X Y : Type 0} → (X → Option Y) → List X → Option (List Y)
-each f [] = Some []
-each f (x ∷ xs) = f x >>= λ y. each f xs >>= λ ys. Some (y ∷ ys)
-
 -- the places of what each decision needs
 abbrev pub needed_places : Draft → Option (List (List ℕ))
 needed_places m = each (λ d. each (value_place m) d.needs) m.decisions
@@ -34,10 +30,6 @@ needed_places m = each (λ d. each (value_place m) d.needs) m.decisions
 -- the places of what each place needs; an input needs nothing
 abbrev pub needs_by_place : Draft → Option (List (List ℕ))
 needs_by_place m = needed_places m >>= λ needs. Some (map (λ n. []) m.inputs ++ needs)
-
--- each needed place is one of so many
-abbrev pub AreNeedsBelow : ℕ → List (List ℕ) → Type 0
-AreNeedsBelow count needs = All (All (λ p. p < count)) needs
 
 -- the lists of a service, by places
 pub record PlacedService : Type 0 where

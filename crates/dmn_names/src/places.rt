@@ -45,7 +45,9 @@ impl<'a> Places<'a> {
     ghost use Rattle.std.specs.Prelude.{List, [], IfOk, IfSome, option_map, is_none, length};
     ghost use Rattle.dmn_form.specs.ModelView.{model_view, service_view};
     ghost use Rattle.dmn_names.specs.Names.{has_unknown_name};
-    ghost use Rattle.dmn_names.specs.Places.{input_place, decision_place, value_place, each, needs_by_place, AreNeedsBelow, placed_service, ArePlacesOf, has_stranger};
+    ghost use Rattle.dmn_names.specs.Places.{input_place, decision_place, value_place, needs_by_place, placed_service, ArePlacesOf, has_stranger};
+    ghost use Rattle.dmn_graph.specs.Needs.{AreNeedsBelow};
+    ghost use Rattle.feel_value.specs.Found.{each};
     ghost use Rattle.dmn_names.specs.PlacedModel.{placed_model, needs_view, placed_service_view};
     ghost use Rattle.dmn_names.specs.Kinds.{place_as};
 

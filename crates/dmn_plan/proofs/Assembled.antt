@@ -4,13 +4,14 @@ use Rattle.std.specs.Prelude.{slice_index_or}
 use Rattle.std.specs.List.{filter_map, cons_option}
 use Rattle.feel_lang.specs.Expr.{Expr}
 use Rattle.dmn_table.specs.Table.{Table}
-use Rattle.dmn_form.specs.Draft.{Draft, Written, ◌>>=◌}
+use Rattle.dmn_form.specs.Draft.{Draft, Written}
+use Rattle.feel_value.specs.Found.{◌>>=◌, each}
 use Rattle.dmn_form.specs.Model.{Name, Decision}
 use Rattle.dmn_logic.specs.LogicView.{Read, logic_view}
 use Rattle.dmn_logic.specs.ReadLogic.{read_decisions}
 use Rattle.dmn_logic.proofs.Kept.{head_of, heads_kept}
 use Rattle.dmn_names.specs.Parts.{value_names}
-use Rattle.dmn_names.specs.Places.{each, value_place, needed_places, needs_by_place}
+use Rattle.dmn_names.specs.Places.{value_place, needed_places, needs_by_place}
 use Rattle.dmn_names.proofs.NamesBack.{each_back, name_at_place}
 use Rattle.dmn_plan.specs.Items.{have_names, have_needs, have_logic}
 use Rattle.dmn_plan.specs.Plans.{AreItemsOf, place_name}

@@ -13,7 +13,8 @@ use Rattle.serde_json.specs.Written.{has_float, items_have_float, members_have_f
 use Rattle.feel_value.proofs.Booleans.{both_true}
 use Rattle.feel_value.specs.JsonKeys.{is_before, in_order, keys_rise, items_rise, members_rise}
 use Rattle.dmn_form.specs.Model.{Name}
-use Rattle.dmn_form.specs.Draft.{Draft, Logic, ◌>>=◌, each_in, text_of, some_text, list_of, texts_of, has_only, object_of, at, or_else, at_if, column_of, rule_of, table_of, logic_of, logic_in, members_at, members_in, entries_at, entries_in, entry_at, entry_members, decision_of, service_of, model_form, draft_of, most_nesting}
+use Rattle.dmn_form.specs.Draft.{Draft, Logic, each_in, text_of, some_text, list_of, texts_of, has_only, object_of, at, or_else, at_if, column_of, rule_of, table_of, logic_of, logic_in, members_at, members_in, entries_at, entries_in, entry_at, entry_members, decision_of, service_of, model_form, draft_of, most_nesting}
+use Rattle.feel_value.specs.Found.{◌>>=◌}
 use Rattle.dmn_plan.proofs.Rising.{less_by_test}
 
 -- what f reads has no float

@@ -4,17 +4,19 @@ use Rattle.std.specs.Prelude.{Ok, bytes_eq, slice_index_or}
 use Rattle.std.specs.List.{All, list_any, filter_map}
 use Rattle.std.proofs.lemmas.List.{length-map, get_or-map}
 use Rattle.feel_lang.specs.Expr.{Expr}
-use Rattle.dmn_table.specs.Faults as table
 use Rattle.dmn_table.specs.Table.{Table}
-use Rattle.dmn_form.specs.Draft.{Draft, Written, ◌>>=◌}
+use Rattle.dmn_form.specs.Draft.{Draft, Written}
+use Rattle.feel_value.specs.Found.{◌>>=◌, each}
 use Rattle.dmn_form.specs.Model.{Name, Decision, Service, Model}
 use Rattle.dmn_logic.specs.Faults.{has_unread_text, has_refused_table}
 use Rattle.dmn_logic.specs.LogicView.{Read}
 use Rattle.dmn_logic.specs.ReadLogic.{read_decisions}
 use Rattle.dmn_logic.proofs.Unread.{each_length}
-use Rattle.dmn_names.specs.Names.{are_distinct, has_bad_name, has_name_twice, has_unknown_name}
+use Rattle.dmn_names.specs.Names.{has_bad_name, has_name_twice, has_unknown_name}
+use Rattle.feel_value.specs.Distinct.{are_distinct}
 use Rattle.dmn_names.specs.Parts.{value_names}
-use Rattle.dmn_names.specs.Places.{AreNeedsBelow, each, value_place, needed_places, needs_by_place}
+use Rattle.dmn_names.specs.Places.{value_place, needed_places, needs_by_place}
+use Rattle.dmn_graph.specs.Needs.{AreNeedsBelow}
 use Rattle.dmn_names.specs.Size.{is_large}
 use Rattle.dmn_names.proofs.NamesBack.{distinct_values}
 use Rattle.dmn_plan.specs.Faults.{has_cycle, has_bad_service}
@@ -27,7 +29,8 @@ use Rattle.dmn_plan.specs.declared.fault.ModelFault.TheVariants as fault
 use Rattle.dmn_plan.proofs.Assembled.{found_needs, decisions_of_items}
 use Rattle.dmn_service.specs.Decision.{parameters_of}
 use Rattle.dmn_service.specs.Places.{names_of, name_at, needs_at}
-use Rattle.dmn_service.specs.Plan.{HasPlacesWithin, IsPlanOf, IsInOrder, decision_of}
+use Rattle.dmn_graph.specs.Reach.{IsInOrder}
+use Rattle.dmn_service.specs.Plan.{HasPlacesWithin, IsPlanOf, decision_of}
 use Rattle.dmn_service.specs.declared.plan.Item.{Item}
 use Rattle.dmn_service.specs.declared.plan.ServicePlan.{ServicePlan}
 
@@ -53,9 +56,6 @@ at_most_large m needs plans r q =
 
 -- ---- plans
 
-same_distinct : (ns : List Name) → table.are_distinct ns ≡ are_distinct ns
-same_distinct [] = refl
-same_distinct (n ∷ ns) = ap (λ b. not (list_any (bytes_eq n) ns) && b) (same_distinct ns)
 
 -- what holds of each of a list that f makes, at each of the list itself
 all_made : {X Y : Type 0} (P : Y → Type 0) (f : X → Y) (xs : List X) (ys : List Y) → map f xs ≡ ys → All P ys → All (λ x. P (f x)) xs
@@ -87,13 +87,13 @@ module _ (m : Draft) (needs : List (List ℕ)) (logics : List Read) (items : Lis
       → model.decisions ≡ filter_map (decision_of items) items → IsRouteOf m needs s p → IsPlanOf model s items p
   plan_of_route model s p once many decisions r =
       record {
-        names = same_distinct (names_of items) ∙ ap are_distinct are.names ∙ distinct_values m once;
+        names = ap are_distinct are.names ∙ distinct_values m once;
         decisions = decisions;
         parameters = r.parameters ∙ ap (λ f. map f p.parameters.items) same_name;
-        distinct = same_distinct (parameters_of s) ∙ r.distinct;
+        distinct = r.distinct;
         apart = r.apart;
         short = subst (λ n. length p.order.items ≤ n) (sym many) r.short;
-        behind = subst (λ f. IsInOrder f p.parameters.items p.order.items) same_need r.behind;
+        behind = subst (λ f. IsInOrder nat_eq f p.parameters.items p.order.items) same_need r.behind;
         outputs = r.outputs ∙ ap (λ f. map f p.outputs.items) same_name;
         ends = r.ends;
       }

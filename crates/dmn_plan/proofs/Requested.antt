@@ -6,7 +6,7 @@ use Rattle.serde_json.specs.Data as json
 use Rattle.serde_json.specs.Find.{get, as_object}
 use Rattle.feel_value.specs.Datum.{Datum}
 use Rattle.feel_lang.specs.Expr.{Expr}
-use Rattle.dmn_table.specs.Evaluated.{◌>>=◌, each}
+use Rattle.feel_value.specs.Found.{◌>>=◌, each}
 use Rattle.dmn_table.specs.Table.{Table}
 use Rattle.dmn_form.specs.Model.{Name, Service, Model}
 use Rattle.dmn_plan.specs.Indexed.{IsPlanAt, IsIndexed}

@@ -11,7 +11,8 @@ use Rattle.dmn_graph.specs.Needs as graph
 use Rattle.dmn_graph.proofs.Members.{in_right, not_in}
 use Rattle.dmn_graph.proofs.Renaming.{cycle_named}
 use Rattle.dmn_names.specs.Parts.{decision_names, value_names}
-use Rattle.dmn_names.specs.Names.{is_among, are_distinct, has_name_twice}
+use Rattle.dmn_names.specs.Names.{has_name_twice}
+use Rattle.feel_value.specs.Distinct.{is_among, are_distinct}
 use Rattle.dmn_names.specs.Places.{needs_by_place}
 use Rattle.dmn_names.proofs.NamesBack.{both, not_so, distinct_values}
 use Rattle.dmn_plan.specs.Faults.{needs_of, needs_itself, has_cycle}

@@ -5,16 +5,17 @@ use Rattle.std.proofs.lemmas.List.{length-map, length-append, get_or-append-add,
 use Rattle.std.proofs.lemmas.List.Elements.{All-nil, All-cons, All-from_get_or}
 use Rattle.std.proofs.lemmas.Slice.Eq.{bytes_eq-Decides}
 use Rattle.dmn_form.specs.Model.{Name, Service}
-use Rattle.dmn_form.specs.Draft.{Draft, Written, ◌>>=◌}
+use Rattle.dmn_form.specs.Draft.{Draft, Written}
+use Rattle.feel_value.specs.Found.{◌>>=◌, each}
 use Rattle.dmn_graph.specs.Members.{IsIn}
 use Rattle.dmn_graph.specs.Needs as graph
 use Rattle.dmn_graph.specs.Needs.{AreNeedsBelow, count_needing}
 use Rattle.dmn_graph.proofs.Members.{in_right, in_either, not_in}
 use Rattle.dmn_graph.proofs.Cycles.{count_needing_bound}
 use Rattle.dmn_graph.proofs.SearchSteps.{needs_past}
-use Rattle.dmn_names.specs.Names.{is_among, are_distinct}
+use Rattle.feel_value.specs.Distinct.{is_among, are_distinct}
 use Rattle.dmn_names.specs.Parts.{decision_names, value_names}
-use Rattle.dmn_names.specs.Places.{place_among, value_place, decision_place, input_place, each, needed_places, needs_by_place, PlacedService, placed_service}
+use Rattle.dmn_names.specs.Places.{place_among, value_place, decision_place, input_place, needed_places, needs_by_place, PlacedService, placed_service}
 use Rattle.dmn_names.proofs.NamesBack.{name_at_place, decision_at_place, each_back, both, not_so, place_of_name_at}
 use Rattle.dmn_names.proofs.Placing.{place_within}
 use Rattle.dmn_plan.specs.Faults.{needs_of}

@@ -15,7 +15,8 @@ use Rattle.dmn_graph.proofs.Members.{in_left, in_right, in_either, is_in, among}
 use Rattle.dmn_graph.proofs.Reaching.{reached_closed}
 use Rattle.dmn_graph.proofs.Renaming.{reached_agree, among_named, reaches_only_named}
 use Rattle.dmn_graph.proofs.SearchSteps.{all_in}
-use Rattle.dmn_names.specs.Names.{is_among, are_distinct, has_unknown_name}
+use Rattle.dmn_names.specs.Names.{has_unknown_name}
+use Rattle.feel_value.specs.Distinct.{is_among, are_distinct}
 use Rattle.dmn_names.specs.Parts.{decision_names, value_names}
 use Rattle.dmn_names.specs.Places.{needs_by_place, PlacedService, placed_service, ArePlacesOf, has_stranger}
 use Rattle.dmn_names.proofs.NamesBack.{so}

@@ -11,17 +11,18 @@ use Rattle.dmn_form.specs.ModelView.{model_view, service_view}
 use Rattle.dmn_form.specs.declared.written.WrittenModel.{WrittenModel}
 use Rattle.dmn_form.specs.declared.written.WrittenService.{WrittenService}
 use Rattle.dmn_graph.specs.Members.{IsIn}
-use Rattle.dmn_graph.specs.Reach as reach
 use Rattle.dmn_graph.specs.Within.{needs_within, reached_within, reaches_only}
 use Rattle.dmn_graph.proofs.Members.{in_left, in_either, is_in, among, among_not, not_in, distinct_length}
 use Rattle.dmn_graph.proofs.Reaching.{reached_from}
 use Rattle.dmn_graph.proofs.Renaming.{among_named}
-use Rattle.dmn_names.specs.Names.{are_distinct, have_twice, has_name_twice}
+use Rattle.dmn_names.specs.Names.{have_twice, has_name_twice}
+use Rattle.feel_value.specs.Distinct.{are_distinct}
 use Rattle.dmn_names.specs.Parts.{decision_names, value_names, service_lists}
 use Rattle.dmn_names.specs.Places.{needs_by_place, PlacedService, placed_service, ArePlacesOf}
 use Rattle.dmn_names.proofs.NamesBack.{both, not_so, so}
 use Rattle.dmn_names.proofs.Parameters.{distinct_parameters, distinct_lists}
-use Rattle.dmn_service.specs.Plan.{Each, IsAmong, IsNotAmong, IsInOrder}
+use Rattle.dmn_service.specs.Plan.{IsAmong, IsNotAmong}
+use Rattle.dmn_graph.specs.Reach.{Each, IsInOrder}
 use Rattle.dmn_service.specs.declared.plan.ServicePlan.{ServicePlan}
 use Rattle.dmn_plan.specs.Faults.{is_bad_service}
 use Rattle.dmn_plan.specs.Plans.{place_name, place_need, IsRouteOf, AreRoutesOf}
@@ -44,15 +45,6 @@ none_passes t (y ∷ ys) x e (inr j) = none_passes t ys x (neither (t y) (list_a
 each_from : {X : Type 0} (P : X → Type 0) (xs : List X) → ((x : X) → IsIn x xs → P x) → Each P xs
 each_from P [] h = tt
 each_from P (x ∷ xs) h = (h x (inl refl), each_from P xs (λ y i. h y (inr i)))
-
-same_each : {X : Type 0} (P : X → Type 0) (xs : List X) → reach.Each P xs → Each P xs
-same_each P [] h = tt
-same_each P (x ∷ xs) h = (h.0, same_each P xs h.1)
-
--- an order of the graph is one of a plan
-same_order : (next : ℕ → List ℕ) (seen ks : List ℕ) → reach.IsInOrder nat_eq next seen ks → IsInOrder next seen ks
-same_order next seen [] o = tt
-same_order next seen (k ∷ ks) o = (same_each (λ q. list_any (nat_eq q) seen ≡ true) (next k) o.0, same_order next (k ∷ seen) ks o.1)
 
 in_names : {X Y : Type 0} (name : X → Y) (x : X) (xs : List X) → IsIn x xs → IsIn (name x) (map name xs)
 in_names name x [] h = absurd h
@@ -142,7 +134,7 @@ module _ (m : Draft) (s : Service) (needs : List (List ℕ)) (p : PlacedService)
     distinct = distinct_parameters m s distinct lists (no_stranger m s needs p distinct known placed places);
     apart = subst (λ xs. Each (IsNotAmong xs) plan.order.items) (sym made.parameters) (each_from (IsNotAmong (parameter_places p)) plan.order.items (λ q i. (ordered q i).1));
     short = short;
-    behind = subst (λ xs. IsInOrder (place_need needs) xs plan.order.items) (sym made.parameters) (same_order (place_need needs) (parameter_places p) plan.order.items made.behind);
+    behind = subst (λ xs. IsInOrder nat_eq (place_need needs) xs plan.order.items) (sym made.parameters) made.behind;
     outputs = sym (back m s needs p distinct known placed places).outputs ∙ ap (map (place_name m)) (sym made.outputs);
     ends = subst (λ xs. Each (IsAmong plan.order.items) xs) (sym made.outputs) (each_from (IsAmong plan.order.items) p.outputs output_ordered);
   }

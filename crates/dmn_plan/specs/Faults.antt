@@ -4,7 +4,7 @@ use Rattle.std.specs.List.{list_any}
 use Rattle.dmn_form.specs.Model.{Name, Decision, Service}
 use Rattle.dmn_form.specs.Draft.{Draft, Written}
 use Rattle.dmn_graph.specs.Reach.{reached}
-use Rattle.dmn_names.specs.Names.{is_among}
+use Rattle.feel_value.specs.Distinct.{is_among}
 use Rattle.dmn_names.specs.Parts.{decision_names}
 use Rattle.dmn_names.specs.Places.{has_stranger}
 

@@ -1,15 +1,16 @@
 -- Internal: names, needs and logic of a model by places, and when plans of services are those of a model.
-use Rattle.std.specs.Prelude.{◌≡◌, ◌<◌, ◌≤◌, ℕ, List, [], ◌∷◌, ◌++◌, map, length, true, Option, None, Some, option_map, Result, Ok, Err, string_bytes, slice_index_or, ⊤}
+use Rattle.std.specs.Prelude.{◌≡◌, ◌<◌, ◌≤◌, ℕ, List, [], ◌∷◌, ◌++◌, map, length, true, Option, None, Some, option_map, Result, Ok, Err, string_bytes, nat_eq, slice_index_or, ⊤}
 use Rattle.std.specs.List.{All}
 use Rattle.feel_lang.specs.Expr.{Expr}
 use Rattle.dmn_table.specs.Table.{Table}
 use Rattle.dmn_form.specs.Draft.{Draft}
 use Rattle.dmn_form.specs.Model.{Name, Boxed, Service, Model}
 use Rattle.dmn_logic.specs.LogicView.{logic_view}
-use Rattle.dmn_names.specs.Names.{are_distinct}
+use Rattle.feel_value.specs.Distinct.{are_distinct}
 use Rattle.dmn_names.specs.Parts.{value_names}
 use Rattle.dmn_service.specs.Decision.{parameters_of}
-use Rattle.dmn_service.specs.Plan.{HasPlacesWithin, IsPlanOf, Each, IsAmong, IsNotAmong, IsInOrder}
+use Rattle.dmn_service.specs.Plan.{HasPlacesWithin, IsPlanOf, IsAmong, IsNotAmong}
+use Rattle.dmn_graph.specs.Reach.{Each, IsInOrder}
 use Rattle.dmn_service.specs.declared.plan.Item.{Item}
 use Rattle.dmn_service.specs.declared.plan.ServicePlan.{ServicePlan}
 use Rattle.dmn_plan.specs.declared.fault.ModelFault.{ModelFault}
@@ -44,7 +45,7 @@ pub record IsRouteOf (m : Draft) (needs : List (List ℕ)) (s : Service) (plan :
   pub distinct : are_distinct (parameters_of s) ≡ true
   pub apart : Each (IsNotAmong plan.parameters.items) plan.order.items
   pub short : length plan.order.items ≤ length m.decisions
-  pub behind : IsInOrder (place_need needs) plan.parameters.items plan.order.items
+  pub behind : IsInOrder nat_eq (place_need needs) plan.parameters.items plan.order.items
   pub outputs : s.outputs ≡ map (place_name m) plan.outputs.items
   pub ends : Each (IsAmong plan.order.items) plan.outputs.items
 

@@ -4,7 +4,7 @@ ghost use Rattle.std.specs.List.{All};
 ghost use Rattle.serde_json.specs.Find.{get};
 ghost use Rattle.serde_json.specs.View.{view};
 ghost use Rattle.feel_value.specs.Faults.{json_reading};
-ghost use Rattle.dmn_table.specs.Evaluated.{each};
+ghost use Rattle.feel_value.specs.Found.{each};
 ghost use Rattle.dmn_service.specs.Places.{name_at};
 ghost use Rattle.dmn_plan.specs.Request.{if_ok, value_under, values_under};
 

@@ -1,7 +1,7 @@
 -- What is found along a list of places, one place after the other.
 use Rattle.std.proofs.Common.{◌≡◌, ◌∙◌, sym, ap, refl, ℕ, ◌+◌, ◌<◌, List, [], ◌∷◌, ◌++◌, length, drop, get_or, append_assoc, Option, None, Some}
 use Rattle.std.proofs.lemmas.List.{at_drop_more}
-use Rattle.dmn_table.specs.Evaluated.{◌>>=◌, each}
+use Rattle.feel_value.specs.Found.{◌>>=◌, each}
 use Rattle.dmn_table.proofs.Each.{after}
 
 after_more : {Y : Type 0} (ys : List Y) (y : Y) (o : Option (List Y)) → after ys (o >>= λ rest. Some (y ∷ rest)) ≡ after (ys ++ y ∷ []) o

@@ -5,7 +5,7 @@ use Rattle.std.specs.List.{list_any, filter_map, cons_option}
 use Rattle.std.proofs.lemmas.Bool.Decides.{eqb_tells}
 use Rattle.std.proofs.lemmas.Slice.Eq.{bytes_eq-Decides}
 use Rattle.feel_lang.specs.Expr.{Expr}
-use Rattle.dmn_table.specs.Faults.{are_distinct}
+use Rattle.feel_value.specs.Distinct.{are_distinct}
 use Rattle.dmn_table.specs.Table.{Table}
 use Rattle.dmn_form.specs.Model.{Name, Decision, Model}
 use Rattle.dmn_logic.specs.LogicView.{logic_view}
@@ -13,7 +13,8 @@ use Rattle.dmn_logic.specs.declared.logic.Logic.{Logic}
 use Rattle.dmn_service.specs.Decision.{decision_named}
 use Rattle.dmn_service.specs.Places.{names_of, name_at, needs_at}
 use Rattle.dmn_service.specs.Run.{logic_at}
-use Rattle.dmn_service.specs.Plan.{Each, IsNotAmong, decision_of}
+use Rattle.dmn_service.specs.Plan.{IsNotAmong, decision_of}
+use Rattle.dmn_graph.specs.Reach.{Each}
 use Rattle.dmn_service.specs.declared.plan.Item.{Item}
 use Rattle.dmn_service.proofs.Given.{two_true, not_true, both_false, swap}
 

@@ -4,10 +4,10 @@ use Rattle.std.specs.Prelude.{bytes_eq, if◌then◌else◌}
 use Rattle.std.specs.List.{list_any, zip}
 use Rattle.std.proofs.lemmas.Slice.Eq.{bytes_eq-Decides}
 use Rattle.feel_value.specs.Datum.{Datum}
-use Rattle.dmn_table.specs.Faults.{are_distinct}
+use Rattle.feel_value.specs.Distinct.{are_distinct}
 use Rattle.dmn_form.specs.Model.{Name}
 use Rattle.dmn_service.specs.Decision.{Given, given_value}
-use Rattle.dmn_service.specs.Plan.{Each}
+use Rattle.dmn_graph.specs.Reach.{Each}
 
 pub two_true : (a b : Bool) → (a && b) ≡ true → (a ≡ true) × (b ≡ true)
 two_true true b e = (refl, e)

@@ -7,7 +7,7 @@ use Rattle.std.proofs.lemmas.List.{at_drop_more, get_or-map}
 use Rattle.feel_value.specs.Datum.{Datum}
 use Rattle.feel_value.specs.declared.feel.Outcome.{Outcome}
 use Rattle.feel_value.specs.declared.feel.Outcome.TheVariants.{Is, Limit}
-use Rattle.dmn_table.specs.Evaluated.{value_of, ◌>>=◌}
+use Rattle.feel_value.specs.Found.{value_of, ◌>>=◌}
 use Rattle.dmn_logic.specs.LogicView.{logic_view}
 use Rattle.dmn_service.specs.Places.{name_at, needs_at}
 use Rattle.dmn_service.specs.Run.{logic_at, Found, values_in, nothing_found, kept_at, outcome_at, filled_by, given_at}

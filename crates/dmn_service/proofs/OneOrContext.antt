@@ -5,7 +5,7 @@ use Rattle.std.specs.List.{zip}
 use Rattle.feel_value.specs.Datum.{Datum, context, entries_of}
 use Rattle.feel_value.specs.Outcome.{held}
 use Rattle.feel_value.specs.declared.feel.Outcome.TheVariants.{Is}
-use Rattle.dmn_table.specs.Evaluated.{outcome_from, each}
+use Rattle.feel_value.specs.Found.{outcome_from, each}
 use Rattle.dmn_table.specs.Hits.{one_or_context}
 use Rattle.dmn_form.specs.Model.{Name}
 use Rattle.dmn_service.specs.Run.{Found, outputs_at}

@@ -8,8 +8,8 @@ use Rattle.feel_value.specs.declared.feel.Outcome.{Outcome}
 use Rattle.feel_value.specs.declared.feel.Outcome.TheVariants.{Is}
 use Rattle.feel_lang.specs.Expr.{Expr}
 use Rattle.feel_lang.specs.Meaning.{Bindings}
-use Rattle.dmn_table.specs.Evaluated.{value_of, ◌>>=◌, each, outcome_from}
-use Rattle.dmn_table.specs.Faults.{are_distinct}
+use Rattle.feel_value.specs.Found.{value_of, ◌>>=◌, each, outcome_from}
+use Rattle.feel_value.specs.Distinct.{are_distinct}
 use Rattle.dmn_table.specs.Hits.{one_or_context}
 use Rattle.dmn_table.specs.Table.{Table}
 use Rattle.dmn_form.specs.Model.{Name, Boxed, Service, Model}
@@ -17,7 +17,8 @@ use Rattle.dmn_logic.specs.Boxed.{boxed}
 use Rattle.dmn_service.specs.Decision.{parameters_of, Given, given_value, given_or, decision_named, decided_if, bindings_to, stands_for, outcome_within, outcome_of, outputs_result, service_result}
 use Rattle.dmn_service.specs.Places.{names_of, name_at, needs_at}
 use Rattle.dmn_service.specs.Run.{logic_at, Found, nothing_found, kept_at, needed_at, outcome_at, filled_by, given_at, outputs_at}
-use Rattle.dmn_service.specs.Plan.{HasPlacesWithin, Each, IsAmong, IsNotAmong, IsInOrder, IsPlanOf, ObeysRecursion}
+use Rattle.dmn_service.specs.Plan.{HasPlacesWithin, IsAmong, IsNotAmong, IsPlanOf, ObeysRecursion}
+use Rattle.dmn_graph.specs.Reach.{Each, IsInOrder}
 use Rattle.dmn_service.specs.declared.plan.Item.{Item}
 use Rattle.dmn_service.specs.declared.plan.ServicePlan.{ServicePlan}
 use Rattle.dmn_service.proofs.Given.{zip_given, not_given}
@@ -102,7 +103,7 @@ module _ (m : Model Expr Table) (given : Given) (items : List Item) (fits : (q :
   Turn q = (q < length items) × (given_value given (name_at items q) ≡ None)
 
   -- along an order, what is found at its places settles, and what was settled before stays so
-  settled_along : (qs seen : List ℕ) (r : ℕ) (found : Found) → Each Turn qs → Each (Settled r found) seen → IsInOrder (needs_at items) seen qs
+  settled_along : (qs seen : List ℕ) (r : ℕ) (found : Found) → Each Turn qs → Each (Settled r found) seen → IsInOrder nat_eq (needs_at items) seen qs
       → Each (Settled (r + length qs) (filled_by items qs found)) qs × Each (Settled (r + length qs) (filled_by items qs found)) seen
   settled_along [] seen r found turns h order = (tt, each_all (Settled r found) (Settled (r + 0) found) (λ q s. settled_later r (r + 0) found q (omega arith) s) seen h)
   settled_along (q ∷ qs) seen r found turns h order =

@@ -1,11 +1,12 @@
 -- When places and their order are a plan of a service of a model.
-use Rattle.std.specs.Prelude.{◌≡◌, ◌<◌, ◌≤◌, ℕ, suc, List, [], ◌∷◌, map, length, Option, option_map, string_bytes, nat_eq, true, false, ⊤}
-use Rattle.std.specs.List.{list_any, filter_map, zip, All}
+use Rattle.std.specs.Prelude.{◌≡◌, ◌<◌, ◌≤◌, ℕ, suc, List, [], ◌∷◌, map, length, Option, option_map, string_bytes, nat_eq, true, false}
+use Rattle.std.specs.List.{filter_map, zip, All}
 use Rattle.feel_value.specs.Datum.{Datum}
 use Rattle.feel_value.specs.declared.feel.Outcome.{Outcome}
 use Rattle.feel_lang.specs.Expr.{Expr}
-use Rattle.dmn_table.specs.Faults.{are_distinct}
+use Rattle.feel_value.specs.Distinct.{are_distinct}
 use Rattle.dmn_table.specs.Table.{Table}
+use Rattle.dmn_graph.specs.Reach.{Each, IsInOrder, is_among}
 use Rattle.dmn_form.specs.Model.{Name, Decision, Service, Model}
 use Rattle.dmn_logic.specs.LogicView.{logic_view}
 use Rattle.dmn_service.specs.Decision.{Given, parameters_of, stands_for, outcome_within, outputs_result, service_result}
@@ -20,21 +21,11 @@ pub record HasPlacesWithin (items : List Item) (plan : ServicePlan) : Type 0 whe
   pub order : All (λ q. q < length items) plan.order.items
   pub outputs : All (λ q. q < length items) plan.outputs.items
 
--- what holds of each element of a list
-abbrev pub Each : {X : Type 0} → (X → Type 0) → List X → Type 0
-Each P [] = ⊤
-Each P (x ∷ xs) = P x × Each P xs
-
 abbrev pub IsAmong : List ℕ → ℕ → Type 0
-IsAmong qs q = list_any (nat_eq q) qs ≡ true
+IsAmong qs q = is_among nat_eq qs q ≡ true
 
 abbrev pub IsNotAmong : List ℕ → ℕ → Type 0
-IsNotAmong qs q = list_any (nat_eq q) qs ≡ false
-
--- each of these places stands behind all that it needs, but for what was there before
-abbrev pub IsInOrder : (ℕ → List ℕ) → List ℕ → List ℕ → Type 0
-IsInOrder needs before [] = ⊤
-IsInOrder needs before (q ∷ qs) = Each (IsAmong before) (needs q) × IsInOrder needs (q ∷ before) qs
+IsNotAmong qs q = is_among nat_eq qs q ≡ false
 
 -- the decision that an item is; none where it is an input
 abbrev pub decision_of : List Item → Item → Option (Decision Expr Table)
@@ -51,7 +42,7 @@ pub record IsPlanOf (m : Model Expr Table) (s : Service) (items : List Item) (pl
   pub distinct : are_distinct (parameters_of s) ≡ true
   pub apart : Each (IsNotAmong plan.parameters.items) plan.order.items
   pub short : length plan.order.items ≤ length m.decisions
-  pub behind : IsInOrder (needs_at items) plan.parameters.items plan.order.items
+  pub behind : IsInOrder nat_eq (needs_at items) plan.parameters.items plan.order.items
   pub outputs : s.outputs ≡ map (name_at items) plan.outputs.items
   pub ends : Each (IsAmong plan.order.items) plan.outputs.items
 

@@ -4,7 +4,7 @@ ghost use Rattle.std.specs.List.{All, zip};
 ghost use Rattle.feel_value.specs.Datum.{context, entries_of};
 ghost use Rattle.feel_value.specs.Outcome.{held};
 ghost use Rattle.feel_value.specs.declared.feel.Outcome.TheVariants.{Is};
-ghost use Rattle.dmn_table.specs.Evaluated.{each, outcome_from};
+ghost use Rattle.feel_value.specs.Found.{each, outcome_from};
 ghost use Rattle.dmn_service.specs.Places.{name_at};
 ghost use Rattle.dmn_service.specs.Run.{values_in, outputs_at};
 

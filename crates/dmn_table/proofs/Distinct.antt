@@ -4,7 +4,7 @@ use Rattle.std.specs.Prelude.{bytes_eq, string_bytes, nat_lt, nat_eq}
 use Rattle.std.specs.List.{list_any, list_all}
 use Rattle.std.proofs.lemmas.List.{at_drop_more}
 use Rattle.dmn_table.specs.declared.table.Output.{Output}
-use Rattle.dmn_table.specs.Faults.{are_distinct}
+use Rattle.feel_value.specs.Distinct.{are_distinct}
 use Rattle.dmn_table.specs.declared.table.Rule.{Rule}
 use Rattle.dmn_table.specs.Faults.{columns_fit, fits_columns, operator_fits, fault_under}
 use Rattle.dmn_table.specs.declared.fault.TableFault.TheVariants.{Hit, Columns, Operator}

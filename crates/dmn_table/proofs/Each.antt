@@ -2,7 +2,7 @@
 use Rattle.std.proofs.Common.{◌≡◌, ℕ, suc, ◌+◌, ◌<◌, ◌≤◌, List, [], ◌∷◌, ◌++◌, map, length, get_or, drop, refl, sym, ap, ◌∙◌, append_assoc, Option, None, Some, option_map}
 use Rattle.std.proofs.lemmas.Option.{same_Some}
 use Rattle.std.proofs.lemmas.List.{append-nil, at_drop_more, drop_all}
-use Rattle.dmn_table.specs.Evaluated.{each, ◌>>=◌}
+use Rattle.feel_value.specs.Found.{each, ◌>>=◌}
 
 -- what was found so far, and what is found for the rest
 abbrev pub after : {Y : Type 0} → List Y → Option (List Y) → Option (List Y)

@@ -10,10 +10,11 @@ use Rattle.feel_lang.specs.Meaning.{Bindings}
 use Rattle.dmn_table.specs.declared.priority.Hit as hit
 use Rattle.dmn_table.specs.declared.table.Output.{Output}
 use Rattle.dmn_table.specs.declared.table.Rule as rule
-use Rattle.dmn_table.specs.Evaluated.{each, ◌>>=◌, value_of}
+use Rattle.feel_value.specs.Found.{each, ◌>>=◌, value_of}
 use Rattle.dmn_table.specs.RuleOutputs.{hits_among, have_entries}
 use Rattle.dmn_table.proofs.Each.{each_length}
-use Rattle.dmn_table.specs.Faults.{columns_fit, fits_columns, are_distinct}
+use Rattle.dmn_table.specs.Faults.{columns_fit, fits_columns}
+use Rattle.feel_value.specs.Distinct.{are_distinct}
 use Rattle.dmn_table.specs.Hits.{does_hit, hit_of, kept, values_of, output_of}
 use Rattle.dmn_table.specs.Parts.{column_view, rule_view, names_of, entry_counts}
 use Rattle.dmn_table.specs.Priority.{Hit, places_of}

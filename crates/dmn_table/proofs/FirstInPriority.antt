@@ -14,7 +14,7 @@ use Rattle.feel_value.specs.declared.feel.Outcome.{Outcome}
 use Rattle.feel_value.specs.declared.feel.Outcome.TheVariants.{Is}
 use Rattle.feel_lang.specs.Meaning.{Bindings}
 use Rattle.dmn_table.specs.declared.table.Rule.{Rule}
-use Rattle.dmn_table.specs.Evaluated.{each, ◌>>=◌, outcome_from}
+use Rattle.feel_value.specs.Found.{each, ◌>>=◌, outcome_from}
 use Rattle.dmn_table.specs.Hits.{hit_of}
 use Rattle.dmn_table.specs.Parts.{rule_view}
 use Rattle.dmn_table.specs.Priority.{Hit, is_higher, put_before, in_priority}

@@ -3,7 +3,7 @@ use Rattle.std.proofs.Common.{◌≡◌, ℕ, ◌+◌, max, List, [], ◌∷◌,
 use Rattle.feel_value.specs.Datum.{Datum, list, items_of}
 use Rattle.feel_value.specs.Limits.{is_value, nodes, depth, numbers_in_range, names_distinct, items_nodes, items_depth, items_in_range, items_distinct}
 use Rattle.feel_value.specs.declared.feel.Outcome.TheVariants.{Is, Limit}
-use Rattle.dmn_table.specs.Evaluated.{outcome_from}
+use Rattle.feel_value.specs.Found.{outcome_from}
 use Rattle.dmn_table.specs.Priority.{Hit, is_higher, put_before, in_priority}
 use Rattle.dmn_table.specs.Result.{list_of}
 use Rattle.dmn_table.specs.RuleOutputs.{fitting}

@@ -5,7 +5,7 @@ use Rattle.feel_value.specs.Datum.{Datum}
 use Rattle.feel_value.specs.declared.feel.Outcome.{Outcome}
 use Rattle.feel_lang.specs.Meaning.{Bindings}
 use Rattle.dmn_table.specs.declared.table.Rule as rule
-use Rattle.dmn_table.specs.Evaluated.{◌>>=◌, each, outcome_from}
+use Rattle.feel_value.specs.Found.{◌>>=◌, each, outcome_from}
 use Rattle.dmn_table.specs.Hits.{does_hit, kept, hit_of, values_of}
 use Rattle.dmn_table.specs.Priority.{Hit}
 use Rattle.dmn_table.specs.Result.{table_result, result_from, policy_result}

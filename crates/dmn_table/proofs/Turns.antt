@@ -8,7 +8,7 @@ use Rattle.feel_value.specs.declared.feel.Outcome.TheVariants.{Is, Limit}
 use Rattle.feel_value.proofs.Room.{behind, too_much}
 use Rattle.feel_lang.specs.Meaning.{Bindings}
 use Rattle.dmn_table.specs.declared.table.Rule.{Rule}
-use Rattle.dmn_table.specs.Evaluated.{◌>>=◌, outcome_from}
+use Rattle.feel_value.specs.Found.{◌>>=◌, outcome_from}
 use Rattle.dmn_table.specs.Parts.{rule_view}
 use Rattle.dmn_table.specs.Result.{list_of, number_in, numbers_of}
 use Rattle.dmn_table.specs.RuleOutputs.{rules_view, rule_output, outputs_of}

@@ -13,7 +13,7 @@ use Rattle.feel_value.specs.declared.feel.Outcome.TheVariants.{Is}
 use Rattle.feel_value.proofs.Laws.{equal_itself}
 use Rattle.feel_lang.specs.Meaning.{Bindings}
 use Rattle.dmn_table.specs.declared.table.Rule.{Rule}
-use Rattle.dmn_table.specs.Evaluated.{◌>>=◌, outcome_from}
+use Rattle.feel_value.specs.Found.{◌>>=◌, outcome_from}
 use Rattle.dmn_table.specs.Parts.{rule_view}
 use Rattle.dmn_table.specs.Result.{first_of, only_one, common_one}
 use Rattle.dmn_table.specs.RuleOutputs.{rules_view, rule_output, outputs_of}

@@ -1,6 +1,7 @@
 -- Which texts and columns make a table.
 use Rattle.std.specs.Prelude.{ℕ, List, [], ◌∷◌, Bool, true, false, not, ◌&&◌, if◌then◌else◌, nat_eq, nat_lt, length, Option, None, Some, bytes_eq, codes}
-use Rattle.std.specs.List.{list_any, list_all}
+use Rattle.std.specs.List.{list_all}
+use Rattle.feel_value.specs.Distinct.{are_distinct}
 use Rattle.dmn_table.specs.declared.hit_policy.HitPolicy.{HitPolicy}
 use Rattle.dmn_table.specs.declared.hit_policy.HitPolicy.TheVariants.{Unique, Any, Priority, First, OutputOrder, RuleOrder, Collect, Sum, Least, Greatest, Count}
 use Rattle.dmn_table.specs.declared.fault.TableFault.{TableFault}
@@ -27,11 +28,6 @@ is_operator Least = true
 is_operator Greatest = true
 is_operator Count = true
 is_operator _ = false
-
--- no name stands twice
-abbrev pub are_distinct : List (List ℕ) → Bool
-are_distinct [] = true
-are_distinct (n ∷ ns) = not (list_any (bytes_eq n) ns) && are_distinct ns
 
 -- a rule's entries are as many as the columns; e has the number of its tests and of its outputs
 abbrev pub fits_columns : ℕ → ℕ → (ℕ × ℕ) → Bool

@@ -9,7 +9,7 @@ use Rattle.feel_value.specs.declared.feel.Outcome.TheVariants.{Is}
 use Rattle.feel_lang.specs.Expr.{Expr}
 use Rattle.feel_lang.specs.Meaning.{den, Bindings}
 use Rattle.feel_lang.specs.Satisfied.{satisfied, Answer, Told, Broken}
-use Rattle.dmn_table.specs.Evaluated.{value_of, ◌>>=◌, each}
+use Rattle.feel_value.specs.Found.{value_of, ◌>>=◌, each}
 use Rattle.dmn_table.specs.Table.{Column, Rule, Table}
 use Rattle.dmn_table.specs.Priority.{places_of, Hit}
 

@@ -1,6 +1,5 @@
 pub mod Table
 pub mod Faults
-pub mod Evaluated
 pub mod Hits
 pub mod Priority
 pub mod Listed

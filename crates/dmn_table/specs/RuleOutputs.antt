@@ -6,7 +6,7 @@ use Rattle.feel_value.specs.Datum.{Datum, list, items_of}
 use Rattle.feel_value.specs.Limits.{is_value}
 use Rattle.feel_lang.specs.Meaning.{Bindings}
 use Rattle.dmn_table.specs.declared.table.Rule as rule
-use Rattle.dmn_table.specs.Evaluated.{value_of, ◌>>=◌, each}
+use Rattle.feel_value.specs.Found.{value_of, ◌>>=◌, each}
 use Rattle.dmn_table.specs.Hits.{does_hit, kept, values_of, output_of}
 use Rattle.dmn_table.specs.Parts.{rule_view}
 use Rattle.dmn_table.specs.Priority.{Hit}

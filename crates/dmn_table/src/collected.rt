@@ -8,7 +8,7 @@ ghost use Rattle.feel_value.specs.Logic.{is_yes};
 ghost use Rattle.feel_value.specs.Comparison.{equal as equal_of};
 ghost use Rattle.feel_value.specs.Outcome.{held};
 ghost use Rattle.feel_value.specs.declared.feel.Outcome.TheVariants.{Is};
-ghost use Rattle.dmn_table.specs.Evaluated.{outcome_from};
+ghost use Rattle.feel_value.specs.Found.{outcome_from};
 ghost use Rattle.dmn_table.specs.Parts.{column_view};
 ghost use Rattle.dmn_table.specs.Result.{first_of, only_one as only_one_of, common_one as common_one_of, list_of as list_of_values};
 ghost use Rattle.dmn_table.specs.RuleOutputs.{outputs_of, rules_view};

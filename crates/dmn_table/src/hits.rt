@@ -1,6 +1,6 @@
 //! The rules that hit, and their outputs and places.
 ghost use Rattle.std.specs.Prelude.{◌≡◌, IfOk, map, option_map};
-ghost use Rattle.dmn_table.specs.Evaluated.{each};
+ghost use Rattle.feel_value.specs.Found.{each};
 ghost use Rattle.dmn_table.specs.Hits.{does_hit as does_hit_of, hit_of as hit_of_rule};
 ghost use Rattle.dmn_table.specs.Listed.{listed_values, places_among};
 ghost use Rattle.dmn_table.specs.Parts.{rule_view, column_view};

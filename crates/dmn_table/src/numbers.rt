@@ -2,7 +2,7 @@
 ghost use Rattle.std.specs.Prelude.{◌≡◌, IfOk, map, option_map};
 ghost use Rattle.feel_value.specs.Datum.{number};
 ghost use Rattle.feel_value.specs.Outcome.{held};
-ghost use Rattle.dmn_table.specs.Evaluated.{outcome_from};
+ghost use Rattle.feel_value.specs.Found.{outcome_from};
 ghost use Rattle.dmn_table.specs.Parts.{column_view};
 ghost use Rattle.dmn_table.specs.RuleOutputs.{outputs_of, rules_view};
 ghost use Rattle.dmn_table.specs.Result.{number_in, numbers_of, of_numbers, sum_of, least_of, greatest_of};

@@ -10,7 +10,7 @@ ghost use Rattle.dmn_table.specs.Hits.{values_of, output_of};
 ghost use Rattle.dmn_table.specs.Result.{first_of, default_of, default_values as default_values_of};
 ghost use Rattle.dmn_table.specs.Parts.{column_view, rule_view};
 ghost use Rattle.dmn_table.specs.RuleOutputs.{rule_output as rule_output_of};
-ghost use Rattle.dmn_table.specs.Evaluated.{value_of};
+ghost use Rattle.feel_value.specs.Found.{value_of};
 
 use crate::table::{Output, Rule};
 use feel_lang::{Env, Expr, eval};

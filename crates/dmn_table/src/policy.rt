@@ -1,7 +1,7 @@
 //! What each hit policy makes of the rules that hit.
 ghost use Rattle.std.specs.Prelude.{◌≡◌, IfOk, map, true, length};
 ghost use Rattle.feel_value.specs.declared.feel.Outcome.TheVariants.{Is};
-ghost use Rattle.dmn_table.specs.Evaluated.{each, outcome_from};
+ghost use Rattle.feel_value.specs.Found.{each, outcome_from};
 ghost use Rattle.dmn_table.specs.Hits.{hit_of};
 ghost use Rattle.dmn_table.specs.Parts.{column_view};
 ghost use Rattle.dmn_table.specs.Priority.{in_priority as in_priority_of};

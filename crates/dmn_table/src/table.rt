@@ -1,7 +1,8 @@
 //! Decision tables and their parts.
 ghost use Rattle.std.specs.Prelude.{◌≡◌, true, IfOk, IfErr, string_bytes, bytes_eq, length};
 ghost use Rattle.std.specs.List.{list_all, list_any};
-ghost use Rattle.dmn_table.specs.Faults.{columns_fit as columns_fit_of, fits_columns, are_distinct};
+ghost use Rattle.dmn_table.specs.Faults.{columns_fit as columns_fit_of, fits_columns};
+ghost use Rattle.feel_value.specs.Distinct.{are_distinct};
 ghost use Rattle.dmn_table.specs.Parts.{names_of, entry_counts, fault_of_parts, MakesTable};
 
 use crate::fault::TableFault;

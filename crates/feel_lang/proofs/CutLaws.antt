@@ -3,7 +3,7 @@ use Rattle.std.proofs.Common.{◌≡◌, ◌≤◌, ℕ, zero, suc, Bool, true, 
 use Rattle.std.specs.Prelude.{IfSome, if◌then◌else◌}
 use Rattle.feel_lang.specs.Token.{Token}
 use Rattle.feel_lang.specs.Lexical.{IsCut, is_blank}
-use Rattle.feel_lang.specs.Reading.{◌>>=◌}
+use Rattle.feel_value.specs.Found.{◌>>=◌}
 use Rattle.feel_lang.specs.Scanning.{token_at, cut_at, cut_of}
 use Rattle.feel_lang.proofs.Cuts.{blank_before, blank_after, token_before, token_after, token_shorter, no_token, end_found, end_only}
 

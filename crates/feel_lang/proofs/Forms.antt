@@ -10,7 +10,8 @@ use Rattle.feel_lang.specs.Expr as expr
 use Rattle.feel_lang.specs.Expr.{Expr}
 use Rattle.feel_lang.specs.Gives.{Fails}
 use Rattle.feel_lang.specs.Parts.{then_at, else_at, high_at, branches_at, bounds_at, high_part_at}
-use Rattle.feel_lang.specs.Reading.{Read, Reader, ◌>>=◌, after_then, after_else, after_and, after_comma, closed_at, conditional_at, between_at, modulo_at, read_at}
+use Rattle.feel_lang.specs.Reading.{Read, Reader, after_then, after_else, after_and, after_comma, closed_at, conditional_at, between_at, modulo_at, read_at}
+use Rattle.feel_value.specs.Found.{◌>>=◌}
 use Rattle.feel_lang.specs.TestReading.{after_dots, high_end_at, interval_at, low_end_of}
 use Rattle.feel_lang.specs.Tests.{Test, Interval, most_depth}
 

@@ -10,7 +10,8 @@ use Rattle.feel_lang.specs.Token.{Token, Symbol}
 use Rattle.feel_lang.specs.Expr.{Expr, Exprs, none, more}
 use Rattle.feel_lang.specs.View.{view, exprs_of}
 use Rattle.feel_lang.specs.Gives.{Fails}
-use Rattle.feel_lang.specs.Reading.{Reader, ReadMore, ◌>>=◌, choose, after_bracket, after_comma, members_at, joined, before_more}
+use Rattle.feel_lang.specs.Reading.{Reader, ReadMore, choose, after_bracket, after_comma, members_at, joined, before_more}
+use Rattle.feel_value.specs.Found.{◌>>=◌}
 
 -- a further member, and those after it
 abbrev further : ℕ → (Line → Reader) → List Token → ReadMore

@@ -22,7 +22,8 @@ use Rattle.feel_lang.specs.Tests.{Test, Tests, Any, OneOf, NoneOf, ReadsExpr, Re
 use Rattle.feel_lang.specs.Tests as rule
 use Rattle.feel_lang.specs.Spells.{Spells, SpellsTests, SpellsLiteral}
 use Rattle.feel_lang.specs.Grammar.{Reads}
-use Rattle.feel_lang.specs.Reading.{Read, ◌>>=◌, choose, read_at}
+use Rattle.feel_lang.specs.Reading.{Read, choose, read_at}
+use Rattle.feel_value.specs.Found.{◌>>=◌}
 use Rattle.feel_lang.specs.Scanning.{cut_of}
 use Rattle.feel_lang.specs.TestReading.{all_read, one_of_at, none_of_at, after_not, is_dash, listed_at, tests_at, number_at, constant_at, negative_at, signed_at, literal_at}
 use Rattle.feel_lang.specs.Readings.{expression_at, expr_of, tests_of, literal_of}

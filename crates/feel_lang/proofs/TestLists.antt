@@ -7,7 +7,8 @@ use Rattle.feel_lang.specs.Token.{Token}
 use Rattle.feel_lang.specs.Tests.{Test}
 use Rattle.feel_lang.specs.TestsView.{test_view, test_views}
 use Rattle.feel_lang.specs.Gives.{Fails}
-use Rattle.feel_lang.specs.Reading.{◌>>=◌, after_comma}
+use Rattle.feel_lang.specs.Reading.{after_comma}
+use Rattle.feel_value.specs.Found.{◌>>=◌}
 use Rattle.feel_lang.specs.TestReading.{test_at, list_at, preceded}
 
 abbrev Listed : Type 0

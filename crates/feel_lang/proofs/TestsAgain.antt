@@ -10,7 +10,8 @@ use Rattle.feel_lang.specs.Token.{Token, Name, Keyword, Symbol}
 use Rattle.feel_lang.specs.Expr as expr
 use Rattle.feel_lang.specs.Expr.{Expr, Exprs, none, more, depth}
 use Rattle.feel_lang.specs.Grammar.{Reads, token_of}
-use Rattle.feel_lang.specs.Reading.{◌>>=◌, after_comma, read_at}
+use Rattle.feel_lang.specs.Reading.{after_comma, read_at}
+use Rattle.feel_value.specs.Found.{◌>>=◌}
 use Rattle.feel_lang.specs.Tests.{Bound, Below, AtMost, Above, AtLeast, Test, Compares, Interval, Equals, Tests, Any, OneOf, NoneOf, ReadsTest, ReadsList, ReadsNot, ReadsTests, ReadsSum, ReadsExpr, Opens, Closes, bound_sign}
 use Rattle.feel_lang.specs.Tests as rule
 use Rattle.feel_lang.specs.TestReading.{bound_of, low_end_of, high_end_of, high_end_at, interval_at, compares_at, plain_at, test_at, list_at, one_of_at, none_of_at, after_not, is_dash}

@@ -10,7 +10,8 @@ use Rattle.feel_lang.specs.declared.line.Line.TheVariants as line
 use Rattle.feel_lang.specs.Token.{Token, Keyword, Symbol}
 use Rattle.feel_lang.specs.Expr.{Expr, depth}
 use Rattle.feel_lang.specs.Grammar.{Reads}
-use Rattle.feel_lang.specs.Reading.{◌>>=◌, after_open, after_close, after_comma, read_at}
+use Rattle.feel_lang.specs.Reading.{after_open, after_close, after_comma, read_at}
+use Rattle.feel_value.specs.Found.{◌>>=◌}
 use Rattle.feel_lang.specs.Tests.{Bound, Below, AtMost, Above, AtLeast, Test, Compares, Interval, Equals, Tests, Any, OneOf, NoneOf, ReadsTest, ReadsList, ReadsNot, ReadsTests, ReadsSum, Opens, Closes, bound_sign}
 use Rattle.feel_lang.specs.Tests as rule
 use Rattle.feel_lang.specs.TestReading.{bound_of, low_end_of, high_end_of, after_dots, high_end_at, interval_at, compares_at, plain_at, test_at, list_at, all_read, one_of_at, none_of_at, after_not}

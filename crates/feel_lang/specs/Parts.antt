@@ -6,7 +6,8 @@ use Rattle.feel_lang.specs.Expr as expr
 use Rattle.feel_lang.specs.Expr.{Expr}
 use Rattle.feel_lang.specs.declared.line.Line.{Line}
 use Rattle.feel_lang.specs.declared.line.Line.TheVariants as line
-use Rattle.feel_lang.specs.Reading.{Read, Reader, ◌>>=◌, operator_at, after_then, after_else, after_and, read_at}
+use Rattle.feel_lang.specs.Reading.{Read, Reader, operator_at, after_then, after_else, after_and, read_at}
+use Rattle.feel_value.specs.Found.{◌>>=◌}
 use Rattle.feel_lang.specs.Tests.{most_depth}
 use Rattle.feel_lang.specs.TestReading.{after_dots, high_end_at}
 

@@ -1,6 +1,7 @@
 -- Internal behind `expr_of_spells`, `tests_of_spells` and `literal_of_spells`: laws that tie it to the grammar.
 -- Reading tokens once, from left to right. What is read is an expression, its depth and the tokens after it.
 use Rattle.std.specs.Prelude.{ℕ, zero, suc, ◌+◌, max, true, false, codes, List, [], ◌∷◌, Option, Some, None, nat_le, bytes_eq, length, if◌then◌else◌}
+use Rattle.feel_value.specs.Found.{◌>>=◌}
 use Rattle.feel_lang.specs.declared.token.Word.TheVariants as word
 use Rattle.feel_lang.specs.declared.token.Sign.TheVariants as sign
 use Rattle.feel_lang.specs.declared.expr.Operator.{Operator}
@@ -22,11 +23,6 @@ Reader = List Token → Read
 
 abbrev pub ReadMore : Type 0
 ReadMore = Option (Exprs × ℕ × List Token)
-
-infixl 10 ◌>>=◌
-abbrev pub ◌>>=◌ : {A B : Type 0} → Option A → (A → Option B) → Option B
-(Some x) >>= f = f x
-None >>= f = None
 
 -- what an option gives, with a value or without
 abbrev pub choose : {A B : Type 0} → Option A → B → (A → B) → B

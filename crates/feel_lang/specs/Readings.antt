@@ -5,7 +5,8 @@ use Rattle.feel_lang.specs.declared.line.Line.TheVariants as line
 use Rattle.feel_lang.specs.Token.{Token}
 use Rattle.feel_lang.specs.Expr.{Expr}
 use Rattle.feel_lang.specs.Tests.{Tests, most_depth}
-use Rattle.feel_lang.specs.Reading.{◌>>=◌, read_at}
+use Rattle.feel_lang.specs.Reading.{read_at}
+use Rattle.feel_value.specs.Found.{◌>>=◌}
 use Rattle.feel_lang.specs.Scanning.{cut_of}
 use Rattle.feel_lang.specs.TestReading.{all_read, tests_at, literal_at}
 use Rattle.feel_value.specs.Datum.{Datum}

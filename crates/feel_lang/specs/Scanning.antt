@@ -7,7 +7,8 @@ use Rattle.feel_lang.specs.declared.token.Sign.TheVariants as sign
 use Rattle.feel_lang.specs.Token.{Token, Number, Text, Name, Keyword, Symbol}
 use Rattle.feel_lang.specs.Lexical.{is_blank, is_digit, is_word_byte, number_from, escaped, keyword_of}
 use Rattle.feel_value.specs.Limits.{greatest_number}
-use Rattle.feel_lang.specs.Reading.{choose, ◌>>=◌}
+use Rattle.feel_lang.specs.Reading.{choose}
+use Rattle.feel_value.specs.Found.{◌>>=◌}
 
 -- the number that a word of digits writes, where it is within the limit
 abbrev pub number_of : List ℕ → Option ℕ

@@ -6,7 +6,8 @@ use Rattle.feel_lang.specs.declared.token.Sign.TheVariants as sign
 use Rattle.feel_lang.specs.declared.line.Line.TheVariants as line
 use Rattle.feel_lang.specs.Token.{Token, Number, Text, Keyword, Symbol}
 use Rattle.feel_lang.specs.Tests.{Bound, Below, AtMost, Above, AtLeast, Test, Compares, Interval, Equals, Tests, Any, OneOf, NoneOf, most_depth}
-use Rattle.feel_lang.specs.Reading.{◌>>=◌, choose, after_open, after_close, after_comma, read_at}
+use Rattle.feel_lang.specs.Reading.{choose, after_open, after_close, after_comma, read_at}
+use Rattle.feel_value.specs.Found.{◌>>=◌}
 use Rattle.feel_value.specs.Datum as datum
 use Rattle.feel_value.specs.Datum.{Datum}
 use Rattle.feel_value.specs.Limits.{greatest_number, is_value}

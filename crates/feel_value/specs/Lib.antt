@@ -12,3 +12,5 @@ pub mod JsonKeys
 pub mod Faults
 pub mod ReadFaults
 pub mod Outcome
+pub mod Found
+pub mod Distinct

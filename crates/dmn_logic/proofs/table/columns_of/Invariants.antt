@@ -1,6 +1,6 @@
 use Rattle.std.proofs.Common.{◌≡◌, drop, map}
 use Rattle.dmn_form.specs.FormView.{column_view as written_column}
-use Rattle.dmn_table.specs.Evaluated.{each}
+use Rattle.feel_value.specs.Found.{each}
 use Rattle.dmn_table.specs.Parts.{column_view}
 use Rattle.dmn_table.proofs.Each.{after}
 use Rattle.dmn_logic.specs.ReadLogic.{read_column}

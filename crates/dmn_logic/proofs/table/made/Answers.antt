@@ -1,6 +1,6 @@
 use Rattle.std.proofs.Common.{List, ◌∙◌, sym, ap}
 use Rattle.dmn_table.specs.declared.table.Output.{Output}
-use Rattle.dmn_table.specs.Faults.{are_distinct}
+use Rattle.feel_value.specs.Distinct.{are_distinct}
 use Rattle.dmn_table.specs.Parts.{names_of}
 use Rattle.dmn_logic.proofs.ReadingSteps.{made_found, made_refused, made_with_twice}
 use Rattle.dmn_logic.proofs.table.made.Goals as goal

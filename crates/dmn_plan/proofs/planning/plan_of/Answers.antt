@@ -1,9 +1,8 @@
 use Rattle.std.proofs.Common.{map, ap, sym, subst, ◌∙◌, Some, None, if◌then◌else◌}
 use Rattle.std.proofs.lemmas.List.{length-map}
 use Rattle.dmn_form.specs.ModelView.{model_view}
-use Rattle.dmn_graph.specs.Needs.{needs_view}
+use Rattle.dmn_graph.specs.Needs.{needs_view, AreNeedsBelow}
 use Rattle.dmn_logic.specs.LogicView.{logic_view}
-use Rattle.dmn_names.specs.Places.{AreNeedsBelow}
 use Rattle.dmn_names.proofs.Within.{needs_inside}
 use Rattle.dmn_plan.specs.declared.fault.ModelFault.TheVariants.{Large}
 use Rattle.dmn_plan.proofs.Planned.{planned, at_most_large, as_many, after_inputs}

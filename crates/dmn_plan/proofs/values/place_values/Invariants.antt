@@ -1,7 +1,7 @@
 use Rattle.std.proofs.Common.{◌≡◌, drop}
 use Rattle.serde_json.specs.Find.{get}
 use Rattle.serde_json.specs.View.{view}
-use Rattle.dmn_table.specs.Evaluated.{each}
+use Rattle.feel_value.specs.Found.{each}
 use Rattle.dmn_table.proofs.Each.{after}
 use Rattle.dmn_service.specs.Places.{name_at}
 use Rattle.dmn_plan.specs.Request.{value_under}

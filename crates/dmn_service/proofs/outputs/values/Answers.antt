@@ -1,5 +1,5 @@
 use Rattle.std.proofs.Common.{◌∙◌, sym, ap, Some}
-use Rattle.dmn_table.specs.Evaluated.{each}
+use Rattle.feel_value.specs.Found.{each}
 use Rattle.dmn_service.specs.Run.{values_in}
 use Rattle.dmn_service.proofs.Along.{each_none, each_more}
 use Rattle.dmn_service.proofs.outputs.values.Goals as goal

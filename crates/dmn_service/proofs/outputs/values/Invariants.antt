@@ -1,5 +1,5 @@
 use Rattle.std.proofs.Common.{◌≡◌, drop}
-use Rattle.dmn_table.specs.Evaluated.{each}
+use Rattle.feel_value.specs.Found.{each}
 use Rattle.dmn_table.proofs.Each.{after}
 use Rattle.dmn_service.specs.Run.{values_in}
 use Rattle.dmn_service.proofs.outputs.values.Given as goal

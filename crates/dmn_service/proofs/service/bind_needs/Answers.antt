@@ -1,6 +1,6 @@
 use Rattle.std.proofs.Common.{◌∙◌, sym, ap, Option, Some, get_or}
 use Rattle.feel_value.specs.Datum.{Datum}
-use Rattle.dmn_table.specs.Evaluated.{◌>>=◌}
+use Rattle.feel_value.specs.Found.{◌>>=◌}
 use Rattle.dmn_form.specs.Model.{Name}
 use Rattle.dmn_service.specs.Places.{name_at}
 use Rattle.dmn_service.specs.Run.{values_in, needed_at}

@@ -3,7 +3,7 @@ use Rattle.feel_value.specs.Datum.{null}
 use Rattle.feel_value.specs.Outcome.{held}
 use Rattle.feel_value.specs.declared.feel.Outcome.TheVariants.{Is}
 use Rattle.feel_value.proofs.Views.{datum_of-Null}
-use Rattle.dmn_table.specs.Evaluated.{value_of}
+use Rattle.feel_value.specs.Found.{value_of}
 use Rattle.dmn_table.specs.Parts.{column_view}
 use Rattle.dmn_table.proofs.Wholes.{common}
 use Rattle.dmn_table.proofs.collected.common_one.Goals as goal

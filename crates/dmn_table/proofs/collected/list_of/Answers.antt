@@ -1,7 +1,7 @@
 use Rattle.std.proofs.Common.{◌≡◌, ◌++◌, ◌∷◌, [], map, sym, ap, ◌∙◌, false}
 use Rattle.feel_value.specs.Datum.{list, items_of}
 use Rattle.feel_value.specs.Limits.{is_value}
-use Rattle.dmn_table.specs.Evaluated.{value_of}
+use Rattle.feel_value.specs.Found.{value_of}
 use Rattle.dmn_table.specs.Parts.{column_view}
 use Rattle.dmn_table.proofs.Turns.{one_refused}
 use Rattle.dmn_table.proofs.collected.list_of.Goals as goal

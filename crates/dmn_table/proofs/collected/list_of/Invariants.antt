@@ -1,5 +1,5 @@
 use Rattle.std.proofs.Common.{◌≡◌, map}
-use Rattle.dmn_table.specs.Evaluated.{outcome_from}
+use Rattle.feel_value.specs.Found.{outcome_from}
 use Rattle.dmn_table.specs.Parts.{column_view}
 use Rattle.dmn_table.specs.Result.{list_of}
 use Rattle.dmn_table.specs.RuleOutputs.{rules_view, outputs_of}

@@ -1,7 +1,7 @@
 use Rattle.std.proofs.Common.{◌≡◌, List, [], ◌∷◌, refl, sym, ap, ◌∙◌, Bool, true, false, ◌&&◌, Some}
 use Rattle.std.specs.List.{zip, list_all}
 use Rattle.feel_lang.specs.Satisfied.{satisfied}
-use Rattle.dmn_table.specs.Evaluated.{each, ◌>>=◌}
+use Rattle.feel_value.specs.Found.{each, ◌>>=◌}
 use Rattle.dmn_table.specs.Hits.{is_satisfied}
 use Rattle.dmn_table.proofs.ZipEnd.{at_zip_end}
 use Rattle.dmn_table.proofs.hits.does_hit.Goals as goal

@@ -3,7 +3,7 @@ use Rattle.std.specs.List.{zip, list_all}
 use Rattle.std.specs.Slice.Iter.{iter_rest}
 use Rattle.std.specs.Iterator.Adapters.{zip_first, zip_second}
 use Rattle.feel_lang.specs.Satisfied.{satisfied}
-use Rattle.dmn_table.specs.Evaluated.{each, ◌>>=◌}
+use Rattle.feel_value.specs.Found.{each, ◌>>=◌}
 use Rattle.dmn_table.specs.Parts.{rule_view}
 use Rattle.dmn_table.specs.Hits.{does_hit, is_satisfied}
 use Rattle.dmn_table.proofs.hits.does_hit.Given as goal

@@ -2,7 +2,7 @@ use Rattle.std.proofs.Common.{◌≡◌, ◌∷◌, ◌++◌, [], ◌+◌, map, 
 use Rattle.std.proofs.lemmas.List.{map-append}
 use Rattle.feel_value.specs.Datum.{list, items_of}
 use Rattle.feel_value.specs.Limits.{is_value}
-use Rattle.dmn_table.specs.Evaluated.{each}
+use Rattle.feel_value.specs.Found.{each}
 use Rattle.dmn_table.specs.Hits.{hit_of}
 use Rattle.dmn_table.specs.Parts.{column_view, rule_view}
 use Rattle.dmn_table.specs.RuleOutputs.{rules_view}

@@ -1,7 +1,7 @@
 use Rattle.std.proofs.Common.{◌≡◌, drop, map, true}
 use Rattle.feel_value.specs.Datum.{list, items_of}
 use Rattle.feel_value.specs.Limits.{is_value}
-use Rattle.dmn_table.specs.Evaluated.{each}
+use Rattle.feel_value.specs.Found.{each}
 use Rattle.dmn_table.specs.Hits.{hit_of}
 use Rattle.dmn_table.specs.Parts.{column_view}
 use Rattle.dmn_table.specs.RuleOutputs.{rules_view}

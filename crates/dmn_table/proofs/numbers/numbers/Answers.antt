@@ -2,7 +2,7 @@ use Rattle.std.proofs.Common.{◌≡◌, ◌∷◌, ◌++◌, [], ◌+◌, map, 
 use Rattle.std.proofs.lemmas.Int.{ints, to_z-of_z}
 use Rattle.std.proofs.lemmas.List.{take_rest}
 use Rattle.std.specs.Option.{is_some}
-use Rattle.dmn_table.specs.Evaluated.{value_of}
+use Rattle.feel_value.specs.Found.{value_of}
 use Rattle.dmn_table.specs.Parts.{column_view}
 use Rattle.dmn_table.specs.Result.{numbers_of}
 use Rattle.dmn_table.specs.RuleOutputs.{rules_view, outputs_of}

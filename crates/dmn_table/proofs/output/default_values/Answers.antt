@@ -2,7 +2,7 @@ use Rattle.std.proofs.Common.{List, map, refl, sym, ap, ◌∙◌, Option}
 use Rattle.feel_value.specs.Datum.{Datum}
 use Rattle.feel_lang.specs.Meaning.{Bindings}
 use Rattle.dmn_table.specs.declared.table.Output.{Output}
-use Rattle.dmn_table.specs.Evaluated.{value_of}
+use Rattle.feel_value.specs.Found.{value_of}
 use Rattle.dmn_table.specs.Parts.{column_view}
 use Rattle.dmn_table.specs.Result.{default_of, default_values}
 use Rattle.dmn_table.proofs.Each.{rest_begun, rest_done, rest_more, rest_none}

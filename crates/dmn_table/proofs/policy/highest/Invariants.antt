@@ -1,6 +1,6 @@
 use Rattle.std.proofs.Common.{◌≡◌, drop, map, length, true}
 use Rattle.feel_value.specs.declared.feel.Outcome.TheVariants.{Is}
-use Rattle.dmn_table.specs.Evaluated.{each, outcome_from}
+use Rattle.feel_value.specs.Found.{each, outcome_from}
 use Rattle.dmn_table.specs.Hits.{hit_of}
 use Rattle.dmn_table.specs.Parts.{column_view}
 use Rattle.dmn_table.specs.RuleOutputs.{rules_view, have_entries}

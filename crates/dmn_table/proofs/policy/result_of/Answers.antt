@@ -1,5 +1,5 @@
 use Rattle.std.proofs.Common.{◌≡◌, map, sym, ap, ◌∙◌, subst, IfOk}
-use Rattle.dmn_table.specs.Evaluated.{each, outcome_from}
+use Rattle.feel_value.specs.Found.{each, outcome_from}
 use Rattle.dmn_table.specs.Hits.{hit_of}
 use Rattle.dmn_table.specs.Parts.{column_view}
 use Rattle.dmn_table.specs.Result.{policy_result}

@@ -1,7 +1,8 @@
 use Rattle.std.proofs.Common.{◌∙◌, sym, ap, map, [], ◌∷◌, option_map, string_bytes}
 use Rattle.std.proofs.lemmas.List.{map-append}
 use Rattle.dmn_form.specs.ModelView.{decision_view}
-use Rattle.dmn_names.specs.Places.{each, value_place, needs_by_place}
+use Rattle.dmn_names.specs.Places.{value_place, needs_by_place}
+use Rattle.feel_value.specs.Found.{each}
 use Rattle.dmn_names.specs.PlacedModel.{placed_model, needs_view}
 use Rattle.dmn_names.proofs.Placing.{placed_turn}
 use Rattle.dmn_names.proofs.places.Places.needs_of_all.Goals as goal

@@ -1,7 +1,8 @@
 use Rattle.std.proofs.Common.{◌≡◌, map, drop}
 use Rattle.dmn_form.proofs.Readings.{read_after}
 use Rattle.dmn_form.specs.ModelView.{decision_view}
-use Rattle.dmn_names.specs.Places.{each, value_place, needs_by_place}
+use Rattle.dmn_names.specs.Places.{value_place, needs_by_place}
+use Rattle.feel_value.specs.Found.{each}
 use Rattle.dmn_names.specs.PlacedModel.{placed_model, needs_view}
 use Rattle.dmn_names.proofs.places.Places.needs_of_all.Given as goal
 

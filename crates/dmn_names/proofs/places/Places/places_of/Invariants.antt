@@ -1,6 +1,6 @@
 use Rattle.std.proofs.Common.{◌≡◌, map, drop, string_bytes}
 use Rattle.dmn_form.proofs.Readings.{read_after}
-use Rattle.dmn_names.specs.Places.{each}
+use Rattle.feel_value.specs.Found.{each}
 use Rattle.dmn_names.specs.PlacedModel.{placed_model}
 use Rattle.dmn_names.specs.Kinds.{place_as}
 use Rattle.dmn_names.proofs.places.Places.places_of.Given as goal
