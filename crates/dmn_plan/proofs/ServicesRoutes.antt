@@ -22,6 +22,7 @@ use Rattle.dmn_names.specs.Places.{needs_by_place, PlacedService, placed_service
 use Rattle.dmn_names.proofs.NamesBack.{both, not_so, so}
 use Rattle.dmn_names.proofs.Parameters.{distinct_parameters, distinct_lists}
 use Rattle.dmn_service.specs.Plan.{IsAmong, IsNotAmong}
+use Rattle.dmn_graph.specs.Reach as reach
 use Rattle.dmn_graph.specs.Reach.{Each, IsInOrder}
 use Rattle.dmn_service.specs.declared.plan.ServicePlan.{ServicePlan}
 use Rattle.dmn_plan.specs.Faults.{is_bad_service}

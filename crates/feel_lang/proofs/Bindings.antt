@@ -29,10 +29,10 @@ pub replaced : {E : Type 0} (r : Result (Option ℕ) E) (old new : BTreeMap (Str
 replaced (Ok o) old new name place h absent there q = btree_map_updates_text (string_bytes name) old new (Some place) h q
 replaced (Err e) old new name place h absent there q = let none : get_by_text old (string_bytes name) ≡ None = absent in absurd (some_is_not_none (get_by_text old (string_bytes name)) none there)
 
-same_text : (a b : List ℕ) → bytes_eq a b ≡ true → a ≡ b
+pub same_text : (a b : List ℕ) → bytes_eq a b ≡ true → a ≡ b
 same_text a b h = (bytes_eq-Decides a b).0 h
 
-text_itself : (a : List ℕ) → bytes_eq a a ≡ true
+pub text_itself : (a : List ℕ) → bytes_eq a a ≡ true
 text_itself a = (bytes_eq-Decides a a).1 refl
 
 turned : (a b : List ℕ) (s t : Bool) → bytes_eq a b ≡ s → bytes_eq b a ≡ t → s ≡ t
@@ -41,7 +41,7 @@ turned a b false false p q = refl
 turned a b true false p q = sym (ap (λ x. bytes_eq x a) (sym (same_text a b p)) ∙ text_itself a) ∙ q
 turned a b false true p q = sym (sym (ap (λ x. bytes_eq x b) (sym (same_text b a q)) ∙ text_itself b) ∙ p)
 
-bytes_eq-turned : (a b : List ℕ) → bytes_eq a b ≡ bytes_eq b a
+pub bytes_eq-turned : (a b : List ℕ) → bytes_eq a b ≡ bytes_eq b a
 bytes_eq-turned a b = turned a b (bytes_eq a b) (bytes_eq b a) refl refl
 
 one_on : (t : Bool) (n : ℕ) (o p : Option ℕ) → place_after (if t then Some n else o) p ≡ (if t then Some (suc n) else place_after o p)
@@ -49,7 +49,7 @@ one_on true n o p = refl
 one_on false n o p = refl
 
 -- the last binding of the name is the last one, or it is among the others
-last_place-push : (name : List ℕ) (bs : Bindings) (b : List ℕ × Datum) → last_place name (bs ++ b ∷ []) ≡ (if bytes_eq name b.0 then Some (length bs) else last_place name bs)
+pub last_place-push : {X : Type 0} (name : List ℕ) (bs : List (List ℕ × X)) (b : List ℕ × X) → last_place name (bs ++ b ∷ []) ≡ (if bytes_eq name b.0 then Some (length bs) else last_place name bs)
 last_place-push name [] b = refl
 last_place-push name (c ∷ bs) b =
     ap (λ o. place_after o (if bytes_eq name c.0 then Some 0 else None)) (last_place-push name bs b)

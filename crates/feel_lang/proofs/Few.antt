@@ -5,7 +5,7 @@ use Rattle.std.proofs.lemmas.List.{append_assoc, append-nil, map-append, length-
 use Rattle.feel_value.specs.Datum.{Datum}
 use Rattle.feel_lang.specs.Meaning.{Bindings, bound, first_some}
 use Rattle.feel_lang.specs.Few.{named_of, few_of, IsFilled}
-use Rattle.feel_lang.specs.declared.env.NamedValue.{NamedValue}
+use Rattle.feel_lang.specs.declared.added.NamedValue.{NamedValue}
 
 grouped : (o p q : Option Datum) → first_some (first_some o p) q ≡ first_some o (first_some p q)
 grouped None p q = refl
@@ -68,3 +68,9 @@ cut_behind n xs ys h =
     let size : length (few_of xs) ≡ length xs = length-map xs named_of in
     let whole : length (few_of xs) + (n - length xs) ≡ n = omega (arith, size) in
     sym (take-append-add (few_of xs) ys (n - length xs)) ∙ ap (λ k. take k (few_of xs ++ ys)) whole
+
+-- the same of any bindings
+pub behind_first : (n : ℕ) (xs ys : Bindings) → length xs ≤ n → xs ++ take (n - length xs) ys ≡ take n (xs ++ ys)
+behind_first n xs ys h =
+    let whole : length xs + (n - length xs) ≡ n = omega (arith, h) in
+    sym (take-append-add xs ys (n - length xs)) ∙ ap (λ k. take k (xs ++ ys)) whole

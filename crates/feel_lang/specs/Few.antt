@@ -1,18 +1,11 @@
--- Internal but for `few_of`, `named_of` and `bytes_of`: the first bindings, which have no index.
+-- Internal but for `few_of` and `named_of`: the first bindings, which have no index.
 use Rattle.std.specs.Prelude.{◌≡◌, ◌<◌, ◌≤◌, ℕ, List, [], map, length, string_bytes}
 use Rattle.feel_value.specs.Datum.{Datum}
 use Rattle.feel_lang.specs.Meaning.{Bindings}
-use Rattle.feel_lang.specs.declared.env.Name.{Name}
-use Rattle.feel_lang.specs.declared.env.Name.TheVariants.{Lent, Owned}
-use Rattle.feel_lang.specs.declared.env.NamedValue.{NamedValue}
+use Rattle.feel_lang.specs.declared.added.NamedValue.{NamedValue}
 
-abbrev pub bytes_of : Name → List ℕ
-bytes_of (Lent name) = name.now
-bytes_of (Owned name) = string_bytes name
-
--- what is bound, to a name that is lent or owned
 abbrev pub named_of : NamedValue → List ℕ × Datum
-named_of b = (bytes_of b.name, b.value)
+named_of b = (string_bytes b.name, b.value)
 
 abbrev pub few_of : List NamedValue → Bindings
 few_of = map named_of

@@ -16,6 +16,7 @@ pub mod Readings
 pub mod Meaning
 pub mod Numbers
 pub mod Places
+pub mod Needed
 pub mod Few
 pub mod Operands
 pub mod Satisfied

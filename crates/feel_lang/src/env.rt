@@ -1,52 +1,29 @@
 //! Names with values.
-ghost use Rattle.std.specs.Prelude.{◌≡◌, ◌≤◌, [], ◌∷◌, ◌++◌, length, take, option_map, MatchResult};
+ghost use Rattle.std.specs.Prelude.{◌≡◌, ◌≤◌, ◌<◌, ◌^◌, [], ◌∷◌, ◌++◌, length, take, option_map, unwrap_or, string_bytes, MatchResult};
 ghost use Rattle.feel_lang.specs.Meaning.{bound};
-ghost use Rattle.feel_lang.specs.Few.{few_of, named_of};
+ghost use Rattle.feel_lang.specs.Needed.{bindings_from};
 
-use crate::indexed::Indexed;
-use feel_value::Feel;
+use crate::added::Added;
+use crate::lent::Lent;
+use crate::needs::Needs;
+use crate::reference::Reference;
+use feel_value::{Feel, Outcome};
 use std::alloc::{AllocError, Global};
 use std::marker::Model;
-
-// So many bindings are looked through one by one. An index finds the others.
-const FEW: usize = 8;
-
-#[derive(Drop)]
-enum Name<'a> {
-    Lent(&'a str),
-    Owned(String),
-}
-
-// A name with its value.
-#[derive(Drop)]
-struct NamedValue<'a> {
-    name: Name<'a>,
-    value: Feel,
-}
-
-impl<'a> NamedValue<'a> {
-    fn name(&self) -> &str
-        ensures { result.now ≡ (named_of self.now).0 }
-    {
-        match &self.name {
-            Name::Lent(name) => *name,
-            Name::Owned(name) => name.as_str(),
-        }
-    }
-}
 
 /// A list of names with values, of which the last binding of a name counts.
 ///
 /// Binding, finding and cutting off one name take steps in proportion to the logarithm of how many names there are.
 #[derive(Drop)]
 pub struct Env<'a> {
-    few: Vec<NamedValue<'a>>,
-    // Those behind the first few.
-    more: Indexed,
+    // What a decision needs. It is looked at where it lies.
+    lent: Option<Lent<'a>>,
+    // Those behind it.
+    added: Added,
 }
 
 impl<'a> Model for Env<'a> {
-    ghost use Rattle.std.specs.Prelude.{◌++◌, List, ℕ};
+    ghost use Rattle.std.specs.Prelude.{◌++◌, List, ℕ, unwrap_or, []};
     ghost use Rattle.std.specs.Coded.{coded_list, coded×, coded_ℕ};
     ghost use Rattle.feel_value.specs.Datum.{Datum};
     ghost use Rattle.feel_value.specs.Code.{datum_code};
@@ -55,11 +32,7 @@ impl<'a> Model for Env<'a> {
 
     ghost coded = { coded_list (coded× (coded_list coded_ℕ) datum_code) };
 
-    ghost use Rattle.feel_lang.specs.Few.{few_of, IsFilled};
-
-    ghost view = { λ e. few_of e.few.items ++ e.more };
-
-    ghost invariant = { λ e. IsFilled e.few.items e.more };
+    ghost view = { λ e. unwrap_or e.lent [] ++ e.added };
 }
 
 impl<'a> Env<'a> {
@@ -68,90 +41,85 @@ impl<'a> Env<'a> {
         ensures { result ≡ [] }
     {
         Env {
-            few: Vec::new(alloc),
-            more: Indexed::new(alloc),
+            lent: None,
+            added: Added::new(alloc),
         }
+    }
+
+    /// An environment with these names, bound to the values that were found at their places; None where no value was found for
+    /// one of them, as where a limit is broken. It looks at the values where they lie, so it takes no memory.
+    pub fn over(alloc: Global, needs: &'a Needs, found: &'a [Outcome]) -> Option<Env<'a>>
+        ensures { result ≡ bindings_from found.now needs.now }
+    {
+        let lent = Lent::of(needs, found)?;
+        Some(Env {
+            lent: Some(lent),
+            added: Added::new(alloc),
+        })
     }
 
     /// Binds a name to a value, which hides what the name was bound to before. Where memory is refused nothing changes,
     /// and the value is gone.
-    #[tactic(auto, using(crate::proofs::Few::one_more, crate::proofs::Few::one_behind))]
+    #[tactic(auto, using(crate::proofs::Few::one_behind))]
     pub fn bind(&mut self, name: &str, value: Feel) -> Result<(), AllocError>
         ensures { MatchResult result (λ _. self.new ≡ self.old ++ (name.now, value) ∷ []) (λ _. self.new ≡ self.old) }
     {
-        if self.few.len() == FEW {
-            self.more.bind(name, value)?;
-            return Ok(());
-        }
-        let name = Name::Owned(String::from_str(*self.few.allocator(), name)?);
-        self.few.push(NamedValue { name, value })?;
-        Ok(())
-    }
-
-    /// Binds as `bind` does, to a name that is lent and a copy of the value, which shares its parts. The first few bindings
-    /// don't copy the name.
-    #[tactic(auto, using(crate::proofs::Few::one_more, crate::proofs::Few::one_behind))]
-    pub fn bind_lent(&mut self, name: &'a str, value: &Feel) -> Result<(), AllocError>
-        ensures { MatchResult result (λ _. self.new ≡ self.old ++ (name.now, value.now) ∷ []) (λ _. self.new ≡ self.old) }
-    {
-        let value = value.try_clone()?;
-        if self.few.len() == FEW {
-            self.more.bind(name, value)?;
-            return Ok(());
-        }
-        let name = Name::Lent(name);
-        self.few.push(NamedValue { name, value })?;
-        Ok(())
+        self.added.bind(name, value)
     }
 
     /// The value of the last binding of the name.
-    #[tactic(auto, using(crate::proofs::Few::bound_both, crate::proofs::Few::bound_first))]
+    #[tactic(auto, using(crate::proofs::Few::bound_both))]
     pub fn find(&self, name: &str) -> Option<&Feel>
         ensures { option_map (λ v. v.now) result ≡ bound name.now self.now }
     {
-        if self.more.len() == 0 {
-            return last_named(&self.few, name);
+        if let Some(value) = self.added.find(name) {
+            return Some(value);
         }
-        match self.more.find(name) {
-            Some(value) => Some(value),
-            None => last_named(&self.few, name),
+        self.lent.as_ref()?.find(name)
+    }
+
+    // The same of a name as it stands in a text.
+    #[tactic(auto, using(crate::proofs::Few::bound_both))]
+    pub(crate) fn find_at(&self, reference: &Reference) -> Option<&Feel>
+        ensures { option_map (λ v. v.now) result ≡ bound (string_bytes reference.now.name) self.now }
+    {
+        if !self.added.is_empty() {
+            return self.find(reference.name.as_str());
         }
+        self.lent.as_ref()?.find_at(reference)
     }
 
     /// How many bindings there are, hidden ones included.
     pub fn len(&self) -> usize
         ensures { result ≡ length self.now }
     {
-        self.few.len() + self.more.len()
+        lent_len(&self.lent) + self.added.len()
     }
 
     /// Drops all bindings but the first `len`; what they hid counts again. It takes no memory.
-    #[tactic(auto, using(crate::proofs::Few::cut_within, crate::proofs::Few::cut_behind))]
     pub fn cut(&mut self, len: usize)
         requires { len ≤ length self.old }
         ensures { self.new ≡ take len self.old }
     {
-        let few = self.few.len();
-        if len < few {
-            self.more.cut(0);
-            self.few.truncate(len);
+        let lent = lent_len(&self.lent);
+        if len >= lent {
+            self.added.cut(len - lent);
             return;
         }
-        self.more.cut(len - few);
+        self.added.cut(0);
+        if let Some(lent) = &mut self.lent {
+            lent.cut(len);
+        }
     }
 }
 
-// The value of the last of these that has the name.
-fn last_named<'a>(bindings: &'a [NamedValue<'_>], name: &str) -> Option<&'a Feel>
-    ensures { option_map (λ v. v.now) result ≡ bound name.now (few_of bindings.now) }
+// How many bindings are lent.
+fn lent_len(lent: &Option<Lent<'_>>) -> usize
+    ensures number { result ≡ length (unwrap_or lent.now []) }
+    ensures small { result < 2 ^ 60 }
 {
-    let mut i = bindings.len();
-    while i > 0 {
-        i -= 1;
-        let binding = &bindings[i];
-        if name == binding.name() {
-            return Some(&binding.value);
-        }
+    match lent {
+        Some(lent) => lent.len(),
+        None => 0,
     }
-    None
 }

@@ -1,5 +1,5 @@
 //! The evaluation of expressions.
-ghost use Rattle.std.specs.Prelude.{◌≡◌, IfOk, unwrap_or};
+ghost use Rattle.std.specs.Prelude.{◌≡◌, IfOk, unwrap_or, string_bytes};
 ghost use Rattle.feel_value.specs.Datum.{null as null_value};
 ghost use Rattle.feel_value.specs.Outcome.{held};
 ghost use Rattle.feel_value.specs.declared.feel.Outcome.TheVariants.{Is};
@@ -15,6 +15,7 @@ use crate::eval_outcome::{null, number};
 use crate::eval_paths::entry;
 use crate::expr::Tree;
 use crate::operands::{Operand, Operands, formed, kept};
+use crate::reference::Reference;
 use crate::scalar::{Scalar, scalar_value};
 use feel_value::{Members, Outcome, Part, Truth};
 use std::alloc::{AllocError, Global};
@@ -55,7 +56,7 @@ pub(crate) fn operand<'a>(
     match expr {
         Tree::Constant(constant) => Ok(Some(Operand::Lent(Part::of(constant.value())))),
         Tree::Number(n) => Ok(formed(number(i64::try_from(*n).ok()))),
-        Tree::Name(name) => Ok(named(name.as_str(), env)),
+        Tree::Name(reference) => Ok(named(reference, env)),
         Tree::Group(inner) => operand(alloc, inner, env),
         Tree::List(exprs) => Ok(formed(list(alloc, exprs, env)?)),
         Tree::Call(function, argument) => {
@@ -127,10 +128,10 @@ fn lies_between(
 }
 
 // The value of a name; null where it has none.
-fn named<'a>(name: &str, env: &'a Env) -> Option<Operand<'a>>
-    ensures { outcome_of result ≡ Is (unwrap_or (bound name.now env.now) null_value) }
+fn named<'a>(reference: &Reference, env: &'a Env) -> Option<Operand<'a>>
+    ensures { outcome_of result ≡ Is (unwrap_or (bound (string_bytes reference.now.name) env.now) null_value) }
 {
-    match env.find(name) {
+    match env.find_at(reference) {
         Some(value) => Some(Operand::Lent(Part::of(value))),
         None => formed(null()),
     }

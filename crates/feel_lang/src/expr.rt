@@ -1,6 +1,7 @@
 //! FEEL expressions.
 
 use crate::constant::Constant;
+use crate::reference::Reference;
 
 /// An operator between two operands.
 #[derive(Clone, Copy, Debug, PartialEq, Eq)]
@@ -35,7 +36,7 @@ pub(crate) enum Tree {
     Constant(Constant),
     /// A number past the range of values, which no text spells.
     Number(u64),
-    Name(String),
+    Name(Reference),
     Group(Box<Tree>),
     List(Vec<Tree>),
     Call(Function, Box<Tree>),

@@ -104,24 +104,24 @@ impl Indexed {
     }
 }
 
-// Gives the name the place behind the bindings, where there is then room. Tells a copy of the name, and the place that it had.
-fn placed(
-    bindings: &mut Vec<Binding>,
+/// Gives the name the place behind the items, where there is then room. Tells a copy of the name, and the place that it had.
+pub(crate) fn placed<T>(
+    items: &mut Vec<T>,
     places: &mut BTreeMap<String, usize>,
     name: &str,
 ) -> Result<(String, Option<usize>), AllocError>
-    ensures items { bindings.new.items ≡ bindings.old.items }
-    ensures room { OnOk result (vec_len bindings.new < vec_capacity bindings.new) }
+    ensures items { items.new.items ≡ items.old.items }
+    ensures room { OnOk result (vec_len items.new < vec_capacity items.new) }
     ensures name { IfOk result (λ p. string_bytes p.0 ≡ name.now) }
     ensures hidden { IfOk result (λ p. p.1 ≡ get_by_text places.old name.now) }
-    ensures place { OnOk result ((other : List ℕ) → get_by_text places.new other ≡ (if bytes_eq name.now other then Some (length bindings.old.items) else get_by_text places.old other)) }
+    ensures place { OnOk result ((other : List ℕ) → get_by_text places.new other ≡ (if bytes_eq name.now other then Some (length items.old.items) else get_by_text places.old other)) }
     ensures refused { OnErr result (IsUnchanged places.old places.new) }
 {
-    let alloc = *bindings.allocator();
+    let alloc = *items.allocator();
     let key = String::from_str(alloc, name)?;
     let name = String::from_str(alloc, name)?;
-    bindings.reserve(1)?;
-    let hidden = places.insert(key, bindings.len())?;
+    items.reserve(1)?;
+    let hidden = places.insert(key, items.len())?;
     Ok((name, hidden))
 }
 

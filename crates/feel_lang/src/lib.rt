@@ -2,6 +2,7 @@
 //! evaluated exactly to what they mean.
 #![tactic(auto)]
 
+mod added;
 mod constant;
 mod env;
 mod eval_calls;
@@ -17,12 +18,15 @@ mod holds_tests;
 mod indexed;
 mod input_entry;
 mod laws;
+mod lent;
 mod line;
 mod literal;
 mod names;
+mod needs;
 mod operands;
 mod reader;
 mod ready;
+mod reference;
 mod scalar;
 mod scanner;
 mod texts;
@@ -40,4 +44,5 @@ pub use holds_tests::Held;
 pub use input_entry::Tests;
 pub use laws::{expressions_by_the_grammar, literals_by_the_grammar, tests_by_the_grammar};
 pub use names::is_name;
-pub use texts::{read_expr, read_literal, read_tests};
+pub use needs::Needs;
+pub use texts::{read_expr, read_expr_under, read_literal, read_tests, read_tests_under};

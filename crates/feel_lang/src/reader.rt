@@ -14,6 +14,7 @@ ghost use Rattle.feel_lang.specs.Reading.{after_and, after_bracket, after_close,
 use crate::expr::{Function, Operator, Tree};
 use crate::fault::ReadFault;
 use crate::line::Line;
+use crate::reference::Reference;
 use crate::token::{Sign, Token, Word};
 use crate::trees;
 use std::alloc::Global;
@@ -176,7 +177,7 @@ fn paths<'a>(
     if depth > inner {
         return Err(ReadFault::Syntax);
     }
-    let path = trees::path(alloc, first, name)?;
+    let path = trees::path(alloc, first, &name.name)?;
     paths(alloc, left - 1, inner, path, depth + 1, after)
 }
 
@@ -513,7 +514,7 @@ fn primary<'a>(alloc: Global, inner: usize, tokens: &'a [Token]) -> Result<Found
     match token {
         Token::Number(n) => leaf(alloc, trees::number(*n), rest),
         Token::Text(text) => leaf(alloc, trees::text(alloc, text.as_str())?, rest),
-        Token::Name(name) => named(alloc, inner, name, rest),
+        Token::Name(reference) => named(alloc, inner, reference, rest),
         Token::Keyword(Word::Null) => leaf(alloc, trees::null(), rest),
         Token::Keyword(Word::True) => leaf(alloc, trees::boolean(true), rest),
         Token::Keyword(Word::False) => leaf(alloc, trees::boolean(false), rest),
@@ -530,21 +531,22 @@ fn primary<'a>(alloc: Global, inner: usize, tokens: &'a [Token]) -> Result<Found
 fn named<'a>(
     alloc: Global,
     inner: usize,
-    name: &String,
+    reference: &Reference,
     tokens: &'a [Token],
 ) -> Result<Found<'a>, ReadFault>
     requires { inner < 64 }
     ensures found { Gives (λ x. (view x.0.value, x.1, views x.2.now)) result
-        (named_at (string_bytes name.now) (read_at inner) (views tokens.now)) }
+        (named_at (string_bytes reference.now.name) (read_at inner) (views tokens.now)) }
     ensures depth { IfOk result (λ x. x.1 ≤ inner + 1) }
 {
     let [Token::Symbol(Sign::OpenParen), rest @ ..] = tokens else {
-        return leaf(alloc, Tree::Name(name.clone()?), tokens);
+        return leaf(alloc, Tree::Name(reference.try_clone()?), tokens);
     };
-    if name.as_str() == "modulo" {
+    let name = reference.name.as_str();
+    if name == "modulo" {
         return modulo(alloc, inner, rest);
     }
-    let Some(function) = function_of(name.as_str()) else {
+    let Some(function) = function_of(name) else {
         return Err(ReadFault::Syntax);
     };
     let (expr, depth, rest) = closed(alloc, inner, rest)?;

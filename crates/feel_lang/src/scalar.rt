@@ -1,5 +1,5 @@
 //! The evaluation of expressions whose parts are numbers and truth values: nothing is formed, kept or copied for these.
-ghost use Rattle.std.specs.Prelude.{◌≡◌, true, pos, ◌-ℤ◌, unwrap_or};
+ghost use Rattle.std.specs.Prelude.{◌≡◌, true, pos, ◌-ℤ◌, unwrap_or, string_bytes};
 ghost use Rattle.feel_value.specs.Datum.{null as null_value, number as number_datum};
 ghost use Rattle.feel_value.specs.Logic.{truth_datum, truth_of, not_of};
 ghost use Rattle.feel_value.specs.Outcome.{held};
@@ -13,6 +13,7 @@ ghost use Rattle.feel_lang.specs.View.{view};
 
 use crate::env::Env;
 use crate::expr::{Operator, Tree};
+use crate::reference::Reference;
 use feel_value::{Feel, Truth, Value, and3, decided, not3, or3};
 
 /// A number in range, or a truth value. `Other` says nothing: what it stands for was not evaluated.
@@ -30,7 +31,7 @@ pub(crate) fn scalar_value(expr: &Tree, env: &Env) -> Scalar
 {
     match expr {
         Tree::Constant(constant) => of_value(constant.value()),
-        Tree::Name(name) => named(name.as_str(), env),
+        Tree::Name(reference) => named(reference, env),
         Tree::Group(inner) => scalar_value(inner, env),
         Tree::Binary(operator, left, right) => binary(*operator, left, right, env),
         Tree::Modulo(left, right) => remainder(left, right, env),
@@ -106,10 +107,10 @@ fn of_value(value: &Feel) -> Scalar
 }
 
 // The value of a name; null where it has none.
-fn named(name: &str, env: &Env) -> Scalar
-    ensures { IsScalar result (Is (unwrap_or (bound name.now env.now) null_value)) }
+fn named(reference: &Reference, env: &Env) -> Scalar
+    ensures { IsScalar result (Is (unwrap_or (bound (string_bytes reference.now.name) env.now) null_value)) }
 {
-    match env.find(name) {
+    match env.find_at(reference) {
         Some(value) => of_value(value),
         None => Scalar::Truth(Truth::Unknown),
     }

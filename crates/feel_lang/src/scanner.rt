@@ -10,6 +10,8 @@ ghost use Rattle.feel_lang.specs.Token.{views};
 ghost use Rattle.feel_lang.specs.declared.fault.ReadFault.TheVariants.{Syntax};
 
 use crate::fault::ReadFault;
+use crate::needs::Needs;
+use crate::reference::Reference;
 use crate::token::{Sign, Token, Word};
 use std::alloc::Global;
 
@@ -88,7 +90,12 @@ fn run_length(text: &str) -> usize
 
 // The token that a run of word bytes is.
 #[tactic(auto, unfolding(crate::specs::Scanning::run_token, crate::specs::Scanning::number_token, crate::specs::Scanning::word_token))]
-fn run_token(alloc: Global, digit: bool, word: &str) -> Result<Token, ReadFault>
+fn run_token(
+    alloc: Global,
+    digit: bool,
+    word: &str,
+    needs: &Needs,
+) -> Result<Token, ReadFault>
     ensures { Gives token_specs.view result (run_token digit word.now) }
 {
     if digit {
@@ -103,17 +110,21 @@ fn run_token(alloc: Global, digit: bool, word: &str) -> Result<Token, ReadFault>
     if word.len() > 64 {
         return Err(ReadFault::Syntax);
     }
-    let name = String::from_str(alloc, word)?;
-    Ok(Token::Name(name))
+    Ok(Token::Name(Reference::under(alloc, word, needs)?))
 }
 
 // The token of word bytes at the start.
 #[tactic(auto, unfolding(crate::specs::Scanning::run_at))]
-fn run<'a>(alloc: Global, digit: bool, text: &'a str) -> Result<(Token, &'a str), ReadFault>
+fn run<'a>(
+    alloc: Global,
+    digit: bool,
+    text: &'a str,
+    needs: &Needs,
+) -> Result<(Token, &'a str), ReadFault>
     ensures { Gives (λ x. (token_specs.view x.0, x.1.now)) result (run_at digit text.now) }
 {
     let (word, rest) = text.split_at(run_length(text));
-    let token = run_token(alloc, digit, word)?;
+    let token = run_token(alloc, digit, word, needs)?;
     Ok((token, rest))
 }
 
@@ -241,14 +252,18 @@ fn string<'a>(alloc: Global, text: &'a str) -> Result<(String, &'a str), ReadFau
 
 // The first token of a text that begins with no blank, and what comes after it.
 #[tactic(auto, unfolding(crate::specs::Scanning::token_at, crate::specs::Scanning::string_at), using(crate::proofs::Runs::after_first))]
-fn token<'a>(alloc: Global, text: &'a str) -> Result<(Token, &'a str), ReadFault>
+fn token<'a>(
+    alloc: Global,
+    text: &'a str,
+    needs: &Needs,
+) -> Result<(Token, &'a str), ReadFault>
     ensures { Gives (λ x. (token_specs.view x.0, x.1.now)) result (token_at text.now) }
 {
     let Some((first, _)) = text.as_bytes().split_first() else {
         return Err(ReadFault::Syntax);
     };
     if is_word_byte(*first) {
-        return run(alloc, is_digit(*first), text);
+        return run(alloc, is_digit(*first), text, needs);
     }
     if *first == b'"' {
         let (content, rest) = string(alloc, &text[1..])?;
@@ -260,8 +275,8 @@ fn token<'a>(alloc: Global, text: &'a str) -> Result<(Token, &'a str), ReadFault
     sign(*first, &text[1..])
 }
 
-/// The tokens of a whole text.
-pub(crate) fn tokens(alloc: Global, text: &str) -> Result<Vec<Token>, ReadFault>
+/// The tokens of a whole text, with the positions that its names have among the needed ones.
+pub(crate) fn tokens(alloc: Global, text: &str, needs: &Needs) -> Result<Vec<Token>, ReadFault>
     ensures found { IfOk result (λ v. IsCut text.now (views v.items)) }
     ensures only { IfOk result
         (λ v. (ts : List token_specs.Token) → IsCut text.now ts → ts ≡ views v.items) }
@@ -274,7 +289,7 @@ pub(crate) fn tokens(alloc: Global, text: &str) -> Result<Vec<Token>, ReadFault>
             rest = &rest[1..];
             continue;
         }
-        let (token, after) = token(alloc, rest)?;
+        let (token, after) = token(alloc, rest, needs)?;
         tokens.push(token)?;
         rest = after;
     }

@@ -1,5 +1,7 @@
 //! The tokens of a FEEL text.
 
+use crate::reference::Reference;
+
 /// A keyword. None of them is a name.
 #[derive(Clone, Copy, Debug, PartialEq, Eq)]
 pub(crate) enum Word {
@@ -44,7 +46,7 @@ pub(crate) enum Token {
     /// What a string stands for, its escapes resolved.
     Text(String),
     /// A word that is no keyword, of at most 64 bytes.
-    Name(String),
+    Name(Reference),
     Keyword(Word),
     Symbol(Sign),
 }

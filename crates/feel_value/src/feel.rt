@@ -1,5 +1,5 @@
 //! Values within the limits of the profile.
-ghost use Rattle.std.specs.Prelude.{◌≡◌, true, Some, None, if◌then◌else◌, IfOk};
+ghost use Rattle.std.specs.Prelude.{option_map, ◌≡◌, true, Some, None, if◌then◌else◌, IfOk};
 ghost use Rattle.serde_json.specs.View.{view};
 ghost use Rattle.feel_value.specs.Faults.{json_reading, IsDueUnlessMemory};
 ghost use Rattle.feel_value.specs.Json.{json_of};
@@ -147,6 +147,7 @@ pub enum Outcome {
 impl Outcome {
     ghost use Rattle.feel_value.specs.Datum.{null, number, list, context};
     ghost use Rattle.feel_value.specs.Logic.{truth_datum};
+    ghost use Rattle.feel_value.specs.Found.{value_of};
     ghost use Rattle.feel_value.specs.Outcome.{held};
     ghost use Rattle.feel_value.specs.declared.feel.Outcome.TheVariants.{Is};
     ghost use Rattle.feel_value.specs.View.{items_view, entries_view};
@@ -195,6 +196,16 @@ impl Outcome {
         ensures { IfOk result (λ o. o ≡ held (context (entries_view entries.items))) }
     {
         Ok(Outcome::of(Value::Context(Arc::new(alloc, entries)?)))
+    }
+
+    /// The value, unless a limit was broken.
+    pub fn value(&self) -> Option<&Feel>
+        ensures { option_map (λ v. v.now) result ≡ value_of self.now }
+    {
+        match self {
+            Outcome::Is(value) => Some(value),
+            Outcome::Limit => None,
+        }
     }
 
     /// The value held against the limits.

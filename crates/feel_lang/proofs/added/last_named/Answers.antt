@@ -2,7 +2,7 @@ use Rattle.std.proofs.Common.{◌≡◌, ◌∙◌, ◌+◌, ◌-◌, ◌≤◌,
 use Rattle.feel_lang.specs.Meaning.{bound}
 use Rattle.feel_lang.specs.Few.{few_of, named_of}
 use Rattle.feel_lang.proofs.Few.{bound_up_to}
-use Rattle.feel_lang.proofs.env.last_named.Goals as goal
+use Rattle.feel_lang.proofs.added.last_named.Goals as goal
 
 pub returns-then-eq : goal.returns-then-eq
 returns-then-eq c =

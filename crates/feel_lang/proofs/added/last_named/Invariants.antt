@@ -1,7 +1,7 @@
 use Rattle.std.proofs.Common.{◌≡◌, ◌≤◌, take, length}
 use Rattle.feel_lang.specs.Meaning.{bound}
 use Rattle.feel_lang.specs.Few.{few_of}
-use Rattle.feel_lang.proofs.env.last_named.Given as goal
+use Rattle.feel_lang.proofs.added.last_named.Given as goal
 
 abbrev pub invariant-loop-i : goal.invariant-loop-i
 invariant-loop-i l = (l.i ≤ length l.bindings) × (bound l.name (few_of l.bindings) ≡ bound l.name (few_of (take l.i l.bindings)))

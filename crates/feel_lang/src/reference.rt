@@ -1,0 +1,35 @@
+//! Names as they stand in texts.
+ghost use Rattle.std.specs.Prelude.{◌≡◌, IfOk, string_bytes};
+
+use crate::needs::Needs;
+use std::alloc::{AllocError, Global};
+
+/// A name in a text, with the position that it has among the needed names under which the text was read. The position is a hint:
+/// an environment looks there first, and compares the name.
+#[derive(Debug, Drop)]
+pub(crate) struct Reference {
+    pub(crate) name: String,
+    pub(crate) position: Option<usize>,
+}
+
+impl Reference {
+    /// The name as it stands in a text that is read under these needed names.
+    pub(crate) fn under(alloc: Global, name: &str, needs: &Needs) -> Result<Reference, AllocError>
+        ensures { IfOk result (λ r. string_bytes r.name ≡ name.now) }
+    {
+        Ok(Reference {
+            name: String::from_str(alloc, name)?,
+            position: needs.position(name),
+        })
+    }
+
+    /// A copy.
+    pub(crate) fn try_clone(&self) -> Result<Reference, AllocError>
+        ensures { IfOk result (λ r. string_bytes r.name ≡ string_bytes self.now.name) }
+    {
+        Ok(Reference {
+            name: self.name.clone()?,
+            position: self.position,
+        })
+    }
+}
