@@ -17,7 +17,7 @@ use Rattle.feel_lang.proofs.Bindings.{last_place-push, same_text, text_itself, b
 
 -- ---- positions of the last of a name
 
-abbrev place_of : Need → List ℕ × ℕ
+abbrev pub place_of : Need → List ℕ × ℕ
 place_of n = (string_bytes n.name, n.place)
 
 -- the same names up to a place

@@ -1,9 +1,10 @@
-use Rattle.std.proofs.Common.{◌≡◌, ◌∙◌, ◌++◌, ◌∷◌, [], ℕ, List, sym, ap, string_bytes, bytes_eq, length, Some, None, true, false, subst, if◌then◌else◌}
+use Rattle.std.proofs.Common.{◌≡◌, ◌∙◌, ◌++◌, ◌∷◌, [], ℕ, List, sym, ap, string_bytes, bytes_eq, length, Some, None, true, false, subst, if◌then◌else◌, arith}
 use Rattle.std.specs.BTreeMap.{get_by_text}
 use Rattle.feel_lang.specs.Needed.{named_places, ArePositioned, AreLast}
 use Rattle.feel_lang.specs.Places.{last_place}
 use Rattle.feel_lang.specs.declared.needs.Need.{Need}
-use Rattle.feel_lang.proofs.Needed.{positioned_more, last_each, none_is}
+use Rattle.std.proofs.lemmas.List.{length-map, length_push}
+use Rattle.feel_lang.proofs.Needed.{place_of, positioned_more, last_each, none_is}
 use Rattle.feel_lang.proofs.needs.Needs.push.Goals.{then-self, else-self}
 use Rattle.feel_lang.proofs.needs.Needs.push.Goals as goal
 
@@ -17,7 +18,7 @@ invariant_of-self-2 c =
     let placed : (q : List ℕ) → get_by_text now q ≡ (if bytes_eq (string_bytes x.name) q then Some (length xs) else get_by_text old q) =
         λ q. c.in_ok-name.ensures.place q ∙ ap (λ n. if bytes_eq n q then Some (length xs) else get_by_text old q) (sym c.in_ok-name.ensures.name) in
     record {
-        size = ?;
+        size = omega (arith, ap length items, length-map c.push.new.self.items place_of, length-map xs place_of, length_push xs x, c.self.invariant.size, c.if-len-ge-MOST_NEEDS.false, c.len.ensures);
         positioned = subst (λ ys. ArePositioned (named_places ys) now) (sym items) (positioned_more xs x old now c.self.invariant.positioned placed);
         last = λ distinct. elim c.if-self.branch [ 
             then-self w ↦
