@@ -10,6 +10,7 @@ use crate::logic::Logic;
 use crate::table::table_of;
 use crate::texts::expression_of;
 use dmn_form::{WrittenDecision, WrittenLogic};
+use feel_lang::Needs;
 use std::alloc::{AllocError, Global};
 
 /// What reading gives.
@@ -23,34 +24,38 @@ pub(crate) enum Reading<T> {
     Unread,
 }
 
-/// A boxed expression. It goes as deep as that is.
+/// A boxed expression, read under the names that its decision needs. It goes as deep as that is.
 #[cycle(reading)]
-fn logic_of(alloc: Global, written: &WrittenLogic) -> Result<Reading<Logic>, AllocError>
+fn logic_of(
+    alloc: Global,
+    needs: &Needs,
+    written: &WrittenLogic,
+) -> Result<Reading<Logic>, AllocError>
     ensures { IfOk result (λ r. mapped logic_view r ≡ logic_reading (written_view written.now)) }
 {
     match written {
-        WrittenLogic::Expression(text) => match expression_of(alloc, text.as_str())? {
+        WrittenLogic::Expression(text) => match expression_of(alloc, needs, text.as_str())? {
             Some(expression) => Ok(Reading::Found(Logic::Expression(expression))),
             None => Ok(Reading::Unread),
         },
-        WrittenLogic::Table(table) => match table_of(alloc, table)? {
+        WrittenLogic::Table(table) => match table_of(alloc, needs, table)? {
             Reading::Found(table) => Ok(Reading::Found(Logic::Table(table))),
             Reading::Refused => Ok(Reading::Refused),
             Reading::Unread => Ok(Reading::Unread),
         },
-        WrittenLogic::List(members) => match members_of(alloc, members)? {
+        WrittenLogic::List(members) => match members_of(alloc, needs, members)? {
             Reading::Found(members) => Ok(Reading::Found(Logic::List(members))),
             Reading::Refused => Ok(Reading::Refused),
             Reading::Unread => Ok(Reading::Unread),
         },
-        WrittenLogic::Context(entries) => match entries_of(alloc, entries)? {
+        WrittenLogic::Context(entries) => match entries_of(alloc, needs, entries)? {
             Reading::Found(entries) => Ok(Reading::Found(Logic::Context(entries))),
             Reading::Refused => Ok(Reading::Refused),
             Reading::Unread => Ok(Reading::Unread),
         },
         WrittenLogic::ContextWith(entries, last) => {
-            let entries = entries_of(alloc, entries)?;
-            let last = logic_of(alloc, last)?;
+            let entries = entries_of(alloc, needs, entries)?;
+            let last = logic_of(alloc, needs, last)?;
             let reading = context_with(alloc, entries, last)?;
             Ok(reading)
         }
@@ -77,13 +82,17 @@ fn context_with(
 
 /// The members of a list.
 #[cycle(reading)]
-fn members_of(alloc: Global, written: &[WrittenLogic]) -> Result<Reading<Vec<Logic>>, AllocError>
+fn members_of(
+    alloc: Global,
+    needs: &Needs,
+    written: &[WrittenLogic],
+) -> Result<Reading<Vec<Logic>>, AllocError>
     ensures { IfOk result (λ r. mapped (λ v. map logic_view v.items) r ≡ members_reading (members_in (map written_view written.now))) }
 {
     let mut members = Vec::with_capacity(alloc, written.len())?;
     let mut is_refused = false;
     for member in written {
-        match logic_of(alloc, member)? {
+        match logic_of(alloc, needs, member)? {
             Reading::Found(member) => members.push(member)?,
             Reading::Refused => is_refused = true,
             Reading::Unread => return Ok(Reading::Unread),
@@ -99,6 +108,7 @@ fn members_of(alloc: Global, written: &[WrittenLogic]) -> Result<Reading<Vec<Log
 #[cycle(reading)]
 fn entries_of(
     alloc: Global,
+    needs: &Needs,
     written: &[(String, WrittenLogic)],
 ) -> Result<Reading<Vec<(String, Logic)>>, AllocError>
     ensures { IfOk result (λ r. mapped (λ v. map entry_view v.items) r ≡ entries_reading (entries_in (map written_entry written.now))) }
@@ -106,7 +116,7 @@ fn entries_of(
     let mut entries = Vec::with_capacity(alloc, written.len())?;
     let mut is_refused = false;
     for (name, logic) in written {
-        match logic_of(alloc, logic)? {
+        match logic_of(alloc, needs, logic)? {
             Reading::Found(logic) => {
                 entries.push((String::from_str(alloc, name.as_str())?, logic))?;
             }
@@ -120,7 +130,16 @@ fn entries_of(
     Ok(Reading::Found(entries))
 }
 
-/// The logic of each decision.
+/// The names that a decision needs, each with its place among them.
+fn needs_of(alloc: Global, names: &[String]) -> Result<Needs, AllocError> {
+    let mut needs = Needs::new(alloc);
+    for (place, name) in names.iter().enumerate() {
+        needs.push(name.as_str(), place)?;
+    }
+    Ok(needs)
+}
+
+/// The logic of each decision, read under the names that it needs.
 pub(crate) fn logics_of(
     alloc: Global,
     decisions: &[WrittenDecision],
@@ -130,7 +149,8 @@ pub(crate) fn logics_of(
     let mut logics = Vec::with_capacity(alloc, decisions.len())?;
     let mut is_refused = false;
     for decision in decisions {
-        match logic_of(alloc, &decision.logic)? {
+        let needs = needs_of(alloc, &decision.needs)?;
+        match logic_of(alloc, &needs, &decision.logic)? {
             Reading::Found(logic) => logics.push(logic)?,
             Reading::Refused => is_refused = true,
             Reading::Unread => return Ok(Reading::Unread),

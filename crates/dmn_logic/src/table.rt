@@ -11,18 +11,22 @@ use crate::reading::Reading;
 use crate::texts::{all_tests_of, expression_if, expressions_of, literals_of};
 use dmn_form::{WrittenColumn, WrittenRule, WrittenTable};
 use dmn_table::{Output, Rule, Table};
-use feel_lang::Expr;
+use feel_lang::{Expr, Needs};
 use std::alloc::{AllocError, Global};
 use std::collections::BTreeSet;
 
 /// An output column, if each of its texts has a reading.
-fn column_of(alloc: Global, written: &WrittenColumn) -> Result<Option<Output>, AllocError>
+fn column_of(
+    alloc: Global,
+    needs: &Needs,
+    written: &WrittenColumn,
+) -> Result<Option<Output>, AllocError>
     ensures { IfOk result (λ o. option_map column_view o ≡ read_column (written_column written.now)) }
 {
     let Some(values) = literals_of(alloc, &written.values)? else {
         return Ok(None);
     };
-    let Some(fallback) = expression_if(alloc, &written.fallback)? else {
+    let Some(fallback) = expression_if(alloc, needs, &written.fallback)? else {
         return Ok(None);
     };
     let name = String::from_str(alloc, written.name.as_str())?;
@@ -34,12 +38,16 @@ fn column_of(alloc: Global, written: &WrittenColumn) -> Result<Option<Output>, A
 }
 
 /// Output columns, if each of their texts has a reading.
-fn columns_of(alloc: Global, written: &[WrittenColumn]) -> Result<Option<Vec<Output>>, AllocError>
+fn columns_of(
+    alloc: Global,
+    needs: &Needs,
+    written: &[WrittenColumn],
+) -> Result<Option<Vec<Output>>, AllocError>
     ensures { IfOk result (λ o. option_map (λ v. map column_view v.items) o ≡ each read_column (map written_column written.now)) }
 {
     let mut columns = Vec::with_capacity(alloc, written.len())?;
     for column in written {
-        let Some(column) = column_of(alloc, column)? else {
+        let Some(column) = column_of(alloc, needs, column)? else {
             return Ok(None);
         };
         columns.push(column)?;
@@ -48,25 +56,33 @@ fn columns_of(alloc: Global, written: &[WrittenColumn]) -> Result<Option<Vec<Out
 }
 
 /// A rule, if each of its texts has a reading.
-fn rule_of(alloc: Global, written: &WrittenRule) -> Result<Option<Rule>, AllocError>
+fn rule_of(
+    alloc: Global,
+    needs: &Needs,
+    written: &WrittenRule,
+) -> Result<Option<Rule>, AllocError>
     ensures { IfOk result (λ o. option_map rule_view o ≡ read_rule (written_rule written.now)) }
 {
-    let Some(tests) = all_tests_of(alloc, &written.tests)? else {
+    let Some(tests) = all_tests_of(alloc, needs, &written.tests)? else {
         return Ok(None);
     };
-    let Some(gives) = expressions_of(alloc, &written.gives)? else {
+    let Some(gives) = expressions_of(alloc, needs, &written.gives)? else {
         return Ok(None);
     };
     Ok(Some(Rule { tests, gives }))
 }
 
 /// Rules, if each of their texts has a reading.
-fn rules_of(alloc: Global, written: &[WrittenRule]) -> Result<Option<Vec<Rule>>, AllocError>
+fn rules_of(
+    alloc: Global,
+    needs: &Needs,
+    written: &[WrittenRule],
+) -> Result<Option<Vec<Rule>>, AllocError>
     ensures { IfOk result (λ o. option_map (λ v. map rule_view v.items) o ≡ each read_rule (map written_rule written.now)) }
 {
     let mut rules = Vec::with_capacity(alloc, written.len())?;
     for rule in written {
-        let Some(rule) = rule_of(alloc, rule)? else {
+        let Some(rule) = rule_of(alloc, needs, rule)? else {
             return Ok(None);
         };
         rules.push(rule)?;
@@ -108,17 +124,21 @@ fn made(
     }
 }
 
-/// A decision table.
-pub(crate) fn table_of(alloc: Global, written: &WrittenTable) -> Result<Reading<Table>, AllocError>
+/// A decision table, read under the names that its decision needs.
+pub(crate) fn table_of(
+    alloc: Global,
+    needs: &Needs,
+    written: &WrittenTable,
+) -> Result<Reading<Table>, AllocError>
     ensures { IfOk result (λ r. r ≡ table_reading (table_view written.now)) }
 {
-    let Some(inputs) = expressions_of(alloc, &written.inputs)? else {
+    let Some(inputs) = expressions_of(alloc, needs, &written.inputs)? else {
         return Ok(Reading::Unread);
     };
-    let Some(outputs) = columns_of(alloc, &written.outputs)? else {
+    let Some(outputs) = columns_of(alloc, needs, &written.outputs)? else {
         return Ok(Reading::Unread);
     };
-    let Some(rules) = rules_of(alloc, &written.rules)? else {
+    let Some(rules) = rules_of(alloc, needs, &written.rules)? else {
         return Ok(Reading::Unread);
     };
     let table = made(alloc, written.hit.as_str(), inputs, outputs, rules)?;

@@ -1,18 +1,22 @@
-//! The texts of expressions, unary tests and literals.
+//! The texts of expressions, unary tests and literals. Those of a decision are read under the names that it needs.
 ghost use Rattle.std.specs.Prelude.{◌≡◌, IfOk, option_map, map, string_bytes};
 ghost use Rattle.feel_lang.specs.Readings.{expr_of, tests_of as tests_in, literal_of as literal_in};
 ghost use Rattle.feel_value.specs.Found.{each};
 ghost use Rattle.dmn_logic.specs.ReadLogic.{read_if};
 
-use feel_lang::{Expr, ReadFault, Tests, read_expr, read_literal, read_tests};
+use feel_lang::{Expr, Needs, ReadFault, Tests, read_expr_under, read_literal, read_tests_under};
 use feel_value::Feel;
 use std::alloc::{AllocError, Global};
 
 /// The expression of a text, if it has one.
-pub(crate) fn expression_of(alloc: Global, text: &str) -> Result<Option<Expr>, AllocError>
+pub(crate) fn expression_of(
+    alloc: Global,
+    needs: &Needs,
+    text: &str,
+) -> Result<Option<Expr>, AllocError>
     ensures { IfOk result (λ o. o ≡ expr_of text.now) }
 {
-    match read_expr(alloc, text) {
+    match read_expr_under(alloc, text, needs) {
         Ok(expression) => Ok(Some(expression)),
         Err(ReadFault::Syntax) => Ok(None),
         Err(ReadFault::Memory) => Err(AllocError),
@@ -20,10 +24,10 @@ pub(crate) fn expression_of(alloc: Global, text: &str) -> Result<Option<Expr>, A
 }
 
 /// The unary tests of a text, if it has them.
-fn tests_of(alloc: Global, text: &str) -> Result<Option<Tests>, AllocError>
+fn tests_of(alloc: Global, needs: &Needs, text: &str) -> Result<Option<Tests>, AllocError>
     ensures { IfOk result (λ o. o ≡ tests_in text.now) }
 {
-    match read_tests(alloc, text) {
+    match read_tests_under(alloc, text, needs) {
         Ok(tests) => Ok(Some(tests)),
         Err(ReadFault::Syntax) => Ok(None),
         Err(ReadFault::Memory) => Err(AllocError),
@@ -44,6 +48,7 @@ fn literal_of(alloc: Global, text: &str) -> Result<Option<Feel>, AllocError>
 /// The expression of a text that may be left out.
 pub(crate) fn expression_if(
     alloc: Global,
+    needs: &Needs,
     text: &Option<String>,
 ) -> Result<Option<Option<Expr>>, AllocError>
     ensures { IfOk result (λ o. o ≡ read_if (option_map string_bytes text.now)) }
@@ -51,7 +56,7 @@ pub(crate) fn expression_if(
     let Some(text) = text else {
         return Ok(Some(None));
     };
-    match expression_of(alloc, text.as_str())? {
+    match expression_of(alloc, needs, text.as_str())? {
         Some(expression) => Ok(Some(Some(expression))),
         None => Ok(None),
     }
@@ -60,13 +65,14 @@ pub(crate) fn expression_if(
 /// The expressions of texts, if each has one.
 pub(crate) fn expressions_of(
     alloc: Global,
+    needs: &Needs,
     texts: &[String],
 ) -> Result<Option<Vec<Expr>>, AllocError>
     ensures { IfOk result (λ o. option_map (λ v. v.items) o ≡ each expr_of (map string_bytes texts.now)) }
 {
     let mut expressions = Vec::with_capacity(alloc, texts.len())?;
     for text in texts {
-        let Some(expression) = expression_of(alloc, text.as_str())? else {
+        let Some(expression) = expression_of(alloc, needs, text.as_str())? else {
             return Ok(None);
         };
         expressions.push(expression)?;
@@ -77,13 +83,14 @@ pub(crate) fn expressions_of(
 /// The unary tests of texts, if each has them.
 pub(crate) fn all_tests_of(
     alloc: Global,
+    needs: &Needs,
     texts: &[String],
 ) -> Result<Option<Vec<Tests>>, AllocError>
     ensures { IfOk result (λ o. option_map (λ v. v.items) o ≡ each tests_in (map string_bytes texts.now)) }
 {
     let mut entries = Vec::with_capacity(alloc, texts.len())?;
     for text in texts {
-        let Some(tests) = tests_of(alloc, text.as_str())? else {
+        let Some(tests) = tests_of(alloc, needs, text.as_str())? else {
             return Ok(None);
         };
         entries.push(tests)?;

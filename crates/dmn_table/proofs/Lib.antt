@@ -14,3 +14,4 @@ pub mod PriorityOrder
 pub mod EqualPlaces
 pub mod FirstInPriority
 pub mod FittingHits
+pub mod Unbroken

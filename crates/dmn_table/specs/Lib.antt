@@ -1,6 +1,7 @@
 pub mod Table
 pub mod Faults
 pub mod Hits
+pub mod Unbroken
 pub mod Priority
 pub mod Listed
 pub mod RuleOutputs

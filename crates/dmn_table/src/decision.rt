@@ -20,7 +20,8 @@ pub fn decide(alloc: Global, table: &Table, env: &Env) -> Result<Outcome, AllocE
     let Some(values) = evaluated(alloc, &table.inputs, env)? else {
         return Ok(Outcome::Limit);
     };
-    let Some(rules) = rules_that_hit(alloc, &table.rules, &values, env)? else {
+    let keep_limits = table.entries_keep_limits;
+    let Some(rules) = rules_that_hit(alloc, &table.rules, keep_limits, &values, env)? else {
         return Ok(Outcome::Limit);
     };
     if rules.is_empty() {

@@ -1,10 +1,11 @@
 //! The rules that hit, and their outputs and places.
-ghost use Rattle.std.specs.Prelude.{◌≡◌, IfOk, map, option_map};
+ghost use Rattle.std.specs.Prelude.{◌≡◌, IsTrue, IfOk, map, option_map};
 ghost use Rattle.feel_value.specs.Found.{each};
 ghost use Rattle.dmn_table.specs.Hits.{does_hit as does_hit_of, hit_of as hit_of_rule};
 ghost use Rattle.dmn_table.specs.Listed.{listed_values, places_among};
 ghost use Rattle.dmn_table.specs.Parts.{rule_view, column_view};
 ghost use Rattle.dmn_table.specs.RuleOutputs.{rules_view, hits_among, fitting};
+ghost use Rattle.dmn_table.specs.Unbroken.{KeepLimits, AllKeepLimits};
 ghost use Rattle.dmn_table.specs.View.{hit_view};
 
 use crate::listed::{Listed, lists_of};
@@ -16,13 +17,16 @@ use feel_value::{Feel, Members, Outcome};
 use std::alloc::{AllocError, Global};
 
 /// Whether the rule hits, for these values of the input expressions; None where an entry breaks a limit. All entries are
-/// evaluated but those after a miss that are known to break no limit, since these change nothing.
+/// evaluated but those after a miss that are known to break no limit, since these change nothing: where all are known to
+/// (`keeps_limits`), a miss is the end.
 fn does_hit(
     alloc: Global,
     rule: &Rule,
+    keeps_limits: bool,
     values: &[Feel],
     env: &Env,
 ) -> Result<Option<bool>, AllocError>
+    requires { IsTrue keeps_limits → KeepLimits rule.now.tests.items }
     ensures { IfOk result (λ hit. hit ≡ does_hit_of env.now values.now (rule_view rule.now)) }
 {
     let mut hit = true;
@@ -32,6 +36,7 @@ fn does_hit(
         }
         match holds(alloc, tests, value, env)? {
             Held::Yes => {}
+            Held::No if keeps_limits => return Ok(Some(false)),
             Held::No => hit = false,
             Held::Limit => return Ok(None),
         }
@@ -40,18 +45,20 @@ fn does_hit(
 }
 
 /// The rules that hit, in their order; None where an entry breaks a limit. The entries of all rules are evaluated, but those
-/// after a miss in their rule that are known to break no limit.
+/// after a miss in their rule that are known to break no limit; `keep_limits` says that all are known to.
 pub(crate) fn rules_that_hit<'a>(
     alloc: Global,
     rules: &'a [Rule],
+    keep_limits: bool,
     values: &[Feel],
     env: &Env,
 ) -> Result<Option<Vec<&'a Rule>>, AllocError>
+    requires { IsTrue keep_limits → AllKeepLimits rules.now }
     ensures { IfOk result (λ found. option_map (λ v. rules_view v.items) found ≡ hits_among env.now values.now (map rule_view rules.now)) }
 {
     let mut hits = Vec::new(alloc);
     for rule in rules {
-        let Some(hit) = does_hit(alloc, rule, values, env)? else {
+        let Some(hit) = does_hit(alloc, rule, keep_limits, values, env)? else {
             return Ok(None);
         };
         if hit {

@@ -1,9 +1,10 @@
 //! Decision tables and their parts.
-ghost use Rattle.std.specs.Prelude.{◌≡◌, true, IfOk, IfErr, string_bytes, bytes_eq, length};
+ghost use Rattle.std.specs.Prelude.{◌≡◌, true, IsTrue, IfOk, IfErr, string_bytes, bytes_eq, length};
 ghost use Rattle.std.specs.List.{list_all, list_any};
 ghost use Rattle.dmn_table.specs.Faults.{columns_fit as columns_fit_of, fits_columns};
 ghost use Rattle.feel_value.specs.Distinct.{are_distinct};
 ghost use Rattle.dmn_table.specs.Parts.{names_of, entry_counts, fault_of_parts, MakesTable};
+ghost use Rattle.dmn_table.specs.Unbroken.{KeepLimits, AllKeepLimits};
 
 use crate::fault::TableFault;
 use crate::hit_policy::HitPolicy;
@@ -46,19 +47,28 @@ impl Rule {
     {
         self.tests.len() == inputs && self.gives.len() == outputs
     }
+
+    /// Whether each input entry is known to break no limit.
+    fn keeps_limits(&self) -> bool
+        ensures { IsTrue result → KeepLimits self.now.tests.items }
+    {
+        self.tests.iter().all(|tests| tests.keep_limits())
+    }
 }
 
-/// A decision table. Each rule has an entry for each column, and a policy that makes one number has one output column.
+/// A decision table. Each rule has an entry for each column, and a policy that makes one number has one output column. Whether
+/// all its input entries are known to break no limit is found once, when it is made.
 #[derive(Drop)]
 pub struct Table {
     pub(crate) policy: HitPolicy,
     pub(crate) inputs: Vec<Expr>,
     pub(crate) outputs: Vec<Output>,
     pub(crate) rules: Vec<Rule>,
+    pub(crate) entries_keep_limits: bool,
 }
 
 impl Model for Table {
-    ghost use Rattle.std.specs.Prelude.{◌≡◌, true, length};
+    ghost use Rattle.std.specs.Prelude.{◌≡◌, true, IsTrue, length};
     ghost use Rattle.dmn_table.specs.Table as specs;
     ghost use Rattle.dmn_table.specs.Code.{table_code};
 
@@ -68,10 +78,11 @@ impl Model for Table {
 
     ghost use Rattle.dmn_table.specs.Faults.{columns_fit, operator_fits};
     ghost use Rattle.dmn_table.specs.Parts.{table_of, names_of, entry_counts};
+    ghost use Rattle.dmn_table.specs.Unbroken.{AllKeepLimits};
 
     ghost view = { λ t. table_of t.policy t.inputs.items t.outputs.items t.rules.items };
 
-    ghost invariant = { λ t. (columns_fit (length t.inputs.items) (names_of t.outputs.items) (entry_counts t.rules.items) ≡ true) × (operator_fits t.policy (names_of t.outputs.items) ≡ true) };
+    ghost invariant = { λ t. (columns_fit (length t.inputs.items) (names_of t.outputs.items) (entry_counts t.rules.items) ≡ true) × (operator_fits t.policy (names_of t.outputs.items) ≡ true) × (IsTrue t.entries_keep_limits → AllKeepLimits t.rules.items) };
 }
 
 impl Table {
@@ -115,11 +126,13 @@ impl Table {
         if policy.is_operator() && outputs.len() > 1 {
             return Err(TableFault::Operator);
         }
+        let entries_keep_limits = keep_limits(&rules);
         Ok(Table {
             policy,
             inputs,
             outputs,
             rules,
+            entries_keep_limits,
         })
     }
 }
@@ -157,4 +170,11 @@ fn is_among(name: &str, outputs: &[Output]) -> bool
     ensures { result ≡ list_any (λ o. bytes_eq name.now (string_bytes o.name)) outputs.now }
 {
     outputs.iter().any(|output| output.is_named(name))
+}
+
+/// Whether each input entry of these rules is known to break no limit.
+fn keep_limits(rules: &[Rule]) -> bool
+    ensures { IsTrue result → AllKeepLimits rules.now }
+{
+    rules.iter().all(|rule| rule.keeps_limits())
 }
