@@ -14,6 +14,10 @@ use Rattle.feel_value.specs.contracts.feel.Feel as Feel
 use Rattle.feel_lang.specs.contracts.constant.Constant as Constant
 use Rattle.feel_lang.specs.contracts.constant.Constant.TheInside as ConstantInside
 use Rattle.feel_lang.specs.contracts.expression.Expr as Expr
+use Rattle.feel_lang.specs.contracts.needs.Need as Need
+use Rattle.feel_lang.specs.contracts.needs.Needs as Needs
+use Rattle.feel_lang.specs.contracts.needs.Needs.TheInside as NeedsInside
+use Rattle.feel_lang.specs.contracts.reference.Reference as Reference
 use Rattle.feel_lang.specs.contracts.input_entry.Tests as Tests
 use Rattle.feel_lang.proofs.ready.Span.TheSendSync as span
 use Rattle.feel_value.specs.contracts.value.Value as Value
@@ -52,11 +56,14 @@ ConstantInside-send = declared_send ConstantInside.the_type (Feel-send, tt)
 pub Constant-send : IsSend Constant.the_row
 Constant-send = view_send _ _ _ _ _ ConstantInside-send
 
+pub Reference-send : IsSend Reference.the_row
+Reference-send = declared_send Reference.the_type (maps.String-send, ((search (sendable, crosses) depth 20), tt))
+
 pub Expr-send : IsSend Expr.the_row
-Expr-send = search (Constant-send, operator.the_field_send, function.the_field_send, crosses, TreeKnot.crosses, sendable) depth 60 fits 20000
+Expr-send = search (Constant-send, Reference-send, operator.the_field_send, function.the_field_send, crosses, TreeKnot.crosses, sendable) depth 60 fits 20000
 
 pub Tests-send : IsSend Tests.the_row
-Tests-send = search (Constant-send, Value-send, Vec-send, span.the_field_send, operator.the_field_send, function.the_field_send, bound.the_field_send, crosses, TreeKnot.crosses, sendable) depth 60 fits 20000
+Tests-send = search (Constant-send, Reference-send, Value-send, Vec-send, span.the_field_send, operator.the_field_send, function.the_field_send, bound.the_field_send, crosses, TreeKnot.crosses, sendable) depth 60 fits 20000
 
 pub Output-send : IsSend Output.the_row
 Output-send = declared_send Output.the_type (maps.String-send, (Vec-send Feel.the_row Feel-send, (option.the_send Expr.the_row Expr-send, tt)))
@@ -65,7 +72,7 @@ pub Rule-send : IsSend Rule.the_row
 Rule-send = declared_send Rule.the_type (Vec-send Tests.the_row Tests-send, (Vec-send Expr.the_row Expr-send, tt))
 
 pub TableInside-send : IsSend TableInside.the_row
-TableInside-send = declared_send TableInside.the_type (policy.the_send, (Vec-send Expr.the_row Expr-send, (Vec-send Output.the_row Output-send, (Vec-send Rule.the_row Rule-send, tt))))
+TableInside-send = declared_send TableInside.the_type (policy.the_send, (Vec-send Expr.the_row Expr-send, (Vec-send Output.the_row Output-send, (Vec-send Rule.the_row Rule-send, ((search (sendable, crosses) depth 20), tt)))))
 
 pub Table-send : IsSend Table.the_row
 Table-send = view_send _ _ _ _ _ TableInside-send
@@ -82,11 +89,14 @@ ConstantInside-sync = declared_sync ConstantInside.the_type (Feel-sync, tt)
 pub Constant-sync : IsSync Constant.the_row
 Constant-sync = view_sync _ _ _ _ _ ConstantInside-sync
 
+pub Reference-sync : IsSync Reference.the_row
+Reference-sync = declared_sync Reference.the_type (maps.String-sync, ((search (sendable, crosses) depth 20), tt))
+
 pub Expr-sync : IsSync Expr.the_row
-Expr-sync = search (Constant-sync, operator.the_field_sync, function.the_field_sync, crosses, TreeKnot.crosses, sendable) depth 60 fits 20000
+Expr-sync = search (Constant-sync, Reference-sync, operator.the_field_sync, function.the_field_sync, crosses, TreeKnot.crosses, sendable) depth 60 fits 20000
 
 pub Tests-sync : IsSync Tests.the_row
-Tests-sync = search (Constant-sync, Value-sync, Vec-sync, span.the_field_sync, operator.the_field_sync, function.the_field_sync, bound.the_field_sync, crosses, TreeKnot.crosses, sendable) depth 60 fits 20000
+Tests-sync = search (Constant-sync, Reference-sync, Value-sync, Vec-sync, span.the_field_sync, operator.the_field_sync, function.the_field_sync, bound.the_field_sync, crosses, TreeKnot.crosses, sendable) depth 60 fits 20000
 
 pub Output-sync : IsSync Output.the_row
 Output-sync = declared_sync Output.the_type (maps.String-sync, (Vec-sync Feel.the_row Feel-sync, (option.the_sync Expr.the_row Expr-sync, tt)))
@@ -95,7 +105,7 @@ pub Rule-sync : IsSync Rule.the_row
 Rule-sync = declared_sync Rule.the_type (Vec-sync Tests.the_row Tests-sync, (Vec-sync Expr.the_row Expr-sync, tt))
 
 pub TableInside-sync : IsSync TableInside.the_row
-TableInside-sync = declared_sync TableInside.the_type (policy.the_sync, (Vec-sync Expr.the_row Expr-sync, (Vec-sync Output.the_row Output-sync, (Vec-sync Rule.the_row Rule-sync, tt))))
+TableInside-sync = declared_sync TableInside.the_type (policy.the_sync, (Vec-sync Expr.the_row Expr-sync, (Vec-sync Output.the_row Output-sync, (Vec-sync Rule.the_row Rule-sync, ((search (sendable, crosses) depth 20), tt)))))
 
 pub Table-sync : IsSync Table.the_row
 Table-sync = view_sync _ _ _ _ _ TableInside-sync
@@ -103,8 +113,17 @@ Table-sync = view_sync _ _ _ _ _ TableInside-sync
 pub Logic-send : IsSend Logic.the_row
 Logic-send = search (Expr-send, Table-send, crosses, LogicKnot.crosses, sendable) depth 60 fits 20000
 
+pub Need-send : IsSend Need.the_row
+Need-send = declared_send Need.the_type (maps.String-send, ((search (sendable, crosses) depth 20), tt))
+
+pub NeedsInside-send : IsSend NeedsInside.the_row
+NeedsInside-send = declared_send NeedsInside.the_type (Vec-send Need.the_row Need-send, ((search (maps.BTreeMap-send, maps.String-send, sendable, crosses, as_row_send) depth 20 fits 20000), ((search (sendable, crosses) depth 20), tt)))
+
+pub Needs-send : IsSend Needs.the_row
+Needs-send = view_send _ _ _ _ _ NeedsInside-send
+
 pub Item-send : IsSend Item.the_row
-Item-send = declared_send Item.the_type (maps.String-send, (search (sendable, crosses) depth 20, (option.the_send Logic.the_row Logic-send, tt)))
+Item-send = declared_send Item.the_type (maps.String-send, (search (sendable, crosses) depth 20, (Needs-send, (option.the_send Logic.the_row Logic-send, tt))))
 
 pub PlanInside-send : IsSend PlanInside.the_row
 PlanInside-send = declared_send PlanInside.the_type (maps.String-send, (Vec-send Item.the_row Item-send, ((search (maps.BTreeMap-send, maps.String-send, service.the_send, as_row_send) depth 20 fits 20000), tt)))
@@ -115,8 +134,17 @@ Plan-send = view_send _ _ _ _ _ PlanInside-send
 pub Logic-sync : IsSync Logic.the_row
 Logic-sync = search (Expr-sync, Table-sync, crosses, LogicKnot.crosses, sendable) depth 60 fits 20000
 
+pub Need-sync : IsSync Need.the_row
+Need-sync = declared_sync Need.the_type (maps.String-sync, ((search (sendable, crosses) depth 20), tt))
+
+pub NeedsInside-sync : IsSync NeedsInside.the_row
+NeedsInside-sync = declared_sync NeedsInside.the_type (Vec-sync Need.the_row Need-sync, ((search (maps.BTreeMap-sync, maps.String-sync, sendable, crosses, as_row_sync) depth 20 fits 20000), ((search (sendable, crosses) depth 20), tt)))
+
+pub Needs-sync : IsSync Needs.the_row
+Needs-sync = view_sync _ _ _ _ _ NeedsInside-sync
+
 pub Item-sync : IsSync Item.the_row
-Item-sync = declared_sync Item.the_type (maps.String-sync, (search (sendable, crosses) depth 20, (option.the_sync Logic.the_row Logic-sync, tt)))
+Item-sync = declared_sync Item.the_type (maps.String-sync, (search (sendable, crosses) depth 20, (Needs-sync, (option.the_sync Logic.the_row Logic-sync, tt))))
 
 pub PlanInside-sync : IsSync PlanInside.the_row
 PlanInside-sync = declared_sync PlanInside.the_type (maps.String-sync, (Vec-sync Item.the_row Item-sync, ((search (maps.BTreeMap-sync, maps.String-sync, service.the_sync, as_row_sync) depth 20 fits 20000), tt)))

@@ -1,13 +1,14 @@
 -- Items that are filled in one after another, from names, needs and logic.
-use Rattle.std.proofs.Common.{◌≡◌, ℕ, ◌+◌, List, [], ◌∷◌, ◌++◌, map, drop, length, Some, None, refl, sym, ap, ap₂, ◌∙◌, append-nil, Vec, Global, arith, inl, inr, ◌⊎◌}
-use Rattle.std.proofs.lemmas.List.{length-append, length-map, drop-map, drop_at}
+use Rattle.std.proofs.Common.{◌≡◌, ℕ, ◌+◌, List, [], ◌∷◌, ◌++◌, map, drop, length, Some, None, refl, sym, ap, ap₂, subst, ◌∙◌, append-nil, Vec, Global, arith, inl, inr, ◌⊎◌}
+use Rattle.std.proofs.lemmas.List.{length-append, length-map, map-append, drop-map, drop_at}
 use Rattle.dmn_form.specs.Draft.{Draft}
 use Rattle.dmn_form.specs.Model.{Name}
 use Rattle.dmn_graph.specs.Needs.{needs_view}
 use Rattle.dmn_logic.specs.LogicView.{Read}
 use Rattle.dmn_names.specs.Parts.{decision_names, value_names}
 use Rattle.dmn_plan.specs.Items.{IsAfterInputs, have_names, have_needs, have_logic}
-use Rattle.dmn_plan.specs.Plans.{AreItemsOf, place_logic}
+use Rattle.dmn_plan.specs.Plans.{AreItemsOf, AreNamed, place_logic, place_name}
+use Rattle.dmn_service.specs.Places.{named_places}
 use Rattle.dmn_service.specs.declared.plan.Item.{Item}
 
 pub empty : {A : Type 0} (xs : List A) → length xs ≡ 0 → xs ≡ []
@@ -42,8 +43,8 @@ count_logic inputs logics =
 pub all_filled : (m : Draft) (needs : List (List ℕ)) (logics : List Read) (items : List Item) (a : List Name) (b : List (List ℕ)) (c : List Read)
     → IsAfterInputs m needs → length logics ≡ length m.decisions
     → value_names m ≡ have_names items ++ a → needs ≡ have_needs items ++ b → place_logic m.inputs logics ≡ have_logic items ++ map Some c
-    → (length a ≡ 0) ⊎ ((length b ≡ 0) ⊎ (length c ≡ 0)) → AreItemsOf m needs logics items
-all_filled m needs logics items a b c after same f g h ends =
+    → (length a ≡ 0) ⊎ ((length b ≡ 0) ⊎ (length c ≡ 0)) → AreNamed m items → AreItemsOf m needs logics items
+all_filled m needs logics items a b c after same f g h ends under =
     let names : length (value_names m) ≡ length items + length a = ap length f ∙ length-append (have_names items) a ∙ ap (λ k. k + length a) (length-map items _) in
     let needed : length needs ≡ length items + length b = ap length g ∙ length-append (have_needs items) b ∙ ap (λ k. k + length b) (length-map items _) in
     let logic : length (place_logic m.inputs logics) ≡ length items + length c =
@@ -56,9 +57,21 @@ all_filled m needs logics items a b c after same f g h ends =
       names = sym (f ∙ ap (λ x. have_names items ++ x) (empty a none.0) ∙ append-nil (have_names items));
       needed = sym (g ∙ ap (λ x. have_needs items ++ x) (empty b none.1) ∙ append-nil (have_needs items));
       logic = sym (h ∙ ap (λ x. have_logic items ++ map Some x) (empty c none.2) ∙ append-nil (have_logic items));
+      named = under;
     }
   where
     together : {i j k : ℕ} → (i ≡ 0) ⊎ ((j ≡ 0) ⊎ (k ≡ 0)) → i ≡ j → i ≡ k → (i ≡ 0) × (j ≡ 0) × (k ≡ 0)
     together (inl e) p q = (e, sym p ∙ e, sym q ∙ e)
     together (inr (inl e)) p q = (p ∙ e, e, sym q ∙ p ∙ e)
     together (inr (inr e)) p q = (q ∙ e, sym p ∙ q ∙ e, e)
+
+-- one item more, whose needs stand under their names
+pub named_more : (m : Draft) (items : List Item) (x : Item) → AreNamed m items → x.named ≡ named_places (place_name m) x.needs.items → AreNamed m (items ++ x ∷ [])
+named_more m items x h e =
+    map-append (λ (y : Item). y.named) items (x ∷ [])
+    ∙ ap₂ (λ a (b : List (Name × ℕ)). a ++ b ∷ []) h e
+    ∙ sym (ap (map (named_places (place_name m))) (map-append (λ (y : Item). y.needs.items) items (x ∷ [])) ∙ map-append (named_places (place_name m)) (have_needs items) (x.needs.items ∷ []))
+
+-- the same where the items are told
+pub named_then : (m : Draft) (old new : List Item) (x : Item) → AreNamed m old → new ≡ old ++ x ∷ [] → x.named ≡ named_places (place_name m) x.needs.items → AreNamed m new
+named_then m old new x h pushed e = subst (AreNamed m) (sym pushed) (named_more m old x h e)

@@ -28,7 +28,7 @@ use Rattle.dmn_plan.specs.declared.fault.ModelFault.{ModelFault}
 use Rattle.dmn_plan.specs.declared.fault.ModelFault.TheVariants as fault
 use Rattle.dmn_plan.proofs.Assembled.{found_needs, decisions_of_items}
 use Rattle.dmn_service.specs.Decision.{parameters_of}
-use Rattle.dmn_service.specs.Places.{names_of, name_at, needs_at}
+use Rattle.dmn_service.specs.Places.{names_of, name_at, needs_at, named_places}
 use Rattle.dmn_graph.specs.Reach.{IsInOrder}
 use Rattle.dmn_service.specs.Plan.{HasPlacesWithin, IsPlanOf, decision_of}
 use Rattle.dmn_service.specs.declared.plan.Item.{Item}
@@ -63,6 +63,14 @@ all_made P f xs ys e h k d lt =
     let inside : k < length ys = subst (λ n. k < n) (sym (length-map xs f) ∙ ap length e) lt in
     subst P (ap (λ l. get_or l k (f d)) (sym e) ∙ get_or-map f xs k d (f d) lt) (h k (f d) inside)
 
+shown_twice : {X Y Z : Type 0} (g : Y → Z) (f : X → Y) (xs : List X) → map g (map f xs) ≡ map (λ x. g (f x)) xs
+shown_twice g f [] = refl
+shown_twice g f (x ∷ xs) = ap (λ ys. g (f x) ∷ ys) (shown_twice g f xs)
+
+-- what two functions make of each of a list is the same where the lists that they make are
+all_same : {X Y : Type 0} (f g : X → Y) (xs : List X) → map f xs ≡ map g xs → All (λ x. f x ≡ g x) xs
+all_same f g xs e k d lt = sym (get_or-map f xs k d (f d) lt) ∙ ap (λ l. get_or l k (f d)) e ∙ get_or-map g xs k d (f d) lt
+
 -- places of items are those of the model's names
 module _ (m : Draft) (needs : List (List ℕ)) (logics : List Read) (items : List Item) (are : AreItemsOf m needs logics items) where
   count : length items ≡ length (value_names m)
@@ -78,6 +86,8 @@ module _ (m : Draft) (needs : List (List ℕ)) (logics : List Read) (items : Lis
   within s p below r =
       record {
         needs = all_made (λ qs. All (λ q. q < length items) qs) (λ (x : Item). x.needs.items) items needs are.needed below;
+        named = all_same (λ (x : Item). x.named) (λ (x : Item). named_places (name_at items) x.needs.items) items
+            (are.named ∙ shown_twice (named_places (place_name m)) (λ (x : Item). x.needs.items) items ∙ ap (λ f. map (λ (x : Item). named_places f x.needs.items) items) same_name);
         parameters = subst (λ n. All (λ q. q < n) p.parameters.items) (sym count) r.parameters_within;
         order = subst (λ n. All (λ q. q < n) p.order.items) (sym count) r.order_within;
         outputs = subst (λ n. All (λ q. q < n) p.outputs.items) (sym count) r.outputs_within;

@@ -16,6 +16,9 @@ have_needs items = map (λ x. x.needs.items) items
 abbrev pub have_logic : List Item → List (Option (Boxed Expr Table))
 have_logic items = map (λ x. option_map logic_view x.logic) items
 
+abbrev pub have_named : List Item → List (List (Name × ℕ))
+have_named items = map (λ x. x.named) items
+
 -- first an empty list for each input, and then a list for each decision
 abbrev pub IsAfterInputs : Draft → List (List ℕ) → Type 0
 IsAfterInputs m needs = (rest : List (List ℕ)) × (needs ≡ map (λ n. []) m.inputs ++ rest) × (length rest ≡ length m.decisions)

@@ -9,10 +9,12 @@ use Rattle.dmn_logic.specs.LogicView.{logic_view}
 use Rattle.feel_value.specs.Distinct.{are_distinct}
 use Rattle.dmn_names.specs.Parts.{value_names}
 use Rattle.dmn_service.specs.Decision.{parameters_of}
+use Rattle.dmn_service.specs.Places.{named_places}
 use Rattle.dmn_service.specs.Plan.{HasPlacesWithin, IsPlanOf, IsAmong, IsNotAmong}
 use Rattle.dmn_graph.specs.Reach.{Each, IsInOrder}
 use Rattle.dmn_service.specs.declared.plan.Item.{Item}
 use Rattle.dmn_service.specs.declared.plan.ServicePlan.{ServicePlan}
+use Rattle.dmn_plan.specs.Items.{have_named, have_needs}
 use Rattle.dmn_plan.specs.declared.fault.ModelFault.{ModelFault}
 
 -- ---- by places: first the inputs, and then the decisions
@@ -21,14 +23,19 @@ use Rattle.dmn_plan.specs.declared.fault.ModelFault.{ModelFault}
 abbrev pub place_logic : List Name → List (Boxed Expr Table) → List (Option (Boxed Expr Table))
 place_logic inputs logics = map (λ n. None) inputs ++ map Some logics
 
+abbrev pub place_name : Draft → ℕ → Name
+place_name m q = slice_index_or (value_names m) q []
+
+-- what each item needs stands under its name
+abbrev pub AreNamed : Draft → List Item → Type 0
+AreNamed m items = have_named items ≡ map (named_places (place_name m)) (have_needs items)
+
 -- the items are those of the model, with what each place needs and the logic of each decision
 pub record AreItemsOf (m : Draft) (needs : List (List ℕ)) (logics : List (Boxed Expr Table)) (items : List Item) : Type 0 where
   pub names : map (λ x. string_bytes x.name) items ≡ value_names m
   pub needed : map (λ x. x.needs.items) items ≡ needs
   pub logic : map (λ x. option_map logic_view x.logic) items ≡ place_logic m.inputs logics
-
-abbrev pub place_name : Draft → ℕ → Name
-place_name m q = slice_index_or (value_names m) q []
+  pub named : AreNamed m items
 
 -- what a place needs
 abbrev pub place_need : List (List ℕ) → ℕ → List ℕ

@@ -4,12 +4,14 @@ ghost use Rattle.dmn_form.specs.ModelView.{model_view};
 ghost use Rattle.dmn_graph.specs.Needs.{needs_view};
 ghost use Rattle.dmn_logic.specs.LogicView.{logic_view};
 ghost use Rattle.dmn_names.specs.Parts.{value_names};
-ghost use Rattle.dmn_plan.specs.Plans.{AreItemsOf};
+ghost use Rattle.dmn_plan.specs.Plans.{AreItemsOf, AreNamed, place_name};
+ghost use Rattle.dmn_service.specs.Places.{named_places};
 ghost use Rattle.dmn_plan.specs.Items.{IsAfterInputs, have_names, have_needs, have_logic};
 
 use dmn_form::WrittenModel;
 use dmn_logic::Logic;
 use dmn_service::Item;
+use feel_lang::Needs;
 use std::alloc::{AllocError, Global};
 
 /// The inputs: each needs nothing and has no logic.
@@ -17,6 +19,7 @@ fn input_items(alloc: Global, model: &WrittenModel) -> Result<Vec<Item>, AllocEr
     ensures names { IfOk result (λ v. have_names v.items ≡ (model_view model.now).inputs) }
     ensures needs { IfOk result (λ v. have_needs v.items ≡ map (λ n. []) (model_view model.now).inputs) }
     ensures logic { IfOk result (λ v. have_logic v.items ≡ map (λ n. None) (model_view model.now).inputs) }
+    ensures named { IfOk result (λ v. AreNamed (model_view model.now) v.items) }
 {
     let mut items = Vec::with_capacity(alloc, model.inputs.len())?;
     for input in &model.inputs {
@@ -24,10 +27,40 @@ fn input_items(alloc: Global, model: &WrittenModel) -> Result<Vec<Item>, AllocEr
         items.push(Item {
             name,
             needs: Vec::new(alloc),
+            named: Needs::new(alloc),
             logic: None,
         })?;
     }
     Ok(items)
+}
+
+/// The name at a place; an empty text where there is none.
+fn name_of_place(model: &WrittenModel, place: usize) -> &str
+    ensures { result.now ≡ place_name (model_view model.now) place }
+{
+    let inputs = model.inputs.len();
+    if place < inputs {
+        return model.inputs[place].as_str();
+    }
+    match model.decisions.get(place - inputs) {
+        Some(decision) => decision.name.as_str(),
+        None => "",
+    }
+}
+
+/// The needed places under their names.
+fn named_needs(
+    alloc: Global,
+    model: &WrittenModel,
+    places: &[usize],
+) -> Result<Needs, AllocError>
+    ensures { IfOk result (λ n. n ≡ named_places (place_name (model_view model.now)) places.now) }
+{
+    let mut needs = Needs::new(alloc);
+    for place in places {
+        needs.push(name_of_place(model, *place), *place)?;
+    }
+    Ok(needs)
 }
 
 /// The inputs, and then the decisions with what each needs and its logic. `needs` has a list for each input and each decision,
@@ -53,9 +86,11 @@ pub(crate) fn items_of(
             break;
         };
         let name = String::from_str(alloc, decision.name.as_str())?;
+        let named = named_needs(alloc, model, &needs)?;
         items.push(Item {
             name,
             needs,
+            named,
             logic: Some(logic),
         })?;
     }

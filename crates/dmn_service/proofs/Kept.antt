@@ -1,5 +1,5 @@
 -- What a run keeps at the places, one place after the other.
-use Rattle.std.proofs.Common.{◌≡◌, ◌∙◌, sym, ap, refl, ℕ, ◌+◌, ◌<◌, Bool, true, false, cond, List, [], ◌∷◌, ◌++◌, zero, suc, length, drop, get_or, Option, None, Some, option_map, string_bytes, inl, inr, ◌⊎◌, arith}
+use Rattle.std.proofs.Common.{◌≡◌, ◌∙◌, sym, ap, refl, ℕ, ◌+◌, ◌<◌, Bool, true, false, cond, List, [], ◌∷◌, ◌++◌, map, zero, suc, length, drop, get_or, Option, None, Some, option_map, string_bytes, inl, inr, ◌⊎◌, arith}
 use Rattle.std.specs.Prelude.{nat_eq, slice_set, ◌≢◌}
 use Rattle.std.specs.List.{slice_get}
 use Rattle.std.proofs.lemmas.Bool.Decides.{eqb_tells}
@@ -7,10 +7,15 @@ use Rattle.std.proofs.lemmas.List.{at_drop_more, get_or-map}
 use Rattle.feel_value.specs.Datum.{Datum}
 use Rattle.feel_value.specs.declared.feel.Outcome.{Outcome}
 use Rattle.feel_value.specs.declared.feel.Outcome.TheVariants.{Is, Limit}
-use Rattle.feel_value.specs.Found.{value_of, ◌>>=◌}
+use Rattle.feel_value.specs.Found.{value_of, ◌>>=◌, each, outcome_from}
+use Rattle.feel_lang.specs.Expr.{Expr}
+use Rattle.feel_lang.specs.Needed.{bindings_from, found_at}
+use Rattle.dmn_table.specs.Table.{Table}
+use Rattle.dmn_form.specs.Model.{Name, Boxed}
+use Rattle.dmn_logic.specs.Boxed.{boxed}
 use Rattle.dmn_logic.specs.LogicView.{logic_view}
-use Rattle.dmn_service.specs.Places.{name_at, needs_at}
-use Rattle.dmn_service.specs.Run.{logic_at, Found, values_in, nothing_found, kept_at, outcome_at, filled_by, given_at}
+use Rattle.dmn_service.specs.Places.{name_at, needs_at, named_places}
+use Rattle.dmn_service.specs.Run.{logic_at, Found, values_in, nothing_found, kept_at, needed_at, outcome_at, outcome_under, filled_by, given_at}
 use Rattle.dmn_service.specs.declared.plan.Item.{Item}
 
 get-set_here : (found : List Outcome) (k : ℕ) (o : Outcome) → k < length found → slice_get (slice_set found k o) k ≡ Some o
@@ -66,6 +71,24 @@ outcome_here items q x found inside here =
     let needs : needs_at items q ≡ x.needs.items = get_or-map (λ (y : Item). y.needs.items) items q x _ inside ∙ ap (λ (y : Item). y.needs.items) (sym here) in
     let logic : logic_at items q ≡ option_map logic_view x.logic = get_or-map (λ (y : Item). option_map logic_view y.logic) items q x None inside ∙ ap (λ (y : Item). option_map logic_view y.logic) (sym here) in
     ap (λ qs. outcome_at (name_at items) found qs (logic_at items q)) needs ∙ ap (outcome_at (name_at items) found x.needs.items) logic
+
+each_shown : {A X Y : Type 0} (f : X → Option Y) (shown : A → X) (xs : List A) → each f (map shown xs) ≡ each (λ x. f (shown x)) xs
+each_shown f shown [] = refl
+each_shown f shown (x ∷ xs) = ap (λ o. f (shown x) >>= λ y. o >>= λ ys. Some (y ∷ ys)) (each_shown f shown xs)
+
+-- what is found under names by places is what is found at these places
+found_named : (name : ℕ → Name) (found : List Outcome) (qs : List ℕ) → bindings_from found (named_places name qs) ≡ needed_at name (values_in found) qs
+found_named name found qs = each_shown (λ n. found_at found n.1 >>= λ v. Some (n.0, v)) (λ q. (name q, q)) qs
+
+outcome_of_named : (name : ℕ → Name) (found : List Outcome) (qs : List ℕ) (l : Option (Boxed Expr Table)) → outcome_under found (named_places name qs) l ≡ outcome_at name (values_in found) qs l
+outcome_of_named name found qs None = refl
+outcome_of_named name found qs (Some b) = ap (outcome_from (boxed b)) (found_named name found qs)
+
+-- the outcome of an item whose needs stand under their names
+pub outcome_named : (items : List Item) (found : List Outcome) (x : Item) → x.named ≡ named_places (name_at items) x.needs.items
+    → outcome_under found x.named (option_map logic_view x.logic) ≡ outcome_at (name_at items) (values_in found) x.needs.items (option_map logic_view x.logic)
+outcome_named items found x named =
+    ap (λ ns. outcome_under found ns (option_map logic_view x.logic)) named ∙ outcome_of_named (name_at items) found x.needs.items (option_map logic_view x.logic)
 
 -- one place more
 pub filled_more : (whole : Found) (items : List Item) (order : List ℕ) (old new : Found) (i : ℕ) (x : Item) (o : Outcome)

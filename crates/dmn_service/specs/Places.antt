@@ -11,3 +11,7 @@ name_at items q = slice_index_or (names_of items) q []
 
 abbrev pub needs_at : List Item → ℕ → List ℕ
 needs_at items q = slice_index_or (map (λ x. x.needs.items) items) q []
+
+-- these places, each under the name that stands there
+abbrev pub named_places : (ℕ → Name) → List ℕ → List (Name × ℕ)
+named_places name qs = map (λ q. (name q, q)) qs

@@ -10,13 +10,14 @@ use Rattle.dmn_graph.specs.Reach.{Each, IsInOrder, is_among}
 use Rattle.dmn_form.specs.Model.{Name, Decision, Service, Model}
 use Rattle.dmn_logic.specs.LogicView.{logic_view}
 use Rattle.dmn_service.specs.Decision.{Given, parameters_of, stands_for, outcome_within, outputs_result, service_result}
-use Rattle.dmn_service.specs.Places.{names_of, name_at, needs_at}
+use Rattle.dmn_service.specs.Places.{names_of, name_at, needs_at, named_places}
 use Rattle.dmn_service.specs.declared.plan.Item.{Item}
 use Rattle.dmn_service.specs.declared.plan.ServicePlan.{ServicePlan}
 
--- every place that the items and the plan name is a place of an item
+-- Every place that the items and the plan name is a place of an item, and the places that an item needs stand under their names.
 pub record HasPlacesWithin (items : List Item) (plan : ServicePlan) : Type 0 where
   pub needs : All (λ x. All (λ q. q < length items) x.needs.items) items
+  pub named : All (λ x. x.named ≡ named_places (name_at items) x.needs.items) items
   pub parameters : All (λ q. q < length items) plan.parameters.items
   pub order : All (λ q. q < length items) plan.order.items
   pub outputs : All (λ q. q < length items) plan.outputs.items

@@ -7,6 +7,7 @@ use Rattle.feel_value.specs.declared.feel.Outcome.{Outcome}
 use Rattle.feel_value.specs.declared.feel.Outcome.TheVariants.{Is}
 use Rattle.feel_lang.specs.Expr.{Expr}
 use Rattle.feel_lang.specs.Meaning.{Bindings}
+use Rattle.feel_lang.specs.Needed.{bindings_from}
 use Rattle.feel_value.specs.Found.{value_of, ◌>>=◌, each, outcome_from}
 use Rattle.dmn_table.specs.Hits.{one_or_context}
 use Rattle.dmn_table.specs.Table.{Table}
@@ -41,6 +42,11 @@ needed_at name found qs = each (λ q. found q >>= λ v. Some (name q, v)) qs
 abbrev pub outcome_at : (ℕ → Name) → Found → List ℕ → Option (Boxed Expr Table) → Outcome
 outcome_at name found needs None = Is null
 outcome_at name found needs (Some b) = outcome_from (boxed b) (needed_at name found needs)
+
+-- the same under names by places
+abbrev pub outcome_under : List Outcome → List (Name × ℕ) → Option (Boxed Expr Table) → Outcome
+outcome_under found named None = Is null
+outcome_under found named (Some b) = outcome_from (boxed b) (bindings_from found named)
 
 -- these places, one after another, each from what was found before
 abbrev pub filled : (ℕ → Name) → (ℕ → List ℕ) → (ℕ → Option (Boxed Expr Table)) → List ℕ → Found → Found

@@ -30,8 +30,5 @@ pub(crate) fn keep(found: &mut Vec<Outcome>, place: usize, outcome: Outcome)
 pub(crate) fn value_at(found: &[Outcome], place: usize) -> Option<&Feel>
     ensures { option_map (λ v. v.now) result ≡ values_in found.now place }
 {
-    match found.get(place)? {
-        Outcome::Is(value) => Some(value),
-        Outcome::Limit => None,
-    }
+    found.get(place)?.value()
 }

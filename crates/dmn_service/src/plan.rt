@@ -1,5 +1,6 @@
 //! Plans of decision services.
 use dmn_logic::Logic;
+use feel_lang::Needs;
 
 /// An input, or a decision with its logic and the places of what it needs. Its own place is its index in a list of items.
 #[derive(Drop)]
@@ -8,6 +9,8 @@ pub struct Item {
     pub name: String,
     /// The places of the inputs and decisions that it needs.
     pub needs: Vec<usize>,
+    /// The same places, each under the name of what stands there.
+    pub named: Needs,
     /// None for an input.
     pub logic: Option<Logic>,
 }

@@ -1,12 +1,12 @@
 //! The result of a decision service.
-ghost use Rattle.std.specs.Prelude.{◌≡◌, ◌<◌, [], IfOk, OnOk, length, option_map, Some, None, if◌then◌else◌};
+ghost use Rattle.std.specs.Prelude.{◌≡◌, ◌<◌, IfOk, OnOk, length, option_map};
 ghost use Rattle.std.specs.List.{All};
 ghost use Rattle.dmn_logic.specs.LogicView.{logic_view};
-ghost use Rattle.dmn_service.specs.Places.{name_at};
-ghost use Rattle.dmn_service.specs.Run.{values_in, nothing_found, needed_at, outcome_at, filled_by, given_at};
+ghost use Rattle.dmn_service.specs.Places.{name_at, named_places};
+ghost use Rattle.dmn_service.specs.Run.{values_in, nothing_found, outcome_under, filled_by, given_at};
 ghost use Rattle.dmn_service.specs.Plan.{HasPlacesWithin, IsServiceOutcome, IsOutcomeWithin, IsRecursionOutcome};
 
-use crate::found::{keep, nothing, value_at};
+use crate::found::{keep, nothing};
 use crate::outputs::output_outcome;
 use crate::plan::{Item, ServicePlan};
 use dmn_logic::evaluate;
@@ -17,8 +17,8 @@ use std::alloc::{AllocError, Global};
 /// The outcome of a decision service, for these values of its parameters in their order.
 ///
 /// Each decision of the plan's order is evaluated once, also behind one that breaks a limit. So the steps are those of the
-/// decisions' own logic, and for each need of each of them a look at its place. What was found there is shared: a value takes no
-/// memory for a decision that needs it, nor does a name of its first eight needs.
+/// decisions' own logic, and for each need of each of them a look at its place. Values and names are looked at where they lie: a
+/// decision that needs them takes no memory for that.
 pub fn service_outcome(
     alloc: Global,
     items: &[Item],
@@ -52,7 +52,7 @@ fn give(parameters: &[usize], values: &[Feel], found: &mut Vec<Outcome>) -> Resu
     Ok(())
 }
 
-/// Evaluates the items at these places one after another, each from what was found before it. One environment serves them all.
+/// Evaluates the items at these places one after another, each from what was found before it.
 fn fill(
     alloc: Global,
     items: &[Item],
@@ -60,56 +60,26 @@ fn fill(
     found: &mut Vec<Outcome>,
 ) -> Result<(), AllocError>
     requires order { All (λ q. q < length items.now) order.now }
-    requires needs { All (λ x. All (λ q. q < length items.now) x.needs.items) items.now }
+    requires named { All (λ x. x.named ≡ named_places (name_at items.now) x.needs.items) items.now }
     requires count { length found.old.items ≡ length items.now }
     ensures { OnOk result (values_in found.new.items ≡ filled_by items.now order.now (values_in found.old.items)) }
 {
-    let mut env = Env::new(alloc);
     for place in order {
-        let outcome = item_outcome(alloc, items, &items[*place], found, &mut env)?;
+        let outcome = item_outcome(alloc, &items[*place], found)?;
         keep(found, *place, outcome);
     }
     Ok(())
 }
 
-/// The outcome of a decision's logic, from what was found for its needs; null for an input. What the environment held is dropped.
-fn item_outcome<'a>(
-    alloc: Global,
-    items: &'a [Item],
-    item: &Item,
-    found: &[Outcome],
-    env: &mut Env<'a>,
-) -> Result<Outcome, AllocError>
-    requires needs { All (λ q. q < length items.now) item.now.needs.items }
-    ensures { IfOk result (λ o. o ≡ outcome_at (name_at items.now) (values_in found.now) item.now.needs.items (option_map logic_view item.now.logic)) }
+/// The outcome of a decision's logic, from what was found for its needs, which is looked at where it lies; null for an input.
+fn item_outcome(alloc: Global, item: &Item, found: &[Outcome]) -> Result<Outcome, AllocError>
+    ensures { IfOk result (λ o. o ≡ outcome_under found.now item.now.named (option_map logic_view item.now.logic)) }
 {
     let Some(logic) = &item.logic else {
         return Ok(Outcome::null());
     };
-    env.cut(0);
-    if !bind_needs(items, &item.needs, found, env)? {
+    let Some(mut env) = Env::over(alloc, &item.named, found) else {
         return Ok(Outcome::Limit);
-    }
-    let outcome = evaluate(alloc, logic, env)?;
-    Ok(outcome)
-}
-
-/// Binds the names at these places, each to the value found there; false where one breaks a limit.
-fn bind_needs<'a>(
-    items: &'a [Item],
-    needs: &[usize],
-    found: &[Outcome],
-    env: &mut Env<'a>,
-) -> Result<bool, AllocError>
-    requires needs { All (λ q. q < length items.now) needs.now }
-    requires empty { env.old ≡ [] }
-    ensures { IfOk result (λ all. needed_at (name_at items.now) (values_in found.now) needs.now ≡ (if all then Some env.new else None)) }
-{
-    for need in needs {
-        let Some(value) = value_at(found, *need) else {
-            return Ok(false);
-        };
-        env.bind_lent(items[*need].name.as_str(), value)?;
-    }
-    Ok(true)
+    };
+    evaluate(alloc, logic, &mut env)
 }

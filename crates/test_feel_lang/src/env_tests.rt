@@ -1,6 +1,6 @@
 //! Bindings that hide one another.
-use feel_lang::Env;
-use feel_value::{Feel, Value};
+use feel_lang::{Env, Needs};
+use feel_value::{Feel, Outcome, Value};
 use std::alloc::Global;
 use std::process::Abort;
 use std::test::Fail;
@@ -55,22 +55,10 @@ fn number(n: u8) -> Result<Feel, Fail> {
     Ok(Feel::of(Value::Number(i64::from(n))).ok_or("no number")?)
 }
 
-/// The numbers below `end`, each at its own place.
-fn numbers(alloc: Global, end: u8) -> Result<Vec<Feel>, Fail> {
-    let mut numbers = Vec::new(alloc);
-    for n in 0..end {
-        numbers.push(number(n)?)?;
-    }
-    Ok(numbers)
-}
-
-/// Makes these bindings, and lends the numbers that are among those of `lent`.
-fn bind<'a>(env: &mut Env<'a>, bindings: &[(&'a str, u8)], lent: &'a [Feel]) -> Result<(), Fail> {
+/// Makes these bindings.
+fn bind(env: &mut Env, bindings: &[(&str, u8)]) -> Result<(), Fail> {
     for (name, n) in bindings {
-        match lent.get(usize::from(*n)) {
-            Some(value) => env.bind_lent(name, value)?,
-            None => env.bind(name, number(*n)?)?,
-        }
+        env.bind(name, number(*n)?)?;
     }
     Ok(())
 }
@@ -86,24 +74,66 @@ fn cut(rt: &impl Abort, env: &mut Env, left: usize) {
     env.cut(left);
 }
 
-/// Goes through all steps.
-fn go_through<'a>(rt: &impl Abort, env: &mut Env<'a>, lent: &'a [Feel]) -> Result<(), Fail> {
+/// The last binding counts, and what it hid counts again when it is dropped.
+#[test]
+fn bindings_that_hide_one_another(rt: HostRuntime) -> Result<(), Fail> {
+    let mut env = Env::new(rt.alloc());
     for (bindings, there, left, want) in STEPS {
-        bind(env, bindings, lent)?;
+        bind(&mut env, bindings)?;
         assert_eq!(rt; env.len(), *there);
-        cut(rt, env, *left);
-        assert_eq!(rt; all_found(env), *want);
+        cut(&rt, &mut env, *left);
+        assert_eq!(rt; all_found(&env), *want);
     }
     Ok(())
 }
 
-/// The last binding counts, and what it hid counts again when it is dropped: where no number is lent, some are, or all.
+/// These names, each with its place.
+fn needs(alloc: Global, places: &[(&str, usize)]) -> Result<Needs, Fail> {
+    let mut needs = Needs::new(alloc);
+    for (name, place) in places {
+        needs.push(name, *place)?;
+    }
+    Ok(needs)
+}
+
+/// What was found: 1, 2 and 3 at the first three places, and at the fourth that a limit is broken.
+fn found_values(alloc: Global) -> Result<Vec<Outcome>, Fail> {
+    let mut found = Vec::new(alloc);
+    for n in 1..4 {
+        found.push(Outcome::Is(number(n)?))?;
+    }
+    found.push(Outcome::Limit)?;
+    Ok(found)
+}
+
+/// An environment over needs finds the values at their places. Of a name that is needed twice the last place counts, until it
+/// is cut off; a binding hides a need until it is cut off.
 #[test]
-fn bindings_that_hide_one_another(rt: HostRuntime) -> Result<(), Fail> {
-    for end in [0, 6, 12] {
-        let lent = numbers(rt.alloc(), end)?;
-        let mut env = Env::new(rt.alloc());
-        go_through(&rt, &mut env, &lent)?;
+fn needs_that_are_lent(rt: HostRuntime) -> Result<(), Fail> {
+    let needs = needs(rt.alloc(), &[("a", 2), ("b", 0), ("a", 1)])?;
+    let values = found_values(rt.alloc())?;
+    let mut env = Env::over(rt.alloc(), &needs, &values).ok_or("no environment")?;
+    assert_eq!(rt; (env.len(), all_found(&env)), (3, [Some(2), Some(1), None]));
+    bind(&mut env, &[("a", 7), ("c", 8)])?;
+    assert_eq!(rt; (env.len(), all_found(&env)), (5, [Some(7), Some(1), Some(8)]));
+    cut(&rt, &mut env, 3);
+    assert_eq!(rt; all_found(&env), [Some(2), Some(1), None]);
+    cut(&rt, &mut env, 2);
+    assert_eq!(rt; all_found(&env), [Some(3), Some(1), None]);
+    cut(&rt, &mut env, 1);
+    assert_eq!(rt; all_found(&env), [Some(3), None, None]);
+    bind(&mut env, &[("b", 9)])?;
+    assert_eq!(rt; (env.len(), all_found(&env)), (2, [Some(3), Some(9), None]));
+    Ok(())
+}
+
+/// There is no environment where a limit was broken at the place of a need, or where nothing stands.
+#[test]
+fn needs_without_a_value(rt: HostRuntime) -> Result<(), Fail> {
+    let values = found_values(rt.alloc())?;
+    for (place, is_found) in [(2, true), (3, false), (4, false)] {
+        let needs = needs(rt.alloc(), &[("a", 0), ("b", place)])?;
+        assert_eq!(rt; Env::over(rt.alloc(), &needs, &values).is_some(), is_found);
     }
     Ok(())
 }

@@ -1,5 +1,5 @@
 //! Calls whose requests for memory are refused. With ample memory each test prints that nothing was refused.
-use feel_lang::{Env, Expr, Held, Tests, eval, holds, read_expr, read_tests};
+use feel_lang::{Env, Expr, Held, Needs, Tests, eval, holds, read_expr, read_expr_under, read_tests};
 use feel_value::{Feel, Outcome, Value};
 use full_heap::FullHeap;
 use std::alloc::{AllocError, Global};
@@ -59,58 +59,6 @@ fn a_refused_binding_changes_nothing(rt: HostRuntime) -> Result<(), Fail> {
     Ok(())
 }
 
-/// Whether a is refused the lent value while the heap gives nothing.
-fn refused_while_full<'a>(
-    alloc: Global,
-    env: &mut Env<'a>,
-    value: &'a Feel,
-) -> Result<bool, AllocError> {
-    let full = FullHeap::but(alloc, 0)?;
-    let refused = env.bind_lent("a", value).is_err();
-    drop(full);
-    Ok(refused)
-}
-
-/// Lends a the value so often.
-fn lend<'a>(env: &mut Env<'a>, value: &'a Feel, times: usize) -> Result<(), AllocError> {
-    for _ in 0..times {
-        env.bind_lent("a", value)?;
-    }
-    Ok(())
-}
-
-/// Lends the values, the second one also as the last of nine, and tries each of these while the heap gives nothing.
-fn lend_both<'a>(
-    rt: &impl Abort,
-    alloc: Global,
-    env: &mut Env<'a>,
-    one: &'a Feel,
-    two: &'a Feel,
-) -> Result<(), AllocError> {
-    let first = refused_while_full(alloc, env, one)?;
-    assert!(rt; first && bindings(env) == (0, None));
-    lend(env, one, 1)?;
-    // There is room for this one, and nothing is copied.
-    let second = refused_while_full(alloc, env, two)?;
-    assert!(rt; !second && bindings(env) == (2, Some(2)));
-    lend(env, one, 6)?;
-    let ninth = refused_while_full(alloc, env, two)?;
-    assert!(rt; ninth && bindings(env) == (8, Some(1)));
-    lend(env, two, 1)?;
-    assert!(rt; bindings(env) == (9, Some(2)));
-    Ok(())
-}
-
-/// A lent binding that is refused leaves as many as before, and the name as it was bound before.
-#[test]
-fn a_refused_lent_binding_changes_nothing(rt: HostRuntime) -> Result<(), Fail> {
-    let one = number(&rt, 1);
-    let two = number(&rt, 2);
-    let mut env = Env::new(rt.alloc());
-    lend_both(&rt, rt.alloc(), &mut env, &one, &two)?;
-    Ok(())
-}
-
 /// An environment in which a is this value.
 fn bound(alloc: Global, value: Feel) -> Result<Env<'static>, AllocError> {
     let mut env = Env::new(alloc);
@@ -154,24 +102,40 @@ fn a_refused_evaluation_answers_nothing_else(rt: HostRuntime) -> Result<(), Fail
     Ok(())
 }
 
-/// The list of 1 and 2.
-fn one_and_two(alloc: Global) -> Result<Feel, Fail> {
-    let numbers = vec![in alloc; Value::Number(1), Value::Number(2)]?;
+/// The list of so many ones.
+fn ones(alloc: Global, count: usize) -> Result<Feel, Fail> {
+    let mut numbers = Vec::new(alloc);
+    for _ in 0..count {
+        numbers.push(Value::Number(1))?;
+    }
     Ok(Feel::of(Value::List(Arc::new(alloc, numbers)?)).ok_or("no list")?)
 }
 
-/// Whether an expression that only looks at a list is refused memory at first, and what it gives.
-fn looked_at(alloc: Global) -> Result<(bool, Option<i64>), Fail> {
-    let env = bound(alloc, one_and_two(alloc)?)?;
-    read_and_evaluated(alloc, "if a = a then count(a) + sum((a)) else 0", &env)
+/// What the expression gives over these needs, while the heap gives nothing.
+fn evaluated_while_full(
+    alloc: Global,
+    expr: &Expr,
+    needs: &Needs,
+    found: &[Outcome],
+) -> Result<Option<i64>, Fail> {
+    let full = FullHeap::but(alloc, 0)?;
+    let env = Env::over(alloc, needs, found).ok_or("no environment")?;
+    let value = evaluated(alloc, expr, &env);
+    drop(full);
+    Ok(value?)
 }
 
-// Nothing is copied of a bound value that is only looked at, so there is no request that could be refused.
+/// Nothing is copied of a needed value that is only looked at, however large, nor of its name.
 #[test]
-fn looking_at_a_value_takes_no_memory(rt: HostRuntime) -> Result<(), Fail> {
-    let (refused, _) = looked_at(rt.alloc())?;
-    assert!(rt; !refused);
-    println!(rt; "refused: {refused}")?;
+fn looking_at_a_large_value_takes_no_memory(rt: HostRuntime) -> Result<(), Fail> {
+    let alloc = rt.alloc();
+    let mut needs = Needs::new(alloc);
+    needs.push("a", 0)?;
+    let found = vec![in alloc; Outcome::Is(ones(alloc, 9_000)?)]?;
+    let text = "if a = a then count(a) + sum((a)) else 0";
+    let expr = read_expr_under(alloc, text, &needs)?;
+    let value = evaluated_while_full(alloc, &expr, &needs, &found)?;
+    assert_eq!(rt; value, Some(18_000));
     Ok(())
 }
 

@@ -14,6 +14,7 @@ loop-decision-init c =
       behind_inputs m c.args.needs.items c.len.result c.requires.needs (let e = length-map c.args.model.now.inputs.items string_bytes in omega (arith, c.len.ensures, c.args.model.now.inputs.ok.0, e))
           ∙ ap₂ (λ a b. a ++ needs_view b) (sym c.in_ok-items.ensures.needs) (sym c.in_ok-split_off.ensures.tail ∙ sym c.into_iter-needs.ensures.rest),
       ap₂ (λ a b. a ++ map Some (map logic_view b)) (sym c.in_ok-items.ensures.logic) (sym c.into_iter-logics.ensures.rest),
+      c.in_ok-items.ensures.named,
     )
 
 pub returns : goal.returns
@@ -31,3 +32,4 @@ returns c =
       | then-loop-decision-test+in_default w ↦ inr (inl (ap (λ ns. length (needs_view ns)) (empty needs (omega (arith, w.in_default.ensures.cases.0, c.loop-decision.needs.rest.ok.0)))))
       | then-loop-decision-test+in-Some+in_default-next w ↦ inr (inr (ap (λ ls. length (map logic_view ls)) (empty logics (omega (arith, w.in_default-next.ensures.cases.0, c.loop-decision.logics.rest.ok.0)))))
     ])
+    c.loop-decision.invariant.3
