@@ -4,7 +4,7 @@ use Rattle.feel_lang.specs.Readings.{tests_of}
 use Rattle.feel_lang.specs.Spells.{SpellsTests}
 use Rattle.feel_lang.specs.TestsView.{tests_view}
 use Rattle.feel_lang.proofs.ReadingLaws.{answers_none, tests_of_spells, only_spelled}
-use Rattle.feel_lang.proofs.texts.read_tests.Goals as goal
+use Rattle.feel_lang.proofs.texts.read_tests_under.Goals as goal
 
 pub returns-in_err-tree-clause-none : goal.returns-in_err-tree-clause-none
 returns-in_err-tree-clause-none c =

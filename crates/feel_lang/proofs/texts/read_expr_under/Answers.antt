@@ -4,7 +4,7 @@ use Rattle.feel_lang.specs.Readings.{expr_of}
 use Rattle.feel_lang.specs.Spells.{Spells}
 use Rattle.feel_lang.specs.View.{view}
 use Rattle.feel_lang.proofs.ReadingLaws.{answers_none, expr_of_spells, only_spelled}
-use Rattle.feel_lang.proofs.texts.read_expr.Goals as goal
+use Rattle.feel_lang.proofs.texts.read_expr_under.Goals as goal
 
 pub returns-in_err-tree-clause-none : goal.returns-in_err-tree-clause-none
 returns-in_err-tree-clause-none c =
