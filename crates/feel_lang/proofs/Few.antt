@@ -1,10 +1,10 @@
 -- The first bindings, and those behind them.
-use Rattle.std.proofs.Common.{◌≡◌, ◌∙◌, sym, ap, refl, ℕ, ◌+◌, ◌-◌, ◌<◌, ◌≤◌, Bool, true, false, List, [], ◌∷◌, ◌++◌, map, take, length, get_or, Option, Some, None, string_bytes, bytes_eq, if◌then◌else◌, arith}
+use Rattle.std.proofs.Common.{◌≡◌, ◌∙◌, sym, ap, refl, ℕ, ◌+◌, ◌-◌, ◌<◌, ◌≤◌, Bool, true, false, List, [], ◌∷◌, ◌++◌, take, length, get_or, Option, Some, None, bytes_eq, if◌then◌else◌, arith}
 use Rattle.std.proofs.Math.Seq.{take-append-add}
-use Rattle.std.proofs.lemmas.List.{append_assoc, append-nil, map-append, length-map, length-append, take-map, take-append-le, take_more}
+use Rattle.std.proofs.lemmas.List.{append_assoc, append-nil, map-append, length-map, take-map, take-append-le, take_more}
 use Rattle.feel_value.specs.Datum.{Datum}
 use Rattle.feel_lang.specs.Meaning.{Bindings, bound, first_some}
-use Rattle.feel_lang.specs.Few.{named_of, few_of, IsFilled}
+use Rattle.feel_lang.specs.Few.{named_of, few_of}
 use Rattle.feel_lang.specs.declared.added.NamedValue.{NamedValue}
 
 grouped : (o p q : Option Datum) → first_some (first_some o p) q ≡ first_some o (first_some p q)

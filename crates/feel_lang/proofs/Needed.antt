@@ -1,13 +1,13 @@
 -- Needed names, and what was found for them.
-use Rattle.std.proofs.Common.{◌≡◌, ◌∙◌, sym, ap, refl, subst, not, ℕ, zero, suc, ◌+◌, ◌<◌, ◌≤◌, Bool, true, false, List, [], ◌∷◌, ◌++◌, map, take, length, get_or, Option, Some, None, is_some, is_none, unwrap_or, option_map, String, Global, string_bytes, bytes_eq, if◌then◌else◌, ◌&&◌, arith, inl, inr}
-use Rattle.std.specs.List.{list_all, slice_get}
+use Rattle.std.proofs.Common.{◌≡◌, ◌∙◌, sym, ap, refl, not, ℕ, zero, suc, ◌+◌, ◌<◌, ◌≤◌, Bool, true, false, List, [], ◌∷◌, ◌++◌, map, take, length, get_or, Option, Some, None, is_some, unwrap_or, option_map, String, Global, string_bytes, bytes_eq, if◌then◌else◌, ◌&&◌, arith, inl, inr}
+use Rattle.std.specs.List.{list_all}
 use Rattle.std.specs.BTreeMap.{BTreeMap, get_by_text}
-use Rattle.std.proofs.lemmas.Bool.{cases_Bool, cases_lt}
+use Rattle.std.proofs.lemmas.Bool.{cases_lt}
 use Rattle.std.proofs.lemmas.List.{map-append, length-map, get_or_append_left, get_or_push, get_or-map, take_more, take-map, take_all, length_push, length-take-le, get_or-take}
 use Rattle.std.proofs.lemmas.List.Folds.{list_all-map}
-use Rattle.std.proofs.lemmas.Option.{get_or_from_slice_get, slice_get_within, slice_get-map, same_Some}
+use Rattle.std.proofs.lemmas.Option.{same_Some}
 use Rattle.feel_value.specs.Datum.{Datum, null}
-use Rattle.feel_value.specs.Found.{◌>>=◌, each}
+use Rattle.feel_value.specs.Found.{◌>>=◌}
 use Rattle.feel_value.specs.declared.feel.Outcome.{Outcome}
 use Rattle.feel_lang.specs.Meaning.{Bindings, bound, first_some}
 use Rattle.feel_lang.specs.Needed.{Places, named_places, found_at, bindings_from, is_found, lent_to, need_at, value_at, ArePositioned, AreLast, AreLent}
@@ -69,7 +69,7 @@ last_each xs x h new = λ i within.
     before i less =
         let n = string_bytes (get_or xs i x).name in
         let named : (need_at (named_places (xs ++ x ∷ [])) i).0 ≡ n =
-            name_at (xs ++ x ∷ []) i (omega (arith, less, length_push xs x)) ∙ ap (λ (y : Need). string_bytes y.name) (get_or_append_left xs (x ∷ []) x i less) in
+        name_at (xs ++ x ∷ []) i (omega (arith, less, length_push xs x)) ∙ ap (λ (y : Need). string_bytes y.name) (get_or_append_left xs (x ∷ []) x i less) in
         let here : last_place n (named_places xs) ≡ Some i = ap (λ m. last_place m (named_places xs)) (sym (name_at xs i less)) ∙ h i (rw (length-map xs place_of) less) in
         ap (λ m. last_place m (named_places (xs ++ x ∷ []))) named ∙ last_more n xs x ∙ other i n (bytes_eq n (string_bytes x.name)) refl here
 
@@ -77,7 +77,7 @@ last_each xs x h new = λ i within.
     last i e =
         let n = string_bytes x.name in
         let named : (need_at (named_places (xs ++ x ∷ [])) i).0 ≡ n =
-            name_at (xs ++ x ∷ []) i (omega (arith, e, length_push xs x)) ∙ ap (λ (y : Need). string_bytes y.name) (get_or_push xs x x i (sym e)) in
+        name_at (xs ++ x ∷ []) i (omega (arith, e, length_push xs x)) ∙ ap (λ (y : Need). string_bytes y.name) (get_or_push xs x x i (sym e)) in
         ap (λ m. last_place m (named_places (xs ++ x ∷ []))) named ∙ last_more n xs x
         ∙ ap (λ t. if t then Some (length xs) else last_place n (named_places xs)) (text_itself n) ∙ ap Some (sym e)
 
@@ -85,7 +85,7 @@ last_each xs x h new = λ i within.
 pub stands_last : (name : List ℕ) (xs : List Need) (i : ℕ) (x : Need) → AreLast (named_places xs) → x ≡ get_or xs i x → i < length xs → bytes_eq name (string_bytes x.name) ≡ true → last_place name (named_places xs) ≡ Some i
 stands_last name xs i x h there within e =
     let named : (need_at (named_places xs) i).0 ≡ name =
-        ap (λ (p : List ℕ × ℕ). p.0) (get_or-map place_of xs i x ([], 0) within) ∙ ap (λ (y : Need). string_bytes y.name) (sym there) ∙ sym (same_text name (string_bytes x.name) e) in
+    ap (λ (p : List ℕ × ℕ). p.0) (get_or-map place_of xs i x ([], 0) within) ∙ ap (λ (y : Need). string_bytes y.name) (sym there) ∙ sym (same_text name (string_bytes x.name) e) in
     ap (λ m. last_place m (named_places xs)) (sym named) ∙ h i (rw (length-map xs place_of) within)
 
 -- the place of a need

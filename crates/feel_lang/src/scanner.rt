@@ -90,12 +90,7 @@ fn run_length(text: &str) -> usize
 
 // The token that a run of word bytes is.
 #[tactic(auto, unfolding(crate::specs::Scanning::run_token, crate::specs::Scanning::number_token, crate::specs::Scanning::word_token))]
-fn run_token(
-    alloc: Global,
-    digit: bool,
-    word: &str,
-    needs: &Needs,
-) -> Result<Token, ReadFault>
+fn run_token(alloc: Global, digit: bool, word: &str, needs: &Needs) -> Result<Token, ReadFault>
     ensures { Gives token_specs.view result (run_token digit word.now) }
 {
     if digit {
@@ -252,11 +247,7 @@ fn string<'a>(alloc: Global, text: &'a str) -> Result<(String, &'a str), ReadFau
 
 // The first token of a text that begins with no blank, and what comes after it.
 #[tactic(auto, unfolding(crate::specs::Scanning::token_at, crate::specs::Scanning::string_at), using(crate::proofs::Runs::after_first))]
-fn token<'a>(
-    alloc: Global,
-    text: &'a str,
-    needs: &Needs,
-) -> Result<(Token, &'a str), ReadFault>
+fn token<'a>(alloc: Global, text: &'a str, needs: &Needs) -> Result<(Token, &'a str), ReadFault>
     ensures { Gives (λ x. (token_specs.view x.0, x.1.now)) result (token_at text.now) }
 {
     let Some((first, _)) = text.as_bytes().split_first() else {

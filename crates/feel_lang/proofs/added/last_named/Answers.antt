@@ -1,4 +1,4 @@
-use Rattle.std.proofs.Common.{◌≡◌, ◌∙◌, ◌+◌, ◌-◌, ◌≤◌, Some, ap, arith, bytes_eq, false, if◌then◌else◌, sym, take, true}
+use Rattle.std.proofs.Common.{◌≡◌, ◌∙◌, ◌+◌, ◌-◌, Some, ap, arith, bytes_eq, false, if◌then◌else◌, sym, take, true}
 use Rattle.feel_lang.specs.Meaning.{bound}
 use Rattle.feel_lang.specs.Few.{few_of, named_of}
 use Rattle.feel_lang.proofs.Few.{bound_up_to}

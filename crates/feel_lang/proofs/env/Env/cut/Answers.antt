@@ -1,4 +1,4 @@
-use Rattle.std.proofs.Common.{◌≡◌, ◌∙◌, ◌++◌, ◌-◌, [], sym, ap, take, unwrap_or, arith}
+use Rattle.std.proofs.Common.{◌∙◌, ◌++◌, ◌-◌, [], ap, take, unwrap_or, arith}
 use Rattle.feel_lang.specs.Meaning.{Bindings}
 use Rattle.feel_lang.proofs.Few.{behind_first}
 use Rattle.feel_lang.proofs.env.Env.cut.Goals as goal

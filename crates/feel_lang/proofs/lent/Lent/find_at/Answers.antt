@@ -1,5 +1,4 @@
-use Rattle.std.proofs.Common.{◌≡◌, ◌∙◌, sym, ap, Some, string_bytes, option_map, take, arith}
-use Rattle.feel_lang.specs.Meaning.{bound}
+use Rattle.std.proofs.Common.{◌≡◌, ◌∙◌, sym, ap, Some, string_bytes, option_map}
 use Rattle.feel_lang.specs.Needed.{value_at}
 use Rattle.feel_lang.specs.Places.{last_place}
 use Rattle.feel_lang.proofs.Needed.{bound_at, last_taken, last_lent}
@@ -10,8 +9,8 @@ returns-then-stands_at c =
     let here = c.self.inside in
     let name = string_bytes c.args.reference.now.name in
     let stands : last_place name here.needs.now ≡ Some c.in-Some.position =
-        ap (λ n. last_place n here.needs.now) (sym c.as_str-name.ensures.value) ∙ c.stands_at.ensures c.if-stands_at.true in
+    ap (λ n. last_place n here.needs.now) (sym c.as_str-name.ensures.value) ∙ c.stands_at.ensures c.if-stands_at.true in
     let last : last_place name c.args.self.now ≡ Some c.in-Some.position =
-        sym (last_lent name here.found.now here.needs.now here.count c.args.self.now c.self.view_is)
-        ∙ last_taken name here.needs.now c.in-Some.position here.count stands c.if-position-self.true in
+    sym (last_lent name here.found.now here.needs.now here.count c.args.self.now c.self.view_is)
+    ∙ last_taken name here.needs.now c.in-Some.position here.count stands c.if-position-self.true in
     c.value_at.ensures ∙ sym (bound_at name c.args.self.now ∙ ap (option_map (value_at c.args.self.now)) last)

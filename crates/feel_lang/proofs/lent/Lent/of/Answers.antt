@@ -1,5 +1,5 @@
-use Rattle.std.proofs.Common.{◌≡◌, ◌∙◌, sym, ap, Some, take, arith}
-use Rattle.std.proofs.lemmas.List.{take_all, length-map}
+use Rattle.std.proofs.Common.{◌∙◌, sym, ap, Some, arith}
+use Rattle.std.proofs.lemmas.List.{take_all}
 use Rattle.feel_lang.specs.Needed.{lent_to}
 use Rattle.feel_lang.proofs.Needed.{lent_whole, lent_none, lent_length}
 use Rattle.feel_lang.proofs.lent.Lent.of.Goals as goal

@@ -1,4 +1,4 @@
-use Rattle.std.proofs.Common.{◌≡◌, ◌∙◌, ap, arith}
+use Rattle.std.proofs.Common.{◌∙◌, arith}
 use Rattle.feel_lang.proofs.Needed.{last_lent, last_of_all}
 use Rattle.feel_lang.proofs.lent.Lent.position.Goals as goal
 

@@ -1,4 +1,4 @@
-use Rattle.std.proofs.Common.{◌≡◌, ◌∙◌, ap}
+use Rattle.std.proofs.Common.{◌∙◌, ap}
 use Rattle.feel_lang.specs.Needed.{found_at}
 use Rattle.feel_lang.proofs.Needed.{value_there}
 use Rattle.feel_lang.proofs.lent.Lent.value_at.Goals as goal

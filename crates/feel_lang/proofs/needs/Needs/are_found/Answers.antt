@@ -1,4 +1,4 @@
-use Rattle.std.proofs.Common.{◌≡◌, ◌∙◌, ap, is_some}
+use Rattle.std.proofs.Common.{◌∙◌, ap, is_some}
 use Rattle.std.specs.List.{list_all}
 use Rattle.feel_lang.specs.Needed.{is_found, found_at}
 use Rattle.feel_lang.proofs.Needed.{all_found}
