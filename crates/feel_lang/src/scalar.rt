@@ -1,5 +1,5 @@
 //! The evaluation of expressions whose parts are numbers and truth values: nothing is formed, kept or copied for these.
-ghost use Rattle.std.specs.Prelude.{◌≡◌, true, pos, ◌-ℤ◌, unwrap_or, string_bytes};
+ghost use Rattle.std.specs.Prelude.{◌≡◌, true, pos, ◌-ℤ◌, unwrap_or, string_bytes, IfSome};
 ghost use Rattle.feel_value.specs.Datum.{null as null_value, number as number_datum};
 ghost use Rattle.feel_value.specs.Logic.{truth_datum, truth_of, not_of};
 ghost use Rattle.feel_value.specs.Outcome.{held};
@@ -47,11 +47,18 @@ pub(crate) fn scalar_value(expr: &Tree, env: &Env) -> Scalar
 fn binary(operator: Operator, left: &Tree, right: &Tree, env: &Env) -> Scalar
     ensures { IsScalar result (den (expr_specs.Binary operator (view left.now) (view right.now)) env.now) }
 {
-    let left = scalar_value(left, env);
+    let left = match leaf(left, env) {
+        Some(value) => value,
+        None => scalar_value(left, env),
+    };
     if is_other(left) {
         return Scalar::Other;
     }
-    operation(operator, left, scalar_value(right, env))
+    let right = match leaf(right, env) {
+        Some(value) => value,
+        None => scalar_value(right, env),
+    };
+    operation(operator, left, right)
 }
 
 #[cycle(scalar)]
@@ -88,6 +95,18 @@ fn lies_between(value: &Tree, low: &Tree, high: &Tree, env: &Env) -> Scalar
         return Scalar::Other;
     }
     between(value, scalar_value(low, env), scalar_value(high, env))
+}
+
+// The value of a constant or a name, which most operands are; None of any other expression.
+#[inline(always)]
+fn leaf(expr: &Tree, env: &Env) -> Option<Scalar>
+    ensures { IfSome result (λ value. IsScalar value (den (view expr.now) env.now)) }
+{
+    match expr {
+        Tree::Constant(constant) => Some(of_value(constant.value())),
+        Tree::Name(reference) => Some(named(reference, env)),
+        _ => None,
+    }
 }
 
 fn is_other(scalar: Scalar) -> bool {
