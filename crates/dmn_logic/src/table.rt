@@ -56,11 +56,7 @@ fn columns_of(
 }
 
 /// A rule, if each of its texts has a reading.
-fn rule_of(
-    alloc: Global,
-    needs: &Needs,
-    written: &WrittenRule,
-) -> Result<Option<Rule>, AllocError>
+fn rule_of(alloc: Global, needs: &Needs, written: &WrittenRule) -> Result<Option<Rule>, AllocError>
     ensures { IfOk result (λ o. option_map rule_view o ≡ read_rule (written_rule written.now)) }
 {
     let Some(tests) = all_tests_of(alloc, needs, &written.tests)? else {

@@ -1,5 +1,5 @@
 -- Places that are put into an index one after another, and places by the columns' lists.
-use Rattle.std.proofs.Common.{Ordering, Less, Equal, Greater, not, ◌≡◌, ℕ, ℤ, ◌+◌, ◌<◌, List, [], ◌∷◌, map, drop, length, get_or, Option, Some, None, is_some, refl, sym, ap, ◌∙◌, Bool, true, false, String, Global, string_bytes, cond, arith}
+use Rattle.std.proofs.Common.{Ordering, Less, Equal, Greater, not, ◌≡◌, ℕ, ℤ, ◌+◌, ◌<◌, List, [], ◌∷◌, drop, length, get_or, Option, Some, None, is_some, refl, sym, ap, ◌∙◌, Bool, true, false, String, Global, string_bytes, cond, arith}
 use Rattle.std.specs.Prelude.{bytes_eq}
 use Rattle.std.specs.Option.{unwrap_or}
 use Rattle.std.specs.Ordering.{int_cmp, is_eq}

@@ -34,8 +34,8 @@ all_told m [] values h = refl
 all_told m (t ∷ ts) [] h = refl
 all_told m (t ∷ ts) (v ∷ vs) h =
     both_some (is_satisfied (satisfied t v m)) (answers_of m (zip ts vs))
-        (told (satisfied t v m) (All-head Keeps t ts h v m))
-        (all_told m ts vs (All-tail Keeps t ts h))
+    (told (satisfied t v m) (All-head Keeps t ts h v m))
+    (all_told m ts vs (All-tail Keeps t ts h))
 
 -- a test that is not met, and breaks no limit
 missed : (a : Answer) → held.No ≡ held_of a → is_satisfied a ≡ Some false
@@ -60,7 +60,7 @@ pub at_miss : (m : Bindings) (values : List Datum) (rule : Rule) (hit : Bool) (t
 at_miss m values rule hit t v ts rests vs others keep answer first second unmet =
     let whole = some_bool (answers_of m (zip rule.tests values)) (λ answers. list_all (λ yes. yes) answers) (all_told m rule.tests values keep) in
     goes_on (answers_of m (zip ts vs)) hit (does_hit m values rule) whole
-        (answer
-        ∙ ap (λ xs. answers_of m (zip xs others) >>= λ answers. Some (hit && list_all (λ yes. yes) answers)) first
-        ∙ ap (λ xs. answers_of m (zip (t ∷ ts) xs) >>= λ answers. Some (hit && list_all (λ yes. yes) answers)) second
-        ∙ ap (λ o. (o >>= λ y. answers_of m (zip ts vs) >>= λ ys. Some (y ∷ ys)) >>= λ answers. Some (hit && list_all (λ yes. yes) answers)) (missed (satisfied t v m) unmet))
+    (answer
+    ∙ ap (λ xs. answers_of m (zip xs others) >>= λ answers. Some (hit && list_all (λ yes. yes) answers)) first
+    ∙ ap (λ xs. answers_of m (zip (t ∷ ts) xs) >>= λ answers. Some (hit && list_all (λ yes. yes) answers)) second
+    ∙ ap (λ o. (o >>= λ y. answers_of m (zip ts vs) >>= λ ys. Some (y ∷ ys)) >>= λ answers. Some (hit && list_all (λ yes. yes) answers)) (missed (satisfied t v m) unmet))

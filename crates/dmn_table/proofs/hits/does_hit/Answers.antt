@@ -36,6 +36,6 @@ returns-in-No c =
     let p : Bor Tests × Bor Feel = (c.in-Some.tests, c.in-Some.value) in
     let more = Zip-more c.loop-tests.tests-iterator c.next.new.self (Some p) p refl c.in-Some.ensures.steps in
     at_miss c.args.env.now c.args.values.now (rule_view c.args.rule.now) c.loop-tests.hit c.in-Some.tests.now c.in-Some.value.now
-        (iter_rest (zip_first c.next.new.self)) (iter_rest (zip_first c.loop-tests.tests-iterator))
-        (iter_rest (zip_second c.next.new.self)) (iter_rest (zip_second c.loop-tests.tests-iterator))
-        (c.requires c.if-keeps_limits.true) c.loop-tests.invariant more.0 more.1 (sym c.in-No.is ∙ c.in_ok-holds.ensures)
+    (iter_rest (zip_first c.next.new.self)) (iter_rest (zip_first c.loop-tests.tests-iterator))
+    (iter_rest (zip_second c.next.new.self)) (iter_rest (zip_second c.loop-tests.tests-iterator))
+    (c.requires c.if-keeps_limits.true) c.loop-tests.invariant more.0 more.1 (sym c.in-No.is ∙ c.in_ok-holds.ensures)

@@ -1,4 +1,4 @@
-use Rattle.std.proofs.Common.{◌≡◌, ◌∷◌, ◌++◌, [], ◌+◌, map, sym, ap, ◌∙◌, true, false, Some, if◌then◌else◌, option_map}
+use Rattle.std.proofs.Common.{◌≡◌, ◌∷◌, ◌++◌, [], ◌+◌, map, sym, ap, ◌∙◌, false, Some, if◌then◌else◌, option_map}
 use Rattle.std.proofs.lemmas.List.{map-append}
 use Rattle.feel_value.specs.Datum.{list, items_of}
 use Rattle.feel_value.specs.Limits.{is_value}
