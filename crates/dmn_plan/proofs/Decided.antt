@@ -1,10 +1,9 @@
 -- Whether two requests are one can be decided.
-use Rattle.std.proofs.Common.{◌≡◌, ◌≢◌, ◌⊎◌, inl, inr, Bool, true, false, true≢false, List, refl, sym, ap}
+use Rattle.std.proofs.Common.{◌≡◌, ◌≢◌, ◌⊎◌, inl, inr, Bool, true, false, true≢false, refl, sym, ap}
 use Rattle.std.specs.Prelude.{bytes_eq}
 use Rattle.std.specs.Bool.{Decides}
 use Rattle.std.specs.Cmp.Lexicographic.{pointwise}
 use Rattle.std.proofs.lemmas.Slice.Eq.{bytes_eq-Decides, slice_eq-Decides}
-use Rattle.feel_value.specs.Datum.{Datum}
 use Rattle.dmn_plan.specs.Identical.{is_same}
 use Rattle.dmn_plan.specs.Request.{Request}
 use Rattle.dmn_plan.proofs.Sameness.{is_same-Decides}

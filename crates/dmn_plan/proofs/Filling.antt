@@ -1,8 +1,11 @@
 -- Items that are filled in one after another, from names, needs and logic.
-use Rattle.std.proofs.Common.{◌≡◌, ℕ, ◌+◌, List, [], ◌∷◌, ◌++◌, map, drop, length, Some, None, refl, sym, ap, ap₂, subst, ◌∙◌, append-nil, Vec, Global, arith, inl, inr, ◌⊎◌}
-use Rattle.std.proofs.lemmas.List.{length-append, length-map, map-append, drop-map, drop_at}
-use Rattle.dmn_form.specs.Draft.{Draft}
+use Rattle.std.proofs.Common.{◌≡◌, ℕ, ◌+◌, ◌-◌, ◌<◌, ◌≤◌, get_or, string_bytes, List, [], ◌∷◌, ◌++◌, map, drop, length, Some, None, refl, sym, ap, ap₂, subst, ◌∙◌, append-nil, Vec, Global, arith, inl, inr, ◌⊎◌}
+use Rattle.std.proofs.lemmas.List.{length-append, length-map, map-append, drop-map, drop_at, get_or-map, get_or-append_right}
+use Rattle.dmn_form.specs.Draft.{Draft, Written}
 use Rattle.dmn_form.specs.Model.{Name}
+use Rattle.dmn_form.specs.ModelView.{model_view, decision_view}
+use Rattle.dmn_form.specs.declared.written.WrittenDecision.{WrittenDecision}
+use Rattle.dmn_form.specs.declared.written.WrittenModel.{WrittenModel}
 use Rattle.dmn_graph.specs.Needs.{needs_view}
 use Rattle.dmn_logic.specs.LogicView.{Read}
 use Rattle.dmn_names.specs.Parts.{decision_names, value_names}
@@ -75,3 +78,15 @@ named_more m items x h e =
 -- the same where the items are told
 pub named_then : (m : Draft) (old new : List Item) (x : Item) → AreNamed m old → new ≡ old ++ x ∷ [] → x.named ≡ named_places (place_name m) x.needs.items → AreNamed m new
 named_then m old new x h pushed e = subst (AreNamed m) (sym pushed) (named_more m old x h e)
+
+-- the name at the place of a decision
+pub decision_there : (m : WrittenModel) (q : ℕ) (d : WrittenDecision) → length m.inputs.items ≤ q → d ≡ get_or m.decisions.items (q - length m.inputs.items) d → q - length m.inputs.items < length m.decisions.items
+    → string_bytes d.name ≡ place_name (model_view m) q
+decision_there m q d behind here within =
+    let n = length m.inputs.items in
+    let names : length (model_view m).inputs ≡ n = length-map m.inputs.items string_bytes in
+    let written : length (map decision_view m.decisions.items) ≡ length m.decisions.items = length-map m.decisions.items decision_view in
+    sym (get_or-append_right (model_view m).inputs (decision_names (model_view m)) n q [] names behind
+    ∙ get_or-map (λ (x : Written). x.name) (map decision_view m.decisions.items) (q - n) (decision_view d) [] (omega (arith, written, within))
+    ∙ ap (λ (x : Written). x.name) (get_or-map decision_view m.decisions.items (q - n) d (decision_view d) within)
+    ∙ ap (λ (x : WrittenDecision). string_bytes x.name) (sym here))

@@ -1,13 +1,13 @@
 -- A model without a fault is planned by its items and routes.
-use Rattle.std.proofs.Common.{◌≡◌, ◌<◌, ℕ, List, [], ◌∷◌, map, drop, length, Bool, true, false, not, ◌&&◌, get_or, Option, Some, None, option_map, refl, sym, ap, subst, ◌∙◌, if◌then◌else◌, ◌≤◌, string_bytes, suc}
-use Rattle.std.specs.Prelude.{Ok, bytes_eq, slice_index_or}
-use Rattle.std.specs.List.{All, list_any, filter_map}
+use Rattle.std.proofs.Common.{◌≡◌, ◌<◌, ℕ, List, [], ◌∷◌, map, drop, length, Bool, true, false, get_or, Option, Some, None, option_map, refl, sym, ap, subst, ◌∙◌, if◌then◌else◌, ◌≤◌, string_bytes, suc}
+use Rattle.std.specs.Prelude.{Ok, nat_eq, slice_index_or}
+use Rattle.std.specs.List.{All, filter_map}
 use Rattle.std.proofs.lemmas.List.{length-map, get_or-map}
 use Rattle.feel_lang.specs.Expr.{Expr}
 use Rattle.dmn_table.specs.Table.{Table}
 use Rattle.dmn_form.specs.Draft.{Draft, Written}
 use Rattle.feel_value.specs.Found.{◌>>=◌, each}
-use Rattle.dmn_form.specs.Model.{Name, Decision, Service, Model}
+use Rattle.dmn_form.specs.Model.{Decision, Service, Model}
 use Rattle.dmn_logic.specs.Faults.{has_unread_text, has_refused_table}
 use Rattle.dmn_logic.specs.LogicView.{Read}
 use Rattle.dmn_logic.specs.ReadLogic.{read_decisions}
@@ -27,8 +27,7 @@ use Rattle.dmn_plan.specs.ReadModel.{faults, first_among, first_fault, unless, f
 use Rattle.dmn_plan.specs.declared.fault.ModelFault.{ModelFault}
 use Rattle.dmn_plan.specs.declared.fault.ModelFault.TheVariants as fault
 use Rattle.dmn_plan.proofs.Assembled.{found_needs, decisions_of_items}
-use Rattle.dmn_service.specs.Decision.{parameters_of}
-use Rattle.dmn_service.specs.Places.{names_of, name_at, needs_at, named_places}
+use Rattle.dmn_service.specs.Places.{name_at, needs_at, named_places}
 use Rattle.dmn_graph.specs.Reach.{IsInOrder}
 use Rattle.dmn_service.specs.Plan.{HasPlacesWithin, IsPlanOf, decision_of}
 use Rattle.dmn_service.specs.declared.plan.Item.{Item}
@@ -55,7 +54,6 @@ at_most_large m needs plans r q =
     ∙ past (has_bad_service m) fault.Service (first_among (drop 7 faults) m) q.fits
 
 -- ---- plans
-
 
 -- what holds of each of a list that f makes, at each of the list itself
 all_made : {X Y : Type 0} (P : Y → Type 0) (f : X → Y) (xs : List X) (ys : List Y) → map f xs ≡ ys → All P ys → All (λ x. P (f x)) xs

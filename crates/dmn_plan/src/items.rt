@@ -49,11 +49,7 @@ fn name_of_place(model: &WrittenModel, place: usize) -> &str
 }
 
 /// The needed places under their names.
-fn named_needs(
-    alloc: Global,
-    model: &WrittenModel,
-    places: &[usize],
-) -> Result<Needs, AllocError>
+fn named_needs(alloc: Global, model: &WrittenModel, places: &[usize]) -> Result<Needs, AllocError>
     ensures { IfOk result (λ n. n ≡ named_places (place_name (model_view model.now)) places.now) }
 {
     let mut needs = Needs::new(alloc);

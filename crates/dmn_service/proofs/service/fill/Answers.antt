@@ -13,7 +13,7 @@ loop-place-preserved c =
     let x = c.index-items-place.result in
     let place = get_or order c.loop-place.place-index 0 in
     let named : x.named ≡ named_places (name_at items) x.needs.items =
-        subst (λ (y : Item). y.named ≡ named_places (name_at items) y.needs.items) (sym c.index-items-place.is) (c.requires.named place x (c.requires.order c.loop-place.place-index 0 c.loop-place-test.true)) in record {
+    subst (λ (y : Item). y.named ≡ named_places (name_at items) y.needs.items) (sym c.index-items-place.is) (c.requires.named place x (c.requires.order c.loop-place.place-index 0 c.loop-place-test.true)) in record {
       filled = filled_more (filled_by items order (values_in c.args.found.now.items)) items order (values_in c.loop-place.found.items) (values_in c.keep.new.found.items) c.loop-place.place-index x c.in_ok-outcome.outcome
           c.loop-place.invariant.filled c.loop-place-test.true (c.requires.order c.loop-place.place-index 0 c.loop-place-test.true) c.index-items-place.is
           (c.in_ok-outcome.ensures ∙ ap (λ f. outcome_under f x.named (option_map logic_view x.logic)) c.deref.ensures.value ∙ outcome_named items c.loop-place.found.items x named) c.keep.ensures.kept;
