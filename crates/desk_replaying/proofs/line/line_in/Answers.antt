@@ -1,8 +1,8 @@
-use Rattle.std.proofs.Common.{rules, ◌≡◌, ℕ, Bool, List, [], ◌∷◌, Option, Some, None, IfNone, MatchOption, slice_get, Bor, true, false, true≢false, codes, bytes_eq, option_copied, ap, sym, refl, ◌∙◌}
-use Rattle.serde_json.specs.Data.{Data, object, no_members, member}
+use Rattle.std.proofs.Common.{rules, ◌≡◌, ℕ, List, [], ◌∷◌, Option, Some, None, IfNone, MatchOption, slice_get, Bor, true≢false, codes, bytes_eq, ap, sym, ◌∙◌}
+use Rattle.serde_json.specs.Data.{Data, object, member}
 use Rattle.serde_json.specs.declared.value.Value.{Value}
 use Rattle.json_fields.specs.Listed.{members_of}
-use Rattle.desk_replaying.specs.Line.{Line, Model, Open, Submit, Take, Answer, AnswerWith, Release, Close, Resize, IsLine, object_of}
+use Rattle.desk_replaying.specs.Line.{Line, Open, Answer, AnswerWith, Resize, IsLine}
 use Rattle.desk_replaying.proofs.line.line_in.Goals as goal
 
 abbrev first_key : Data → List ℕ

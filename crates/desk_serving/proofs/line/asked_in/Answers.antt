@@ -1,8 +1,8 @@
-use Rattle.std.proofs.Common.{rules, ◌≡◌, ℕ, Bool, List, [], ◌∷◌, Option, Some, None, IfNone, MatchOption, slice_get, Bor, true, false, true≢false, codes, bytes_eq, ap, sym, ◌∙◌}
-use Rattle.serde_json.specs.Data.{Data, object, no_members, member}
+use Rattle.std.proofs.Common.{rules, ◌≡◌, ℕ, List, [], ◌∷◌, Option, Some, None, IfNone, MatchOption, slice_get, Bor, true≢false, codes, bytes_eq, ap, sym, ◌∙◌}
+use Rattle.serde_json.specs.Data.{Data, object, member}
 use Rattle.serde_json.specs.declared.value.Value.{Value}
 use Rattle.json_fields.specs.Listed.{members_of}
-use Rattle.desk_serving.specs.Asked.{Asked, Model, Request, Close, Resize, IsAsked, object_of}
+use Rattle.desk_serving.specs.Asked.{Asked, Request, Close, IsAsked}
 use Rattle.desk_serving.proofs.line.asked_in.Goals as goal
 
 abbrev first_key : Data → List ℕ
