@@ -1,4 +1,5 @@
 mod Examples
+pub mod Fewness
 pub mod Counting
 pub mod Finding
 pub mod Turning

@@ -9,9 +9,10 @@ ghost use Rattle.desk_replaying.specs.Line.{IsLine};
 ghost use Rattle.desk_reports.specs.Reading.{is_blank};
 ghost use Rattle.desk_replaying.specs.Line as said;
 ghost use Rattle.desk_replaying.specs.LineView.{line_view};
+ghost use Rattle.json_fields.specs.Listed.{members_of};
 
 use desk_reports::{capacity_in, name_in, ticket_in};
-use json_fields::{four_fields, one_field, three_fields, two_fields};
+use json_fields::{four_members, one_member, three_members, two_members};
 use serde_json::Value;
 use std::alloc::{AllocError, Global};
 
@@ -38,55 +39,55 @@ pub enum Line<'a> {
     Resize(&'a str, u32),
 }
 
-fn model_line(value: &Value) -> Option<Line<'_>>
-    ensures found { IfSome result (λ line. IsLine (line_view line) (view value.now)) }
-    ensures other { IfNone result ((model : Data) → ¬ IsLine (said.Model model) (view value.now)) }
+fn model_line<'a>(members: &'a [(&str, Value)]) -> Option<Line<'a>>
+    ensures found { IfSome result (λ line. IsLine (line_view line) (object (members_of members.now))) }
+    ensures other { IfNone result ((model : Data) → ¬ IsLine (said.Model model) (object (members_of members.now))) }
 {
-    let model = one_field(value, "model")?;
+    let model = one_member(members, "model")?;
     Some(Line::Model(model))
 }
 
-fn open_line(value: &Value) -> Option<Line<'_>>
-    ensures found { IfSome result (λ line. IsLine (line_view line) (view value.now)) }
-    ensures other { IfNone result ((name : List ℕ) (n : ℕ) → ¬ IsLine (said.Open name n) (view value.now)) }
+fn open_line<'a>(members: &'a [(&str, Value)]) -> Option<Line<'a>>
+    ensures found { IfSome result (λ line. IsLine (line_view line) (object (members_of members.now))) }
+    ensures other { IfNone result ((name : List ℕ) (n : ℕ) → ¬ IsLine (said.Open name n) (object (members_of members.now))) }
 {
-    let (capacity, name) = two_fields(value, "capacity", "open")?;
+    let (capacity, name) = two_members(members, "capacity", "open")?;
     Some(Line::Open(name_in(name)?, capacity_in(capacity)?))
 }
 
-fn submit_line(value: &Value) -> Option<Line<'_>>
-    ensures found { IfSome result (λ line. IsLine (line_view line) (view value.now)) }
-    ensures other { IfNone result ((name service : List ℕ) (inputs : Data) → ¬ IsLine (said.Submit name service inputs) (view value.now)) }
+fn submit_line<'a>(members: &'a [(&str, Value)]) -> Option<Line<'a>>
+    ensures found { IfSome result (λ line. IsLine (line_view line) (object (members_of members.now))) }
+    ensures other { IfNone result ((name service : List ℕ) (inputs : Data) → ¬ IsLine (said.Submit name service inputs) (object (members_of members.now))) }
 {
-    let (inputs, service, name) = three_fields(value, "inputs", "service", "submit")?;
+    let (inputs, service, name) = three_members(members, "inputs", "service", "submit")?;
     if !inputs.is_object() {
         return None;
     }
     Some(Line::Submit(name_in(name)?, service.as_str()?, inputs))
 }
 
-fn take_line(value: &Value) -> Option<Line<'_>>
-    ensures found { IfSome result (λ line. IsLine (line_view line) (view value.now)) }
-    ensures other { IfNone result ((name : List ℕ) (t : ℕ) → ¬ IsLine (said.Take name t) (view value.now)) }
+fn take_line<'a>(members: &'a [(&str, Value)]) -> Option<Line<'a>>
+    ensures found { IfSome result (λ line. IsLine (line_view line) (object (members_of members.now))) }
+    ensures other { IfNone result ((name : List ℕ) (t : ℕ) → ¬ IsLine (said.Take name t) (object (members_of members.now))) }
 {
-    let (name, ticket) = two_fields(value, "take", "ticket")?;
+    let (name, ticket) = two_members(members, "take", "ticket")?;
     Some(Line::Take(name_in(name)?, ticket_in(ticket)?))
 }
 
-fn answer_line(value: &Value) -> Option<Line<'_>>
-    ensures found { IfSome result (λ line. IsLine (line_view line) (view value.now)) }
-    ensures other { IfNone result ((name : List ℕ) (t : ℕ) → ¬ IsLine (said.Answer name t) (view value.now)) }
+fn answer_line<'a>(members: &'a [(&str, Value)]) -> Option<Line<'a>>
+    ensures found { IfSome result (λ line. IsLine (line_view line) (object (members_of members.now))) }
+    ensures other { IfNone result ((name : List ℕ) (t : ℕ) → ¬ IsLine (said.Answer name t) (object (members_of members.now))) }
 {
-    let (name, ticket) = two_fields(value, "answer", "ticket")?;
+    let (name, ticket) = two_members(members, "answer", "ticket")?;
     Some(Line::Answer(name_in(name)?, ticket_in(ticket)?))
 }
 
-fn answer_with_line(value: &Value) -> Option<Line<'_>>
-    ensures found { IfSome result (λ line. IsLine (line_view line) (view value.now)) }
-    ensures other { IfNone result ((name : List ℕ) (t : ℕ) (service : List ℕ) (inputs : Data) → ¬ IsLine (said.AnswerWith name t service inputs) (view value.now)) }
+fn answer_with_line<'a>(members: &'a [(&str, Value)]) -> Option<Line<'a>>
+    ensures found { IfSome result (λ line. IsLine (line_view line) (object (members_of members.now))) }
+    ensures other { IfNone result ((name : List ℕ) (t : ℕ) (service : List ℕ) (inputs : Data) → ¬ IsLine (said.AnswerWith name t service inputs) (object (members_of members.now))) }
 {
-    let (name, inputs, service, ticket) = four_fields(
-        value, "answer", "inputs", "service", "ticket",
+    let (name, inputs, service, ticket) = four_members(
+        members, "answer", "inputs", "service", "ticket",
     )?;
     if !inputs.is_object() {
         return None;
@@ -99,58 +100,44 @@ fn answer_with_line(value: &Value) -> Option<Line<'_>>
     ))
 }
 
-fn release_line(value: &Value) -> Option<Line<'_>>
-    ensures found { IfSome result (λ line. IsLine (line_view line) (view value.now)) }
-    ensures other { IfNone result ((name : List ℕ) → ¬ IsLine (said.Release name) (view value.now)) }
+fn release_line<'a>(members: &'a [(&str, Value)]) -> Option<Line<'a>>
+    ensures found { IfSome result (λ line. IsLine (line_view line) (object (members_of members.now))) }
+    ensures other { IfNone result ((name : List ℕ) → ¬ IsLine (said.Release name) (object (members_of members.now))) }
 {
-    let name = one_field(value, "release")?;
+    let name = one_member(members, "release")?;
     Some(Line::Release(name_in(name)?))
 }
 
-fn close_line(value: &Value) -> Option<Line<'_>>
-    ensures found { IfSome result (λ line. IsLine (line_view line) (view value.now)) }
-    ensures other { IfNone result ((name : List ℕ) → ¬ IsLine (said.Close name) (view value.now)) }
+fn close_line<'a>(members: &'a [(&str, Value)]) -> Option<Line<'a>>
+    ensures found { IfSome result (λ line. IsLine (line_view line) (object (members_of members.now))) }
+    ensures other { IfNone result ((name : List ℕ) → ¬ IsLine (said.Close name) (object (members_of members.now))) }
 {
-    let name = one_field(value, "close")?;
+    let name = one_member(members, "close")?;
     Some(Line::Close(name_in(name)?))
 }
 
-fn resize_line(value: &Value) -> Option<Line<'_>>
-    ensures found { IfSome result (λ line. IsLine (line_view line) (view value.now)) }
-    ensures other { IfNone result ((name : List ℕ) (n : ℕ) → ¬ IsLine (said.Resize name n) (view value.now)) }
+fn resize_line<'a>(members: &'a [(&str, Value)]) -> Option<Line<'a>>
+    ensures found { IfSome result (λ line. IsLine (line_view line) (object (members_of members.now))) }
+    ensures other { IfNone result ((name : List ℕ) (n : ℕ) → ¬ IsLine (said.Resize name n) (object (members_of members.now))) }
 {
-    let (capacity, name) = two_fields(value, "capacity", "resize")?;
+    let (capacity, name) = two_members(members, "capacity", "resize")?;
     Some(Line::Resize(name_in(name)?, capacity_in(capacity)?))
 }
 
-/// The line that a JSON value is.
-pub fn line_in(value: &Value) -> Option<Line<'_>>
-    ensures found { IfSome result (λ line. IsLine (line_view line) (view value.now)) }
-    ensures other { IfNone result ((line : said.Line) → ¬ IsLine line (view value.now)) }
+/// The line that the object of these members is. The first key says which lines it may be.
+pub fn line_in<'a>(members: &'a [(&str, Value)]) -> Option<Line<'a>>
+    ensures found { IfSome result (λ line. IsLine (line_view line) (object (members_of members.now))) }
+    ensures other { IfNone result ((line : said.Line) → ¬ IsLine line (object (members_of members.now))) }
 {
-    if let Some(line) = model_line(value) {
-        return Some(line);
+    let first = members.first()?;
+    match first.0 {
+        "model" => model_line(members),
+        "capacity" => open_line(members).or_else(|| resize_line(members)),
+        "inputs" => submit_line(members),
+        "take" => take_line(members),
+        "answer" => answer_line(members).or_else(|| answer_with_line(members)),
+        "release" => release_line(members),
+        "close" => close_line(members),
+        _ => None,
     }
-    if let Some(line) = open_line(value) {
-        return Some(line);
-    }
-    if let Some(line) = submit_line(value) {
-        return Some(line);
-    }
-    if let Some(line) = take_line(value) {
-        return Some(line);
-    }
-    if let Some(line) = answer_line(value) {
-        return Some(line);
-    }
-    if let Some(line) = answer_with_line(value) {
-        return Some(line);
-    }
-    if let Some(line) = release_line(value) {
-        return Some(line);
-    }
-    if let Some(line) = resize_line(value) {
-        return Some(line);
-    }
-    close_line(value)
 }

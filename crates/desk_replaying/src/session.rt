@@ -8,13 +8,16 @@ ghost use Rattle.desk_reports.specs.Reading.{is_blank};
 ghost use Rattle.desk_lines.specs.Talk.{Replays, EndsBy};
 ghost use Rattle.desk_replaying.specs.Script.{Script};
 ghost use Rattle.desk_replaying.specs.Desk.{TakesTurn, TakesReport};
+ghost use Rattle.desk_replaying.specs.LineView.{ReadsObject};
+ghost use Rattle.json_fields.specs.Listed.{members_of};
 
 use crate::desk::Desk;
 use crate::line::line_in;
 use crate::said::said_of;
 use desk_lines::{Clerk, FrontFault, LineText, Sink, Source, Unwritten, answer_lines};
 use desk_reports::{LineRefusal, is_blank, report};
-use json_reader::JsonReader;
+use json_reader::{JsonReader, Listed};
+use serde_json::Value;
 use std::alloc::{AllocError, Global};
 
 /// The bytes of most reports.
@@ -25,6 +28,25 @@ const ROOM: usize = 128;
 struct Session {
     desk: Desk,
     texts: JsonReader,
+}
+
+/// Adds the report on a line that is the object of these members.
+fn report_on_object(
+    alloc: Global,
+    desk: &mut Desk,
+    number: u64,
+    members: &[(&str, Value)],
+    said: &mut Vec<u8>,
+) -> Result<(), AllocError>
+    ensures { OnOk result ((report : Data)
+        × ((text : List ℕ) → ReadsObject text (members_of members.now) → TakesReport desk.old number text report desk.new)
+        × (said.new.items ≡ said.old.items ++ ended (compact_text report))) }
+{
+    let Some(line) = line_in(members) else {
+        return report::refused_line(alloc, number, LineRefusal::Shape.word(), said);
+    };
+    let effect = desk.hear(alloc, &line)?;
+    said_of(alloc, number, &line, &effect, said)
 }
 
 /// Adds the report on a line that is neither too long nor blank.
@@ -39,14 +61,12 @@ fn report_on(
     ensures { is_blank text.now ≢ true → length text.now ≤ max_line → OnOk result ((report : Data)
         × TakesReport desk.old number text.now report desk.new × (said.new.items ≡ said.old.items ++ ended (compact_text report))) }
 {
-    let Some(value) = texts.read(alloc, text)? else {
-        return report::refused_line(alloc, number, LineRefusal::Syntax.word(), said);
-    };
-    let Some(line) = line_in(&value) else {
-        return report::refused_line(alloc, number, LineRefusal::Shape.word(), said);
-    };
-    let effect = desk.hear(alloc, &line)?;
-    said_of(alloc, number, &line, &effect, said)
+    let listed = texts.read_listed(alloc, text)?;
+    match &listed {
+        Listed::Object(members) => report_on_object(alloc, desk, number, members, said),
+        Listed::Other => report::refused_line(alloc, number, LineRefusal::Shape.word(), said),
+        Listed::Syntax => report::refused_line(alloc, number, LineRefusal::Syntax.word(), said),
+    }
 }
 
 /// What is said to a line: nothing where it is blank.

@@ -152,11 +152,12 @@ module _ {R : Type 0} where
   -- a line that asks something
   pub heard_said : (old new : Serving R) (k : ℕ) (heard : Heard) (line : asking.Asked) (it text text' : List ℕ) → IsHeardAs it heard → Asks heard (Some line)
       → Hears old k (Says (asked_view line)) text text' new → HearsText old k it text text' new
-  heard_said old new k (heard.Json value) line it text text' h asks f =
+  heard_said old new k (heard.Object members) line it text text' h asks f =
       (Says (asked_view line), (h.0, h.1, h.2, h.3 ∙ ap Some (sym asks.0), asks.1), f)
   heard_said old new k heard.Long line it text text' h asks f = absurd asks
   heard_said old new k heard.Blank line it text text' h asks f = absurd asks
   heard_said old new k heard.Syntax line it text text' h asks f = absurd asks
+  heard_said old new k heard.Other line it text text' h asks f = absurd asks
 
   -- ## Lines that ask for a lane
 

@@ -7,6 +7,7 @@ pub mod Saying
 pub mod EndingLanes
 pub mod Fronting
 pub mod CatchingUp
+pub mod Fewness
 pub mod Listening
 pub mod Finishing
 pub mod Laning

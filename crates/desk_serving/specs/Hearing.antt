@@ -3,9 +3,10 @@ use Rattle.std.specs.Prelude.{◌≡◌, ◌≢◌, ℕ, ◌≤◌, List, length
 use Rattle.std.specs.Arc.{arc_value}
 use Rattle.std.specs.Str.{IsUtf8}
 use Rattle.std.specs.declared.sync.Arc.{Arc}
-use Rattle.serde_json.specs.Data.{Data}
+use Rattle.serde_json.specs.Data.{Data, object}
 use Rattle.serde_json.specs.Read.{read}
 use Rattle.serde_json.specs.View.{view}
+use Rattle.json_fields.specs.Listed.{members_of}
 use Rattle.dmn_plan.specs.Request as plan
 use Rattle.dmn_plan.specs.declared.fault.TaskFault.{TaskFault}
 use Rattle.desk_lines.specs.Lines.{max_line}
@@ -15,7 +16,7 @@ use Rattle.desk_serving.specs.Asked as asked
 use Rattle.desk_serving.specs.Asked.{IsAsked, Reads}
 use Rattle.desk_serving.specs.AskedView.{asked_view}
 use Rattle.desk_serving.specs.declared.hearing.Heard.{Heard}
-use Rattle.desk_serving.specs.declared.hearing.Heard.TheVariants.{Long, Blank, Syntax, Json}
+use Rattle.desk_serving.specs.declared.hearing.Heard.TheVariants.{Long, Blank, Syntax, Other, Object}
 use Rattle.desk_serving.specs.declared.line.Asked.{Asked}
 use Rattle.desk_serving.specs.declared.line.Asked.TheVariants.{Model, Request, Close, Resize}
 
@@ -24,18 +25,21 @@ abbrev pub IsHeardAs : List ℕ → Heard → Type 0
 IsHeardAs it Long = Reads it reading.Long
 IsHeardAs it Blank = Reads it reading.Blank
 IsHeardAs it Syntax = Reads it reading.Syntax
-IsHeardAs it (Json value) = (length it ≤ max_line) × (is_blank it ≢ true) × IsUtf8 it × (read it ≡ Some (view value))
+IsHeardAs it Other = Reads it reading.Shape
+IsHeardAs it (Object members) = (length it ≤ max_line) × (is_blank it ≢ true) × IsUtf8 it × (read it ≡ Some (object (members_of members.items)))
 
 -- what a line asks that is heard so
 abbrev pub Asks : Heard → Option Asked → Type 0
-Asks (Json value) (Some line) = IsAsked (asked_view line) (view value)
-Asks (Json value) None = (line : asked.Asked) → ¬ IsAsked line (view value)
+Asks (Object members) (Some line) = IsAsked (asked_view line) (object (members_of members.items))
+Asks (Object members) None = (line : asked.Asked) → ¬ IsAsked line (object (members_of members.items))
 Asks Long (Some line) = ⊥
 Asks Long None = Unit {0}
 Asks Blank (Some line) = ⊥
 Asks Blank None = Unit {0}
 Asks Syntax (Some line) = ⊥
 Asks Syntax None = Unit {0}
+Asks Other (Some line) = ⊥
+Asks Other None = Unit {0}
 
 -- the request to a service with these inputs under the model in force, or why there is none
 abbrev pub IsTaskOf : {Z : Type 0} → Option (List ℕ) → List ℕ → Data → Option (Result (Arc plan.Request Z) TaskFault) → Type 0

@@ -9,7 +9,7 @@ ghost use Rattle.desk_reports.specs.Reading.{Says};
 ghost use Rattle.desk_serving.specs.Hearing.{Asks, IsHeardAs, IsTaskFor, IsTaskOf};
 ghost use Rattle.desk_serving.specs.Serving.{HasRoom, Hears, HearsText, model_of};
 
-use crate::hearing::{Heard, asked_by, hear};
+use crate::hearing::{Heard, asked_by, hear, takes_long};
 use crate::line::Asked;
 use crate::named_lanes::Until;
 use crate::reports::{close_line, refuse, refuse_line, say_resized};
@@ -18,8 +18,10 @@ use crate::waiting::hand_out_until;
 use desk_lines::{Clerk, FrontFault, LineText, Sink, Unwritten};
 use desk_reports::{LineRefusal, model_word, refusal_of, report};
 use dmn_plan::{ModelFault, Plan, Task, TaskFault};
+use json_reader::JsonReader;
 use serde_json::Value;
 use std::alloc::{AllocError, Global};
+use std::mem;
 use std::sync::{Arc, Wait};
 
 impl<'a, R: Wait> Serving<'a, R> {
@@ -207,7 +209,7 @@ impl<'a, R: Wait> Serving<'a, R> {
         &mut self,
         alloc: Global,
         number: u64,
-        heard: &Heard,
+        heard: &Heard<'_>,
         asked: &Option<Asked<'_>>,
         task: Option<Result<Arc<Task>, TaskFault>>,
         text: &mut Vec<u8>,
@@ -225,7 +227,8 @@ impl<'a, R: Wait> Serving<'a, R> {
             Heard::Long => refuse_line(alloc, number, LineRefusal::Long, text),
             Heard::Blank => Ok(()),
             Heard::Syntax => refuse_line(alloc, number, LineRefusal::Syntax, text),
-            Heard::Json(_) => refuse_line(alloc, number, LineRefusal::Shape, text),
+            Heard::Other => refuse_line(alloc, number, LineRefusal::Shape, text),
+            Heard::Object(_) => refuse_line(alloc, number, LineRefusal::Shape, text),
         }
     }
 }
@@ -263,14 +266,23 @@ impl<'a, R: Wait> Clerk for Serving<'a, R> {
         writer: &mut W,
         unwritten: &mut Unwritten,
     ) -> Result<Vec<u8>, FrontFault> {
-        let heard = hear(alloc, &mut self.texts, line)?;
-        let asked = asked_by(&heard);
-        let task = self.task_for(alloc, &asked)?;
-        let until = self.turn_of(&asked, &task);
-        hand_out_until(self.rt, alloc, &mut self.lanes, until, writer, unwritten)?;
-        let mut text = Vec::new(alloc);
-        self.lanes.hand_out_some(alloc, until, &mut text)?;
-        self.answer_heard(alloc, number, &heard, &asked, task, &mut text)?;
+        if takes_long(line) {
+            self.lanes.call_worker();
+        }
+        // What is heard borrows from the reader, so that is set aside meanwhile.
+        let mut texts = mem::replace(&mut self.texts, JsonReader::new());
+        let text = {
+            let heard = hear(alloc, &mut texts, line)?;
+            let asked = asked_by(&heard);
+            let task = self.task_for(alloc, &asked)?;
+            let until = self.turn_of(&asked, &task);
+            hand_out_until(self.rt, alloc, &mut self.lanes, until, writer, unwritten)?;
+            let mut text = Vec::new(alloc);
+            self.lanes.hand_out_some(alloc, until, &mut text)?;
+            self.answer_heard(alloc, number, &heard, &asked, task, &mut text)?;
+            text
+        };
+        self.texts = texts;
         Ok(text)
     }
 

@@ -252,6 +252,13 @@ impl Lanes {
         }
     }
 
+    /// The front does something that takes long: where requests wait and no worker looks for them, one that sleeps is woken.
+    pub fn call_worker(&self) {
+        if let Some(client) = self.clients.first() {
+            client.signals().begin_to_wait();
+        }
+    }
+
     /// Where nothing came since so many answers were posted, waits until there are more. It may return early.
     pub fn rest<R: Wait>(&self, rt: &R, came: bool, seen: u64) {
         if came {

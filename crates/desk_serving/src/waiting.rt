@@ -9,8 +9,9 @@ use desk_lines::{FrontFault, Sink, Unwritten};
 use std::alloc::Global;
 use std::sync::Wait;
 
-/// Hands out results until it has come. Where a round finds nothing more, all that waits is written. Where nothing comes since
-/// the workers find no memory for what they hold, that is the end.
+/// Hands out results until it has come. Where a round finds nothing more, all that waits is written. As that may take long, a
+/// worker is woken before for what waits in the lanes. Where nothing comes since the workers find no memory for what they hold,
+/// that is the end.
 pub fn hand_out_until<R: Wait, W: Sink>(
     rt: &R,
     alloc: Global,
@@ -37,6 +38,7 @@ pub fn hand_out_until<R: Wait, W: Sink>(
         let seen = lanes.answers();
         text.clear();
         lanes.hand_out(alloc, &mut text)?;
+        lanes.call_worker();
         unwritten.pass_on(writer, &text)?;
         lanes.rest_fed(rt, !text.is_empty(), seen)?;
     }

@@ -7,6 +7,9 @@ ghost use Rattle.serde_json.specs.Data.{Data, object, member, no_members, Member
 ghost use Rattle.serde_json.specs.View.{view, members_view};
 ghost use Rattle.json_fields.specs.Fields.{object1, object2, object3, object4};
 
+mod listed;
+
+pub use listed::{four_members, one_member, put_member, three_members, two_members};
 use serde_json::Value;
 use std::collections::btree_map::Iter;
 

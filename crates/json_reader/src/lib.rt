@@ -4,8 +4,10 @@
 //! For texts of a hundred bytes that is most of the time.
 #![tactic(auto)]
 
+mod listed;
 mod number;
 mod reader;
 mod value;
 
+pub use listed::Listed;
 pub use reader::JsonReader;

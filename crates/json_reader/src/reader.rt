@@ -3,14 +3,16 @@ ghost use Rattle.std.specs.Prelude.{◌≡◌, ◌⊎◌, MatchOption, IfOk, Non
 ghost use Rattle.std.specs.Str.{IsUtf8};
 ghost use Rattle.serde_json.specs.View.{view};
 ghost use Rattle.serde_json.specs.Read.{read};
+ghost use Rattle.json_reader.specs.Listed.{IsReadAs};
 
+use crate::listed::{Listed, text_in};
 use crate::value::value_in;
 use json::{Reader, Scratch};
 use serde_json::Value;
 use std::alloc::{AllocError, Global};
 
 /// How deep lists and objects may be nested, as in `serde_json`.
-const MOST_DEPTH: usize = 127;
+pub(crate) const MOST_DEPTH: usize = 127;
 
 /// Reads JSON texts. It keeps the memory that reading needs: 16 KiB, and the length of the longest text so far.
 #[derive(Drop)]
@@ -39,6 +41,31 @@ impl JsonReader {
         let parsed = parsed(alloc, text, &mut scratch)?;
         self.scratch = Some(scratch);
         Ok(parsed)
+    }
+
+    /// What a text is, with the members of an object in a list if they are few.
+    pub fn read_listed<'a>(
+        &'a mut self,
+        alloc: Global,
+        text: &'a [u8],
+    ) -> Result<Listed<'a>, AllocError>
+        ensures { IfOk result (λ listed. IsReadAs text.now listed) }
+    {
+        let Ok(text) = str::from_utf8(text) else {
+            return Ok(Listed::Syntax);
+        };
+        text_in(alloc, text, self.scratch(alloc)?)
+    }
+
+    // The memory for reading.
+    fn scratch(&mut self, alloc: Global) -> Result<&mut Scratch, AllocError> {
+        if self.scratch.is_none() {
+            self.scratch = Some(Box::new(alloc, Scratch::new(alloc))?);
+        }
+        match &mut self.scratch {
+            Some(scratch) => Ok(scratch),
+            None => unreachable!(),
+        }
     }
 }
 

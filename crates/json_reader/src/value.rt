@@ -1,5 +1,7 @@
 //! A value from the tokens of a text.
-ghost use Rattle.std.specs.Prelude.{◌≡◌, ◌<◌, length, None, Some, IfOk, IfSome, MatchOption};
+ghost use Rattle.std.specs.Prelude.{◌≡◌, ◌≢◌, ◌<◌, ◌≤◌, ◌∷◌, length, None, Some, IfOk, IfSome, MatchOption};
+ghost use Rattle.json.specs.Print.{IsPrintable};
+ghost use Rattle.json.specs.Reads.{token_of};
 ghost use Rattle.serde_json.specs.View.{view};
 ghost use Rattle.json_reader.specs.Reading.{list_read, object_read, value_read};
 
@@ -21,6 +23,21 @@ pub(crate) fn value_in(
     let Some(token) = reader.next() else {
         return Ok(None);
     };
+    value_from(alloc, token, reader, depth)
+}
+
+/// The value that begins with this token, if there is one that is nested no deeper than this.
+#[cycle(values)]
+pub(crate) fn value_from(
+    alloc: Global,
+    token: Token<'_>,
+    reader: &mut Reader<'_>,
+    depth: usize,
+) -> Result<Option<Value>, AllocError>
+    requires printable { token ≢ Token.Bad → IsPrintable (token_of token) }
+    ensures found { IfOk result (λ o. MatchOption o (value_read depth (token_of token.entry ∷ reader.old) ≡ None) (λ v. value_read depth (token_of token.entry ∷ reader.old) ≡ Some (view v, reader.new))) }
+    ensures no_longer { IfOk result (λ o. IfSome o (λ _. length reader.new ≤ length reader.old)) }
+{
     match token {
         Token::String(text) => Ok(Some(Value::String(String::from_str(alloc, text)?))),
         Token::Number(text) => number_in(alloc, text),

@@ -2,6 +2,7 @@ use Rattle.std.proofs.Common.{◌≡◌, ◌⊎◌, None, sym, subst, true, true
 use Rattle.std.specs.Str.{IsUtf8}
 use Rattle.serde_json.specs.Read.{read}
 use Rattle.desk_reports.specs.Reading.{is_blank}
+use Rattle.desk_serving.proofs.Fewness.{no_line}
 use Rattle.desk_serving.proofs.Listening.{kept_heard, long_heard}
 use Rattle.desk_serving.proofs.hearing.hear.Goals as goal
 
@@ -13,14 +14,20 @@ returns-then-is_blank c = λ it e.
     let k = kept_heard c.args.line.now it c.in-Some.bytes.now c.in-Some.ensures e in
     (k.1, subst (λ t. is_blank t ≡ true) k.0 (sym c.if-is_blank.ensures))
 
-pub returns-in_default-2 : goal.returns-in_default-2
-returns-in_default-2 c = λ it e.
+pub returns-in-Object : goal.returns-in-Object
+returns-in-Object c = λ it e.
     let k = kept_heard c.args.line.now it c.in-Some.bytes.now c.in-Some.ensures e in
-    let parsed = rw c.in_default-2.is at c.in_ok-value.ensures in
-    (k.1, rw (← k.0) (λ b. true≢false (sym b ∙ sym c.if-is_blank.ensures)), subst (λ t. ¬ IsUtf8 t ⊎ (read t ≡ None)) k.0 parsed)
-
-pub returns : goal.returns
-returns c = λ it e.
-    let k = kept_heard c.args.line.now it c.in-Some.bytes.now c.in-Some.ensures e in
-    let parsed = rw c.in-Some-2.is at c.in_ok-value.ensures in
+    let parsed = rw c.in-Object.is at c.in_ok-members.ensures in
     (k.1, rw (← k.0) (λ b. true≢false (sym b ∙ sym c.if-is_blank.ensures)), rw (← k.0) parsed.0, rw (← k.0) parsed.1)
+
+pub returns-in-Other : goal.returns-in-Other
+returns-in-Other c = λ it e.
+    let k = kept_heard c.args.line.now it c.in-Some.bytes.now c.in-Some.ensures e in
+    let parsed = rw c.in-Other.is at c.in_ok-members.ensures in
+    (k.1, rw (← k.0) (λ b. true≢false (sym b ∙ sym c.if-is_blank.ensures)), rw (← k.0) parsed.0, (parsed.1.0, rw (← k.0) parsed.1.1, no_line parsed.1.0 parsed.1.2))
+
+pub returns-in-Syntax : goal.returns-in-Syntax
+returns-in-Syntax c = λ it e.
+    let k = kept_heard c.args.line.now it c.in-Some.bytes.now c.in-Some.ensures e in
+    let parsed = rw c.in-Syntax.is at c.in_ok-members.ensures in
+    (k.1, rw (← k.0) (λ b. true≢false (sym b ∙ sym c.if-is_blank.ensures)), subst (λ t. ¬ IsUtf8 t ⊎ (read t ≡ None)) k.0 parsed)

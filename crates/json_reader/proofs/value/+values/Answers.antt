@@ -120,70 +120,67 @@ value_in-returns-in_default-clause-found t c =
     let empty : c.args.reader.now ≡ [] = grind arith in
     ap (converted of_json) (ap (value c.args.depth) empty ∙ value_is c.args.depth [])
 
-pub value_in-returns-in_ok-from_str-in-String-clause-found : goal.value_in-returns-in_ok-from_str-in-String-clause-found
-value_in-returns-in_ok-from_str-in-String-clause-found t c =
+pub value_in-returns-clause-found : goal.value_in-returns-clause-found
+value_in-returns-clause-found t c =
     let first : c.args.reader.now ≡ token_of c.in-Some.token ∷ c.next.new.self = grind arith in
-    let is : c.args.reader.now ≡ Token.string c.in-String.text.now ∷ c.next.new.self = grind (arith, first) in
-    let seen : view (String c.in_ok-from_str-in-String.field-0) ≡ string c.in-String.text.now = search (rules, the_lemmas) in
-    ap (converted of_json) (ap (value c.args.depth) is ∙ value_is c.args.depth _) ∙ ap (λ d. Some (d, c.next.new.self)) (sym seen)
+    subst (λ ts. IfOk c.value_from.result (λ o. MatchOption o (value_read c.args.depth ts ≡ None) (λ v. value_read c.args.depth ts ≡ Some (view v, c.value_from.new.reader))))
+    (sym first) c.value_from.ensures.found
 
-pub value_in-returns-in-Number-clause-found : goal.value_in-returns-in-Number-clause-found
-value_in-returns-in-Number-clause-found t c =
-    let r = c.next.new.self in
-    let first : c.args.reader.now ≡ token_of c.in-Some.token ∷ r = grind arith in
-    let is : c.args.reader.now ≡ Token.number c.in-Number.text.now ∷ r = grind (arith, first) in
+pub value_from-returns-in_ok-from_str-in-String-clause-found : goal.value_from-returns-in_ok-from_str-in-String-clause-found
+value_from-returns-in_ok-from_str-in-String-clause-found t c =
+    let is : token_of c.args.token ≡ Token.string c.in-String.text.now = grind arith in
+    let seen : view (String c.in_ok-from_str-in-String.field-0) ≡ string c.in-String.text.now = search (rules, the_lemmas) in
+    ap (converted of_json) (ap (λ u. value c.args.depth (u ∷ c.args.reader.now)) is ∙ value_is c.args.depth _) ∙ ap (λ d. Some (d, c.args.reader.now)) (sym seen)
+
+pub value_from-returns-in-Number-clause-found : goal.value_from-returns-in-Number-clause-found
+value_from-returns-in-Number-clause-found t c =
+    let r = c.args.reader.now in
+    let is : token_of c.args.token ≡ Token.number c.in-Number.text.now = grind arith in
     IfOk-weaker c.number_in.result _ _
-    (λ o h. found_as o _ r (value_read c.args.depth c.args.reader.now) (ap (converted of_json) (ap (value c.args.depth) is ∙ value_is c.args.depth _)) h)
+    (λ o h. found_as o _ r (value_read c.args.depth (token_of c.args.token ∷ r)) (ap (converted of_json) (ap (λ u. value c.args.depth (u ∷ r)) is ∙ value_is c.args.depth _)) h)
     c.number_in.ensures
 
-pub value_in-returns-in-Bool-clause-found : goal.value_in-returns-in-Bool-clause-found
-value_in-returns-in-Bool-clause-found t c =
-    let first : c.args.reader.now ≡ token_of c.in-Some.token ∷ c.next.new.self = grind arith in
-    let is : c.args.reader.now ≡ Token.boolean c.in-Bool.b ∷ c.next.new.self = grind (arith, first) in
+pub value_from-returns-in-Bool-clause-found : goal.value_from-returns-in-Bool-clause-found
+value_from-returns-in-Bool-clause-found t c =
+    let is : token_of c.args.token ≡ Token.boolean c.in-Bool.b = grind arith in
     let seen : view (Bool c.in-Bool.b) ≡ boolean c.in-Bool.b = search (rules, the_lemmas) in
-    ap (converted of_json) (ap (value c.args.depth) is ∙ value_is c.args.depth _) ∙ ap (λ d. Some (d, c.next.new.self)) (sym seen)
+    ap (converted of_json) (ap (λ u. value c.args.depth (u ∷ c.args.reader.now)) is ∙ value_is c.args.depth _) ∙ ap (λ d. Some (d, c.args.reader.now)) (sym seen)
 
-pub value_in-returns-in-Null-clause-found : goal.value_in-returns-in-Null-clause-found
-value_in-returns-in-Null-clause-found t c =
-    let first : c.args.reader.now ≡ token_of c.in-Some.token ∷ c.next.new.self = grind arith in
-    let is : c.args.reader.now ≡ Token.null ∷ c.next.new.self = grind (arith, first) in
+pub value_from-returns-in-Null-clause-found : goal.value_from-returns-in-Null-clause-found
+value_from-returns-in-Null-clause-found t c =
+    let is : token_of c.args.token ≡ Token.null = grind arith in
     let seen : view Null ≡ null = search (rules, the_lemmas) in
-    ap (converted of_json) (ap (value c.args.depth) is ∙ value_is c.args.depth _) ∙ ap (λ d. Some (d, c.next.new.self)) (sym seen)
+    ap (converted of_json) (ap (λ u. value c.args.depth (u ∷ c.args.reader.now)) is ∙ value_is c.args.depth _) ∙ ap (λ d. Some (d, c.args.reader.now)) (sym seen)
 
-pub value_in-returns-in-BeginArray-2-clause-found : goal.value_in-returns-in-BeginArray-2-clause-found
-value_in-returns-in-BeginArray-2-clause-found t c =
-    let first : c.args.reader.now ≡ token_of c.in-Some.token ∷ c.next.new.self = grind arith in
-    let is : c.args.reader.now ≡ Token.begin_array ∷ c.next.new.self = grind (arith, first) in
+pub value_from-returns-in-BeginArray-2-clause-found : goal.value_from-returns-in-BeginArray-2-clause-found
+value_from-returns-in-BeginArray-2-clause-found t c =
+    let is : token_of c.args.token ≡ Token.begin_array = grind arith in
     subst (λ read. IfOk c.list_in.result (λ o. MatchOption o (read ≡ None) (λ v. read ≡ Some (view v, c.list_in.new.reader))))
-    (sym (ap (value_read c.args.depth) is ∙ list_reads c.args.depth c.next.new.self (omega arith)))
+    (sym (ap (λ u. value_read c.args.depth (u ∷ c.args.reader.now)) is ∙ list_reads c.args.depth c.args.reader.now (omega arith)))
     c.list_in.ensures.found
 
-pub value_in-returns-in-BeginObject-2-clause-found : goal.value_in-returns-in-BeginObject-2-clause-found
-value_in-returns-in-BeginObject-2-clause-found t c =
-    let first : c.args.reader.now ≡ token_of c.in-Some.token ∷ c.next.new.self = grind arith in
-    let is : c.args.reader.now ≡ Token.begin_object ∷ c.next.new.self = grind (arith, first) in
+pub value_from-returns-in-BeginObject-2-clause-found : goal.value_from-returns-in-BeginObject-2-clause-found
+value_from-returns-in-BeginObject-2-clause-found t c =
+    let is : token_of c.args.token ≡ Token.begin_object = grind arith in
     subst (λ read. IfOk c.object_in.result (λ o. MatchOption o (read ≡ None) (λ v. read ≡ Some (view v, c.object_in.new.reader))))
-    (sym (ap (value_read c.args.depth) is ∙ object_reads c.args.depth c.next.new.self (omega arith)))
+    (sym (ap (λ u. value_read c.args.depth (u ∷ c.args.reader.now)) is ∙ object_reads c.args.depth c.args.reader.now (omega arith)))
     c.object_in.ensures.found
 
-pub value_in-returns-in-BeginArray-clause-found : goal.value_in-returns-in-BeginArray-clause-found
+pub value_from-returns-in-BeginArray-clause-found : goal.value_from-returns-in-BeginArray-clause-found
 unfolding value
-value_in-returns-in-BeginArray-clause-found t c =
-    let first : c.args.reader.now ≡ token_of c.in-Some.token ∷ c.next.new.self = grind arith in
-    let is : c.args.reader.now ≡ Token.begin_array ∷ c.next.new.self = grind (arith, first) in
+value_from-returns-in-BeginArray-clause-found t c =
+    let is : token_of c.args.token ≡ Token.begin_array = grind arith in
     let none : c.args.depth ≡ 0 = omega arith in
-    ap (converted of_json) (ap₂ value none is)
+    ap (converted of_json) (ap₂ (λ depth u. value depth (u ∷ c.args.reader.now)) none is)
 
-pub value_in-returns-in-BeginObject-clause-found : goal.value_in-returns-in-BeginObject-clause-found
+pub value_from-returns-in-BeginObject-clause-found : goal.value_from-returns-in-BeginObject-clause-found
 unfolding value
-value_in-returns-in-BeginObject-clause-found t c =
-    let first : c.args.reader.now ≡ token_of c.in-Some.token ∷ c.next.new.self = grind arith in
-    let is : c.args.reader.now ≡ Token.begin_object ∷ c.next.new.self = grind (arith, first) in
+value_from-returns-in-BeginObject-clause-found t c =
+    let is : token_of c.args.token ≡ Token.begin_object = grind arith in
     let none : c.args.depth ≡ 0 = omega arith in
-    ap (converted of_json) (ap₂ value none is)
+    ap (converted of_json) (ap₂ (λ depth u. value depth (u ∷ c.args.reader.now)) none is)
 
-pub value_in-returns-in-EndObject-clause-found : goal.value_in-returns-in-EndObject-clause-found
-value_in-returns-in-EndObject-clause-found t c =
-    let first : c.args.reader.now ≡ token_of c.in-Some.token ∷ c.next.new.self = grind arith in
-    let none : value c.args.depth c.args.reader.now ≡ None = rw (value_is c.args.depth c.args.reader.now, first) (grind arith) in
+pub value_from-returns-in-EndObject-clause-found : goal.value_from-returns-in-EndObject-clause-found
+value_from-returns-in-EndObject-clause-found t c =
+    let none : value c.args.depth (token_of c.args.token ∷ c.args.reader.now) ≡ None = rw (value_is c.args.depth (token_of c.args.token ∷ c.args.reader.now)) (grind arith) in
     ap (converted of_json) none

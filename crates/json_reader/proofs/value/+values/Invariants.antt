@@ -7,13 +7,16 @@ use Rattle.json_reader.proofs.Reading.{before}
 use Rattle.json_reader.proofs.value.+values.Given as goal
 
 abbrev pub decreases-value_in : goal.decreases-value_in
-decreases-value_in l = 2 * l.depth
+decreases-value_in l = 3 * l.depth + 1
+
+abbrev pub decreases-value_from : goal.decreases-value_from
+decreases-value_from l = 3 * l.depth
 
 abbrev pub decreases-list_in : goal.decreases-list_in
-decreases-list_in l = 2 * l.depth + 1
+decreases-list_in l = 3 * l.depth + 2
 
 abbrev pub decreases-object_in : goal.decreases-object_in
-decreases-object_in l = 2 * l.depth + 1
+decreases-object_in l = 3 * l.depth + 2
 
 abbrev pub invariant-list_in-items : goal.invariant-list_in-items
 invariant-list_in-items l =

@@ -67,7 +67,7 @@ pub returns-clause-answers : goal.returns-clause-answers
 returns-clause-answers g c =
     let old = c.args.self.now in
     line_answered old (record { rt = old.rt; lanes = c.hand_out_until.new.lanes; plan = old.plan; texts = old.texts })
-    (record { rt = old.rt; lanes = c.hand_out_some.new.self; plan = old.plan; texts = old.texts }) c.answer_heard.new.self c.args.line.now c.args.number
+    (record { rt = old.rt; lanes = c.hand_out_some.new.self; plan = old.plan; texts = old.texts }) _ c.args.line.now c.args.number
     c.hand_out_some.new.text.items c.answer_heard.new.text.items
     c.hand_out_until.ensures.names refl c.hand_out_some.ensures.names refl c.in_ok-hand_out_until.ensures.ok (rw (sym c.new-text.ensures.items) c.in_ok-hand_out_some.ensures.hands)
     (λ it e. c.in_ok-answer_heard.ensures.hears it (c.in_ok-heard.ensures it e))

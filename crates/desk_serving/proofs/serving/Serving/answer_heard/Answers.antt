@@ -22,9 +22,13 @@ pub returns-in-Syntax-clause-hears : goal.returns-in-Syntax-clause-hears
 returns-in-Syntax-clause-hears g c =
     on_ok_weaker c.refuse_line-in-Syntax.result (λ is it e. heard_syntax c.args.self.now c.args.number it _ _ _ (rw c.in-Syntax.is at e) refl is) c.refuse_line-in-Syntax.ensures
 
+pub returns-in-Other-clause-hears : goal.returns-in-Other-clause-hears
+returns-in-Other-clause-hears g c =
+    on_ok_weaker c.refuse_line-in-Other.result (λ is it e. heard_shape c.args.self.now c.args.number it _ _ _ (rw c.in-Other.is at e) refl is) c.refuse_line-in-Other.ensures
+
 pub returns-clause-hears : goal.returns-clause-hears
 returns-clause-hears g c =
-    on_ok_weaker c.refuse_line-in-Json.result
-    (λ is it e. let h = rw c.in-Json.is at e in let none = rw (c.in-Json.is, c.in_default.is) at c.requires.asks in
+    on_ok_weaker c.refuse_line-in-Object.result
+    (λ is it e. let h = rw c.in-Object.is at e in let none = rw (c.in-Object.is, c.in_default.is) at c.requires.asks in
     heard_shape c.args.self.now c.args.number it _ _ _ (h.0, h.1, h.2, (_, h.3, λ line lawful same. none line (same, lawful))) refl is)
-    c.refuse_line-in-Json.ensures
+    c.refuse_line-in-Object.ensures
