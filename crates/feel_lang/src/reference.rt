@@ -3,10 +3,11 @@ ghost use Rattle.std.specs.Prelude.{◌≡◌, IfOk, string_bytes};
 
 use crate::needs::Needs;
 use std::alloc::{AllocError, Global};
+use std::fmt;
 
 /// A name in a text, with the position that it has among the needed names under which the text was read. The position is a hint:
 /// an environment looks there first, and compares the name.
-#[derive(Debug, Drop)]
+#[derive(Drop)]
 pub(crate) struct Reference {
     pub(crate) name: String,
     pub(crate) position: Option<usize>,
@@ -31,5 +32,13 @@ impl Reference {
             name: self.name.clone()?,
             position: self.position,
         })
+    }
+}
+
+/// It is shown as its name.
+impl fmt::Debug for Reference {
+    fn fmt<W: fmt::Write>(&self, f: &mut fmt::Formatter<W>) -> fmt::Result {
+        let name = self.name.as_str();
+        write!(f, "{name:?}")
     }
 }

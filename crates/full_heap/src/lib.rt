@@ -9,6 +9,12 @@ const BLOCKS: usize = 200_000;
 /// The size of the first block that is asked for, in bytes: more than there is.
 const LARGEST: usize = 1 << 40;
 
+/// Blocks up to this size are asked for in every size, since a heap keeps small ones that were given back by their size.
+const SMALL: usize = 1024;
+
+/// How much smaller the next small block is, in bytes: no heap tells sizes apart more finely.
+const STEP: usize = 8;
+
 /// All that the heap can give, until it is dropped. The pages of a block are never touched, so that this costs address
 /// space and little memory.
 #[derive(Drop)]
@@ -27,7 +33,8 @@ impl FullHeap {
                 Ok(block) => {
                     let _ = blocks.push(block);
                 }
-                Err(_) if size > 1 => size /= 2,
+                Err(_) if size > SMALL => size /= 2,
+                Err(_) if size > STEP => size -= STEP,
                 Err(_) => break,
             }
         }

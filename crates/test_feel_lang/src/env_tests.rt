@@ -115,7 +115,10 @@ fn needs_that_are_lent(rt: HostRuntime) -> Result<(), Fail> {
     let mut env = Env::over(rt.alloc(), &needs, &values).ok_or("no environment")?;
     assert_eq!(rt; (env.len(), all_found(&env)), (3, [Some(2), Some(1), None]));
     bind(&mut env, &[("a", 7), ("c", 8)])?;
-    assert_eq!(rt; (env.len(), all_found(&env)), (5, [Some(7), Some(1), Some(8)]));
+    assert_eq!(rt;
+        (env.len(), all_found(&env)),
+        (5, [Some(7), Some(1), Some(8)])
+    );
     cut(&rt, &mut env, 3);
     assert_eq!(rt; all_found(&env), [Some(2), Some(1), None]);
     cut(&rt, &mut env, 2);

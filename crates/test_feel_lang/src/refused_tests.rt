@@ -1,5 +1,7 @@
 //! Calls whose requests for memory are refused. With ample memory each test prints that nothing was refused.
-use feel_lang::{Env, Expr, Held, Needs, Tests, eval, holds, read_expr, read_expr_under, read_tests};
+use feel_lang::{
+    Env, Expr, Held, Needs, Tests, eval, holds, read_expr, read_expr_under, read_tests,
+};
 use feel_value::{Feel, Outcome, Value};
 use full_heap::FullHeap;
 use std::alloc::{AllocError, Global};
