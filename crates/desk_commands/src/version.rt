@@ -5,5 +5,5 @@
 pub const VERSION: &str = concat!(
     "0.9.0\n",
     "proved with rattle-kit-13b logic dac8208d650f15bf\n",
-    "sources ab6538cdf8b1cc1f4771b535e2d881dceb2405811a08f948601cf47a8477eefa",
+    "sources 23940025065e830533ae6617ade74f55fba935ea50ea4031db4fb2b1095ca3cc",
 );

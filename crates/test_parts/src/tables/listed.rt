@@ -109,7 +109,13 @@ fn table(alloc: Global, hit: &str, listed: &[String], given: &[String]) -> Resul
     }
     let name = String::from_str(alloc, "r")?;
     let fallback = None;
-    let outputs = vec![in alloc; Output { name, values, fallback }]?;
+    let outputs = vec![in alloc;
+        Output {
+            name,
+            values,
+            fallback
+        },
+    ]?;
     Ok(Table::new(hit, inputs(alloc)?, outputs, rules)?)
 }
 
