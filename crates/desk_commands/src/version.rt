@@ -5,5 +5,5 @@
 pub const VERSION: &str = concat!(
     "0.9.0\n",
     "proved with rattle-kit-13b logic dac8208d650f15bf\n",
-    "sources 23940025065e830533ae6617ade74f55fba935ea50ea4031db4fb2b1095ca3cc",
+    "sources 840403a6885b112f1c11bbb55ec048115bd4d9250438153e9d301eac8e925a0a",
 );

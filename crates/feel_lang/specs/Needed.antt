@@ -1,4 +1,4 @@
--- Internal but for `bindings_from`, `found_at` and `named_places`: needed names by places.
+-- Internal but for `Places`, `bindings_from`, `found_at`, `named_places` and `lent_to`: needed names by places.
 use Rattle.std.specs.Prelude.{◌≡◌, ◌<◌, ◌≤◌, ◌^◌, ℕ, List, [], map, length, slice_index_or, Bool, Option, Some, is_some, IsTrue, unwrap_or, String, string_bytes}
 use Rattle.std.specs.List.{slice_get}
 use Rattle.std.specs.declared.alloc.Global.{Global}
