@@ -14,7 +14,7 @@ fn listed_text(alloc: Global, place: usize) -> Result<String, AllocError> {
     if place == 90 {
         return String::from_str(alloc, "null");
     }
-    let value = place * 7 % 150;
+    let value = place % 150 * 7 % 150;
     if place % 2 == 0 {
         format!(in alloc; "{value}")
     } else {
@@ -29,7 +29,7 @@ fn given_text(alloc: Global, rule: usize) -> Result<String, AllocError> {
         5 => String::from_str(alloc, "true"),
         7 => String::from_str(alloc, "false"),
         n => {
-            let value = rule * 11 % 170;
+            let value = rule % 170 * 11 % 170;
             if n % 2 == 0 {
                 format!(in alloc; "{value}")
             } else {
