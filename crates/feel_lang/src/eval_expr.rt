@@ -29,7 +29,9 @@ pub(crate) fn eval(alloc: Global, expr: &Tree, env: &Env) -> Result<Outcome, All
 {
     match scalar_value(expr, env) {
         Scalar::Number(n) => Ok(Outcome::number(n)),
-        Scalar::Truth(truth) => Ok(Outcome::truth(truth)),
+        Scalar::Yes => Ok(Outcome::truth(Truth::Yes)),
+        Scalar::No => Ok(Outcome::truth(Truth::No)),
+        Scalar::Unknown => Ok(Outcome::truth(Truth::Unknown)),
         Scalar::Other => evaluated(alloc, expr, env),
     }
 }

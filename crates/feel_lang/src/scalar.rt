@@ -17,10 +17,14 @@ use crate::reference::Reference;
 use feel_value::{Feel, Truth, Value, and3, decided, not3, or3};
 
 /// A number in range, or a truth value. `Other` says nothing: what it stands for was not evaluated.
+///
+/// The truth values are variants of their own, so that a scalar fits two registers.
 #[derive(Clone, Copy)]
 pub(crate) enum Scalar {
     Number(i64),
-    Truth(Truth),
+    Yes,
+    No,
+    Unknown,
     Other,
 }
 
@@ -47,29 +51,22 @@ pub(crate) fn scalar_value(expr: &Tree, env: &Env) -> Scalar
 fn binary(operator: Operator, left: &Tree, right: &Tree, env: &Env) -> Scalar
     ensures { IsScalar result (den (expr_specs.Binary operator (view left.now) (view right.now)) env.now) }
 {
-    let left = match leaf(left, env) {
-        Some(value) => value,
-        None => scalar_value(left, env),
-    };
+    let left = operand(left, env);
     if is_other(left) {
         return Scalar::Other;
     }
-    let right = match leaf(right, env) {
-        Some(value) => value,
-        None => scalar_value(right, env),
-    };
-    operation(operator, left, right)
+    operation(operator, left, operand(right, env))
 }
 
 #[cycle(scalar)]
 fn remainder(left: &Tree, right: &Tree, env: &Env) -> Scalar
     ensures { IsScalar result (den (expr_specs.Modulo (view left.now) (view right.now)) env.now) }
 {
-    let left = scalar_value(left, env);
+    let left = operand(left, env);
     if is_other(left) {
         return Scalar::Other;
     }
-    modulo(left, scalar_value(right, env))
+    modulo(left, operand(right, env))
 }
 
 // The branch of an `if` that its test takes.
@@ -77,13 +74,11 @@ fn remainder(left: &Tree, right: &Tree, env: &Env) -> Scalar
 fn branch(test: &Tree, yes: &Tree, no: &Tree, env: &Env) -> Scalar
     ensures { IsScalar result (den (expr_specs.If (view test.now) (view yes.now) (view no.now)) env.now) }
 {
-    let Scalar::Truth(test) = scalar_value(test, env) else {
-        return Scalar::Other;
-    };
-    if test == Truth::Yes {
-        return scalar_value(yes, env);
+    match scalar_value(test, env) {
+        Scalar::Yes => scalar_value(yes, env),
+        Scalar::No | Scalar::Unknown => scalar_value(no, env),
+        _ => Scalar::Other,
     }
-    scalar_value(no, env)
 }
 
 #[cycle(scalar)]
@@ -97,7 +92,19 @@ fn lies_between(value: &Tree, low: &Tree, high: &Tree, env: &Env) -> Scalar
     between(value, scalar_value(low, env), scalar_value(high, env))
 }
 
-// The value of a constant or a name, which most operands are; None of any other expression.
+// The value of an operand. Most are constants or names, which take no call.
+#[cycle(scalar)]
+#[inline(always)]
+fn operand(expr: &Tree, env: &Env) -> Scalar
+    ensures { IsScalar result (den (view expr.now) env.now) }
+{
+    match leaf(expr, env) {
+        Some(value) => value,
+        None => scalar_value(expr, env),
+    }
+}
+
+// The value of a constant or a name; None of any other expression.
 #[inline(always)]
 fn leaf(expr: &Tree, env: &Env) -> Option<Scalar>
     ensures { IfSome result (λ value. IsScalar value (den (view expr.now) env.now)) }
@@ -113,14 +120,37 @@ fn is_other(scalar: Scalar) -> bool {
     matches!(scalar, Scalar::Other)
 }
 
+// A truth value.
+fn of_truth(truth: Truth) -> Scalar
+    ensures { IsScalar result (Is (truth_datum truth)) }
+{
+    match truth {
+        Truth::Yes => Scalar::Yes,
+        Truth::No => Scalar::No,
+        Truth::Unknown => Scalar::Unknown,
+    }
+}
+
+// The truth value of an operand that is one.
+fn truth_in(operand: Scalar) -> Option<Truth>
+    ensures { IfSome result (λ t. (a : Outcome) → IsScalar operand a → a ≡ Is (truth_datum t)) }
+{
+    match operand {
+        Scalar::Yes => Some(Truth::Yes),
+        Scalar::No => Some(Truth::No),
+        Scalar::Unknown => Some(Truth::Unknown),
+        _ => None,
+    }
+}
+
 // The scalar that a value is.
 fn of_value(value: &Feel) -> Scalar
     ensures { IsScalar result (Is value.now) }
 {
     match value.value() {
         Value::Number(n) => Scalar::Number(*n),
-        Value::Bool(holds) => Scalar::Truth(decided(*holds)),
-        Value::Null => Scalar::Truth(Truth::Unknown),
+        Value::Bool(holds) => of_truth(decided(*holds)),
+        Value::Null => Scalar::Unknown,
         _ => Scalar::Other,
     }
 }
@@ -131,7 +161,7 @@ fn named(reference: &Reference, env: &Env) -> Scalar
 {
     match env.find_at(reference) {
         Some(value) => of_value(value),
-        None => Scalar::Truth(Truth::Unknown),
+        None => Scalar::Unknown,
     }
 }
 
@@ -160,9 +190,17 @@ fn operation(operator: Operator, left: Scalar, right: Scalar) -> Scalar
 {
     match (left, right) {
         (Scalar::Number(x), Scalar::Number(y)) => of_numbers(operator, x, y),
-        (Scalar::Truth(s), Scalar::Truth(t)) => of_truths(operator, s, t),
-        _ => Scalar::Other,
+        _ => between_truths(operator, left, right),
     }
+}
+
+fn between_truths(operator: Operator, left: Scalar, right: Scalar) -> Scalar
+    ensures { (a b : Outcome) → IsScalar left a → IsScalar right b → IsScalar result (with_values a b (λ d e. held (operation_of operator d e))) }
+{
+    let (Some(s), Some(t)) = (truth_in(left), truth_in(right)) else {
+        return Scalar::Other;
+    };
+    of_truths(operator, s, t)
 }
 
 fn of_numbers(operator: Operator, x: i64, y: i64) -> Scalar
@@ -170,12 +208,12 @@ fn of_numbers(operator: Operator, x: i64, y: i64) -> Scalar
 {
     match operator {
         Operator::Or | Operator::And => Scalar::Other,
-        Operator::Equal => Scalar::Truth(decided(x == y)),
-        Operator::NotEqual => Scalar::Truth(not3(decided(x == y))),
-        Operator::Less => Scalar::Truth(decided(x < y)),
-        Operator::LessEqual => Scalar::Truth(not3(decided(y < x))),
-        Operator::Greater => Scalar::Truth(decided(y < x)),
-        Operator::GreaterEqual => Scalar::Truth(not3(decided(x < y))),
+        Operator::Equal => of_truth(decided(x == y)),
+        Operator::NotEqual => of_truth(not3(decided(x == y))),
+        Operator::Less => of_truth(decided(x < y)),
+        Operator::LessEqual => of_truth(not3(decided(y < x))),
+        Operator::Greater => of_truth(decided(y < x)),
+        Operator::GreaterEqual => of_truth(not3(decided(x < y))),
         Operator::Add => number(x.checked_add(y)),
         Operator::Subtract => number(x.checked_sub(y)),
         Operator::Multiply => number(x.checked_mul(y)),
@@ -186,8 +224,8 @@ fn of_truths(operator: Operator, s: Truth, t: Truth) -> Scalar
     ensures { IsScalar result (held (operation_of operator (truth_datum s) (truth_datum t))) }
 {
     match operator {
-        Operator::Or => Scalar::Truth(or3(s, t)),
-        Operator::And => Scalar::Truth(and3(s, t)),
+        Operator::Or => of_truth(or3(s, t)),
+        Operator::And => of_truth(and3(s, t)),
         _ => Scalar::Other,
     }
 }
@@ -226,7 +264,9 @@ fn inverted(operand: Scalar) -> Scalar
     ensures { (a : Outcome) → IsScalar operand a → IsScalar result (with_value a (λ d. Is (truth_datum (not_of (truth_of d))))) }
 {
     match operand {
-        Scalar::Truth(t) => Scalar::Truth(not3(t)),
+        Scalar::Yes => Scalar::No,
+        Scalar::No => Scalar::Yes,
+        Scalar::Unknown => Scalar::Unknown,
         _ => Scalar::Other,
     }
 }
@@ -246,5 +286,5 @@ fn within(x: i64, low: i64, high: i64) -> Scalar
 {
     let reaches_low = not3(decided(x < low));
     let reaches_high = not3(decided(high < x));
-    Scalar::Truth(and3(reaches_low, reaches_high))
+    of_truth(and3(reaches_low, reaches_high))
 }

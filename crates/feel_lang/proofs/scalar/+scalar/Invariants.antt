@@ -17,3 +17,6 @@ decreases-branch l = 8 * max (size-Tree l.test.now) (max (size-Tree l.yes.now) (
 
 abbrev pub decreases-lies_between : goal.decreases-lies_between
 decreases-lies_between l = 8 * max (size-Tree l.value.now) (max (size-Tree l.low.now) (size-Tree l.high.now)) + 2
+
+abbrev pub decreases-operand : goal.decreases-operand
+decreases-operand l = 8 * size-Tree l.expr.now + 1
