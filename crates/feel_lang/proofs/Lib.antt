@@ -11,6 +11,7 @@ pub mod Members
 pub mod Rows
 pub mod Bindings
 pub mod Few
+pub mod Packed
 pub mod Needed
 pub mod Modulo
 pub mod ListMembers

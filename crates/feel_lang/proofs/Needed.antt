@@ -18,11 +18,11 @@ use Rattle.feel_lang.proofs.Bindings.{last_place-push, same_text, text_itself, b
 -- ---- positions of the last of a name
 
 abbrev pub place_of : Need → List ℕ × ℕ
-place_of n = (string_bytes n.name, n.place)
+place_of n = (n.name, n.place)
 
 -- the same names up to a place
 pub last_up_to : (name : List ℕ) (xs : List Need) (i : ℕ) (x : Need) → x ≡ get_or xs i x → i < length xs
-    → last_place name (take (i + 1) (named_places xs)) ≡ (if bytes_eq name (string_bytes x.name) then Some i else last_place name (take i (named_places xs)))
+    → last_place name (take (i + 1) (named_places xs)) ≡ (if bytes_eq name (x.name) then Some i else last_place name (take i (named_places xs)))
 last_up_to name xs i x e h =
     let cut : last_place name (map place_of (take i xs)) ≡ last_place name (take i (named_places xs)) = ap (last_place name) (sym (take-map place_of i xs)) in
     ap (last_place name) (take-map place_of (i + 1) xs)
@@ -30,62 +30,62 @@ last_up_to name xs i x e h =
     ∙ ap (λ (y : Need). last_place name (map place_of (take i xs ++ y ∷ []))) (sym e)
     ∙ ap (last_place name) (map-append place_of (take i xs) (x ∷ []))
     ∙ last_place-push name (map place_of (take i xs)) (place_of x)
-    ∙ ap (λ n. if bytes_eq name (string_bytes x.name) then Some n else last_place name (map place_of (take i xs))) (length-map (take i xs) place_of ∙ length-take-le i xs (omega (arith, h)))
-    ∙ ap (λ o. if bytes_eq name (string_bytes x.name) then Some i else o) cut
+    ∙ ap (λ n. if bytes_eq name (x.name) then Some n else last_place name (map place_of (take i xs))) (length-map (take i xs) place_of ∙ length-take-le i xs (omega (arith, h)))
+    ∙ ap (λ o. if bytes_eq name (x.name) then Some i else o) cut
 
 -- one more
 pub last_more : (name : List ℕ) (xs : List Need) (x : Need)
-    → last_place name (named_places (xs ++ x ∷ [])) ≡ (if bytes_eq name (string_bytes x.name) then Some (length xs) else last_place name (named_places xs))
+    → last_place name (named_places (xs ++ x ∷ [])) ≡ (if bytes_eq name (x.name) then Some (length xs) else last_place name (named_places xs))
 last_more name xs x =
     ap (last_place name) (map-append place_of xs (x ∷ []))
     ∙ last_place-push name (named_places xs) (place_of x)
-    ∙ ap (λ n. if bytes_eq name (string_bytes x.name) then Some n else last_place name (named_places xs)) (length-map xs place_of)
+    ∙ ap (λ n. if bytes_eq name (x.name) then Some n else last_place name (named_places xs)) (length-map xs place_of)
 
 -- the map of one more
 pub positioned_more : (xs : List Need) (x : Need) (old new : BTreeMap (String Global) ℕ) → ArePositioned (named_places xs) old
-    → ((q : List ℕ) → get_by_text new q ≡ (if bytes_eq (string_bytes x.name) q then Some (length xs) else get_by_text old q)) → ArePositioned (named_places (xs ++ x ∷ [])) new
+    → ((q : List ℕ) → get_by_text new q ≡ (if bytes_eq (x.name) q then Some (length xs) else get_by_text old q)) → ArePositioned (named_places (xs ++ x ∷ [])) new
 positioned_more xs x old new h placed = λ q.
-    placed q ∙ ap (λ o. if bytes_eq (string_bytes x.name) q then Some (length xs) else o) (h q)
-    ∙ ap (λ t. if t then Some (length xs) else last_place q (named_places xs)) (bytes_eq-turned (string_bytes x.name) q)
+    placed q ∙ ap (λ o. if bytes_eq (x.name) q then Some (length xs) else o) (h q)
+    ∙ ap (λ t. if t then Some (length xs) else last_place q (named_places xs)) (bytes_eq-turned (x.name) q)
     ∙ sym (last_more q xs x)
 
 -- where one more has a new name, each is the last of its name
-pub last_each : (xs : List Need) (x : Need) → AreLast (named_places xs) → last_place (string_bytes x.name) (named_places xs) ≡ None → AreLast (named_places (xs ++ x ∷ []))
+pub last_each : (xs : List Need) (x : Need) → AreLast (named_places xs) → last_place (x.name) (named_places xs) ≡ None → AreLast (named_places (xs ++ x ∷ []))
 last_each xs x h new = λ i within.
     let ys = xs ++ x ∷ [] in
     let size : length (named_places ys) ≡ length ys = length-map ys place_of in
     let inside : i < length ys = omega (arith, size, within) in
     elim (cases_lt i (length xs)) [ inl less ↦ before i less | inr more ↦ last i (omega (arith, inside, length_push xs x, more)) ]
   where
-    name_at : (ys : List Need) (i : ℕ) → i < length ys → (need_at (named_places ys) i).0 ≡ string_bytes (get_or ys i x).name
+    name_at : (ys : List Need) (i : ℕ) → i < length ys → (need_at (named_places ys) i).0 ≡ (get_or ys i x).name
     name_at ys i h = ap (λ (p : List ℕ × ℕ). p.0) (get_or-map place_of ys i x ([], 0) h)
 
-    other : (i : ℕ) (n : List ℕ) (b : Bool) → bytes_eq n (string_bytes x.name) ≡ b → last_place n (named_places xs) ≡ Some i
+    other : (i : ℕ) (n : List ℕ) (b : Bool) → bytes_eq n (x.name) ≡ b → last_place n (named_places xs) ≡ Some i
         → (if b then Some (length xs) else last_place n (named_places xs)) ≡ Some i
     other i n false e p = p
-    other i n true e p = let no : None ≡ Some i = sym new ∙ ap (λ m. last_place m (named_places xs)) (sym (same_text n (string_bytes x.name) e)) ∙ p in cc
+    other i n true e p = let no : None ≡ Some i = sym new ∙ ap (λ m. last_place m (named_places xs)) (sym (same_text n (x.name) e)) ∙ p in cc
 
     before : (i : ℕ) → i < length xs → last_place (need_at (named_places (xs ++ x ∷ [])) i).0 (named_places (xs ++ x ∷ [])) ≡ Some i
     before i less =
-        let n = string_bytes (get_or xs i x).name in
+        let n = (get_or xs i x).name in
         let named : (need_at (named_places (xs ++ x ∷ [])) i).0 ≡ n =
-        name_at (xs ++ x ∷ []) i (omega (arith, less, length_push xs x)) ∙ ap (λ (y : Need). string_bytes y.name) (get_or_append_left xs (x ∷ []) x i less) in
+        name_at (xs ++ x ∷ []) i (omega (arith, less, length_push xs x)) ∙ ap (λ (y : Need). y.name) (get_or_append_left xs (x ∷ []) x i less) in
         let here : last_place n (named_places xs) ≡ Some i = ap (λ m. last_place m (named_places xs)) (sym (name_at xs i less)) ∙ h i (rw (length-map xs place_of) less) in
-        ap (λ m. last_place m (named_places (xs ++ x ∷ []))) named ∙ last_more n xs x ∙ other i n (bytes_eq n (string_bytes x.name)) refl here
+        ap (λ m. last_place m (named_places (xs ++ x ∷ []))) named ∙ last_more n xs x ∙ other i n (bytes_eq n (x.name)) refl here
 
     last : (i : ℕ) → i ≡ length xs → last_place (need_at (named_places (xs ++ x ∷ [])) i).0 (named_places (xs ++ x ∷ [])) ≡ Some i
     last i e =
-        let n = string_bytes x.name in
+        let n = x.name in
         let named : (need_at (named_places (xs ++ x ∷ [])) i).0 ≡ n =
-        name_at (xs ++ x ∷ []) i (omega (arith, e, length_push xs x)) ∙ ap (λ (y : Need). string_bytes y.name) (get_or_push xs x x i (sym e)) in
+        name_at (xs ++ x ∷ []) i (omega (arith, e, length_push xs x)) ∙ ap (λ (y : Need). y.name) (get_or_push xs x x i (sym e)) in
         ap (λ m. last_place m (named_places (xs ++ x ∷ []))) named ∙ last_more n xs x
         ∙ ap (λ t. if t then Some (length xs) else last_place n (named_places xs)) (text_itself n) ∙ ap Some (sym e)
 
 -- the last of a name, where each is the last of its name
-pub stands_last : (name : List ℕ) (xs : List Need) (i : ℕ) (x : Need) → AreLast (named_places xs) → x ≡ get_or xs i x → i < length xs → bytes_eq name (string_bytes x.name) ≡ true → last_place name (named_places xs) ≡ Some i
+pub stands_last : (name : List ℕ) (xs : List Need) (i : ℕ) (x : Need) → AreLast (named_places xs) → x ≡ get_or xs i x → i < length xs → bytes_eq name (x.name) ≡ true → last_place name (named_places xs) ≡ Some i
 stands_last name xs i x h there within e =
     let named : (need_at (named_places xs) i).0 ≡ name =
-    ap (λ (p : List ℕ × ℕ). p.0) (get_or-map place_of xs i x ([], 0) within) ∙ ap (λ (y : Need). string_bytes y.name) (sym there) ∙ sym (same_text name (string_bytes x.name) e) in
+    ap (λ (p : List ℕ × ℕ). p.0) (get_or-map place_of xs i x ([], 0) within) ∙ ap (λ (y : Need). y.name) (sym there) ∙ sym (same_text name (x.name) e) in
     ap (λ m. last_place m (named_places xs)) (sym named) ∙ h i (rw (length-map xs place_of) within)
 
 -- the place of a need

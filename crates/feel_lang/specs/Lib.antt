@@ -15,6 +15,7 @@ pub mod Spells
 pub mod Readings
 pub mod Meaning
 pub mod Numbers
+pub mod Packed
 pub mod Places
 pub mod Needed
 pub mod Few

@@ -19,7 +19,7 @@ abbrev pub need_at : Places → ℕ → List ℕ × ℕ
 need_at needs i = slice_index_or needs i ([], 0)
 
 abbrev pub named_places : List Need → Places
-named_places = map (λ n. (string_bytes n.name, n.place))
+named_places = map (λ n. (n.name, n.place))
 
 -- the value found at a place; None where a limit was broken, or nothing was found
 abbrev pub found_at : List Outcome → ℕ → Option Datum

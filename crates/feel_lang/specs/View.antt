@@ -15,7 +15,7 @@ exprs_of (e ∷ es) = more e (exprs_of es)
 abbrev pub view_step : Tree-F Expr → Expr
 view_step (Tree-F.Constant d) = expr_of_constant d
 view_step (Tree-F.Number n) = expr.Number n
-view_step (Tree-F.Name r) = expr.Name (string_bytes r.name)
+view_step (Tree-F.Name r) = expr.Name r.name
 view_step (Tree-F.Group e) = expr.Group e.value
 view_step (Tree-F.List es) = expr.Members (exprs_of es.items)
 view_step (Tree-F.Call f e) = expr.Call f e.value

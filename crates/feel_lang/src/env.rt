@@ -1,5 +1,5 @@
 //! Names with values.
-ghost use Rattle.std.specs.Prelude.{◌≡◌, ◌≤◌, ◌<◌, ◌^◌, [], ◌∷◌, ◌++◌, length, take, option_map, unwrap_or, string_bytes, MatchResult};
+ghost use Rattle.std.specs.Prelude.{◌≡◌, ◌≤◌, ◌<◌, ◌^◌, [], ◌∷◌, ◌++◌, length, take, option_map, unwrap_or, MatchResult};
 ghost use Rattle.feel_lang.specs.Meaning.{bound};
 ghost use Rattle.feel_lang.specs.Needed.{bindings_from};
 
@@ -81,7 +81,7 @@ impl<'a> Env<'a> {
     // The same of a name as it stands in a text.
     #[tactic(auto, using(crate::proofs::Few::bound_both))]
     pub(crate) fn find_at(&self, reference: &Reference) -> Option<&Feel>
-        ensures { option_map (λ v. v.now) result ≡ bound (string_bytes reference.now.name) self.now }
+        ensures { option_map (λ v. v.now) result ≡ bound reference.now.name self.now }
     {
         if !self.added.is_empty() {
             return self.find(reference.name.as_str());

@@ -131,7 +131,7 @@ fn lies_between(
 
 // The value of a name; null where it has none.
 fn named<'a>(reference: &Reference, env: &'a Env) -> Option<Operand<'a>>
-    ensures { outcome_of result ≡ Is (unwrap_or (bound (string_bytes reference.now.name) env.now) null_value) }
+    ensures { outcome_of result ≡ Is (unwrap_or (bound reference.now.name env.now) null_value) }
 {
     match env.find_at(reference) {
         Some(value) => Some(Operand::Lent(Part::of(value))),

@@ -1,5 +1,5 @@
 //! Needed names with the values that were found for them.
-ghost use Rattle.std.specs.Prelude.{◌≡◌, ◌≤◌, ◌<◌, ◌^◌, Some, length, take, option_map, string_bytes};
+ghost use Rattle.std.specs.Prelude.{◌≡◌, ◌≤◌, ◌<◌, ◌^◌, Some, length, take, option_map};
 ghost use Rattle.feel_lang.specs.Meaning.{bound};
 ghost use Rattle.feel_lang.specs.Needed.{bindings_from, value_at};
 ghost use Rattle.feel_lang.specs.Places.{last_place};
@@ -52,6 +52,7 @@ impl<'a> Lent<'a> {
     }
 
     /// The value of the last of the names that is this one.
+    #[inline(never)]
     #[tactic(auto, using(crate::proofs::Needed::bound_at, crate::proofs::Needed::last_within))]
     pub(crate) fn find(&self, name: &str) -> Option<&Feel>
         ensures { option_map (λ v. v.now) result ≡ bound name.now self.now }
@@ -62,16 +63,15 @@ impl<'a> Lent<'a> {
 
     /// The same of a name as it stands in a text.
     pub(crate) fn find_at(&self, reference: &Reference) -> Option<&Feel>
-        ensures { option_map (λ v. v.now) result ≡ bound (string_bytes reference.now.name) self.now }
+        ensures { option_map (λ v. v.now) result ≡ bound reference.now.name self.now }
     {
-        let name = reference.name.as_str();
         let Some(position) = reference.position else {
-            return self.find(name);
+            return self.find(reference.name.as_str());
         };
-        if position < self.count && self.needs.stands_at(position, name) {
+        if position < self.count && self.needs.stands_at(position, &reference.name) {
             return self.value_at(position);
         }
-        self.find(name)
+        self.find(reference.name.as_str())
     }
 
     // Where the last of the names that is this one stands.

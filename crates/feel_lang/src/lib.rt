@@ -21,6 +21,7 @@ mod laws;
 mod lent;
 mod line;
 mod literal;
+mod name;
 mod names;
 mod needs;
 mod operands;

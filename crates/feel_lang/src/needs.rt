@@ -5,6 +5,7 @@ ghost use Rattle.feel_lang.specs.Needed.{is_found, found_at, need_at};
 ghost use Rattle.feel_lang.specs.Places.{last_place};
 
 use crate::indexed::placed;
+use crate::name::Name;
 use feel_value::{Feel, Outcome};
 use std::alloc::{AllocError, Global};
 use std::collections::BTreeMap;
@@ -16,7 +17,7 @@ const MOST_NEEDS: usize = usize::MAX / 32;
 // A name that is needed, and the place where its value is found.
 #[derive(Drop)]
 struct Need {
-    name: String,
+    name: Name,
     place: usize,
 }
 
@@ -69,7 +70,10 @@ impl Needs {
         }
         let (name, hidden) = placed(&mut self.needs, &mut self.positions, name)?;
         self.are_distinct = self.are_distinct && hidden.is_none();
-        self.needs.push(Need { name, place })?;
+        self.needs.push(Need {
+            name: Name::of(name),
+            place,
+        })?;
         Ok(())
     }
 
@@ -104,11 +108,11 @@ impl Needs {
     }
 
     /// Whether the last need of the name is known to stand at this position.
-    pub(crate) fn stands_at(&self, position: usize, name: &str) -> bool
+    pub(crate) fn stands_at(&self, position: usize, name: &Name) -> bool
         ensures { IsTrue result → last_place name.now self.now ≡ Some position }
     {
         match self.needs.get(position) {
-            Some(need) => name == need.name.as_str() && self.are_distinct,
+            Some(need) => name.is(&need.name) && self.are_distinct,
             None => false,
         }
     }

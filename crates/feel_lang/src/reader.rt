@@ -177,7 +177,7 @@ fn paths<'a>(
     if depth > inner {
         return Err(ReadFault::Syntax);
     }
-    let path = trees::path(alloc, first, &name.name)?;
+    let path = trees::path(alloc, first, name.name.as_str())?;
     paths(alloc, left - 1, inner, path, depth + 1, after)
 }
 
@@ -536,7 +536,7 @@ fn named<'a>(
 ) -> Result<Found<'a>, ReadFault>
     requires { inner < 64 }
     ensures found { Gives (λ x. (view x.0.value, x.1, views x.2.now)) result
-        (named_at (string_bytes reference.now.name) (read_at inner) (views tokens.now)) }
+        (named_at reference.now.name (read_at inner) (views tokens.now)) }
     ensures depth { IfOk result (λ x. x.1 ≤ inner + 1) }
 {
     let [Token::Symbol(Sign::OpenParen), rest @ ..] = tokens else {

@@ -1,6 +1,7 @@
 //! Names as they stand in texts.
-ghost use Rattle.std.specs.Prelude.{◌≡◌, IfOk, string_bytes};
+ghost use Rattle.std.specs.Prelude.{◌≡◌, IfOk};
 
+use crate::name::Name;
 use crate::needs::Needs;
 use std::alloc::{AllocError, Global};
 use std::fmt;
@@ -9,27 +10,27 @@ use std::fmt;
 /// an environment looks there first, and compares the name.
 #[derive(Drop)]
 pub(crate) struct Reference {
-    pub(crate) name: String,
+    pub(crate) name: Name,
     pub(crate) position: Option<usize>,
 }
 
 impl Reference {
     /// The name as it stands in a text that is read under these needed names.
     pub(crate) fn under(alloc: Global, name: &str, needs: &Needs) -> Result<Reference, AllocError>
-        ensures { IfOk result (λ r. string_bytes r.name ≡ name.now) }
+        ensures { IfOk result (λ r. r.name ≡ name.now) }
     {
         Ok(Reference {
-            name: String::from_str(alloc, name)?,
+            name: Name::of(String::from_str(alloc, name)?),
             position: needs.position(name),
         })
     }
 
     /// A copy.
     pub(crate) fn try_clone(&self) -> Result<Reference, AllocError>
-        ensures { IfOk result (λ r. string_bytes r.name ≡ string_bytes self.now.name) }
+        ensures { IfOk result (λ r. r.name ≡ self.now.name) }
     {
         Ok(Reference {
-            name: self.name.clone()?,
+            name: self.name.try_clone()?,
             position: self.position,
         })
     }
@@ -38,7 +39,6 @@ impl Reference {
 /// It is shown as its name.
 impl fmt::Debug for Reference {
     fn fmt<W: fmt::Write>(&self, f: &mut fmt::Formatter<W>) -> fmt::Result {
-        let name = self.name.as_str();
-        write!(f, "{name:?}")
+        self.name.fmt(f)
     }
 }

@@ -157,7 +157,7 @@ fn of_value(value: &Feel) -> Scalar
 
 // The value of a name; null where it has none.
 fn named(reference: &Reference, env: &Env) -> Scalar
-    ensures { IsScalar result (Is (unwrap_or (bound (string_bytes reference.now.name) env.now) null_value)) }
+    ensures { IsScalar result (Is (unwrap_or (bound reference.now.name env.now) null_value)) }
 {
     match env.find_at(reference) {
         Some(value) => of_value(value),

@@ -102,9 +102,9 @@ pub(crate) fn conditional(
 }
 
 /// The entry of that name of a value.
-pub(crate) fn path(alloc: Global, whole: Box<Tree>, name: &String) -> Result<Box<Tree>, AllocError>
-    ensures { IfOk result (λ t. view t.value ≡ expr_specs.Path (view whole.value) (string_bytes name.now)) }
+pub(crate) fn path(alloc: Global, whole: Box<Tree>, name: &str) -> Result<Box<Tree>, AllocError>
+    ensures { IfOk result (λ t. view t.value ≡ expr_specs.Path (view whole.value) name.now) }
 {
-    let name = name.clone()?;
+    let name = String::from_str(alloc, name)?;
     Ok(Box::new(alloc, Tree::Path(whole, name))?)
 }

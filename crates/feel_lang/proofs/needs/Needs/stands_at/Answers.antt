@@ -3,10 +3,10 @@ use Rattle.feel_lang.specs.Places.{last_place}
 use Rattle.feel_lang.proofs.Needed.{stands_last}
 use Rattle.feel_lang.proofs.needs.Needs.stands_at.Goals as goal
 
-pub returns-then-eq : goal.returns-then-eq
-returns-then-eq c = λ distinct.
+pub returns-then-is : goal.returns-then-is
+returns-then-is c = λ distinct.
     let name = c.args.name.now in
-    let same : bytes_eq name (string_bytes c.in-Some.need.now.name) ≡ true = grind (arith, c.eq.ensures, c.as_str.ensures.value, c.if-eq.true) in
+    let same : bytes_eq name c.in-Some.need.now.name ≡ true = sym c.is.ensures ∙ c.if-is.true in
     ap (last_place name) (sym c.self.view_is)
     ∙ stands_last name c.self.inside.needs.items c.args.position c.in-Some.need.now (c.self.invariant.last distinct)
     (subst (λ ys. c.in-Some.need.now ≡ get_or ys c.args.position c.in-Some.need.now) c.deref.ensures.value c.in-Some.ensures.lookup.1)
