@@ -1,5 +1,5 @@
 //! Names with values that are bound one by one.
-ghost use Rattle.std.specs.Prelude.{◌≡◌, ◌≤◌, ◌<◌, ◌+◌, ◌^◌, IsTrue, [], ◌∷◌, ◌++◌, length, take, option_map, MatchResult};
+ghost use Rattle.std.specs.Prelude.{◌≡◌, ◌≤◌, ◌<◌, ◌+◌, ◌^◌, [], ◌∷◌, ◌++◌, length, take, option_map, MatchResult};
 ghost use Rattle.feel_lang.specs.Meaning.{bound};
 ghost use Rattle.feel_lang.specs.Few.{few_of};
 
@@ -83,13 +83,6 @@ impl Added {
             Some(value) => Some(value),
             None => last_named(&self.few, name),
         }
-    }
-
-    /// Whether there are none.
-    pub(crate) fn is_empty(&self) -> bool
-        ensures { IsTrue result → self.now ≡ [] }
-    {
-        self.few.is_empty()
     }
 
     /// How many bindings there are, hidden ones included.

@@ -1,5 +1,5 @@
 //! Names with values.
-ghost use Rattle.std.specs.Prelude.{◌≡◌, ◌≤◌, ◌<◌, ◌^◌, [], ◌∷◌, ◌++◌, length, take, option_map, unwrap_or, MatchResult};
+ghost use Rattle.std.specs.Prelude.{◌≡◌, ◌≤◌, ◌<◌, ◌+◌, ◌^◌, [], ◌∷◌, ◌++◌, length, take, option_map, unwrap_or, MatchResult};
 ghost use Rattle.feel_lang.specs.Meaning.{bound};
 ghost use Rattle.feel_lang.specs.Needed.{bindings_from};
 
@@ -18,8 +18,9 @@ use std::marker::Model;
 pub struct Env<'a> {
     // What a decision needs. It is looked at where it lies.
     lent: Option<Lent<'a>>,
-    // Those behind it.
-    added: Added,
+    // Those behind it, once there are some.
+    added: Option<Added>,
+    alloc: Global,
 }
 
 impl<'a> Model for Env<'a> {
@@ -32,7 +33,7 @@ impl<'a> Model for Env<'a> {
 
     ghost coded = { coded_list (coded× (coded_list coded_ℕ) datum_code) };
 
-    ghost view = { λ e. unwrap_or e.lent [] ++ e.added };
+    ghost view = { λ e. unwrap_or e.lent [] ++ unwrap_or e.added [] };
 }
 
 impl<'a> Env<'a> {
@@ -42,7 +43,8 @@ impl<'a> Env<'a> {
     {
         Env {
             lent: None,
-            added: Added::new(alloc),
+            added: None,
+            alloc,
         }
     }
 
@@ -54,7 +56,8 @@ impl<'a> Env<'a> {
         let lent = Lent::of(needs, found)?;
         Some(Env {
             lent: Some(lent),
-            added: Added::new(alloc),
+            added: None,
+            alloc,
         })
     }
 
@@ -64,15 +67,22 @@ impl<'a> Env<'a> {
     pub fn bind(&mut self, name: &str, value: Feel) -> Result<(), AllocError>
         ensures { MatchResult result (λ _. self.new ≡ self.old ++ (name.now, value) ∷ []) (λ _. self.new ≡ self.old) }
     {
-        self.added.bind(name, value)
+        if let Some(added) = &mut self.added {
+            return added.bind(name, value);
+        }
+        let mut added = Added::new(self.alloc);
+        added.bind(name, value)?;
+        self.added = Some(added);
+        Ok(())
     }
 
     /// The value of the last binding of the name.
+    #[inline(never)]
     #[tactic(auto, using(crate::proofs::Few::bound_both))]
     pub fn find(&self, name: &str) -> Option<&Feel>
         ensures { option_map (λ v. v.now) result ≡ bound name.now self.now }
     {
-        if let Some(value) = self.added.find(name) {
+        if let Some(value) = find_added(&self.added, name) {
             return Some(value);
         }
         self.lent.as_ref()?.find(name)
@@ -83,7 +93,7 @@ impl<'a> Env<'a> {
     pub(crate) fn find_at(&self, reference: &Reference) -> Option<&Feel>
         ensures { option_map (λ v. v.now) result ≡ bound reference.now.name self.now }
     {
-        if !self.added.is_empty() {
+        if self.added.is_some() {
             return self.find(reference.name.as_str());
         }
         self.lent.as_ref()?.find_at(reference)
@@ -93,7 +103,7 @@ impl<'a> Env<'a> {
     pub fn len(&self) -> usize
         ensures { result ≡ length self.now }
     {
-        lent_len(&self.lent) + self.added.len()
+        lent_len(&self.lent) + added_len(&self.added)
     }
 
     /// Drops all bindings but the first `len`; what they hid counts again. It takes no memory.
@@ -102,14 +112,42 @@ impl<'a> Env<'a> {
         ensures { self.new ≡ take len self.old }
     {
         let lent = lent_len(&self.lent);
-        if len >= lent {
-            self.added.cut(len - lent);
+        if len > lent {
+            cut_added(&mut self.added, len - lent);
             return;
         }
-        self.added.cut(0);
+        self.added = None;
         if let Some(lent) = &mut self.lent {
             lent.cut(len);
         }
+    }
+}
+
+// The value of the last binding of the name behind what is lent.
+fn find_added<'b>(added: &'b Option<Added>, name: &str) -> Option<&'b Feel>
+    ensures { option_map (λ v. v.now) result ≡ bound name.now (unwrap_or added.now []) }
+{
+    added.as_ref()?.find(name)
+}
+
+// Drops all bindings behind what is lent but the first so many.
+fn cut_added(added: &mut Option<Added>, len: usize)
+    requires { len ≤ length (unwrap_or added.old []) }
+    ensures { unwrap_or added.new [] ≡ take len (unwrap_or added.old []) }
+{
+    if let Some(added) = added {
+        added.cut(len);
+    }
+}
+
+// How many bindings there are behind what is lent.
+fn added_len(added: &Option<Added>) -> usize
+    ensures number { result ≡ length (unwrap_or added.now []) }
+    ensures small { result < 2 ^ 63 + 8 }
+{
+    match added {
+        Some(added) => added.len(),
+        None => 0,
     }
 }
 
