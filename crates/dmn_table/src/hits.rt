@@ -1,5 +1,6 @@
 //! The rules that hit, and their outputs and places.
-ghost use Rattle.std.specs.Prelude.{◌≡◌, IsTrue, IfOk, map, option_map};
+ghost use Rattle.std.specs.Prelude.{◌≡◌, ◌≤◌, ◌++◌, IsTrue, IfOk, OnOk, Some, length, map, option_map};
+ghost use Rattle.dmn_table.specs.Classes.{MissUnset};
 ghost use Rattle.feel_value.specs.Found.{each};
 ghost use Rattle.dmn_table.specs.Hits.{does_hit as does_hit_of, hit_of as hit_of_rule};
 ghost use Rattle.dmn_table.specs.Listed.{listed_values, places_among};
@@ -42,6 +43,39 @@ fn does_hit(
         }
     }
     Ok(Some(hit))
+}
+
+/// Adds those of these rules that hit, whose entries are known to break no limit. A rule whose bit is not set is not asked, the
+/// first rule having the lowest bit.
+fn add_hits<'a>(
+    alloc: Global,
+    rules: &'a [Rule],
+    word: u64,
+    values: &[Feel],
+    env: &Env,
+    hits: &mut Vec<&'a Rule>,
+) -> Result<(), AllocError>
+    requires few { length rules.now ≤ 64 }
+    requires keep { AllKeepLimits rules.now }
+    requires others { MissUnset env.now values.now rules.now word }
+    ensures { OnOk result (Some (rules_view hits.new.items) ≡ option_map (λ more. rules_view hits.old.items ++ more) (hits_among env.now values.now (map rule_view rules.now))) }
+{
+    if word == 0 {
+        return Ok(());
+    }
+    for i in 0..rules.len() {
+        if (word >> i) & 1 == 0 {
+            continue;
+        }
+        let rule = &rules[i];
+        let Some(hit) = does_hit(alloc, rule, true, values, env)? else {
+            unreachable!();
+        };
+        if hit {
+            hits.push(rule)?;
+        }
+    }
+    Ok(())
 }
 
 /// The rules that hit, in their order; None where an entry breaks a limit. The entries of all rules are evaluated, but those

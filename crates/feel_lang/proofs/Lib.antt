@@ -27,3 +27,4 @@ pub mod TestLists
 pub mod Forms
 pub mod WithinLimits
 pub mod ReadyTests
+pub mod Classes
