@@ -115,7 +115,7 @@ fn made(
         return Ok(Reading::Refused);
     }
     match Table::with_distinct_names(hit, inputs, outputs, rules) {
-        Ok(table) => Ok(Reading::Found(table)),
+        Ok(table) => Ok(Reading::Found(table.with_classes(alloc)?)),
         Err(_) => Ok(Reading::Refused),
     }
 }

@@ -5,27 +5,26 @@ use Rattle.std.specs.Int.{bit_at}
 use denote.Ref.{Bor}
 use Rattle.std.specs.Prelude.{bit_or, bit_and, IfSome}
 use Rattle.std.proofs.lemmas.Bool.{cases_lt}
-use Rattle.std.proofs.lemmas.List.{drop_all}
+use Rattle.std.proofs.lemmas.List.{drop_min, drop-drop}
 use Rattle.std.proofs.lemmas.Nat.Bits.{bit_at_set_same, bit_at_set_other, bit_at_and}
 use Rattle.std.proofs.lemmas.Option.{get_or_from_slice_get, same_Some}
 use Rattle.feel_value.specs.Datum.{Datum}
 use Rattle.feel_value.specs.Limits.{is_value}
-use Rattle.feel_lang.specs.Tests.{Tests}
 use Rattle.feel_lang.specs.declared.class.Class.{Class}
-use Rattle.dmn_table.specs.Classes.{AreRowsOf, IsRowOf, IsUnsetIn, Misses, TellsWord}
+use Rattle.dmn_table.specs.Classes.{AreRowsOf, IsRowOf, IsUnsetIn, MissesAt, TellsColumn, TellsColumns, TellsWord}
 use Rattle.dmn_table.specs.declared.classes.ClassRules.{ClassRules}
+use Rattle.dmn_table.specs.declared.classes.ColumnClasses.{ColumnClasses}
 use Rattle.dmn_table.specs.declared.table.Rule.{Rule}
 
 -- the rules before a place that a word tells of
 abbrev pub TellsBefore : ℕ → List Rule → ℕ → Class → ℕ → Type 0
-TellsBefore n rules column class word =
-    (j : ℕ) (r : Rule) (t : Tests) → j < n → slice_get rules j ≡ Some r → slice_get r.tests.items column ≡ Some t → bit_at word j ≡ 0 → Misses class t
+TellsBefore n rules column class word = (j : ℕ) (r : Rule) → j < n → slice_get rules j ≡ Some r → bit_at word j ≡ 0 → MissesAt class column r
 
 -- one bit more is set
 pub bit_set : (i : ℕ) (rules : List Rule) (column : ℕ) (class : Class) (old new : ℕ) → TellsBefore i rules column class old → new ≡ bit_or old (1 * 2 ^ i % 2 ^ 64) → i < 64 → TellsBefore (i + 1) rules column class new
-bit_set i rules column class old new h set small = λ j r t before there has unset.
+bit_set i rules column class old new h set small = λ j r before there unset.
     elim (cases_lt j i) [
-      | inl less ↦ h j r t less there has (sym (ap (λ n. bit_at n j) set ∙ bit_at_set_other w64 old i small j (λ e. absurd (omega (arith, e, less)))) ∙ unset)
+      | inl less ↦ h j r less there (sym (ap (λ n. bit_at n j) set ∙ bit_at_set_other w64 old i small j (λ e. absurd (omega (arith, e, less)))) ∙ unset)
       | inr more ↦
           let here : j ≡ i = omega (arith, before, more) in
           let one : bit_at new j ≡ 1 = ap (bit_at new) here ∙ ap (λ n. bit_at n i) set ∙ bit_at_set_same w64 old i small in
@@ -33,42 +32,23 @@ bit_set i rules column class old new h set small = λ j r t before there has uns
     ]
 
 -- one rule more misses
-pub rule_missed : (i : ℕ) (rules : List Rule) (column : ℕ) (class : Class) (word : ℕ) (x : Rule) → TellsBefore i rules column class word → x ≡ get_or rules i x
-    → ((t : Tests) → slice_get x.tests.items column ≡ Some t → Misses class t) → TellsBefore (i + 1) rules column class word
-rule_missed i rules column class word x h here misses = λ j r t before there has unset.
+pub rule_missed : (i : ℕ) (rules : List Rule) (column : ℕ) (class : Class) (word : ℕ) (x : Rule) → TellsBefore i rules column class word → x ≡ get_or rules i x → MissesAt class column x
+    → TellsBefore (i + 1) rules column class word
+rule_missed i rules column class word x h here misses = λ j r before there unset.
     elim (cases_lt j i) [
-      | inl less ↦ h j r t less there has unset
+      | inl less ↦ h j r less there unset
       | inr more ↦
           let at : j ≡ i = omega (arith, before, more) in
           let same : r ≡ x = sym (get_or_from_slice_get rules i r x (ap (slice_get rules) (sym at) ∙ there)) ∙ sym here in
-          misses t (ap (λ (y : Rule). slice_get y.tests.items column) (sym same) ∙ has)
+          subst (MissesAt class column) (sym same) misses
     ]
 
 -- ---- words of 64 rules
 
-one_on : (a b : ℕ) → suc (a + b) ≡ suc a + b
-one_on a b = omega arith
-
-drop_none : {X : Type 0} (n : ℕ) → drop {A = X} n [] ≡ []
-drop_none zero = refl
-drop_none (suc n) = refl
-
-pub drop_sum : {X : Type 0} (a b : ℕ) (xs : List X) → drop b (drop a xs) ≡ drop (a + b) xs
-drop_sum zero b xs = ap (λ k. drop k xs) (omega arith)
-drop_sum (suc a) b [] = drop_none b ∙ sym (drop_none (suc a + b))
-drop_sum (suc a) b (x ∷ xs) = drop_sum a b xs ∙ ap (λ k. drop k (x ∷ xs)) (one_on a b)
-
-drop_at_most : {X : Type 0} (n : ℕ) (xs : List X) → drop (min n (length xs)) xs ≡ drop n xs
-drop_at_most n xs =
-    elim (cases_lt (length xs) n) [
-      | inl less ↦ ap (λ k. drop k xs) (omega (arith, less)) ∙ drop_all (length xs) xs (omega arith) ∙ sym (drop_all n xs (omega (arith, less)))
-      | inr more ↦ ap (λ k. drop k xs) (omega (arith, more))
-    ]
-
 -- the rules behind one word more
 pub rest_after : {X : Type 0} (n m k : ℕ) (xs rest others : List X) → rest ≡ drop (64 * n) xs → k ≡ min 64 (length rest) → others ≡ drop k rest → m ≡ n + 1 → others ≡ drop (64 * m) xs
 rest_after n m k xs rest others here size behind more =
-    behind ∙ ap (λ j. drop j rest) size ∙ drop_at_most 64 rest ∙ ap (drop 64) here ∙ drop_sum (64 * n) 64 xs ∙ ap (λ j. drop j xs) (omega (arith, more))
+    behind ∙ ap (λ j. drop j rest) size ∙ drop_min 64 rest ∙ ap (drop 64) here ∙ drop-drop 64 (64 * n) xs ∙ ap (λ j. drop j xs) (omega (arith, more))
 
 pushed : {X : Type 0} (xs : List X) (x y : X) (w : ℕ) → slice_get (xs ++ x ∷ []) w ≡ Some y → (slice_get xs w ≡ Some y) ⊎ ((w ≡ length xs) × (x ≡ y))
 pushed [] x y zero e = inr (refl, same_Some x y e)
@@ -106,12 +86,23 @@ unset_after rows place k row old word new there has is before i small unset =
 -- one row more
 pub rows_more : (rules : List Rule) (values : List Datum) (old new : List (Option (Bor ClassRules))) (o : Option (Bor ClassRules)) (v : Datum) → AreRowsOf rules values old → new ≡ old ++ o ∷ []
     → slice_get values (length old) ≡ Some v → is_value v ≡ true → IfSome o (λ row. IsRowOf rules (length old) v row.now) → AreRowsOf rules values new
-rows_more rules values old new o v h more here lawful told = λ k row w there value.
+rows_more rules values old new o v h more here lawful told = λ k row there.
     elim (pushed old o (Some row) k (ap (λ rs. slice_get rs k) (sym more) ∙ there)) [
-      | inl before ↦ h k row w before value
+      | inl before ↦ h k row before
       | inr at ↦
-          let same : v ≡ w = same_Some v w (sym here ∙ ap (slice_get values) (sym at.0) ∙ value) in
           let row_told : IsRowOf rules (length old) v row.now = subst (λ (p : Option (Bor ClassRules)). IfSome p (λ row. IsRowOf rules (length old) v row.now)) at.1 told in
-          subst (λ d. (is_value d ≡ true) × IsRowOf rules k d row.now) same
-              (subst (λ n. (is_value v ≡ true) × IsRowOf rules n v row.now) (sym at.0) (lawful, row_told))
+          record {
+            value = v;
+            there = ap (slice_get values) at.0 ∙ here;
+            lawful = lawful;
+            of_class = subst (λ n. IsRowOf rules n v row.now) (sym at.0) row_told;
+          }
+    ]
+
+-- one column more
+pub column_more : (rules : List Rule) (old new : List ColumnClasses) (last : ColumnClasses) → TellsColumns rules old → new ≡ old ++ last ∷ [] → TellsColumn rules (length old) last → TellsColumns rules new
+column_more rules old new last h more told = λ k classes there.
+    elim (pushed old last classes k (ap (λ cs. slice_get cs k) (sym more) ∙ there)) [
+      | inl before ↦ h k classes before
+      | inr at ↦ subst (λ n. TellsColumn rules n classes) (sym at.0) (subst (TellsColumn rules (length old)) at.1 told)
     ]

@@ -66,6 +66,12 @@ at_miss m values rule hit t v ts rests vs others keep answer first second unmet 
     ∙ ap (λ xs. answers_of m (zip (t ∷ ts) xs) >>= λ answers. Some (hit && list_all (λ yes. yes) answers)) second
     ∙ ap (λ o. (o >>= λ y. answers_of m (zip ts vs) >>= λ ys. Some (y ∷ ys)) >>= λ answers. Some (hit && list_all (λ yes. yes) answers)) (missed (satisfied t v m) unmet))
 
+-- a rule whose entries break no limit hits or misses
+pub hits_or_misses : (m : Bindings) (values : List Datum) (rule : Rule) → KeepLimits rule.tests → None ≡ does_hit m values rule → ⊥
+hits_or_misses m values rule keep none =
+    let whole = some_bool (answers_of m (zip rule.tests values)) (λ answers. list_all (λ yes. yes) answers) (all_told m rule.tests values keep) in
+    let bad : false ≡ true = ap is_some none ∙ whole in cc
+
 -- ---- one entry that is not met
 
 no_and : (b : Bool) → (b && false) ≡ false
@@ -98,5 +104,5 @@ missed_in m (s ∷ ss) (w ∷ ws) (suc k) t v h there value unmet =
 
 -- a rule misses where one of its entries isn't met
 pub missed_at : (m : Bindings) (values : List Datum) (rule : Rule) (k : ℕ) (t : Tests) (v : Datum) → KeepLimits rule.tests → slice_get rule.tests k ≡ Some t → slice_get values k ≡ Some v
-    → held.No ≡ held_of (satisfied t v m) → does_hit m values rule ≡ Some false
-missed_at m values rule k t v keep there value unmet = missed_in m rule.tests values k t v keep there value unmet
+    → held_of (satisfied t v m) ≡ held.No → does_hit m values rule ≡ Some false
+missed_at m values rule k t v keep there value unmet = missed_in m rule.tests values k t v keep there value (sym unmet)

@@ -21,10 +21,16 @@ use Rattle.dmn_table.specs.Parts.{rule_view}
 abbrev pub Misses : Class → Tests → Type 0
 Misses class tests = (v : Datum) (m : Bindings) → is_value v ≡ true → is_in_class class v ≡ true → held_of (satisfied tests v m) ≡ No
 
+-- the rule has an entry in this column, and no value of the class meets it
+pub record MissesAt (class : Class) (column : ℕ) (r : rule.Rule) : Type 0 where
+  pub entry : Tests
+  pub there : slice_get r.tests.items column ≡ Some entry
+  pub misses : Misses class entry
+
 -- of these rules, whose first stands at the lowest bit, each whose bit is not set misses the class in this column
 abbrev pub TellsWord : List rule.Rule → ℕ → Class → ℕ → Type 0
 TellsWord rules column class word =
-    (i : ℕ) (r : rule.Rule) (t : Tests) → i < 64 → slice_get rules i ≡ Some r → slice_get r.tests.items column ≡ Some t → bit_at word i ≡ 0 → Misses class t
+    (i : ℕ) (r : rule.Rule) → i < 64 → slice_get rules i ≡ Some r → bit_at word i ≡ 0 → MissesAt class column r
 
 -- the same of all rules, 64 to a word
 abbrev pub TellsRules : List rule.Rule → ℕ → ClassRules → Type 0
@@ -43,10 +49,16 @@ TellsColumns rules columns = (k : ℕ) (classes : ColumnClasses) → slice_get c
 abbrev pub IsRowOf : List rule.Rule → ℕ → Datum → ClassRules → Type 0
 IsRowOf rules column v row = (is_in_class row.class v ≡ true) × TellsRules rules column row
 
+-- there is a value in this column, and it is of this class
+pub record IsRowAt (rules : List rule.Rule) (values : List Datum) (column : ℕ) (row : ClassRules) : Type 0 where
+  pub value : Datum
+  pub there : slice_get values column ≡ Some value
+  pub lawful : is_value value ≡ true
+  pub of_class : IsRowOf rules column value row
+
 -- of each column the class of its value, where there is one
 abbrev pub AreRowsOf : List rule.Rule → List Datum → List (Option (Bor ClassRules)) → Type 0
-AreRowsOf rules values rows =
-    (k : ℕ) (row : Bor ClassRules) (v : Datum) → slice_get rows k ≡ Some (Some row) → slice_get values k ≡ Some v → (is_value v ≡ true) × IsRowOf rules k v row.now
+AreRowsOf rules values rows = (k : ℕ) (row : Bor ClassRules) → slice_get rows k ≡ Some (Some row) → IsRowAt rules values k row.now
 
 -- a bit that is not set is not set in a word of one of the rows
 pub record IsUnsetIn (rows : List (Option (Bor ClassRules))) (w i : ℕ) : Type 0 where

@@ -1,10 +1,9 @@
 //! Which rules a value can't hit, told by the class that it has in its column.
-ghost use Rattle.std.specs.Prelude.{◌≡◌, ◌<◌, ℕ, List, IfOk, IfSome, IsFalse, Some, slice_get};
+ghost use Rattle.std.specs.Prelude.{◌≡◌, ◌<◌, ℕ, List, IfOk, IfSome, IsFalse};
 ghost use Rattle.std.specs.Int.{bit_at};
 ghost use Rattle.feel_lang.specs.Classes.{is_in_class};
-ghost use Rattle.feel_lang.specs.Tests.{Tests};
 ghost use Rattle.feel_value.specs.View.{datum_of};
-ghost use Rattle.dmn_table.specs.Classes.{AreRowsOf, IsRowOf, IsUnsetIn, Misses, TellsColumn, TellsColumns, TellsRules, TellsWord};
+ghost use Rattle.dmn_table.specs.Classes.{AreRowsOf, IsRowOf, IsUnsetIn, MissesAt, TellsColumn, TellsColumns, TellsRules, TellsWord};
 ghost use Rattle.dmn_table.specs.declared.table.Rule.{Rule as RuleData};
 
 use crate::table::Rule;
@@ -13,10 +12,17 @@ use feel_value::{Feel, Value};
 use std::alloc::{AllocError, Global};
 
 /// The most numbers at which the numbers of a column are cut into classes.
-const MOST_CUTS: usize = 255;
+const MOST_CUTS: usize = 63;
 
 /// The rules of a word.
-const WORD: usize = 64;
+pub(crate) const WORD: usize = 64;
+
+/// The bytes of a class besides its words, and what the heap adds to a block.
+const CLASS_BYTES: usize = 64;
+
+/// The least bytes of a rule in a model's text, and of an entry.
+const RULE_TEXT: usize = 24;
+const ENTRY_TEXT: usize = 4;
 
 /// A class of values of a column, and the rules that they may meet there: a bit for each rule, 64 to a word, of which the first
 /// is the lowest. The entry of a rule whose bit is not set is met by no value of the class.
@@ -26,7 +32,8 @@ pub(crate) struct ClassRules {
     pub(crate) words: Vec<u64>,
 }
 
-/// The classes of a column: of numbers between the cuts, which rise; of texts by their marks; of booleans; and of null.
+/// The classes of a column: of numbers between the cuts, which rise; of null and of booleans; and of texts by their marks, where
+/// enough rules ask for texts. None where they would take too much memory.
 #[derive(Drop)]
 pub(crate) struct ColumnClasses {
     cuts: Vec<i64>,
@@ -48,7 +55,7 @@ fn is_in(class: Class, value: &Value) -> bool
 
 /// Whether a value may meet a rule's entry in a column, if it is of the class.
 fn may_meet(rule: &Rule, column: usize, class: Class) -> bool
-    ensures { IsFalse result → (t : Tests) → slice_get rule.now.tests.items column ≡ Some t → Misses class t }
+    ensures { IsFalse result → MissesAt class column rule.now }
 {
     match rule.tests.get(column) {
         Some(tests) => !tests.misses(class),
@@ -89,7 +96,7 @@ fn rules_for(
 }
 
 /// The classes of a column with these cuts.
-fn classes_of(alloc: Global, cuts: &[i64]) -> Result<Vec<Class>, AllocError> {
+fn classes_of(alloc: Global, cuts: &[i64], has_texts: bool) -> Result<Vec<Class>, AllocError> {
     let mut classes = Vec::new(alloc);
     let mut low = i64::MIN;
     for cut in cuts {
@@ -97,13 +104,34 @@ fn classes_of(alloc: Global, cuts: &[i64]) -> Result<Vec<Class>, AllocError> {
         low = *cut;
     }
     classes.push(Class::Numbers(low, i64::MAX))?;
-    for mark in 0..MARKS {
-        classes.push(Class::Texts(mark))?;
-    }
+    classes.push(Class::Null)?;
     classes.push(Class::Truth(false))?;
     classes.push(Class::Truth(true))?;
-    classes.push(Class::Null)?;
+    if has_texts {
+        for mark in 0..MARKS {
+            classes.push(Class::Texts(mark))?;
+        }
+    }
     Ok(classes)
+}
+
+/// Whether a fourth of the rules or more ask a column for texts.
+fn has_texts(rules: &[Rule], column: usize) -> bool {
+    let mut count: usize = 0;
+    for rule in rules {
+        if let Some(tests) = rule.tests.get(column) {
+            if tests.ask_for_texts() {
+                count = count.saturating_add(1);
+            }
+        }
+    }
+    count >= rules.len() / 4 && count > 0
+}
+
+/// The bytes that so many classes of so many rules take.
+fn bytes_of(classes: usize, rules: usize) -> usize {
+    let words = rules / WORD + 1;
+    classes.saturating_mul(CLASS_BYTES.saturating_add(words.saturating_mul(8)))
 }
 
 /// Numbers at which what the rules ask of a column changes, rising; not all of them where there are many.
@@ -127,12 +155,20 @@ fn cuts_of(alloc: Global, rules: &[Rule], column: usize) -> Result<Vec<i64>, All
 }
 
 impl ColumnClasses {
-    /// The classes of a column of these rules.
-    fn of(alloc: Global, rules: &[Rule], column: usize) -> Result<ColumnClasses, AllocError>
+    /// The classes of a column of these rules; none where they would take more than so many bytes.
+    fn of(
+        alloc: Global,
+        rules: &[Rule],
+        column: usize,
+        room: usize,
+    ) -> Result<ColumnClasses, AllocError>
         ensures { IfOk result (TellsColumn rules.now column) }
     {
         let cuts = cuts_of(alloc, rules, column)?;
-        let classes = classes_of(alloc, &cuts)?;
+        let mut classes = classes_of(alloc, &cuts, has_texts(rules, column))?;
+        if bytes_of(classes.len(), rules.len()) > room {
+            classes.clear();
+        }
         let mut rows = Vec::with_capacity(alloc, classes.len())?;
         for class in &classes {
             rows.push(rules_for(alloc, rules, column, *class)?)?;
@@ -142,12 +178,12 @@ impl ColumnClasses {
 
     /// Where the class of a value stands among the classes.
     fn place_of(&self, value: &Value) -> usize {
-        let numbers = self.cuts.len() + 1;
+        let others = self.cuts.len() + 1;
         match value {
             Value::Number(n) => self.cuts.partition_point(|cut| *cut <= *n),
-            Value::Text(text) => numbers + usize::from(mark(text.as_str())),
-            Value::Bool(holds) => numbers + usize::from(MARKS) + usize::from(*holds),
-            Value::Null => numbers + usize::from(MARKS) + 2,
+            Value::Null => others,
+            Value::Bool(holds) => others + 1 + usize::from(*holds),
+            Value::Text(text) => others + 3 + usize::from(mark(text.as_str())),
             Value::List(_) | Value::Context(_) => usize::MAX,
         }
     }
@@ -162,6 +198,26 @@ impl ColumnClasses {
         }
         None
     }
+}
+
+/// The classes of each column. Together they take at most eight times the bytes that the least text of so many rules and entries
+/// has.
+pub(crate) fn classes_of_columns(
+    alloc: Global,
+    rules: &[Rule],
+    count: usize,
+) -> Result<Vec<ColumnClasses>, AllocError>
+    ensures { IfOk result (λ columns. TellsColumns rules.now columns.items) }
+{
+    let text = count.saturating_mul(ENTRY_TEXT).saturating_add(RULE_TEXT);
+    let mut room = rules.len().saturating_mul(text).saturating_mul(8);
+    let mut columns = Vec::with_capacity(alloc, count)?;
+    for column in 0..count {
+        let classes = ColumnClasses::of(alloc, rules, column, room)?;
+        room = room.saturating_sub(bytes_of(classes.rows.len(), rules.len()));
+        columns.push(classes)?;
+    }
+    Ok(columns)
 }
 
 /// Of each column the class of its value, with its rules.

@@ -87,6 +87,11 @@ impl Tests {
         self.ready.misses(class)
     }
 
+    /// Whether the tests are known to be met by no text but those that they name, of which there is one.
+    pub fn ask_for_texts(&self) -> bool {
+        self.ready.ask_for_texts()
+    }
+
     /// Adds numbers at which the answer of the tests changes, as far as they are known.
     pub fn cuts(&self, cuts: &mut Vec<i64>) -> Result<(), AllocError> {
         self.ready.cuts(cuts)

@@ -134,7 +134,15 @@ impl Ready {
         }
     }
 
-    /// Whether no value of the class is known to meet the tests: each is known not to. False says nothing.
+    /// Whether a text may be all that meets the tests.
+    pub(crate) fn ask_for_texts(&self) -> bool {
+        match self {
+            Ready::Among(values) => values.iter().any(|value| matches!(value, Value::Text(_))),
+            Ready::Any | Ready::Numbers(_) | Ready::Besides(_) | Ready::General => false,
+        }
+    }
+
+    /// Whether no value of the class meets the tests, as is known of each of them. False says nothing.
     pub(crate) fn misses(&self, class: Class) -> bool
         ensures { IsTrue result → (v : Datum) → is_in_class class v ≡ true → told self.now v ≡ Some false }
     {

@@ -5,7 +5,7 @@ use Rattle.dmn_table.proofs.classes.word_for.Goals.{then-may_meet, else-may_meet
 use Rattle.dmn_table.proofs.classes.word_for.Goals as goal
 
 pub loop-i-preserved : goal.loop-i-preserved
-loop-i-preserved c = 
+loop-i-preserved c =
     let rules = c.args.rules.now in
     let i = c.loop-i.i in
     let small : i < 64 = omega (arith, c.loop-i-test.true, c.min-i-end.ensures) in
@@ -18,5 +18,5 @@ loop-i-preserved c =
     ]
 
 pub returns : goal.returns
-returns c = λ i r t small there has unset.
-    c.loop-i.invariant i r t (omega (arith, small, slice_get_within c.args.rules.now i r there, c.loop-i-test.false, c.min-i-end.ensures)) there has unset
+returns c = λ i r small there unset.
+    c.loop-i.invariant i r (omega (arith, small, slice_get_within c.args.rules.now i r there, c.loop-i-test.false, c.min-i-end.ensures)) there unset
