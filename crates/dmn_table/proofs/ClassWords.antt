@@ -66,7 +66,7 @@ word_told rules column class old new last rest h more left told w word there =
       | inl before ↦ h w word before
       | inr at ↦
           subst (λ k. TellsWord (drop (64 * k) rules) column class word) (sym at.0)
-              (subst (λ rs. TellsWord rs column class word) left (subst (TellsWord rest column class) at.1 told))
+          (subst (λ rs. TellsWord rs column class word) left (subst (TellsWord rest column class) at.1 told))
     ]
 
 -- ---- rows

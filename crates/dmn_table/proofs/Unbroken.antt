@@ -96,11 +96,11 @@ missed_in m [] values k t v h there value unmet = cc
 missed_in m (s ∷ ss) [] k t v h there value unmet = cc
 missed_in m (s ∷ ss) (w ∷ ws) zero t v h there value unmet =
     first_missed (is_satisfied (satisfied s w m)) (answers_of m (zip ss ws))
-        (ap₂ (λ s w. is_satisfied (satisfied s w m)) (same_Some s t there) (same_Some w v value) ∙ missed (satisfied t v m) unmet)
-        (all_told m ss ws (All-tail Keeps s ss h))
+    (ap₂ (λ s w. is_satisfied (satisfied s w m)) (same_Some s t there) (same_Some w v value) ∙ missed (satisfied t v m) unmet)
+    (all_told m ss ws (All-tail Keeps s ss h))
 missed_in m (s ∷ ss) (w ∷ ws) (suc k) t v h there value unmet =
     later_missed (is_satisfied (satisfied s w m)) (answers_of m (zip ss ws)) (told (satisfied s w m) (All-head Keeps s ss h w m))
-        (missed_in m ss ws k t v (All-tail Keeps s ss h) there value unmet)
+    (missed_in m ss ws k t v (All-tail Keeps s ss h) there value unmet)
 
 -- a rule misses where one of its entries isn't met
 pub missed_at : (m : Bindings) (values : List Datum) (rule : Rule) (k : ℕ) (t : Tests) (v : Datum) → KeepLimits rule.tests → slice_get rule.tests k ≡ Some t → slice_get values k ≡ Some v

@@ -105,7 +105,7 @@ kept_at : (rules : List code.Rule) (n i : ℕ) (r : code.Rule) → AllKeepLimits
 kept_at rules n i r keep there =
     let P : code.Rule → Type 0 = λ (x : code.Rule). KeepLimits x.tests.items in
     subst P (get_or_from_slice_get (drop n rules) i r r there)
-        (All-get_or P (drop n rules) i r (slice_get_within (drop n rules) i r there) (All-drop P n rules keep))
+    (All-get_or P (drop n rules) i r (slice_get_within (drop n rules) i r there) (All-drop P n rules keep))
 
 -- one block more
 pub block_more : (m : Bindings) (vs : List Datum) (whole : Option (List Rule)) (old new : List Rule) (k : ℕ) (rest block others : List code.Rule)
@@ -114,7 +114,7 @@ pub block_more : (m : Bindings) (vs : List Datum) (whole : Option (List Rule)) (
 block_more m vs whole old new k rest block others before front back added =
     let found = found_of old new (hits_among m vs (map rule_view block)) added in
     let parts : map rule_view rest ≡ map rule_view block ++ map rule_view others =
-      ap (map rule_view) (sym (take-append-drop k rest)) ∙ map-append rule_view (take k rest) (drop k rest) ∙ ap₂ (λ xs ys. map rule_view xs ++ map rule_view ys) (sym front) (sym back)
+    ap (map rule_view) (sym (take-append-drop k rest)) ∙ map-append rule_view (take k rest) (drop k rest) ∙ ap₂ (λ xs ys. map rule_view xs ++ map rule_view ys) (sym front) (sym back)
     in
     before
     ∙ ap (λ rs. after old (hits_among m vs rs)) parts
@@ -133,4 +133,4 @@ block_misses m vs rules block rest rows place k word told keep unset left front 
     let row = told u.column u.row u.there in
     let at = row.of_class.1 place u.word u.has i r small here u.unset in
     missed_at m vs (rule_view r) u.column at.entry row.value
-        (kept_at rules (64 * place) i r keep here) at.there row.there (at.misses row.value m row.lawful row.of_class.0)
+    (kept_at rules (64 * place) i r keep here) at.there row.there (at.misses row.value m row.lawful row.of_class.0)

@@ -22,6 +22,7 @@ const CLASS_BYTES: usize = 64;
 
 /// The least bytes of a rule in a model's text, and of an entry.
 const RULE_TEXT: usize = 24;
+
 const ENTRY_TEXT: usize = 4;
 
 /// A class of values of a column, and the rules that they may meet there: a bit for each rule, 64 to a word, of which the first

@@ -19,9 +19,9 @@ loop-row-preserved c = λ i small unset.
           let place = c.args.place in
           let bits = w.in-Some-get.bits.now in
           unset_after rows place c.loop-row.row-index w.in-Some.row c.loop-row.word bits c.match-row.word
-              (slice_get-get_or rows c.loop-row.row-index c.row-item.result c.loop-row-test.true ∙ ap Some (sym c.row-item.is ∙ w.in-Some.is))
-              (ap (λ ws. slice_get ws place) (sym w.deref.ensures.value) ∙ slice_get-get_or w.deref.result.now place bits w.in-Some-get.ensures.lookup.3.0 ∙ ap Some (sym w.in-Some-get.ensures.lookup.1))
-              w.word-is c.loop-row.invariant i small unset
+          (slice_get-get_or rows c.loop-row.row-index c.row-item.result c.loop-row-test.true ∙ ap Some (sym c.row-item.is ∙ w.in-Some.is))
+          (ap (λ ws. slice_get ws place) (sym w.deref.ensures.value) ∙ slice_get-get_or w.deref.result.now place bits w.in-Some-get.ensures.lookup.3.0 ∙ ap Some (sym w.in-Some-get.ensures.lookup.1))
+          w.word-is c.loop-row.invariant i small unset
       | in-Some+in_default-get w ↦ c.loop-row.invariant i small (ap (λ n. bit_at n i) (sym w.word-is) ∙ unset)
       | in_default w ↦ c.loop-row.invariant i small (ap (λ n. bit_at n i) (sym w.word-is) ∙ unset)
     ]

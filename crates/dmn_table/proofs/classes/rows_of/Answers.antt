@@ -16,7 +16,7 @@ loop-k-preserved c =
           (ap (slice_get c.args.values.now) c.loop-k.invariant.count ∙ slice_get-get_or c.args.values.now k c.index-values-k.result (omega (arith, c.loop-k-test.true, c.min-k-end.ensures)) ∙ ap Some (sym c.index-values-k.is))
           c.value.ensures.lawful
           (IfSome_then c.row_of.result c.row_of.ensures (λ row h.
-              subst (λ d. IsRowOf rules (length old) d row.now) c.value.ensures.same
-                  (h rules (length old) (subst (λ n. TellsColumn rules n c.index-columns-k.result) (sym c.loop-k.invariant.count)
-                      (tells k c.index-columns-k.result (slice_get-get_or c.args.columns.now k c.index-columns-k.result (omega (arith, c.loop-k-test.true, c.min-k-end.ensures)) ∙ ap Some (sym c.index-columns-k.is)))))));
+          subst (λ d. IsRowOf rules (length old) d row.now) c.value.ensures.same
+          (h rules (length old) (subst (λ n. TellsColumn rules n c.index-columns-k.result) (sym c.loop-k.invariant.count)
+          (tells k c.index-columns-k.result (slice_get-get_or c.args.columns.now k c.index-columns-k.result (omega (arith, c.loop-k-test.true, c.min-k-end.ensures)) ∙ ap Some (sym c.index-columns-k.is)))))));
     }

@@ -14,7 +14,7 @@ loop-i-preserved c =
       | then-may_meet w ↦ bit_set i rules c.args.column c.args.class c.loop-i.word c.if-may_meet.word told w.word-is small
       | else-may_meet w ↦
           subst (TellsBefore (i + 1) rules c.args.column c.args.class) (sym w.word-is)
-              (rule_missed i rules c.args.column c.args.class c.loop-i.word c.index-rules-i.result told c.index-rules-i.is (c.may_meet.ensures w.if-may_meet.false))
+          (rule_missed i rules c.args.column c.args.class c.loop-i.word c.index-rules-i.result told c.index-rules-i.is (c.may_meet.ensures w.if-may_meet.false))
     ]
 
 pub returns : goal.returns

@@ -16,7 +16,7 @@ returns-then-word-eq0 c =
     let old = rules_view c.args.hits.now.items in
     let zero : c.args.word ≡ 0 = omega (arith, c.if-word-eq0.true) in
     sym (ap (after old) (none_hit c.args.env.now c.args.values.now c.args.rules.now
-        (λ i r there. c.requires.others i r there (ap (λ w. bit_at w i) zero ∙ bit_at-zero i))) ∙ ap Some (append-nil old))
+    (λ i r there. c.requires.others i r there (ap (λ w. bit_at w i) zero ∙ bit_at-zero i))) ∙ ap Some (append-nil old))
 
 pub loop-i-preserved-then-word-i-eq0 : goal.loop-i-preserved-then-word-i-eq0
 loop-i-preserved-then-word-i-eq0 c =
@@ -33,5 +33,5 @@ unreachable-requires c =
     let rule = c.index-rules-i.result in
     let P : Rule → Type 0 = λ (r : Rule). KeepLimits r.tests.items in
     hits_or_misses c.args.env.now c.args.values.now (rule_view rule)
-        (subst P (sym c.index-rules-i.is) (All-get_or P rules i rule c.loop-i-test.true c.requires.keep))
-        (sym c.in_default.is ∙ c.in_ok-hit.ensures)
+    (subst P (sym c.index-rules-i.is) (All-get_or P rules i rule c.loop-i-test.true c.requires.keep))
+    (sym c.in_default.is ∙ c.in_ok-hit.ensures)

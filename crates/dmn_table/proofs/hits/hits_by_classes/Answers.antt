@@ -11,8 +11,8 @@ add_hits-requires-clause-others c =
     let rules = c.args.rules.now in
     let values = c.args.values.now in
     block_misses c.args.env.now values rules c.split_at.result.0.now c.loop-rest.rest.now c.deref.result.now c.loop-rest.place c.min.result c.common-word.result
-        (subst (AreRowsOf rules values) (sym c.deref.ensures.value) (c.in_ok-rows.ensures rules c.requires.tell))
-        c.requires.keep c.common-word.ensures c.loop-rest.invariant.left c.split_at.ensures.front (omega (arith, c.min.ensures))
+    (subst (AreRowsOf rules values) (sym c.deref.ensures.value) (c.in_ok-rows.ensures rules c.requires.tell))
+    c.requires.keep c.common-word.ensures c.loop-rest.invariant.left c.split_at.ensures.front (omega (arith, c.min.ensures))
 
 pub loop-rest-preserved : goal.loop-rest-preserved
 loop-rest-preserved c =
