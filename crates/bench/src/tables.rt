@@ -1,5 +1,5 @@
-//! How long a decision over 200 rules and 6 inputs takes, by the hit policy and by how many rules hit. Each line is the
-//! average of a thousand decisions.
+//! How long a decision over 6 inputs takes, by how many rules there are, the hit policy and how many rules hit, of tables with
+//! classes and without. Each line is the average of a thousand decisions.
 use anyhow::Error;
 use dmn_table::{Output, Rule, Table, decide};
 use feel_lang::{Env, Expr, Tests, read_expr, read_tests};
@@ -9,7 +9,11 @@ use std::time::{Clock, Instant};
 
 const ROUNDS: u32 = 1_000;
 
+/// How many rules the table has whose hit policies are compared.
 const RULES: i64 = 200;
+
+/// How many rules the tables have that are compared by their size.
+const SIZES: [i64; 4] = [200, 2_000, 10_000, 27_000];
 
 const INPUTS: [&str; 6] = ["a", "b", "c", "d", "e", "f"];
 
@@ -70,16 +74,16 @@ fn inputs(alloc: Global) -> Result<Vec<Expr>, Error> {
     Ok(inputs)
 }
 
-fn rules(alloc: Global) -> Result<Vec<Rule>, Error> {
+fn rules(alloc: Global, count: i64) -> Result<Vec<Rule>, Error> {
     let mut rules = Vec::new(alloc);
-    for n in 0..RULES {
+    for n in 0..count {
         rules.push(rule(alloc, n)?)?;
     }
     Ok(rules)
 }
 
-fn table(alloc: Global, hit: &str) -> Result<Table, Error> {
-    let table = Table::new(hit, inputs(alloc)?, outputs(alloc)?, rules(alloc)?)?;
+fn table(alloc: Global, hit: &str, count: i64) -> Result<Table, Error> {
+    let table = Table::new(hit, inputs(alloc)?, outputs(alloc)?, rules(alloc, count)?)?;
     Ok(table)
 }
 
@@ -122,22 +126,45 @@ fn decide_once(alloc: Global, table: &Table, env: &Env) -> Result<(), Error> {
     }
 }
 
-/// The microseconds that a decision takes.
+/// The nanoseconds that a decision takes.
 fn average<R: Clock>(rt: &R, alloc: Global, table: &Table, env: &Env) -> Result<u128, Error> {
     let start = Instant::now(rt)?;
     for _ in 0..ROUNDS {
         decide_once(alloc, table, env)?;
     }
-    Ok(start.elapsed(rt)?.as_micros() / u128::from(ROUNDS))
+    Ok(start.elapsed(rt)?.as_nanos() / u128::from(ROUNDS))
 }
 
 /// Tells how long decisions of a table take under this hit policy.
 fn time_decisions<R: Clock + Eprint>(rt: &R, alloc: Global, hit: &str) -> Result<(), Error> {
-    let table = table(alloc, hit)?;
+    let table = table(alloc, hit, RULES)?;
     for hits in [0, 10, 200] {
         let env = environment(alloc, hits)?;
-        let micros = average(rt, alloc, &table, &env)?;
-        eprintln!(rt; "{hit}, {hits} hits: {micros} us")?;
+        let nanos = average(rt, alloc, &table, &env)?;
+        eprintln!(rt; "{hit}, {hits} hits: {nanos} ns")?;
+    }
+    Ok(())
+}
+
+/// The table with classes, and the microseconds that they take.
+fn with_classes<R: Clock>(rt: &R, alloc: Global, table: Table) -> Result<(Table, u128), Error> {
+    let start = Instant::now(rt)?;
+    let table = table.with_classes(alloc)?;
+    Ok((table, start.elapsed(rt)?.as_micros()))
+}
+
+/// Tells how long a decision of a table of so many rules takes, under `R`.
+fn time_size<R: Clock + Eprint>(rt: &R, alloc: Global, count: i64) -> Result<(), Error> {
+    let start = Instant::now(rt)?;
+    let plain = table(alloc, "R", count)?;
+    let reading = start.elapsed(rt)?.as_micros();
+    let (classed, making) = with_classes(rt, alloc, table(alloc, "R", count)?)?;
+    eprintln!(rt; "{count} rules: {reading} us to be read, {making} us for their classes")?;
+    for hits in [1, 10] {
+        let env = environment(alloc, hits)?;
+        let scan = average(rt, alloc, &plain, &env)?;
+        let search = average(rt, alloc, &classed, &env)?;
+        eprintln!(rt; "{count} rules, {hits} hits: {search} ns by classes, {scan} ns by a scan")?;
     }
     Ok(())
 }
@@ -155,6 +182,9 @@ fn time_making<R: Clock + Eprint>(rt: &R, alloc: Global) -> Result<(), Error> {
 pub(crate) fn time_all<R: Clock + Eprint>(rt: &R, alloc: Global) -> Result<(), Error> {
     for hit in ["U", "F", "P", "O", "C", "C+"] {
         time_decisions(rt, alloc, hit)?;
+    }
+    for count in SIZES {
+        time_size(rt, alloc, count)?;
     }
     time_making(rt, alloc)
 }

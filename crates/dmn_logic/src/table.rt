@@ -115,7 +115,10 @@ fn made(
         return Ok(Reading::Refused);
     }
     match Table::with_distinct_names(hit, inputs, outputs, rules) {
-        Ok(table) => Ok(Reading::Found(table)),
+        Ok(table) => {
+            let table = table.with_classes(alloc)?;
+            Ok(Reading::Found(table))
+        }
         Err(_) => Ok(Reading::Refused),
     }
 }

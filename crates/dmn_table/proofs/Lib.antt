@@ -15,3 +15,5 @@ pub mod EqualPlaces
 pub mod FirstInPriority
 pub mod FittingHits
 pub mod Unbroken
+pub mod ClassWords
+pub mod WordHits

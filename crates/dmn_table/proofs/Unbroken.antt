@@ -1,7 +1,8 @@
 -- A rule whose entries break no limit misses where one of them is not met.
-use Rattle.std.proofs.Common.{◌≡◌, ◌≢◌, ◌∙◌, sym, ap, refl, List, [], ◌∷◌, Bool, true, false, ◌&&◌, Option, None, Some, is_some}
+use Rattle.std.proofs.Common.{◌≡◌, ◌≢◌, ◌∙◌, sym, ap, ap₂, refl, ℕ, zero, suc, List, [], ◌∷◌, Bool, true, false, ◌&&◌, Option, None, Some, is_some}
 use Rattle.std.proofs.lemmas.List.Elements.{All-head, All-tail}
-use Rattle.std.specs.List.{zip, list_all}
+use Rattle.std.specs.List.{zip, list_all, slice_get}
+use Rattle.std.proofs.lemmas.Option.{same_Some}
 use Rattle.feel_value.specs.Datum.{Datum}
 use Rattle.feel_lang.specs.Meaning.{Bindings}
 use Rattle.feel_lang.specs.Satisfied.{satisfied, Answer, Told, Broken, held_of}
@@ -64,3 +65,44 @@ at_miss m values rule hit t v ts rests vs others keep answer first second unmet 
     ∙ ap (λ xs. answers_of m (zip xs others) >>= λ answers. Some (hit && list_all (λ yes. yes) answers)) first
     ∙ ap (λ xs. answers_of m (zip (t ∷ ts) xs) >>= λ answers. Some (hit && list_all (λ yes. yes) answers)) second
     ∙ ap (λ o. (o >>= λ y. answers_of m (zip ts vs) >>= λ ys. Some (y ∷ ys)) >>= λ answers. Some (hit && list_all (λ yes. yes) answers)) (missed (satisfied t v m) unmet))
+
+-- a rule whose entries break no limit hits or misses
+pub hits_or_misses : (m : Bindings) (values : List Datum) (rule : Rule) → KeepLimits rule.tests → None ≡ does_hit m values rule → ⊥
+hits_or_misses m values rule keep none =
+    let whole = some_bool (answers_of m (zip rule.tests values)) (λ answers. list_all (λ yes. yes) answers) (all_told m rule.tests values keep) in
+    let bad : false ≡ true = ap is_some none ∙ whole in cc
+
+-- ---- one entry that is not met
+
+no_and : (b : Bool) → (b && false) ≡ false
+no_and true = refl
+no_and false = refl
+
+first_missed : (o : Option Bool) (p : Option (List Bool)) → o ≡ Some false → is_some p ≡ true → ((o >>= λ y. p >>= λ ys. Some (y ∷ ys)) >>= λ answers. Some (list_all (λ yes. yes) answers)) ≡ Some false
+first_missed None p e f = cc
+first_missed (Some false) None e f = cc
+first_missed (Some false) (Some ys) e f = refl
+first_missed (Some true) p e f = cc
+
+later_missed : (o : Option Bool) (p : Option (List Bool)) → is_some o ≡ true → (p >>= λ answers. Some (list_all (λ yes. yes) answers)) ≡ Some false
+    → ((o >>= λ y. p >>= λ ys. Some (y ∷ ys)) >>= λ answers. Some (list_all (λ yes. yes) answers)) ≡ Some false
+later_missed None p e f = cc
+later_missed (Some b) None e f = cc
+later_missed (Some b) (Some ys) e f = ap (λ o. o >>= λ a. Some (b && a)) f ∙ ap Some (no_and b)
+
+missed_in : (m : Bindings) (tests : List Tests) (values : List Datum) (k : ℕ) (t : Tests) (v : Datum) → KeepLimits tests → slice_get tests k ≡ Some t → slice_get values k ≡ Some v
+    → held.No ≡ held_of (satisfied t v m) → (answers_of m (zip tests values) >>= λ answers. Some (list_all (λ yes. yes) answers)) ≡ Some false
+missed_in m [] values k t v h there value unmet = cc
+missed_in m (s ∷ ss) [] k t v h there value unmet = cc
+missed_in m (s ∷ ss) (w ∷ ws) zero t v h there value unmet =
+    first_missed (is_satisfied (satisfied s w m)) (answers_of m (zip ss ws))
+    (ap₂ (λ s w. is_satisfied (satisfied s w m)) (same_Some s t there) (same_Some w v value) ∙ missed (satisfied t v m) unmet)
+    (all_told m ss ws (All-tail Keeps s ss h))
+missed_in m (s ∷ ss) (w ∷ ws) (suc k) t v h there value unmet =
+    later_missed (is_satisfied (satisfied s w m)) (answers_of m (zip ss ws)) (told (satisfied s w m) (All-head Keeps s ss h w m))
+    (missed_in m ss ws k t v (All-tail Keeps s ss h) there value unmet)
+
+-- a rule misses where one of its entries isn't met
+pub missed_at : (m : Bindings) (values : List Datum) (rule : Rule) (k : ℕ) (t : Tests) (v : Datum) → KeepLimits rule.tests → slice_get rule.tests k ≡ Some t → slice_get values k ≡ Some v
+    → held_of (satisfied t v m) ≡ held.No → does_hit m values rule ≡ Some false
+missed_at m values rule k t v keep there value unmet = missed_in m rule.tests values k t v keep there value (sym unmet)

@@ -2,6 +2,7 @@ pub mod Table
 pub mod Faults
 pub mod Hits
 pub mod Unbroken
+pub mod Classes
 pub mod Priority
 pub mod Listed
 pub mod RuleOutputs

@@ -21,7 +21,9 @@ pub fn decide(alloc: Global, table: &Table, env: &Env) -> Result<Outcome, AllocE
         return Ok(Outcome::Limit);
     };
     let keep_limits = table.entries_keep_limits;
-    let Some(rules) = rules_that_hit(alloc, &table.rules, keep_limits, &values, env)? else {
+    let classes = &table.classes;
+    let Some(rules) = rules_that_hit(alloc, &table.rules, keep_limits, classes, &values, env)?
+    else {
         return Ok(Outcome::Limit);
     };
     if rules.is_empty() {

@@ -1,5 +1,6 @@
 //! The rules that hit, and their outputs and places.
-ghost use Rattle.std.specs.Prelude.{◌≡◌, IsTrue, IfOk, map, option_map};
+ghost use Rattle.std.specs.Prelude.{◌≡◌, ◌≤◌, ◌++◌, IsTrue, IfOk, IfSome, OnOk, Some, length, map, option_map};
+ghost use Rattle.dmn_table.specs.Classes.{MissUnset, TellsColumns};
 ghost use Rattle.feel_value.specs.Found.{each};
 ghost use Rattle.dmn_table.specs.Hits.{does_hit as does_hit_of, hit_of as hit_of_rule};
 ghost use Rattle.dmn_table.specs.Listed.{listed_values, places_among};
@@ -8,6 +9,7 @@ ghost use Rattle.dmn_table.specs.RuleOutputs.{rules_view, hits_among, fitting};
 ghost use Rattle.dmn_table.specs.Unbroken.{KeepLimits, AllKeepLimits};
 ghost use Rattle.dmn_table.specs.View.{hit_view};
 
+use crate::classes::{ColumnClasses, WORD, common, rows_of};
 use crate::listed::{Listed, lists_of};
 use crate::output::{evaluated, one_or_context};
 use crate::priority::Hit;
@@ -44,9 +46,69 @@ fn does_hit(
     Ok(Some(hit))
 }
 
+/// Adds those of these rules that hit, whose entries are known to break no limit. A rule whose bit is not set is known to miss
+/// and is not asked; the first rule has the lowest bit.
+fn add_hits<'a>(
+    alloc: Global,
+    rules: &'a [Rule],
+    word: u64,
+    values: &[Feel],
+    env: &Env,
+    hits: &mut Vec<&'a Rule>,
+) -> Result<(), AllocError>
+    requires few { length rules.now ≤ 64 }
+    requires keep { AllKeepLimits rules.now }
+    requires others { MissUnset env.now values.now rules.now word }
+    ensures { OnOk result (Some (rules_view hits.new.items) ≡ option_map (λ more. rules_view hits.old.items ++ more) (hits_among env.now values.now (map rule_view rules.now))) }
+{
+    if word == 0 {
+        return Ok(());
+    }
+    for i in 0..rules.len() {
+        if (word >> i) & 1 == 0 {
+            continue;
+        }
+        let rule = &rules[i];
+        let Some(hit) = does_hit(alloc, rule, true, values, env)? else {
+            unreachable!();
+        };
+        if hit {
+            hits.push(rule)?;
+        }
+    }
+    Ok(())
+}
+
+/// The rules that hit, in their order, where the entries of all are known to break no limit. Only those rules are asked that may
+/// meet the class of each value in its column.
+fn hits_by_classes<'a>(
+    alloc: Global,
+    rules: &'a [Rule],
+    columns: &[ColumnClasses],
+    values: &[Feel],
+    env: &Env,
+) -> Result<Vec<&'a Rule>, AllocError>
+    requires keep { AllKeepLimits rules.now }
+    requires tell { TellsColumns rules.now columns.now }
+    ensures { IfOk result (λ hits. Some (rules_view hits.items) ≡ hits_among env.now values.now (map rule_view rules.now)) }
+{
+    let rows = rows_of(alloc, columns, values)?;
+    let mut hits = Vec::new(alloc);
+    let mut place = 0;
+    let mut rest = rules;
+    while !rest.is_empty() {
+        let (block, others) = rest.split_at(WORD.min(rest.len()));
+        let word = common(&rows, place);
+        add_hits(alloc, block, word, values, env, &mut hits)?;
+        rest = others;
+        place += 1;
+    }
+    Ok(hits)
+}
+
 /// The rules that hit, in their order; None where an entry breaks a limit. The entries of all rules are evaluated, but those
 /// after a miss in their rule that are known to break no limit; `keep_limits` says that all are known to.
-pub(crate) fn rules_that_hit<'a>(
+fn hits_by_scan<'a>(
     alloc: Global,
     rules: &'a [Rule],
     keep_limits: bool,
@@ -65,6 +127,27 @@ pub(crate) fn rules_that_hit<'a>(
             hits.push(rule)?;
         }
     }
+    Ok(Some(hits))
+}
+
+/// The rules that hit, in their order; None where an entry breaks a limit: by the classes of the columns where these are known,
+/// and else by each rule's entries. `keep_limits` says that all entries are known to break none.
+pub(crate) fn rules_that_hit<'a>(
+    alloc: Global,
+    rules: &'a [Rule],
+    keep_limits: bool,
+    classes: &Option<Vec<ColumnClasses>>,
+    values: &[Feel],
+    env: &Env,
+) -> Result<Option<Vec<&'a Rule>>, AllocError>
+    requires keep { IsTrue keep_limits → AllKeepLimits rules.now }
+    requires tell { IfSome classes.now (λ columns. AllKeepLimits rules.now × TellsColumns rules.now columns.items) }
+    ensures { IfOk result (λ found. option_map (λ v. rules_view v.items) found ≡ hits_among env.now values.now (map rule_view rules.now)) }
+{
+    let Some(columns) = classes else {
+        return hits_by_scan(alloc, rules, keep_limits, values, env);
+    };
+    let hits = hits_by_classes(alloc, rules, columns, values, env)?;
     Ok(Some(hits))
 }
 

@@ -2,6 +2,7 @@
 //! result of the outputs of the rules that hit.
 #![tactic(auto)]
 
+mod classes;
 mod collected;
 mod decision;
 mod fault;

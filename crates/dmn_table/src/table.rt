@@ -6,11 +6,16 @@ ghost use Rattle.feel_value.specs.Distinct.{are_distinct};
 ghost use Rattle.dmn_table.specs.Parts.{names_of, entry_counts, fault_of_parts, MakesTable};
 ghost use Rattle.dmn_table.specs.Unbroken.{KeepLimits, AllKeepLimits};
 
+use crate::classes::{ColumnClasses, classes_of_columns};
 use crate::fault::TableFault;
 use crate::hit_policy::HitPolicy;
 use feel_lang::{Expr, Tests};
 use feel_value::Feel;
+use std::alloc::{AllocError, Global};
 use std::marker::Model;
+
+/// The fewest rules that are worth the classes of their columns.
+const FEWEST_RULES: usize = 64;
 
 /// An output column: its name, its list of output values (empty where it has none) and its default.
 #[derive(Drop)]
@@ -57,7 +62,8 @@ impl Rule {
 }
 
 /// A decision table. Each rule has an entry for each column, and a policy that makes one number has one output column. Whether
-/// all its input entries are known to break no limit is found once, when it is made.
+/// all its input entries are known to break no limit is found once, when it is made; the classes of its columns where it is asked
+/// to have them.
 #[derive(Drop)]
 pub struct Table {
     pub(crate) policy: HitPolicy,
@@ -65,10 +71,11 @@ pub struct Table {
     pub(crate) outputs: Vec<Output>,
     pub(crate) rules: Vec<Rule>,
     pub(crate) entries_keep_limits: bool,
+    pub(crate) classes: Option<Vec<ColumnClasses>>,
 }
 
 impl Model for Table {
-    ghost use Rattle.std.specs.Prelude.{◌≡◌, true, IsTrue, length};
+    ghost use Rattle.std.specs.Prelude.{◌≡◌, true, IsTrue, IfSome, length};
     ghost use Rattle.dmn_table.specs.Table as specs;
     ghost use Rattle.dmn_table.specs.Code.{table_code};
 
@@ -76,13 +83,14 @@ impl Model for Table {
 
     ghost coded = { table_code };
 
+    ghost use Rattle.dmn_table.specs.Classes.{TellsColumns};
     ghost use Rattle.dmn_table.specs.Faults.{columns_fit, operator_fits};
     ghost use Rattle.dmn_table.specs.Parts.{table_of, names_of, entry_counts};
     ghost use Rattle.dmn_table.specs.Unbroken.{AllKeepLimits};
 
     ghost view = { λ t. table_of t.policy t.inputs.items t.outputs.items t.rules.items };
 
-    ghost invariant = { λ t. (columns_fit (length t.inputs.items) (names_of t.outputs.items) (entry_counts t.rules.items) ≡ true) × (operator_fits t.policy (names_of t.outputs.items) ≡ true) × (IsTrue t.entries_keep_limits → AllKeepLimits t.rules.items) };
+    ghost invariant = { λ t. (columns_fit (length t.inputs.items) (names_of t.outputs.items) (entry_counts t.rules.items) ≡ true) × (operator_fits t.policy (names_of t.outputs.items) ≡ true) × (IsTrue t.entries_keep_limits → AllKeepLimits t.rules.items) × IfSome t.classes (λ columns. AllKeepLimits t.rules.items × TellsColumns t.rules.items columns.items) };
 }
 
 impl Table {
@@ -133,6 +141,35 @@ impl Table {
             outputs,
             rules,
             entries_keep_limits,
+            classes: None,
+        })
+    }
+
+    /// The same table with the classes of its columns, by which a decision finds the rules that hit without asking each, where it
+    /// has many rules and all entries are known to break no limit; otherwise it stays as it is. Its value is the same. On an error
+    /// the table is let go.
+    pub fn with_classes(self, alloc: Global) -> Result<Table, AllocError>
+        ensures { IfOk result (λ t. t ≡ self) }
+    {
+        if !self.entries_keep_limits || self.rules.len() < FEWEST_RULES {
+            return Ok(self);
+        }
+        let classes = classes_of_columns(alloc, &self.rules, self.inputs.len())?;
+        let Table {
+            policy,
+            inputs,
+            outputs,
+            rules,
+            entries_keep_limits,
+            ..
+        } = self;
+        Ok(Table {
+            policy,
+            inputs,
+            outputs,
+            rules,
+            entries_keep_limits,
+            classes: Some(classes),
         })
     }
 }

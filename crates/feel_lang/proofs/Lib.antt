@@ -28,3 +28,4 @@ pub mod TestLists
 pub mod Forms
 pub mod WithinLimits
 pub mod ReadyTests
+pub mod Classes

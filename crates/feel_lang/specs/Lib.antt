@@ -25,3 +25,4 @@ pub mod Parts
 pub mod WithinLimits
 pub mod Scalars
 pub mod Ready
+pub mod Classes

@@ -1,13 +1,17 @@
 //! Unary tests as callers see them.
 
-ghost use Rattle.std.specs.Prelude.{◌≡◌, ◌≢◌, IsTrue, IfOk, IfSome};
+ghost use Rattle.std.specs.Prelude.{◌≡◌, ◌≢◌, true, IsTrue, IfOk, IfSome};
 ghost use Rattle.feel_value.specs.Datum.{Datum};
+ghost use Rattle.feel_value.specs.Limits.{is_value};
+ghost use Rattle.feel_lang.specs.Classes.{is_in_class};
 ghost use Rattle.feel_lang.specs.Meaning.{Bindings};
 ghost use Rattle.feel_lang.specs.Ready.{Meets};
-ghost use Rattle.feel_lang.specs.Satisfied.{satisfied, Broken};
+ghost use Rattle.feel_lang.specs.Satisfied.{satisfied, Broken, held_of};
+ghost use Rattle.feel_lang.specs.declared.holds_tests.Held.TheVariants.{No};
 ghost use Rattle.feel_lang.specs.Spells.{TestsHaveText};
 ghost use Rattle.feel_lang.specs.TestsView.{tests_view};
 
+use crate::class::Class;
 use crate::ready::Ready;
 use crate::unary::TestsTree;
 use crate::within_limits::tests_stay;
@@ -74,6 +78,23 @@ impl Tests {
     {
         let met = self.ready.told(value.value())?;
         Some(met)
+    }
+
+    /// Whether each value of the class is known not to meet the tests, whatever the names stand for. False says nothing.
+    pub fn misses(&self, class: Class) -> bool
+        ensures { IsTrue result → (value : Datum) (bindings : Bindings) → is_value value ≡ true → is_in_class class value ≡ true → held_of (satisfied self.now value bindings) ≡ No }
+    {
+        self.ready.misses(class)
+    }
+
+    /// Whether the tests are known to be met by no text but those that they name, of which there is one.
+    pub fn ask_for_texts(&self) -> bool {
+        self.ready.ask_for_texts()
+    }
+
+    /// Adds numbers at which the answer of the tests changes, as far as they are known.
+    pub fn cuts(&self, cuts: &mut Vec<i64>) -> Result<(), AllocError> {
+        self.ready.cuts(cuts)
     }
 
     /// Whether the tests are known to break no limit, whatever the value and whatever the names stand for.

@@ -3,6 +3,7 @@
 #![tactic(auto)]
 
 mod added;
+mod class;
 mod constant;
 mod env;
 mod eval_calls;
@@ -37,6 +38,7 @@ mod unary;
 mod unary_reader;
 mod within_limits;
 
+pub use class::{Class, MARKS, mark};
 pub use env::Env;
 pub use evaluation::{eval, holds};
 pub use expression::Expr;

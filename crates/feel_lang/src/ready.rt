@@ -1,12 +1,14 @@
 //! What unary tests ask of a value, where that is known when they are read.
 
-ghost use Rattle.std.specs.Prelude.{◌≡◌, ◌&&◌, true, IfOk, IfSome};
+ghost use Rattle.std.specs.Prelude.{◌≡◌, ◌&&◌, true, false, Some, IsTrue, IfOk, IfSome};
+ghost use Rattle.std.specs.List.{All};
 ghost use Rattle.feel_value.specs.Comparison.{equal};
 ghost use Rattle.feel_value.specs.Datum.{Datum, number as number_datum};
 ghost use Rattle.feel_value.specs.Limits.{is_value};
 ghost use Rattle.feel_value.specs.Logic.{is_yes, decided};
 ghost use Rattle.feel_value.specs.View.{datum_of, items_view};
 ghost use Rattle.feel_value.specs.declared.feel.Outcome.TheVariants.{Is};
+ghost use Rattle.feel_lang.specs.Classes.{IsApart, is_in_class};
 ghost use Rattle.feel_lang.specs.Constants.{expr_of_constant};
 ghost use Rattle.feel_lang.specs.Meaning.{Bindings, den};
 ghost use Rattle.feel_lang.specs.Ready.{lies_within, told, Meets, AreReady};
@@ -16,6 +18,7 @@ ghost use Rattle.feel_lang.specs.Tests.{OneOf, NoneOf, Equals};
 ghost use Rattle.feel_lang.specs.TestsView.{bound_view, test_view, test_views, tests_view};
 ghost use Rattle.feel_lang.specs.View.{view};
 
+use crate::class::{Class, is_apart};
 use crate::constant::Constant;
 use crate::expr::Tree;
 use crate::unary::{Bound, Test, TestsTree, high_end, low_end};
@@ -62,6 +65,23 @@ impl Span {
         }
     }
 
+    // Adds the first number of the span and the first behind it.
+    fn cuts(self, cuts: &mut Vec<i64>) -> Result<(), AllocError> {
+        cuts.push(self.low)?;
+        cuts.push(self.high.saturating_add(1))?;
+        Ok(())
+    }
+
+    // Whether no value of the class is a number of the span.
+    fn is_apart(self, class: Class) -> bool
+        ensures { IsTrue result → (v : Datum) → is_in_class class v ≡ true → lies_within self v ≡ false }
+    {
+        match class {
+            Class::Numbers(low, high) => self.high < low || high < self.low,
+            _ => true,
+        }
+    }
+
     // The numbers that both spans have.
     fn both(self, other: Span) -> Span
         ensures { (v : Datum) → lies_within result v ≡ (lies_within self v && lies_within other v) }
@@ -97,6 +117,48 @@ impl Ready {
             Ready::General => None,
         }
     }
+
+    /// Adds the numbers at which the answer changes.
+    pub(crate) fn cuts(&self, cuts: &mut Vec<i64>) -> Result<(), AllocError> {
+        match self {
+            Ready::Numbers(span) => span.cuts(cuts),
+            Ready::Among(values) | Ready::Besides(values) => {
+                for value in values {
+                    if let Value::Number(n) = value {
+                        Span::of(*n).cuts(cuts)?;
+                    }
+                }
+                Ok(())
+            }
+            Ready::Any | Ready::General => Ok(()),
+        }
+    }
+
+    /// Whether a text may be all that meets the tests.
+    pub(crate) fn ask_for_texts(&self) -> bool {
+        match self {
+            Ready::Among(values) => values.iter().any(|value| matches!(value, Value::Text(_))),
+            Ready::Any | Ready::Numbers(_) | Ready::Besides(_) | Ready::General => false,
+        }
+    }
+
+    /// Whether no value of the class meets the tests, as is known of each of them. False says nothing.
+    pub(crate) fn misses(&self, class: Class) -> bool
+        ensures { IsTrue result → (v : Datum) → is_in_class class v ≡ true → told self.now v ≡ Some false }
+    {
+        match self {
+            Ready::Numbers(span) => span.is_apart(class),
+            Ready::Among(values) => are_apart(values, class),
+            Ready::Any | Ready::Besides(_) | Ready::General => false,
+        }
+    }
+}
+
+/// Whether no value of the class is equal to one of these. False says nothing.
+fn are_apart(values: &[Value], class: Class) -> bool
+    ensures { IsTrue result → All (λ d. IsApart class d) values.now }
+{
+    values.iter().all(|value| is_apart(value, class))
 }
 
 /// Whether a member of the list is equal to the value.

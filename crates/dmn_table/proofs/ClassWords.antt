@@ -1,0 +1,108 @@
+-- Words that tell which rules a class of values misses.
+use Rattle.std.proofs.Common.{◌≡◌, ◌≢◌, ◌∙◌, sym, ap, refl, subst, ℕ, zero, suc, ◌⊎◌, ◌+◌, ◌*◌, ◌^◌, ◌%◌, w64, ◌<◌, ◌≤◌, List, [], ◌∷◌, ◌++◌, length, drop, get_or, Bool, true, false, Option, Some, None, arith, inl, inr, min}
+use Rattle.std.specs.List.{slice_get}
+use Rattle.std.specs.Int.{bit_at}
+use denote.Ref.{Bor}
+use Rattle.std.specs.Prelude.{bit_or, bit_and, IfSome}
+use Rattle.std.proofs.lemmas.Bool.{cases_lt}
+use Rattle.std.proofs.lemmas.List.{drop_min, drop-drop}
+use Rattle.std.proofs.lemmas.Nat.Bits.{bit_at_set_same, bit_at_set_other, bit_at_and}
+use Rattle.std.proofs.lemmas.Option.{get_or_from_slice_get, same_Some}
+use Rattle.feel_value.specs.Datum.{Datum}
+use Rattle.feel_value.specs.Limits.{is_value}
+use Rattle.feel_lang.specs.declared.class.Class.{Class}
+use Rattle.dmn_table.specs.Classes.{AreRowsOf, IsRowOf, IsUnsetIn, MissesAt, TellsColumn, TellsColumns, TellsWord}
+use Rattle.dmn_table.specs.declared.classes.ClassRules.{ClassRules}
+use Rattle.dmn_table.specs.declared.classes.ColumnClasses.{ColumnClasses}
+use Rattle.dmn_table.specs.declared.table.Rule.{Rule}
+
+-- the rules before a place that a word tells of
+abbrev pub TellsBefore : ℕ → List Rule → ℕ → Class → ℕ → Type 0
+TellsBefore n rules column class word = (j : ℕ) (r : Rule) → j < n → slice_get rules j ≡ Some r → bit_at word j ≡ 0 → MissesAt class column r
+
+-- one bit more is set
+pub bit_set : (i : ℕ) (rules : List Rule) (column : ℕ) (class : Class) (old new : ℕ) → TellsBefore i rules column class old → new ≡ bit_or old (1 * 2 ^ i % 2 ^ 64) → i < 64 → TellsBefore (i + 1) rules column class new
+bit_set i rules column class old new h set small = λ j r before there unset.
+    elim (cases_lt j i) [
+      | inl less ↦ h j r less there (sym (ap (λ n. bit_at n j) set ∙ bit_at_set_other w64 old i small j (λ e. absurd (omega (arith, e, less)))) ∙ unset)
+      | inr more ↦
+          let here : j ≡ i = omega (arith, before, more) in
+          let one : bit_at new j ≡ 1 = ap (bit_at new) here ∙ ap (λ n. bit_at n i) set ∙ bit_at_set_same w64 old i small in
+          let none : 1 ≡ 0 = sym one ∙ unset in absurd (omega (arith, none))
+    ]
+
+-- one rule more misses
+pub rule_missed : (i : ℕ) (rules : List Rule) (column : ℕ) (class : Class) (word : ℕ) (x : Rule) → TellsBefore i rules column class word → x ≡ get_or rules i x → MissesAt class column x
+    → TellsBefore (i + 1) rules column class word
+rule_missed i rules column class word x h here misses = λ j r before there unset.
+    elim (cases_lt j i) [
+      | inl less ↦ h j r less there unset
+      | inr more ↦
+          let at : j ≡ i = omega (arith, before, more) in
+          let same : r ≡ x = sym (get_or_from_slice_get rules i r x (ap (slice_get rules) (sym at) ∙ there)) ∙ sym here in
+          subst (MissesAt class column) (sym same) misses
+    ]
+
+-- ---- words of 64 rules
+
+-- the rules behind one word more
+pub rest_after : {X : Type 0} (n m k : ℕ) (xs rest others : List X) → rest ≡ drop (64 * n) xs → k ≡ min 64 (length rest) → others ≡ drop k rest → m ≡ n + 1 → others ≡ drop (64 * m) xs
+rest_after n m k xs rest others here size behind more =
+    behind ∙ ap (λ j. drop j rest) size ∙ drop_min 64 rest ∙ ap (drop 64) here ∙ drop-drop 64 (64 * n) xs ∙ ap (λ j. drop j xs) (omega (arith, more))
+
+pushed : {X : Type 0} (xs : List X) (x y : X) (w : ℕ) → slice_get (xs ++ x ∷ []) w ≡ Some y → (slice_get xs w ≡ Some y) ⊎ ((w ≡ length xs) × (x ≡ y))
+pushed [] x y zero e = inr (refl, same_Some x y e)
+pushed [] x y (suc w) e = cc
+pushed (z ∷ xs) x y zero e = inl e
+pushed (z ∷ xs) x y (suc w) e = elim (pushed xs x y w e) [ inl p ↦ inl p | inr q ↦ inr (ap suc q.0, q.1) ]
+
+-- one word more
+pub word_told : (rules : List Rule) (column : ℕ) (class : Class) (old new : List ℕ) (last : ℕ) (rest : List Rule)
+    → ((w word : ℕ) → slice_get old w ≡ Some word → TellsWord (drop (64 * w) rules) column class word)
+    → new ≡ old ++ last ∷ [] → rest ≡ drop (64 * length old) rules → TellsWord rest column class last
+    → (w word : ℕ) → slice_get new w ≡ Some word → TellsWord (drop (64 * w) rules) column class word
+word_told rules column class old new last rest h more left told w word there =
+    elim (pushed old last word w (ap (λ ws. slice_get ws w) (sym more) ∙ there)) [
+      | inl before ↦ h w word before
+      | inr at ↦
+          subst (λ k. TellsWord (drop (64 * k) rules) column class word) (sym at.0)
+          (subst (λ rs. TellsWord rs column class word) left (subst (TellsWord rest column class) at.1 told))
+    ]
+
+-- ---- rows
+
+none_of_min : (a b : ℕ) → min a b ≡ 0 → (a ≡ 0) ⊎ (b ≡ 0)
+none_of_min a b e = elim (cases_lt a b) [ inl less ↦ inl (omega (arith, less, e)) | inr more ↦ inr (omega (arith, more, e)) ]
+
+-- one row more is looked at
+pub unset_after : (rows : List (Option (Bor ClassRules))) (place k : ℕ) (row : Bor ClassRules) (old word new : ℕ) → slice_get rows k ≡ Some (Some row) → slice_get row.now.words.items place ≡ Some word
+    → new ≡ bit_and old word → ((i : ℕ) → i < 64 → bit_at old i ≡ 0 → IsUnsetIn rows place i) → (i : ℕ) → i < 64 → bit_at new i ≡ 0 → IsUnsetIn rows place i
+unset_after rows place k row old word new there has is before i small unset =
+    elim (none_of_min (bit_at old i) (bit_at word i) (sym (ap (λ n. bit_at n i) is ∙ bit_at_and old word i) ∙ unset)) [
+      | inl e ↦ before i small e
+      | inr e ↦ record { column = k; row = row; word = word; there = there; has = has; unset = e }
+    ]
+
+-- one row more
+pub rows_more : (rules : List Rule) (values : List Datum) (old new : List (Option (Bor ClassRules))) (o : Option (Bor ClassRules)) (v : Datum) → AreRowsOf rules values old → new ≡ old ++ o ∷ []
+    → slice_get values (length old) ≡ Some v → is_value v ≡ true → IfSome o (λ row. IsRowOf rules (length old) v row.now) → AreRowsOf rules values new
+rows_more rules values old new o v h more here lawful told = λ k row there.
+    elim (pushed old o (Some row) k (ap (λ rs. slice_get rs k) (sym more) ∙ there)) [
+      | inl before ↦ h k row before
+      | inr at ↦
+          let row_told : IsRowOf rules (length old) v row.now = subst (λ (p : Option (Bor ClassRules)). IfSome p (λ row. IsRowOf rules (length old) v row.now)) at.1 told in
+          record {
+            value = v;
+            there = ap (slice_get values) at.0 ∙ here;
+            lawful = lawful;
+            of_class = subst (λ n. IsRowOf rules n v row.now) (sym at.0) row_told;
+          }
+    ]
+
+-- one column more
+pub column_more : (rules : List Rule) (old new : List ColumnClasses) (last : ColumnClasses) → TellsColumns rules old → new ≡ old ++ last ∷ [] → TellsColumn rules (length old) last → TellsColumns rules new
+column_more rules old new last h more told = λ k classes there.
+    elim (pushed old last classes k (ap (λ cs. slice_get cs k) (sym more) ∙ there)) [
+      | inl before ↦ h k classes before
+      | inr at ↦ subst (λ n. TellsColumn rules n classes) (sym at.0) (subst (TellsColumn rules (length old)) at.1 told)
+    ]

@@ -1,0 +1,136 @@
+-- The rules that hit where some are known to miss.
+use Rattle.std.proofs.Common.{◌≡◌, ◌∙◌, sym, ap, ap₂, refl, subst, ℕ, zero, suc, ◌+◌, ◌*◌, ◌<◌, ◌≤◌, List, [], ◌∷◌, ◌++◌, map, take, drop, length, get_or, Bool, true, false, Option, None, Some, append_assoc, arith, min}
+use Rattle.std.specs.List.{slice_get}
+use Rattle.std.specs.Int.{bit_at}
+use denote.Ref.{Bor}
+use Rattle.std.proofs.lemmas.List.{at_drop_more, length-take, take-append-drop, map-append}
+use Rattle.std.proofs.lemmas.List.Elements.{All-drop, All-get_or}
+use Rattle.std.proofs.lemmas.Option.{get_or_from_slice_get, same_Some, slice_get_within}
+use Rattle.feel_value.specs.Datum.{Datum}
+use Rattle.feel_value.specs.Found.{each, ◌>>=◌}
+use Rattle.feel_lang.specs.Meaning.{Bindings}
+use Rattle.dmn_table.specs.Classes.{AreRowsOf, IsUnsetIn, MissUnset}
+use Rattle.dmn_table.specs.declared.classes.ClassRules.{ClassRules}
+use Rattle.dmn_table.specs.declared.table.Rule as code
+use Rattle.dmn_table.specs.Hits.{does_hit, kept}
+use Rattle.dmn_table.specs.Parts.{rule_view}
+use Rattle.dmn_table.specs.RuleOutputs.{hits_among}
+use Rattle.dmn_table.specs.Table.{Rule}
+use Rattle.dmn_table.specs.Unbroken.{AllKeepLimits, KeepLimits}
+use Rattle.dmn_table.proofs.Each.{after, after_none}
+use Rattle.dmn_table.proofs.Unbroken.{missed_at}
+
+passed : (o : Option Bool) (p : Option (List Bool)) (x : Rule) (xs : List Rule) → o ≡ Some false
+    → ((o >>= λ y. p >>= λ ys. Some (y ∷ ys)) >>= λ answers. Some (kept (x ∷ xs) answers)) ≡ (p >>= λ answers. Some (kept xs answers))
+passed None p x xs e = cc
+passed (Some true) p x xs e = cc
+passed (Some false) None x xs e = refl
+passed (Some false) (Some ys) x xs e = refl
+
+-- a rule that misses is passed over
+miss_first : (m : Bindings) (vs : List Datum) (x : Rule) (xs : List Rule) → does_hit m vs x ≡ Some false → hits_among m vs (x ∷ xs) ≡ hits_among m vs xs
+miss_first m vs x xs e = passed (does_hit m vs x) (each (does_hit m vs) xs) x xs e
+
+-- where all of them miss, none hits
+pub none_hit : (m : Bindings) (vs : List Datum) (rules : List code.Rule) → ((i : ℕ) (r : code.Rule) → slice_get rules i ≡ Some r → does_hit m vs (rule_view r) ≡ Some false)
+    → hits_among m vs (map rule_view rules) ≡ Some []
+none_hit m vs [] h = refl
+none_hit m vs (r ∷ rules) h = miss_first m vs (rule_view r) (map rule_view rules) (h 0 r refl) ∙ none_hit m vs rules (λ i s e. h (suc i) s e)
+
+next_passed : (m : Bindings) (vs : List Datum) (rules : List code.Rule) (i : ℕ) → i < length rules → ((r : code.Rule) → slice_get rules i ≡ Some r → does_hit m vs (rule_view r) ≡ Some false)
+    → hits_among m vs (map rule_view (drop i rules)) ≡ hits_among m vs (map rule_view (drop (suc i) rules))
+next_passed m vs [] i h miss = absurd (omega (arith, h))
+next_passed m vs (r ∷ rules) zero h miss = miss_first m vs (rule_view r) (map rule_view rules) (miss r refl)
+next_passed m vs (r ∷ rules) (suc i) h miss = next_passed m vs rules i (omega (arith, h)) miss
+
+-- the next rule misses
+pub next_missed : (m : Bindings) (vs : List Datum) (rules : List code.Rule) (i : ℕ) → i < length rules → ((r : code.Rule) → slice_get rules i ≡ Some r → does_hit m vs (rule_view r) ≡ Some false)
+    → hits_among m vs (map rule_view (drop i rules)) ≡ hits_among m vs (map rule_view (drop (i + 1) rules))
+next_missed m vs rules i h miss =
+    let next : suc i ≡ i + 1 = omega arith in
+    next_passed m vs rules i h miss ∙ ap (λ k. hits_among m vs (map rule_view (drop k rules))) next
+
+taken : (o : Option Bool) (p : Option (List Bool)) (x : Rule) (xs : List Rule) → o ≡ Some true
+    → ((o >>= λ y. p >>= λ ys. Some (y ∷ ys)) >>= λ answers. Some (kept (x ∷ xs) answers)) ≡ after (x ∷ []) (p >>= λ answers. Some (kept xs answers))
+taken None p x xs e = cc
+taken (Some false) p x xs e = cc
+taken (Some true) None x xs e = refl
+taken (Some true) (Some ys) x xs e = refl
+
+-- a rule that hits stands before the others that do
+hit_first : (m : Bindings) (vs : List Datum) (x : Rule) (xs : List Rule) → does_hit m vs x ≡ Some true → hits_among m vs (x ∷ xs) ≡ after (x ∷ []) (hits_among m vs xs)
+hit_first m vs x xs e = taken (does_hit m vs x) (each (does_hit m vs) xs) x xs e
+
+broken : (o : Option Bool) (p : Option (List Bool)) (x : Rule) (xs : List Rule) → o ≡ None → ((o >>= λ y. p >>= λ ys. Some (y ∷ ys)) >>= λ answers. Some (kept (x ∷ xs) answers)) ≡ None
+broken None p x xs e = refl
+broken (Some b) p x xs e = cc
+
+after_both : (old hs : List Rule) (o : Option (List Rule)) → after old (after hs o) ≡ after (old ++ hs) o
+after_both old hs None = refl
+after_both old hs (Some ys) = ap Some (sym (append_assoc old hs ys))
+
+-- what was found, where what is found is put behind others
+found_of : (old new : List Rule) (o : Option (List Rule)) → Some new ≡ after old o → (hs : List Rule) × (o ≡ Some hs) × (new ≡ old ++ hs)
+found_of old new None e = cc
+found_of old new (Some hs) e = (hs, refl, same_Some new (old ++ hs) e)
+
+-- the hits of a rule and others, and of rules behind them
+hits_from_first : (m : Bindings) (vs : List Datum) (x : Rule) (xs ys zs : List Rule) → hits_among m vs (x ∷ xs) ≡ Some zs
+    → ((hs : List Rule) → hits_among m vs xs ≡ Some hs → hits_among m vs (xs ++ ys) ≡ after hs (hits_among m vs ys))
+    → (o : Option Bool) → does_hit m vs x ≡ o → hits_among m vs (x ∷ xs ++ ys) ≡ after zs (hits_among m vs ys)
+hits_from_first m vs x xs ys zs e rest None f = let bad : None ≡ Some zs = sym (broken (does_hit m vs x) (each (does_hit m vs) xs) x xs f) ∙ e in cc
+hits_from_first m vs x xs ys zs e rest (Some false) f = miss_first m vs x (xs ++ ys) f ∙ rest zs (sym (miss_first m vs x xs f) ∙ e)
+hits_from_first m vs x xs ys zs e rest (Some true) f =
+    let found = found_of (x ∷ []) zs (hits_among m vs xs) (sym e ∙ hit_first m vs x xs f) in
+    hit_first m vs x (xs ++ ys) f
+    ∙ ap (after (x ∷ [])) (rest found.0 found.1)
+    ∙ after_both (x ∷ []) found.0 (hits_among m vs ys)
+    ∙ ap (λ hs. after hs (hits_among m vs ys)) (sym found.2)
+
+-- the hits of two lists of rules, one behind the other
+hits_behind : (m : Bindings) (vs : List Datum) (xs ys zs : List Rule) → hits_among m vs xs ≡ Some zs → hits_among m vs (xs ++ ys) ≡ after zs (hits_among m vs ys)
+hits_behind m vs [] ys zs e = after_none (hits_among m vs ys) ∙ ap (λ hs. after hs (hits_among m vs ys)) (same_Some [] zs e)
+hits_behind m vs (x ∷ xs) ys zs e = hits_from_first m vs x xs ys zs e (λ hs g. hits_behind m vs xs ys hs g) (does_hit m vs x) refl
+
+-- ---- blocks of 64 rules
+
+-- an element of the front
+in_front : (k : ℕ) (xs : List code.Rule) (i : ℕ) (x : code.Rule) → slice_get (take k xs) i ≡ Some x → slice_get xs i ≡ Some x
+in_front zero xs i x e = cc
+in_front (suc k) [] i x e = cc
+in_front (suc k) (y ∷ ys) zero x e = e
+in_front (suc k) (y ∷ ys) (suc i) x e = in_front k ys i x e
+
+kept_at : (rules : List code.Rule) (n i : ℕ) (r : code.Rule) → AllKeepLimits rules → slice_get (drop n rules) i ≡ Some r → KeepLimits r.tests.items
+kept_at rules n i r keep there =
+    let P : code.Rule → Type 0 = λ (x : code.Rule). KeepLimits x.tests.items in
+    subst P (get_or_from_slice_get (drop n rules) i r r there)
+    (All-get_or P (drop n rules) i r (slice_get_within (drop n rules) i r there) (All-drop P n rules keep))
+
+-- one block more
+pub block_more : (m : Bindings) (vs : List Datum) (whole : Option (List Rule)) (old new : List Rule) (k : ℕ) (rest block others : List code.Rule)
+    → whole ≡ after old (hits_among m vs (map rule_view rest)) → block ≡ take k rest → others ≡ drop k rest
+    → Some new ≡ after old (hits_among m vs (map rule_view block)) → whole ≡ after new (hits_among m vs (map rule_view others))
+block_more m vs whole old new k rest block others before front back added =
+    let found = found_of old new (hits_among m vs (map rule_view block)) added in
+    let parts : map rule_view rest ≡ map rule_view block ++ map rule_view others =
+    ap (map rule_view) (sym (take-append-drop k rest)) ∙ map-append rule_view (take k rest) (drop k rest) ∙ ap₂ (λ xs ys. map rule_view xs ++ map rule_view ys) (sym front) (sym back)
+    in
+    before
+    ∙ ap (λ rs. after old (hits_among m vs rs)) parts
+    ∙ ap (after old) (hits_behind m vs (map rule_view block) (map rule_view others) found.0 found.1)
+    ∙ after_both old found.0 (hits_among m vs (map rule_view others))
+    ∙ ap (λ hs. after hs (hits_among m vs (map rule_view others))) (sym found.2)
+
+-- in a block a rule whose bit is not set misses
+pub block_misses : (m : Bindings) (vs : List Datum) (rules block rest : List code.Rule) (rows : List (Option (Bor ClassRules))) (place k word : ℕ) → AreRowsOf rules vs rows → AllKeepLimits rules
+    → ((i : ℕ) → i < 64 → bit_at word i ≡ 0 → IsUnsetIn rows place i) → rest ≡ drop (64 * place) rules → block ≡ take k rest → k ≤ 64 → MissUnset m vs block word
+block_misses m vs rules block rest rows place k word told keep unset left front few = λ i r there zero.
+    let within : slice_get (take k rest) i ≡ Some r = ap (λ rs. slice_get rs i) (sym front) ∙ there in
+    let small : i < 64 = omega (arith, few, slice_get_within (take k rest) i r within, length-take k rest) in
+    let here : slice_get (drop (64 * place) rules) i ≡ Some r = ap (λ rs. slice_get rs i) (sym left) ∙ in_front k rest i r within in
+    let u = unset i small zero in
+    let row = told u.column u.row u.there in
+    let at = row.of_class.1 place u.word u.has i r small here u.unset in
+    missed_at m vs (rule_view r) u.column at.entry row.value
+    (kept_at rules (64 * place) i r keep here) at.there row.there (at.misses row.value m row.lawful row.of_class.0)

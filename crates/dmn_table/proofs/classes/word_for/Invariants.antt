@@ -1,0 +1,5 @@
+use Rattle.dmn_table.proofs.ClassWords.{TellsBefore}
+use Rattle.dmn_table.proofs.classes.word_for.Given as goal
+
+abbrev pub invariant-loop-i : goal.invariant-loop-i
+invariant-loop-i l = TellsBefore l.i l.rules l.column l.class l.word

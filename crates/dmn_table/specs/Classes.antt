@@ -1,0 +1,74 @@
+-- Internal: no public contract cites these words. Which rules a class of values can't meet.
+use Rattle.std.specs.Prelude.{◌≡◌, ◌<◌, ◌*◌, ℕ, List, drop, true, false, Option, Some}
+use Rattle.std.specs.List.{slice_get, All}
+use Rattle.std.specs.Int.{bit_at}
+use denote.Ref.{Bor}
+use Rattle.feel_value.specs.Datum.{Datum}
+use Rattle.feel_value.specs.Limits.{is_value}
+use Rattle.feel_lang.specs.Classes.{is_in_class}
+use Rattle.feel_lang.specs.Meaning.{Bindings}
+use Rattle.feel_lang.specs.Satisfied.{satisfied, held_of}
+use Rattle.feel_lang.specs.Tests.{Tests}
+use Rattle.feel_lang.specs.declared.class.Class.{Class}
+use Rattle.feel_lang.specs.declared.holds_tests.Held.TheVariants.{No}
+use Rattle.dmn_table.specs.declared.classes.ClassRules.{ClassRules}
+use Rattle.dmn_table.specs.declared.classes.ColumnClasses.{ColumnClasses}
+use Rattle.dmn_table.specs.declared.table.Rule as rule
+use Rattle.dmn_table.specs.Hits.{does_hit}
+use Rattle.dmn_table.specs.Parts.{rule_view}
+
+-- no value of the class meets the tests, whatever the names stand for
+abbrev pub Misses : Class → Tests → Type 0
+Misses class tests = (v : Datum) (m : Bindings) → is_value v ≡ true → is_in_class class v ≡ true → held_of (satisfied tests v m) ≡ No
+
+-- the rule has an entry in this column, and no value of the class meets it
+pub record MissesAt (class : Class) (column : ℕ) (r : rule.Rule) : Type 0 where
+  pub entry : Tests
+  pub there : slice_get r.tests.items column ≡ Some entry
+  pub misses : Misses class entry
+
+-- of these rules, whose first stands at the lowest bit, each whose bit is not set misses the class in this column
+abbrev pub TellsWord : List rule.Rule → ℕ → Class → ℕ → Type 0
+TellsWord rules column class word =
+    (i : ℕ) (r : rule.Rule) → i < 64 → slice_get rules i ≡ Some r → bit_at word i ≡ 0 → MissesAt class column r
+
+-- the same of all rules, 64 to a word
+abbrev pub TellsRules : List rule.Rule → ℕ → ClassRules → Type 0
+TellsRules rules column row =
+    (w word : ℕ) → slice_get row.words.items w ≡ Some word → TellsWord (drop (64 * w) rules) column row.class word
+
+-- each class of the column tells this
+abbrev pub TellsColumn : List rule.Rule → ℕ → ColumnClasses → Type 0
+TellsColumn rules column classes = All (TellsRules rules column) classes.rows.items
+
+-- each column's classes do
+abbrev pub TellsColumns : List rule.Rule → List ColumnClasses → Type 0
+TellsColumns rules columns = (k : ℕ) (classes : ColumnClasses) → slice_get columns k ≡ Some classes → TellsColumn rules k classes
+
+-- the value in a column is of this class
+abbrev pub IsRowOf : List rule.Rule → ℕ → Datum → ClassRules → Type 0
+IsRowOf rules column v row = (is_in_class row.class v ≡ true) × TellsRules rules column row
+
+-- there is a value in this column, and it is of this class
+pub record IsRowAt (rules : List rule.Rule) (values : List Datum) (column : ℕ) (row : ClassRules) : Type 0 where
+  pub value : Datum
+  pub there : slice_get values column ≡ Some value
+  pub lawful : is_value value ≡ true
+  pub of_class : IsRowOf rules column value row
+
+-- of each column the class of its value, where there is one
+abbrev pub AreRowsOf : List rule.Rule → List Datum → List (Option (Bor ClassRules)) → Type 0
+AreRowsOf rules values rows = (k : ℕ) (row : Bor ClassRules) → slice_get rows k ≡ Some (Some row) → IsRowAt rules values k row.now
+
+-- a bit that is not set is not set in a word of one of the rows
+pub record IsUnsetIn (rows : List (Option (Bor ClassRules))) (w i : ℕ) : Type 0 where
+  pub column : ℕ
+  pub row : Bor ClassRules
+  pub word : ℕ
+  pub there : slice_get rows column ≡ Some (Some row)
+  pub has : slice_get row.now.words.items w ≡ Some word
+  pub unset : bit_at word i ≡ 0
+
+-- each rule whose bit is not set misses, the first having the lowest bit
+abbrev pub MissUnset : Bindings → List Datum → List rule.Rule → ℕ → Type 0
+MissUnset m values rules word = (i : ℕ) (r : rule.Rule) → slice_get rules i ≡ Some r → bit_at word i ≡ 0 → does_hit m values (rule_view r) ≡ Some false

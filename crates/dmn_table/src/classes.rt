@@ -1,0 +1,252 @@
+//! Which rules a value can't hit, told by the class that it has in its column.
+ghost use Rattle.std.specs.Prelude.{◌≡◌, ◌<◌, ℕ, List, IfOk, IfSome, IsFalse};
+ghost use Rattle.std.specs.Int.{bit_at};
+ghost use Rattle.feel_lang.specs.Classes.{is_in_class};
+ghost use Rattle.feel_value.specs.View.{datum_of};
+ghost use Rattle.dmn_table.specs.Classes.{AreRowsOf, IsRowOf, IsUnsetIn, MissesAt, TellsColumn, TellsColumns, TellsRules, TellsWord};
+ghost use Rattle.dmn_table.specs.declared.table.Rule.{Rule as RuleData};
+
+use crate::table::Rule;
+use feel_lang::{Class, MARKS, mark};
+use feel_value::{Feel, Value};
+use std::alloc::{AllocError, Global};
+
+/// The most numbers at which the numbers of a column are cut into classes.
+const MOST_CUTS: usize = 63;
+
+/// The rules of a word.
+pub(crate) const WORD: usize = 64;
+
+/// The bytes of a class besides its words, and what the heap adds to a block.
+const CLASS_BYTES: usize = 64;
+
+/// The least bytes of a rule in a model's text, and of an entry.
+const RULE_TEXT: usize = 24;
+
+const ENTRY_TEXT: usize = 4;
+
+/// A class of values of a column, and the rules that they may meet there: a bit for each rule, 64 to a word, of which the first
+/// is the lowest. The entry of a rule whose bit is not set is met by no value of the class.
+#[derive(Drop)]
+pub(crate) struct ClassRules {
+    pub(crate) class: Class,
+    pub(crate) words: Vec<u64>,
+}
+
+/// The classes of a column: of numbers between the cuts, which rise; of null and of booleans; and of texts by their marks, where
+/// enough rules ask for texts. None where they would take too much memory.
+#[derive(Drop)]
+pub(crate) struct ColumnClasses {
+    cuts: Vec<i64>,
+    rows: Vec<ClassRules>,
+}
+
+/// Whether a value is of a class.
+fn is_in(class: Class, value: &Value) -> bool
+    ensures { result ≡ is_in_class class (datum_of value.now) }
+{
+    match (class, value) {
+        (Class::Numbers(low, high), Value::Number(n)) => low <= *n && *n <= high,
+        (Class::Texts(other), Value::Text(text)) => mark(text.as_str()) == other,
+        (Class::Truth(other), Value::Bool(holds)) => *holds == other,
+        (Class::Null, Value::Null) => true,
+        _ => false,
+    }
+}
+
+/// Whether a value may meet a rule's entry in a column, if it is of the class.
+fn may_meet(rule: &Rule, column: usize, class: Class) -> bool
+    ensures { IsFalse result → MissesAt class column rule.now }
+{
+    match rule.tests.get(column) {
+        Some(tests) => !tests.misses(class),
+        None => true,
+    }
+}
+
+/// The bits of the first 64 of these rules.
+fn word_for(rules: &[Rule], column: usize, class: Class) -> u64
+    ensures { TellsWord rules.now column class result }
+{
+    let mut word = 0;
+    for i in 0..rules.len().min(WORD) {
+        if may_meet(&rules[i], column, class) {
+            word |= 1 << i;
+        }
+    }
+    word
+}
+
+/// The rules that values of the class may meet in a column.
+fn rules_for(
+    alloc: Global,
+    rules: &[Rule],
+    column: usize,
+    class: Class,
+) -> Result<ClassRules, AllocError>
+    ensures { IfOk result (TellsRules rules.now column) }
+{
+    let mut words = Vec::with_capacity(alloc, rules.len() / WORD + 1)?;
+    let mut rest = rules;
+    while !rest.is_empty() {
+        words.push(word_for(rest, column, class))?;
+        let (_, others) = rest.split_at(WORD.min(rest.len()));
+        rest = others;
+    }
+    Ok(ClassRules { class, words })
+}
+
+/// The classes of a column with these cuts.
+fn classes_of(alloc: Global, cuts: &[i64], has_texts: bool) -> Result<Vec<Class>, AllocError> {
+    let mut classes = Vec::new(alloc);
+    let mut low = i64::MIN;
+    for cut in cuts {
+        classes.push(Class::Numbers(low, cut.saturating_sub(1)))?;
+        low = *cut;
+    }
+    classes.push(Class::Numbers(low, i64::MAX))?;
+    classes.push(Class::Null)?;
+    classes.push(Class::Truth(false))?;
+    classes.push(Class::Truth(true))?;
+    if has_texts {
+        for mark in 0..MARKS {
+            classes.push(Class::Texts(mark))?;
+        }
+    }
+    Ok(classes)
+}
+
+/// Whether a fourth of the rules or more ask a column for texts.
+fn has_texts(rules: &[Rule], column: usize) -> bool {
+    let mut count: usize = 0;
+    for rule in rules {
+        if let Some(tests) = rule.tests.get(column) {
+            if tests.ask_for_texts() {
+                count = count.saturating_add(1);
+            }
+        }
+    }
+    count >= rules.len() / 4 && count > 0
+}
+
+/// The bytes that so many classes of so many rules take.
+fn bytes_of(classes: usize, rules: usize) -> usize {
+    let words = rules / WORD + 1;
+    classes.saturating_mul(CLASS_BYTES.saturating_add(words.saturating_mul(8)))
+}
+
+/// Numbers at which what the rules ask of a column changes, rising; not all of them where there are many.
+fn cuts_of(alloc: Global, rules: &[Rule], column: usize) -> Result<Vec<i64>, AllocError> {
+    let mut all = Vec::new(alloc);
+    for rule in rules {
+        if let Some(tests) = rule.tests.get(column) {
+            tests.cuts(&mut all)?;
+        }
+    }
+    all.sort_unstable();
+    all.dedup();
+    let step = all.len() / MOST_CUTS + 1;
+    let mut cuts = Vec::new(alloc);
+    for (i, cut) in all.iter().enumerate() {
+        if i % step == 0 {
+            cuts.push(*cut)?;
+        }
+    }
+    Ok(cuts)
+}
+
+impl ColumnClasses {
+    /// The classes of a column of these rules; none where they would take more than so many bytes.
+    fn of(
+        alloc: Global,
+        rules: &[Rule],
+        column: usize,
+        room: usize,
+    ) -> Result<ColumnClasses, AllocError>
+        ensures { IfOk result (TellsColumn rules.now column) }
+    {
+        let cuts = cuts_of(alloc, rules, column)?;
+        let mut classes = classes_of(alloc, &cuts, has_texts(rules, column))?;
+        if bytes_of(classes.len(), rules.len()) > room {
+            classes.clear();
+        }
+        let mut rows = Vec::with_capacity(alloc, classes.len())?;
+        for class in &classes {
+            rows.push(rules_for(alloc, rules, column, *class)?)?;
+        }
+        Ok(ColumnClasses { cuts, rows })
+    }
+
+    /// Where the class of a value stands among the classes.
+    fn place_of(&self, value: &Value) -> usize {
+        let others = self.cuts.len() + 1;
+        match value {
+            Value::Number(n) => self.cuts.partition_point(|cut| *cut <= *n),
+            Value::Null => others,
+            Value::Bool(holds) => others + 1 + usize::from(*holds),
+            Value::Text(text) => others + 3 + usize::from(mark(text.as_str())),
+            Value::List(_) | Value::Context(_) => usize::MAX,
+        }
+    }
+
+    /// The class of a value with its rules; none of a list or a context.
+    fn row_of(&self, value: &Value) -> Option<&ClassRules>
+        ensures { IfSome result (λ row. (rules : List RuleData) (column : ℕ) → TellsColumn rules column self.now → IsRowOf rules column (datum_of value.now) row.now) }
+    {
+        let row = self.rows.get(self.place_of(value))?;
+        if is_in(row.class, value) {
+            return Some(row);
+        }
+        None
+    }
+}
+
+/// The classes of each column. Together they take at most eight times the bytes that the least text of so many rules and entries
+/// has.
+pub(crate) fn classes_of_columns(
+    alloc: Global,
+    rules: &[Rule],
+    count: usize,
+) -> Result<Vec<ColumnClasses>, AllocError>
+    ensures { IfOk result (λ columns. TellsColumns rules.now columns.items) }
+{
+    let text = count.saturating_mul(ENTRY_TEXT).saturating_add(RULE_TEXT);
+    let mut room = rules.len().saturating_mul(text).saturating_mul(8);
+    let mut columns = Vec::with_capacity(alloc, count)?;
+    for column in 0..count {
+        let classes = ColumnClasses::of(alloc, rules, column, room)?;
+        room = room.saturating_sub(bytes_of(classes.rows.len(), rules.len()));
+        columns.push(classes)?;
+    }
+    Ok(columns)
+}
+
+/// Of each column the class of its value, with its rules.
+pub(crate) fn rows_of<'a>(
+    alloc: Global,
+    columns: &'a [ColumnClasses],
+    values: &[Feel],
+) -> Result<Vec<Option<&'a ClassRules>>, AllocError>
+    ensures { IfOk result (λ rows. (rules : List RuleData) → TellsColumns rules columns.now → AreRowsOf rules values.now rows.items) }
+{
+    let mut rows = Vec::with_capacity(alloc, columns.len())?;
+    for k in 0..columns.len().min(values.len()) {
+        rows.push(columns[k].row_of(values[k].value()))?;
+    }
+    Ok(rows)
+}
+
+/// The bits of the rules of a word that each value may hit.
+pub(crate) fn common(rows: &[Option<&ClassRules>], place: usize) -> u64
+    ensures { (i : ℕ) → i < 64 → bit_at result i ≡ 0 → IsUnsetIn rows.now place i }
+{
+    let mut word = u64::MAX;
+    for row in rows {
+        if let Some(row) = row {
+            if let Some(bits) = row.words.get(place) {
+                word &= *bits;
+            }
+        }
+    }
+    word
+}
