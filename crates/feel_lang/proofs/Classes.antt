@@ -1,11 +1,9 @@
 -- Values that no value of a class equals.
-use Rattle.std.proofs.Common.{◌≡◌, ◌∙◌, ap, refl, Bool, true, false, ◌||◌, List, [], ◌∷◌}
+use Rattle.std.proofs.Common.{◌≡◌, ◌∙◌, ap, refl, true, false, ◌||◌, List, [], ◌∷◌}
 use Rattle.std.specs.List.{All}
 use Rattle.std.proofs.lemmas.List.Elements.{All-head, All-tail}
-use Rattle.feel_value.specs.Comparison.{equal}
 use Rattle.feel_value.specs.Datum.{Datum}
-use Rattle.feel_value.specs.Logic.{is_yes}
-use Rattle.feel_value.specs.View.{datum_of, items_view}
+use Rattle.feel_value.specs.View.{items_view}
 use Rattle.feel_value.specs.declared.value.Value.{Value}
 use Rattle.feel_lang.specs.Classes.{IsApart, is_in_class}
 use Rattle.feel_lang.specs.Satisfied.{is_member}

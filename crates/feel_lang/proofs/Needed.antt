@@ -1,5 +1,5 @@
 -- Needed names, and what was found for them.
-use Rattle.std.proofs.Common.{◌≡◌, ◌∙◌, sym, ap, refl, not, ℕ, zero, suc, ◌+◌, ◌<◌, ◌≤◌, Bool, true, false, List, [], ◌∷◌, ◌++◌, map, take, length, get_or, Option, Some, None, is_some, unwrap_or, option_map, String, Global, string_bytes, bytes_eq, if◌then◌else◌, ◌&&◌, arith, inl, inr}
+use Rattle.std.proofs.Common.{◌≡◌, ◌∙◌, sym, ap, refl, not, ℕ, zero, suc, ◌+◌, ◌<◌, ◌≤◌, Bool, true, false, List, [], ◌∷◌, ◌++◌, map, take, length, get_or, Option, Some, None, is_some, unwrap_or, option_map, String, Global, bytes_eq, if◌then◌else◌, ◌&&◌, arith, inl, inr}
 use Rattle.std.specs.List.{list_all}
 use Rattle.std.specs.BTreeMap.{BTreeMap, get_by_text}
 use Rattle.std.proofs.lemmas.Bool.{cases_lt}

@@ -1,6 +1,6 @@
 -- Internal: no public contract of a result cites these words. Classes of values.
 use Rattle.std.specs.Prelude.{◌≡◌, ℕ, ◌+◌, ◌*◌, ◌%◌, List, [], ◌∷◌, int_le, nat_eq, Bool, true, false, ◌&&◌}
-use Rattle.feel_value.specs.Datum.{Datum, null, boolean, number, text, list, context}
+use Rattle.feel_value.specs.Datum.{Datum, null, boolean, number, text}
 use Rattle.feel_value.specs.Comparison.{equal}
 use Rattle.feel_value.specs.Logic.{is_yes}
 use Rattle.feel_value.specs.View.{datum_of}

@@ -1,5 +1,5 @@
 -- Internal but for `Places`, `bindings_from`, `found_at`, `named_places` and `lent_to`: needed names by places.
-use Rattle.std.specs.Prelude.{◌≡◌, ◌<◌, ◌≤◌, ◌^◌, ℕ, List, [], map, length, slice_index_or, Bool, Option, Some, is_some, IsTrue, unwrap_or, String, string_bytes}
+use Rattle.std.specs.Prelude.{◌≡◌, ◌<◌, ◌≤◌, ◌^◌, ℕ, List, [], map, length, slice_index_or, Bool, Option, Some, is_some, IsTrue, unwrap_or, String}
 use Rattle.std.specs.List.{slice_get}
 use Rattle.std.specs.declared.alloc.Global.{Global}
 use Rattle.std.specs.BTreeMap.{BTreeMap, get_by_text}

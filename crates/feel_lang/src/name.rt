@@ -49,10 +49,7 @@ impl Name {
     pub(crate) fn is(&self, other: &Name) -> bool
         ensures { result ≡ bytes_eq self.now other.now }
     {
-        if self.packed != 0
-            && self.packed == other.packed
-            && self.text.len() == other.text.len()
-        {
+        if self.packed != 0 && self.packed == other.packed && self.text.len() == other.text.len() {
             return true;
         }
         is_same_text(&self.text, &other.text)

@@ -1,4 +1,4 @@
-use Rattle.std.proofs.Common.{◌≡◌, ◌∙◌, ◌+◌, ◌-◌, Some, ap, arith, bytes_eq, false, if◌then◌else◌, sym, take, true, string_bytes}
+use Rattle.std.proofs.Common.{◌≡◌, ◌∙◌, ◌+◌, ◌-◌, Some, ap, arith, bytes_eq, false, if◌then◌else◌, sym, take, true}
 use Rattle.feel_lang.specs.Needed.{named_places}
 use Rattle.feel_lang.specs.Places.{last_place}
 use Rattle.feel_lang.proofs.Needed.{last_up_to}

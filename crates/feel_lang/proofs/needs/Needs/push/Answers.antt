@@ -1,4 +1,4 @@
-use Rattle.std.proofs.Common.{◌≡◌, ◌∙◌, ◌++◌, ◌∷◌, [], ℕ, List, sym, ap, string_bytes, bytes_eq, length, Some, None, true, false, subst, if◌then◌else◌, arith}
+use Rattle.std.proofs.Common.{◌≡◌, ◌∙◌, ◌++◌, ◌∷◌, [], ℕ, List, sym, ap, bytes_eq, length, Some, None, true, false, subst, if◌then◌else◌, arith}
 use Rattle.std.specs.BTreeMap.{get_by_text}
 use Rattle.feel_lang.specs.Needed.{named_places, ArePositioned, AreLast}
 use Rattle.feel_lang.specs.Places.{last_place}

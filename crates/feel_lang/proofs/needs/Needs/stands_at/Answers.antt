@@ -1,4 +1,4 @@
-use Rattle.std.proofs.Common.{◌≡◌, ◌∙◌, sym, ap, subst, ◌<◌, length, get_or, true, bytes_eq, string_bytes, arith}
+use Rattle.std.proofs.Common.{◌≡◌, ◌∙◌, sym, ap, subst, ◌<◌, length, get_or, true, bytes_eq}
 use Rattle.feel_lang.specs.Places.{last_place}
 use Rattle.feel_lang.proofs.Needed.{stands_last}
 use Rattle.feel_lang.proofs.needs.Needs.stands_at.Goals as goal

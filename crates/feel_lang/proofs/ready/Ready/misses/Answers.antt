@@ -1,4 +1,4 @@
-use Rattle.std.proofs.Common.{◌≡◌, ◌∙◌, ap, subst, Some}
+use Rattle.std.proofs.Common.{◌∙◌, ap, subst, Some}
 use Rattle.std.specs.List.{All}
 use Rattle.feel_lang.specs.Classes.{IsApart}
 use Rattle.feel_lang.specs.Ready.{told}
