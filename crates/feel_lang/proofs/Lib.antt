@@ -11,7 +11,6 @@ pub mod Members
 pub mod Rows
 pub mod Bindings
 pub mod Few
-pub mod Packed
 pub mod Needed
 pub mod Modulo
 pub mod ListMembers
