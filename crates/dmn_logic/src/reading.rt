@@ -130,27 +130,21 @@ fn entries_of(
     Ok(Reading::Found(entries))
 }
 
-/// The names that a decision needs, each with its place among them.
-fn needs_of(alloc: Global, names: &[String]) -> Result<Needs, AllocError> {
-    let mut needs = Needs::new(alloc);
-    for (place, name) in names.iter().enumerate() {
-        needs.push(name.as_str(), place)?;
-    }
-    Ok(needs)
-}
-
-/// The logic of each decision, read under the names that it needs.
+/// The logic of each decision, read under the names that it needs, and under none where the list of them is too short.
 pub(crate) fn logics_of(
     alloc: Global,
     decisions: &[WrittenDecision],
+    needs: &[Needs],
 ) -> Result<Reading<Vec<Logic>>, AllocError>
     ensures { IfOk result (λ r. mapped (λ v. map logic_view v.items) r ≡ decisions_reading (map decision_view decisions.now)) }
 {
+    let nothing = Needs::new(alloc);
+    let mut needs = needs.iter();
     let mut logics = Vec::with_capacity(alloc, decisions.len())?;
     let mut is_refused = false;
     for decision in decisions {
-        let needs = needs_of(alloc, &decision.needs)?;
-        match logic_of(alloc, &needs, &decision.logic)? {
+        let needed = needs.next().unwrap_or(&nothing);
+        match logic_of(alloc, needed, &decision.logic)? {
             Reading::Found(logic) => logics.push(logic)?,
             Reading::Refused => is_refused = true,
             Reading::Unread => return Ok(Reading::Unread),

@@ -9,8 +9,9 @@ use Rattle.dmn_form.specs.declared.written.WrittenModel.{WrittenModel}
 use Rattle.dmn_graph.specs.Needs.{needs_view}
 use Rattle.dmn_logic.specs.LogicView.{Read}
 use Rattle.dmn_names.specs.Parts.{decision_names, value_names}
+use Rattle.dmn_names.specs.Places.{needs_by_place}
 use Rattle.dmn_plan.specs.Items.{IsAfterInputs, have_names, have_needs, have_logic}
-use Rattle.dmn_plan.specs.Plans.{AreItemsOf, AreNamed, place_logic, place_name}
+use Rattle.dmn_plan.specs.Plans.{AreItemsOf, AreNamed, AreNeedsOf, needed_by_name, place_logic, place_name}
 use Rattle.dmn_service.specs.Places.{named_places}
 use Rattle.dmn_service.specs.declared.plan.Item.{Item}
 
@@ -30,6 +31,30 @@ behind_inputs m needs n after e =
     let left : needs_view (drop n needs) ≡ rest =
     sym (drop-map (λ (v : Vec ℕ Global). v.items) n needs) ∙ ap (drop n) is ∙ drop_at (map no_places m.inputs) rest n (length-map m.inputs no_places ∙ sym e) in
     is ∙ ap (λ r. map no_places m.inputs ++ r) (sym left)
+
+-- the same of needs under their names
+pub named_behind : (m : Draft) (named : List (List (Name × ℕ))) (needs rest : List (Vec ℕ Global)) (n : ℕ)
+    → named ≡ needed_by_name m (drop (length m.inputs) (needs_view needs)) → n ≡ length m.inputs → rest ≡ drop n needs → named ≡ needed_by_name m (needs_view rest)
+named_behind m named needs rest n is e left =
+    is ∙ ap (λ k. needed_by_name m (drop k (needs_view needs))) (sym e) ∙ ap (needed_by_name m) (drop-map (λ (v : Vec ℕ Global). v.items) n needs ∙ ap needs_view (sym left))
+
+-- those behind the inputs are the needs of the decisions
+pub needs_told : (m : Draft) (all rest : List (Vec ℕ Global)) (named : List (List (Name × ℕ))) (n : ℕ)
+    → needs_by_place m ≡ Some (needs_view all) → n ≡ length m.inputs → rest ≡ drop n all → named ≡ needed_by_name m (needs_view rest) → AreNeedsOf m named
+needs_told m all rest named n known e left is needs found =
+    let same : needs_view all ≡ needs = cc in
+    is ∙ ap (needed_by_name m) (ap needs_view left ∙ sym (drop-map (λ (v : Vec ℕ Global). v.items) n all) ∙ ap₂ drop e same)
+
+-- none are told where a needed name is unknown
+pub none_told : (m : Draft) (named : List (List (Name × ℕ))) → needs_by_place m ≡ None → AreNeedsOf m named
+none_told m named unknown needs found = absurd (none_some (sym unknown ∙ found))
+  where
+    none_some : None ≡ Some needs → ⊥
+    none_some e = cc
+
+-- where nothing is named nothing is needed
+pub none_named : (m : Draft) (needs : List (List ℕ)) → length (needed_by_name m needs) ≡ 0 → length needs ≡ 0
+none_named m needs e = sym (length-map needs (named_places (place_name m))) ∙ e
 
 count_names : (m : Draft) → length (value_names m) ≡ length m.inputs + length m.decisions
 count_names m = length-append m.inputs (decision_names m) ∙ ap (λ k. length m.inputs + k) (length-map m.decisions (λ d. d.name))

@@ -1,5 +1,5 @@
 -- Internal: names, needs and logic of a model by places, and when plans of services are those of a model.
-use Rattle.std.specs.Prelude.{◌≡◌, ◌<◌, ◌≤◌, ℕ, List, [], ◌∷◌, ◌++◌, map, length, true, Option, None, Some, option_map, Result, Ok, Err, string_bytes, nat_eq, slice_index_or, ⊤}
+use Rattle.std.specs.Prelude.{◌≡◌, ◌<◌, ◌≤◌, ℕ, List, [], ◌∷◌, ◌++◌, map, length, true, Option, None, Some, option_map, Result, Ok, Err, string_bytes, nat_eq, slice_index_or, drop, ⊤}
 use Rattle.std.specs.List.{All}
 use Rattle.feel_lang.specs.Expr.{Expr}
 use Rattle.dmn_table.specs.Table.{Table}
@@ -8,6 +8,7 @@ use Rattle.dmn_form.specs.Model.{Name, Boxed, Service, Model}
 use Rattle.dmn_logic.specs.LogicView.{logic_view}
 use Rattle.feel_value.specs.Distinct.{are_distinct}
 use Rattle.dmn_names.specs.Parts.{value_names}
+use Rattle.dmn_names.specs.Places.{needs_by_place}
 use Rattle.dmn_service.specs.Decision.{parameters_of}
 use Rattle.dmn_service.specs.Places.{named_places}
 use Rattle.dmn_service.specs.Plan.{HasPlacesWithin, IsPlanOf, IsAmong, IsNotAmong}
@@ -26,9 +27,17 @@ place_logic inputs logics = map (λ n. None) inputs ++ map Some logics
 abbrev pub place_name : Draft → ℕ → Name
 place_name m q = slice_index_or (value_names m) q []
 
+-- lists of places, each place under its name
+abbrev pub needed_by_name : Draft → List (List ℕ) → List (List (Name × ℕ))
+needed_by_name m = map (named_places (place_name m))
+
+-- these are the needs of the decisions by name, where all that is needed is known
+abbrev pub AreNeedsOf : Draft → List (List (Name × ℕ)) → Type 0
+AreNeedsOf m named = (needs : List (List ℕ)) → needs_by_place m ≡ Some needs → named ≡ needed_by_name m (drop (length m.inputs) needs)
+
 -- what each item needs stands under its name
 abbrev pub AreNamed : Draft → List Item → Type 0
-AreNamed m items = have_named items ≡ map (named_places (place_name m)) (have_needs items)
+AreNamed m items = have_named items ≡ needed_by_name m (have_needs items)
 
 -- the items are those of the model, with what each place needs and the logic of each decision
 pub record AreItemsOf (m : Draft) (needs : List (List ℕ)) (logics : List (Boxed Expr Table)) (items : List Item) : Type 0 where

@@ -61,6 +61,32 @@ fn a_refused_binding_changes_nothing(rt: HostRuntime) -> Result<(), Fail> {
     Ok(())
 }
 
+/// Binds a to the number while the heap gives nothing, which changes nothing, and then once more. Answers whether it was refused.
+fn bound_when_full(rt: &impl Abort, alloc: Global, env: &mut Env, n: i64) -> Result<bool, Fail> {
+    let before = bindings(env);
+    let full = FullHeap::but(alloc, 0)?;
+    let refused = env.bind("a", number(rt, n)).is_err();
+    let after = bindings(env);
+    drop(full);
+    assert!(rt; after == before);
+    env.bind("a", number(rt, n))?;
+    Ok(refused)
+}
+
+/// Each binding of one name is refused by a full heap: the first, the second, and those that stand in an index.
+#[test]
+fn a_full_heap_refuses_each_binding(rt: HostRuntime) -> Result<(), Fail> {
+    let alloc = rt.alloc();
+    let mut env = Env::new(alloc);
+    for n in 1..=12 {
+        let refused = bound_when_full(&rt, alloc, &mut env, n)?;
+        assert!(rt; refused);
+        assert_eq!(rt; env.find("a").and_then(number_in), Some(n));
+    }
+    assert_eq!(rt; env.len(), 12);
+    Ok(())
+}
+
 /// An environment in which a is this value.
 fn bound(alloc: Global, value: Feel) -> Result<Env<'static>, AllocError> {
     let mut env = Env::new(alloc);

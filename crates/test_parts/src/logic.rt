@@ -10,7 +10,7 @@ use std::test::Fail;
 /// The logic of a decision with this expression, which is JSON.
 pub fn logic(alloc: Global, expression: &str) -> Result<Logic, Fail> {
     let model = form_of(alloc, model_text(alloc, expression)?.as_str())?;
-    let mut logics = read_decision_logic(alloc, &model.decisions)?;
+    let mut logics = read_decision_logic(alloc, &model.decisions, &[])?;
     Ok(logics.pop().ok_or("no logic")?)
 }
 

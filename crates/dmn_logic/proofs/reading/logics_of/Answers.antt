@@ -20,7 +20,7 @@ loop-decision-init c = parts_begun each (map logic_view c.in_ok-logics.logics.it
 
 pub loop-decision-preserved : goal.loop-decision-preserved
 loop-decision-preserved c =
-    elim c.match-branch-4.branch [
+    elim c.match-branch-3.branch [
       | in-Found+in_ok-push-in-Found w ↦
           found_turn part each (λ d ds. refl) _ c.loop-decision.is_refused _ (map logic_view c.loop-decision.logics.items) _ (logic_view w.in-Found.logic)
           c.args.decisions.now c.loop-decision.decision-index c.decision-item.result

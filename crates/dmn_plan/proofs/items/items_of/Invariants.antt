@@ -4,7 +4,7 @@ use Rattle.dmn_graph.specs.Needs.{needs_view}
 use Rattle.dmn_logic.specs.LogicView.{logic_view}
 use Rattle.dmn_names.specs.Parts.{value_names}
 use Rattle.dmn_plan.specs.Items.{have_names, have_needs, have_logic}
-use Rattle.dmn_plan.specs.Plans.{AreNamed, place_logic}
+use Rattle.dmn_plan.specs.Plans.{AreNamed, needed_by_name, place_logic}
 use Rattle.dmn_plan.proofs.items.items_of.Given as goal
 
 abbrev pub invariant-loop-decision : goal.invariant-loop-decision
@@ -13,3 +13,4 @@ invariant-loop-decision l =
     × (needs_view l.fn.needs.items ≡ have_needs l.items.items ++ needs_view l.needs.rest.items)
     × (place_logic (model_view l.model).inputs (map logic_view l.fn.logics.items) ≡ have_logic l.items.items ++ map Some (map logic_view l.logics.rest.items))
     × AreNamed (model_view l.model) l.items.items
+    × (l.named.rest.items ≡ needed_by_name (model_view l.model) (needs_view l.needs.rest.items))
