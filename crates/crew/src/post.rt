@@ -9,7 +9,10 @@ use std::time::Duration;
 
 /// For how many turns a worker that has nothing to do, or can't get rid of what it holds, stays awake.
 const TURNS: u32 = 200;
-/// How many of these turns pass between two tries to get rid of what it holds.
+/// For how many turns one that was woken, and finds nothing yet, stays awake: longer than it takes to read a small request,
+/// for which it may have been woken before the job was put.
+const CALLED_TURNS: u32 = 10_000;
+/// How many turns pass between two tries to get rid of what it holds.
 const BETWEEN: u32 = 50;
 /// The first and the longest pause, in microseconds, of a worker that holds what it can't get rid of.
 const FIRST_PAUSE: u64 = 20;
@@ -88,14 +91,20 @@ impl<'a, V> Post<'a, V> {
         self.pause = FIRST_PAUSE;
     }
 
-    // It looked in vain: it stays awake for some turns, and then sleeps until a job is put.
+    // It looked in vain: it stays awake for some turns, and then sleeps until a job is put or may be put soon.
     fn rest<R: Wait>(&mut self, rt: &R, seen: u64) {
         self.signals.end_to_post();
         if self.turns == 0 {
             self.signals.await_job(rt, seen);
+            self.turns = self.turns_since(seen);
         } else {
             self.turns = self.signals.watch_jobs(seen, self.turns - 1);
         }
+    }
+
+    // For how many turns it stays awake after a sleep: for none where it was not called, but woke by itself.
+    fn turns_since(&self, seen: u64) -> u32 {
+        if self.jobs() == seen { 0 } else { CALLED_TURNS }
     }
 
     // It holds what it can't get rid of: it tries again after a few turns, and later after pauses that grow.

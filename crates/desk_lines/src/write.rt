@@ -1,5 +1,5 @@
 //! What is said, on its way to a writer.
-ghost use Rattle.std.specs.Prelude.{◌≡◌, ◌≢◌, ◌<◌, ◌-◌, ◌^◌, ℕ, [], List, take, OnOk, OnErr, IfErr, Err};
+ghost use Rattle.std.specs.Prelude.{◌≡◌, ◌≢◌, ◌<◌, ◌≤◌, ◌+◌, ◌-◌, ◌^◌, ◌↔◌, ℕ, [], List, length, take, IsTrue, OnOk, OnErr, IfErr, Err};
 ghost use Rattle.std.specs.Io.KnownBytes.{Appends};
 ghost use Rattle.desk_lines.specs.Gathers.{Gathers};
 
@@ -43,6 +43,20 @@ impl Unwritten {
         Unwritten {
             bytes: Vec::new(alloc),
         }
+    }
+
+    /// Whether nothing waits.
+    pub fn is_empty(&self) -> bool
+        ensures { IsTrue result ↔ (self.now.bytes.items ≡ []) }
+    {
+        self.bytes.is_empty()
+    }
+
+    /// Whether all that waits is written once a text is added.
+    pub fn is_full_with(&self, text: &[u8]) -> bool
+        ensures { IsTrue result ↔ (65536 ≤ length self.now.bytes.items + length text.now) }
+    {
+        text.len() >= PIECE.saturating_sub(self.bytes.len())
     }
 
     /// Writes all that waits.

@@ -1,1 +1,2 @@
+pub mod FirstKey
 pub mod Listing

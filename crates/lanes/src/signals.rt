@@ -4,9 +4,10 @@ use std::sync::Wait;
 use std::sync::atomic::{AtomicU64, Ordering};
 use std::time::Duration;
 
-/// For how many turns a thread that waits looks at a count before it sleeps: about as long as it takes to fall asleep and
-/// to be woken.
-const TURNS: u32 = 2_000;
+/// For how many turns a thread that waits for few answers looks at a count before it sleeps: a little longer than it takes to
+/// wake a worker and to run a small job, so that it need not be woken itself. A turn takes some 5 ns, or 50 where a processor
+/// pauses for longer.
+const TURNS: u32 = 10_000;
 /// From so many on things are many: a thread that waits for things is woken once as many are there, or nothing more comes.
 const MANY: u64 = 16;
 /// How often workers may be refused memory, with nothing answered between, before they count as starved.
@@ -102,9 +103,10 @@ impl Bell {
 /// What the ends of all lanes share beside the lanes.
 ///
 /// A worker looks for a job, or runs one, or sleeps. A job that is put wakes a sleeper only where no worker looks and many
-/// jobs wait; for fewer one is woken once the front waits, or finds a mailbox full. Who looks reads the count of jobs again
-/// before it sleeps, and wakes a sleeper where it takes a job as the last that looked and more jobs wait. So a job is seen by
-/// one that looks, or by one that is woken for it; or all workers run jobs, and each looks again after that.
+/// jobs wait; for fewer one is woken once the front waits, or finds a mailbox full, or before that where a job may be put
+/// soon. Who looks reads the count of jobs again before it sleeps, and wakes a sleeper where it takes a job as the last that
+/// looked and more jobs wait. So a job is seen by one that looks, or by one that is woken for it; or all workers run jobs,
+/// and each looks again after that.
 ///
 /// A front that waits while many jobs are out sleeps until there are many answers, or a worker finds no job, or no place for
 /// its answer, or a millisecond has passed: no answer lies longer while others are slow. It counts as a sleeper before it
@@ -158,6 +160,11 @@ impl Signals {
     /// Jobs may wait, and no other is put before some are run: a worker is woken for them where none looks.
     pub fn begin_to_wait(&self) {
         self.call_worker_for(1);
+    }
+
+    /// A job may be put soon, and none waits: a worker is woken where none looks, so that it is awake by then.
+    pub fn expect_job(&self) {
+        self.call_worker_for(0);
     }
 
     // Wakes a worker that sleeps, where none looks and so many jobs wait.
