@@ -1,4 +1,4 @@
--- Internal: no public contract of a result cites these words. Classes of values.
+-- Internal but for `is_in_class`, `mark_of`, `marked` and `same_truth`: classes of values.
 use Rattle.std.specs.Prelude.{◌≡◌, ℕ, ◌+◌, ◌*◌, ◌%◌, List, [], ◌∷◌, int_le, nat_eq, Bool, true, false, ◌&&◌}
 use Rattle.feel_value.specs.Datum.{Datum, null, boolean, number, text}
 use Rattle.feel_value.specs.Comparison.{equal}
