@@ -12,7 +12,7 @@ use feel_value::{Feel, Value};
 use std::alloc::{AllocError, Global};
 
 /// The most numbers at which the numbers of a column are cut into classes.
-const MOST_CUTS: usize = 63;
+const MOST_CUTS: usize = 127;
 
 /// The rules of a word.
 pub(crate) const WORD: usize = 64;
@@ -242,6 +242,9 @@ pub(crate) fn common(rows: &[Option<&ClassRules>], place: usize) -> u64
 {
     let mut word = u64::MAX;
     for row in rows {
+        if word == 0 {
+            break;
+        }
         if let Some(row) = row {
             if let Some(bits) = row.words.get(place) {
                 word &= *bits;

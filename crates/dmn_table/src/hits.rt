@@ -69,10 +69,10 @@ fn add_hits<'a>(
             continue;
         }
         let rule = &rules[i];
-        let Some(hit) = does_hit(alloc, rule, true, values, env)? else {
+        let Some(is_hit) = does_hit(alloc, rule, true, values, env)? else {
             unreachable!();
         };
-        if hit {
+        if is_hit {
             hits.push(rule)?;
         }
     }

@@ -65,10 +65,14 @@ impl Span {
         }
     }
 
-    // Adds the first number of the span and the first behind it.
+    // Adds the first number of the span and the first behind it, where others stand before these.
     fn cuts(self, cuts: &mut Vec<i64>) -> Result<(), AllocError> {
-        cuts.push(self.low)?;
-        cuts.push(self.high.saturating_add(1))?;
+        if self.low > i64::MIN {
+            cuts.push(self.low)?;
+        }
+        if let Some(next) = self.high.checked_add(1) {
+            cuts.push(next)?;
+        }
         Ok(())
     }
 

@@ -2,7 +2,7 @@
 use crate::logic::shown;
 use dmn_table::{Output, Rule, Table, decide};
 use feel_lang::{Env, Held, Tests, eval, holds, read_expr, read_literal, read_tests};
-use feel_value::{Feel, Outcome};
+use feel_value::{Feel, Outcome, Value};
 use std::alloc::{AllocError, Global};
 use std::test::Fail;
 
@@ -58,36 +58,44 @@ const VALUES: [&str; 17] = [
     "[]",
 ];
 
-/// The greatest drawn number, and the least without its sign.
-const GREATEST: i64 = 9;
+/// The input expressions.
+const INPUTS: [&str; 2] = ["a", "b"];
+
+/// The numbers that entries name.
+const NUMBERS: [i64; 19] = [
+    -9, -8, -7, -6, -5, -4, -3, -2, -1, 0, 1, 2, 3, 4, 5, 6, 7, 8, 9,
+];
+
+/// Their neighbours besides.
+const NEIGHBOURS: [i64; 4] = [-11, -10, 10, 11];
 
 /// Numbers that look drawn by chance, always the same.
+#[derive(Drop)]
 struct Draw {
     state: u64,
 }
 
 impl Draw {
-    /// The next number below this one.
-    fn below(&mut self, limit: u64) -> u64 {
+    /// The next number below this one, which isn't 0.
+    fn below(&mut self, limit: usize) -> usize {
         self.state = self
             .state
             .wrapping_mul(6_364_136_223_846_793_005)
             .wrapping_add(1_442_695_040_888_963_407);
-        if limit == 0 {
-            return 0;
-        }
-        (self.state >> 33) % limit
+        let next = (self.state >> 33) as usize;
+        if limit == 0 { 0 } else { next % limit }
     }
 
     /// The next of these texts.
     fn among(&mut self, texts: &[&'static str]) -> &'static str {
-        let place = self.below(texts.len() as u64) as usize;
+        let place = self.below(texts.len());
         texts.get(place).copied().unwrap_or("-")
     }
 
     /// The next number that an entry names.
     fn number(&mut self) -> i64 {
-        self.below(19) as i64 - GREATEST
+        let place = self.below(NUMBERS.len());
+        NUMBERS.get(place).copied().unwrap_or(0)
     }
 }
 
@@ -121,7 +129,7 @@ fn entry(alloc: Global, draw: &mut Draw) -> Result<String, AllocError> {
 /// The texts of the entries of a table's rules, two for each. One table in sixteen has an entry that breaks a limit.
 fn entries(alloc: Global, draw: &mut Draw) -> Result<Vec<(String, String)>, AllocError> {
     let mut entries = Vec::new(alloc);
-    for _ in 0..64 + draw.below(80) {
+    for _ in 0..draw.below(80).saturating_add(64) {
         entries.push((entry(alloc, draw)?, entry(alloc, draw)?))?;
     }
     if draw.below(16) == 0 {
@@ -167,7 +175,10 @@ fn table(
     entries: &[(String, String)],
     rest: usize,
 ) -> Result<Table, Fail> {
-    let inputs = vec![in alloc; read_expr(alloc, "a")?, read_expr(alloc, "b")?]?;
+    let mut inputs = Vec::new(alloc);
+    for name in INPUTS {
+        inputs.push(read_expr(alloc, name)?)?;
+    }
     let name = String::from_str(alloc, "r")?;
     let values = vec![in alloc; read_literal(alloc, "3")?, read_literal(alloc, "1")?]?;
     let fallback = None;
@@ -192,9 +203,8 @@ fn value_of(alloc: Global, text: &str) -> Result<Feel, Fail> {
 /// The values that are tried: each number that an entry may name and its neighbours, and values of each other kind.
 fn values(alloc: Global) -> Result<Vec<Feel>, Fail> {
     let mut values = Vec::new(alloc);
-    for n in -GREATEST - 2..=GREATEST + 2 {
-        let text = format!(in alloc; "0 + {n}")?;
-        values.push(value_of(alloc, text.as_str())?)?;
+    for n in NUMBERS.iter().chain(&NEIGHBOURS) {
+        values.push(Feel::of(Value::Number(*n)).ok_or("no number")?)?;
     }
     for text in VALUES {
         values.push(value_of(alloc, text)?)?;
@@ -244,7 +254,9 @@ fn scanned(
     format!(in alloc; "[{text}]")
 }
 
-/// One table, drawn: its rules, and what is asked of it.
+/// One table, drawn: the tests of its rules; the table with classes that gives the places of those that hit; and one of another
+/// hit policy, without classes and with them.
+#[derive(Drop)]
 struct Drawn {
     rules: Vec<Vec<Tests>>,
     places: Table,
@@ -252,7 +264,7 @@ struct Drawn {
     classed: Table,
 }
 
-/// The table of these entries, and of this hit policy with classes and without.
+/// The tables of these entries, the last two of this hit policy.
 fn drawn(alloc: Global, hit: &str, entries: &[(String, String)]) -> Result<Drawn, Fail> {
     Ok(Drawn {
         rules: all_tests(alloc, entries)?,
@@ -266,8 +278,8 @@ fn drawn(alloc: Global, hit: &str, entries: &[(String, String)]) -> Result<Drawn
 fn env_of(alloc: Global, values: &[Feel]) -> Result<Env<'static>, Fail> {
     let mut env = Env::new(alloc);
     env.bind("x", value_of(alloc, "1")?)?;
-    for (name, value) in ["a", "b"].iter().zip(values) {
-        env.bind(name, value.try_clone()?)?;
+    for (name, value) in INPUTS.iter().zip(values) {
+        env.bind(*name, value.try_clone()?)?;
     }
     Ok(env)
 }
@@ -290,10 +302,7 @@ fn differs_at(
     values: &[Feel],
 ) -> Result<Option<usize>, Fail> {
     for (place, value) in values.iter().enumerate() {
-        let other = draw.below(values.len() as u64) as usize;
-        let Some(other) = values.get(other) else {
-            return Ok(Some(place));
-        };
+        let other = values.get(draw.below(values.len())).unwrap_or(value);
         let pair = vec![in alloc; value.try_clone()?, other.try_clone()?]?;
         if !agrees(alloc, drawn, &pair)? {
             return Ok(Some(place));

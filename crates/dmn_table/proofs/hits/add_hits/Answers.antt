@@ -34,4 +34,4 @@ unreachable-requires c =
     let P : Rule → Type 0 = λ (r : Rule). KeepLimits r.tests.items in
     hits_or_misses c.args.env.now c.args.values.now (rule_view rule)
     (subst P (sym c.index-rules-i.is) (All-get_or P rules i rule c.loop-i-test.true c.requires.keep))
-    (sym c.in_default.is ∙ c.in_ok-hit.ensures)
+    (sym c.in_default.is ∙ c.in_ok-is_hit.ensures)
