@@ -12,7 +12,7 @@ use feel_value::{Feel, Value};
 use std::alloc::{AllocError, Global};
 
 /// The most numbers at which the numbers of a column are cut into classes.
-const MOST_CUTS: usize = 127;
+const MOST_CUTS: usize = 31;
 
 /// The rules of a word.
 pub(crate) const WORD: usize = 64;
