@@ -109,6 +109,25 @@ impl<'a, R: Wait> Serving<'a, R> {
         }
     }
 
+    /// Has a worker woken while a line is read: for what waits, where reading takes long; or for the request that the line may
+    /// be, where all that was asked before is answered.
+    fn call_before(&self, line: &LineText, unwritten: &Unwritten) {
+        if takes_long(line) {
+            self.lanes.call_worker();
+            return;
+        }
+        if unwritten.is_empty() && self.lanes.has_come(Until::AllWhole) {
+            self.lanes.expect_request();
+        }
+    }
+
+    /// Has a worker woken for what waits where the answer's text is written next, since that may take long.
+    fn call_behind(&self, text: &[u8], unwritten: &Unwritten) {
+        if unwritten.is_full_with(text) {
+            self.lanes.call_worker();
+        }
+    }
+
     /// A client's request is put into its lane, or the first refusal that applies is told behind the client's earlier results.
     fn answer_request(
         &mut self,
@@ -266,9 +285,7 @@ impl<'a, R: Wait> Clerk for Serving<'a, R> {
         writer: &mut W,
         unwritten: &mut Unwritten,
     ) -> Result<Vec<u8>, FrontFault> {
-        if takes_long(line) {
-            self.lanes.call_worker();
-        }
+        self.call_before(line, unwritten);
         // What is heard borrows from the reader, so that is set aside meanwhile.
         let mut texts = mem::replace(&mut self.texts, JsonReader::new());
         let text = {
@@ -283,6 +300,7 @@ impl<'a, R: Wait> Clerk for Serving<'a, R> {
             text
         };
         self.texts = texts;
+        self.call_behind(&text, unwritten);
         Ok(text)
     }
 

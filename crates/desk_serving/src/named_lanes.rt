@@ -259,6 +259,13 @@ impl Lanes {
         }
     }
 
+    /// A request may be put soon: a worker that sleeps is woken, so that it is awake by then.
+    pub fn expect_request(&self) {
+        if let Some(client) = self.clients.first() {
+            client.signals().expect_job();
+        }
+    }
+
     /// Where nothing came since so many answers were posted, waits until there are more. It may return early.
     pub fn rest<R: Wait>(&self, rt: &R, came: bool, seen: u64) {
         if came {
