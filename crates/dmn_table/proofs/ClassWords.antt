@@ -1,5 +1,5 @@
 -- Words that tell which rules a class of values misses.
-use Rattle.std.proofs.Common.{◌≡◌, ◌≢◌, ◌∙◌, sym, ap, refl, subst, ℕ, zero, suc, ◌⊎◌, ◌+◌, ◌*◌, ◌^◌, ◌%◌, w64, ◌<◌, ◌≤◌, List, [], ◌∷◌, ◌++◌, length, drop, get_or, Bool, true, false, Option, Some, None, arith, inl, inr, min}
+use Rattle.std.proofs.Common.{◌≡◌, ◌∙◌, sym, ap, refl, subst, ℕ, zero, suc, ◌⊎◌, ◌+◌, ◌*◌, ◌^◌, ◌%◌, w64, ◌<◌, List, [], ◌∷◌, ◌++◌, length, drop, get_or, true, Option, Some, arith, inl, inr, min}
 use Rattle.std.specs.List.{slice_get}
 use Rattle.std.specs.Int.{bit_at}
 use denote.Ref.{Bor}
@@ -11,7 +11,8 @@ use Rattle.std.proofs.lemmas.Option.{get_or_from_slice_get, same_Some}
 use Rattle.feel_value.specs.Datum.{Datum}
 use Rattle.feel_value.specs.Limits.{is_value}
 use Rattle.feel_lang.specs.declared.class.Class.{Class}
-use Rattle.dmn_table.specs.Classes.{AreRowsOf, IsRowOf, IsUnsetIn, MissesAt, TellsColumn, TellsColumns, TellsWord}
+use Rattle.dmn_table.specs.Classes.{AreRowsOf, IsBlockWord, IsRowOf, IsUnsetIn, MissesAt, TellsBlock, TellsBlocks, TellsColumn, TellsColumns, TellsWord}
+use Rattle.dmn_table.specs.declared.classes.BlockWords.{BlockWords}
 use Rattle.dmn_table.specs.declared.classes.ClassRules.{ClassRules}
 use Rattle.dmn_table.specs.declared.classes.ColumnClasses.{ColumnClasses}
 use Rattle.dmn_table.specs.declared.table.Rule.{Rule}
@@ -56,18 +57,37 @@ pushed [] x y (suc w) e = cc
 pushed (z ∷ xs) x y zero e = inl e
 pushed (z ∷ xs) x y (suc w) e = elim (pushed xs x y w e) [ inl p ↦ inl p | inr q ↦ inr (ap suc q.0, q.1) ]
 
--- one word more
-pub word_told : (rules : List Rule) (column : ℕ) (class : Class) (old new : List ℕ) (last : ℕ) (rest : List Rule)
-    → ((w word : ℕ) → slice_get old w ≡ Some word → TellsWord (drop (64 * w) rules) column class word)
-    → new ≡ old ++ last ∷ [] → rest ≡ drop (64 * length old) rules → TellsWord rest column class last
-    → (w word : ℕ) → slice_get new w ≡ Some word → TellsWord (drop (64 * w) rules) column class word
-word_told rules column class old new last rest h more left told w word there =
-    elim (pushed old last word w (ap (λ ws. slice_get ws w) (sym more) ∙ there)) [
-      | inl before ↦ h w word before
-      | inr at ↦
-          subst (λ k. TellsWord (drop (64 * k) rules) column class word) (sym at.0)
-          (subst (λ rs. TellsWord rs column class word) left (subst (TellsWord rest column class) at.1 told))
+-- one element more, of each of which something is told by its place
+told_more : {X : Type 0} (P : ℕ → X → Type 0) (old new : List X) (last : X) → ((w : ℕ) (x : X) → slice_get old w ≡ Some x → P w x) → new ≡ old ++ last ∷ [] → P (length old) last
+    → (w : ℕ) (x : X) → slice_get new w ≡ Some x → P w x
+told_more P old new last h more told w x there =
+    elim (pushed old last x w (ap (λ xs. slice_get xs w) (sym more) ∙ there)) [
+      | inl before ↦ h w x before
+      | inr at ↦ subst (λ k. P k x) (sym at.0) (subst (P (length old)) at.1 told)
     ]
+
+-- the word of one class more
+pub class_more : (rules : List Rule) (column : ℕ) (classes : List Class) (old new : List ℕ) (last : ℕ) (class : Class) → TellsBlock rules column classes old → new ≡ old ++ last ∷ []
+    → slice_get classes (length old) ≡ Some class → TellsWord rules column class last → TellsBlock rules column classes new
+class_more rules column classes old new last class h more here told = λ c word k there has.
+    told_more (λ c word. (k : Class) → slice_get classes c ≡ Some k → TellsWord rules column k word) old new last (λ c word before k has. h c word k before has) more
+    (λ k has. subst (λ x. TellsWord rules column x last) (same_Some class k (sym here ∙ has)) told) c word there k has
+
+-- the words of one block more
+pub block_told : (rules : List Rule) (column : ℕ) (classes : List Class) (old new : List BlockWords) (last : BlockWords) (rest : List Rule) → TellsBlocks rules column classes old
+    → new ≡ old ++ last ∷ [] → rest ≡ drop (64 * length old) rules → TellsBlock rest column classes last.words.items → TellsBlocks rules column classes new
+block_told rules column classes old new last rest h more left told =
+    told_more (λ w (block : BlockWords). TellsBlock (drop (64 * w) rules) column classes block.words.items) old new last h more
+    (subst (λ rs. TellsBlock rs column classes last.words.items) left told)
+
+-- one word more of a class, from a block
+pub from_block_more : (blocks : List BlockWords) (place : ℕ) (old new : List ℕ) (last : ℕ) (block : BlockWords)
+    → ((w word : ℕ) → slice_get old w ≡ Some word → (i : ℕ) → i < 64 → bit_at word i ≡ 0 → IsBlockWord blocks place w word) → new ≡ old ++ last ∷ []
+    → slice_get blocks (length old) ≡ Some block → ((i : ℕ) → i < 64 → bit_at last i ≡ 0 → slice_get block.words.items place ≡ Some last)
+    → (w word : ℕ) → slice_get new w ≡ Some word → (i : ℕ) → i < 64 → bit_at word i ≡ 0 → IsBlockWord blocks place w word
+from_block_more blocks place old new last block h more here told =
+    told_more (λ w word. (i : ℕ) → i < 64 → bit_at word i ≡ 0 → IsBlockWord blocks place w word) old new last h more
+    (λ i small unset. record { block = block; there = here; has = told i small unset })
 
 -- ---- rows
 
@@ -101,8 +121,4 @@ rows_more rules values old new o v h more here lawful told = λ k row there.
 
 -- one column more
 pub column_more : (rules : List Rule) (old new : List ColumnClasses) (last : ColumnClasses) → TellsColumns rules old → new ≡ old ++ last ∷ [] → TellsColumn rules (length old) last → TellsColumns rules new
-column_more rules old new last h more told = λ k classes there.
-    elim (pushed old last classes k (ap (λ cs. slice_get cs k) (sym more) ∙ there)) [
-      | inl before ↦ h k classes before
-      | inr at ↦ subst (λ n. TellsColumn rules n classes) (sym at.0) (subst (TellsColumn rules (length old)) at.1 told)
-    ]
+column_more rules old new last h more told = told_more (λ k classes. TellsColumn rules k classes) old new last h more told

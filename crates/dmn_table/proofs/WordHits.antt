@@ -1,9 +1,9 @@
 -- The rules that hit where some are known to miss.
-use Rattle.std.proofs.Common.{◌≡◌, ◌∙◌, sym, ap, ap₂, refl, subst, ℕ, zero, suc, ◌+◌, ◌*◌, ◌<◌, ◌≤◌, List, [], ◌∷◌, ◌++◌, map, take, drop, length, get_or, Bool, true, false, Option, None, Some, append_assoc, arith, min}
+use Rattle.std.proofs.Common.{◌≡◌, ◌∙◌, sym, ap, ap₂, refl, subst, ℕ, zero, suc, ◌+◌, ◌*◌, ◌<◌, ◌≤◌, List, [], ◌∷◌, ◌++◌, map, take, drop, length, Bool, true, false, Option, None, Some, append_assoc, arith}
 use Rattle.std.specs.List.{slice_get}
 use Rattle.std.specs.Int.{bit_at}
 use denote.Ref.{Bor}
-use Rattle.std.proofs.lemmas.List.{at_drop_more, length-take, take-append-drop, map-append}
+use Rattle.std.proofs.lemmas.List.{length-take, take-append-drop, map-append}
 use Rattle.std.proofs.lemmas.List.Elements.{All-drop, All-get_or}
 use Rattle.std.proofs.lemmas.Option.{get_or_from_slice_get, same_Some, slice_get_within}
 use Rattle.feel_value.specs.Datum.{Datum}

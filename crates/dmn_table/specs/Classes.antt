@@ -11,6 +11,7 @@ use Rattle.feel_lang.specs.Satisfied.{satisfied, held_of}
 use Rattle.feel_lang.specs.Tests.{Tests}
 use Rattle.feel_lang.specs.declared.class.Class.{Class}
 use Rattle.feel_lang.specs.declared.holds_tests.Held.TheVariants.{No}
+use Rattle.dmn_table.specs.declared.classes.BlockWords.{BlockWords}
 use Rattle.dmn_table.specs.declared.classes.ClassRules.{ClassRules}
 use Rattle.dmn_table.specs.declared.classes.ColumnClasses.{ColumnClasses}
 use Rattle.dmn_table.specs.declared.table.Rule as rule
@@ -36,6 +37,20 @@ TellsWord rules column class word =
 abbrev pub TellsRules : List rule.Rule → ℕ → ClassRules → Type 0
 TellsRules rules column row =
     (w word : ℕ) → slice_get row.words.items w ≡ Some word → TellsWord (drop (64 * w) rules) column row.class word
+
+-- the words of a block of rules tell this, one for each class
+abbrev pub TellsBlock : List rule.Rule → ℕ → List Class → List ℕ → Type 0
+TellsBlock rules column classes words = (c word : ℕ) (class : Class) → slice_get words c ≡ Some word → slice_get classes c ≡ Some class → TellsWord rules column class word
+
+-- those of each block do
+abbrev pub TellsBlocks : List rule.Rule → ℕ → List Class → List BlockWords → Type 0
+TellsBlocks rules column classes blocks = (w : ℕ) (block : BlockWords) → slice_get blocks w ≡ Some block → TellsBlock (drop (64 * w) rules) column classes block.words.items
+
+-- a word of a block
+pub record IsBlockWord (blocks : List BlockWords) (place w word : ℕ) : Type 0 where
+  pub block : BlockWords
+  pub there : slice_get blocks w ≡ Some block
+  pub has : slice_get block.words.items place ≡ Some word
 
 -- each class of the column tells this
 abbrev pub TellsColumn : List rule.Rule → ℕ → ColumnClasses → Type 0

@@ -1,9 +1,10 @@
 //! Which rules a value can't hit, told by the class that it has in its column.
-ghost use Rattle.std.specs.Prelude.{◌≡◌, ◌<◌, ℕ, List, IfOk, IfSome, IsFalse};
+ghost use Rattle.std.specs.Prelude.{◌≡◌, ◌<◌, ℕ, All, List, IfOk, IfSome, IsFalse, Some, slice_get};
 ghost use Rattle.std.specs.Int.{bit_at};
 ghost use Rattle.feel_lang.specs.Classes.{is_in_class};
+ghost use Rattle.feel_lang.specs.declared.class.Class.{Class as ClassData};
 ghost use Rattle.feel_value.specs.View.{datum_of};
-ghost use Rattle.dmn_table.specs.Classes.{AreRowsOf, IsRowOf, IsUnsetIn, MissesAt, TellsColumn, TellsColumns, TellsRules, TellsWord};
+ghost use Rattle.dmn_table.specs.Classes.{AreRowsOf, IsRowOf, IsUnsetIn, MissesAt, TellsBlock, TellsBlocks, TellsColumn, TellsColumns, TellsRules, TellsWord};
 ghost use Rattle.dmn_table.specs.declared.table.Rule.{Rule as RuleData};
 
 use crate::table::Rule;
@@ -12,7 +13,7 @@ use feel_value::{Feel, Value};
 use std::alloc::{AllocError, Global};
 
 /// The most numbers at which the numbers of a column are cut into classes.
-const MOST_CUTS: usize = 31;
+const MOST_CUTS: usize = 63;
 
 /// The rules of a word.
 pub(crate) const WORD: usize = 64;
@@ -31,6 +32,12 @@ const ENTRY_TEXT: usize = 4;
 pub(crate) struct ClassRules {
     pub(crate) class: Class,
     pub(crate) words: Vec<u64>,
+}
+
+/// The words of 64 rules, one for each class of a column.
+#[derive(Drop)]
+struct BlockWords {
+    words: Vec<u64>,
 }
 
 /// The classes of a column: of numbers between the cuts, which rise; of null and of booleans; and of texts by their marks, where
@@ -77,21 +84,63 @@ fn word_for(rules: &[Rule], column: usize, class: Class) -> u64
     word
 }
 
-/// The rules that values of the class may meet in a column.
-fn rules_for(
+/// The words of the first 64 of these rules, one for each class.
+fn block_words(
     alloc: Global,
     rules: &[Rule],
     column: usize,
-    class: Class,
-) -> Result<ClassRules, AllocError>
-    ensures { IfOk result (TellsRules rules.now column) }
+    classes: &[Class],
+) -> Result<BlockWords, AllocError>
+    ensures { IfOk result (λ block. TellsBlock rules.now column classes.now block.words.items) }
 {
-    let mut words = Vec::with_capacity(alloc, rules.len() / WORD + 1)?;
+    let mut words = Vec::with_capacity(alloc, classes.len())?;
+    for class in classes {
+        words.push(word_for(rules, column, *class))?;
+    }
+    Ok(BlockWords { words })
+}
+
+/// The words of all rules, one block of them after another: a block is asked about all classes while it is at hand.
+fn blocks_of(
+    alloc: Global,
+    rules: &[Rule],
+    column: usize,
+    classes: &[Class],
+) -> Result<Vec<BlockWords>, AllocError>
+    ensures { IfOk result (λ blocks. TellsBlocks rules.now column classes.now blocks.items) }
+{
+    let mut all = Vec::with_capacity(alloc, rules.len() / WORD + 1)?;
     let mut rest = rules;
     while !rest.is_empty() {
-        words.push(word_for(rest, column, class))?;
+        all.push(block_words(alloc, rest, column, classes)?)?;
         let (_, others) = rest.split_at(WORD.min(rest.len()));
         rest = others;
+    }
+    Ok(all)
+}
+
+/// The word of a block at this place; all bits, where there is none.
+fn word_at(block: &BlockWords, place: usize) -> u64
+    ensures { (i : ℕ) → i < 64 → bit_at result i ≡ 0 → slice_get block.now.words.items place ≡ Some result }
+{
+    match block.words.get(place) {
+        Some(word) => *word,
+        None => u64::MAX,
+    }
+}
+
+/// The rules of the class that stands at this place in the blocks.
+fn rules_of(
+    alloc: Global,
+    blocks: &[BlockWords],
+    place: usize,
+    class: Class,
+) -> Result<ClassRules, AllocError>
+    ensures { IfOk result (λ row. (rules : List RuleData) (column : ℕ) (classes : List ClassData) → TellsBlocks rules column classes blocks.now → slice_get classes place ≡ Some class → TellsRules rules column row) }
+{
+    let mut words = Vec::with_capacity(alloc, blocks.len())?;
+    for block in blocks {
+        words.push(word_at(block, place))?;
     }
     Ok(ClassRules { class, words })
 }
@@ -155,6 +204,21 @@ fn cuts_of(alloc: Global, rules: &[Rule], column: usize) -> Result<Vec<i64>, All
     Ok(cuts)
 }
 
+/// The classes with their rules, from the words of the blocks.
+fn rows_from(
+    alloc: Global,
+    blocks: &[BlockWords],
+    classes: &[Class],
+) -> Result<Vec<ClassRules>, AllocError>
+    ensures { IfOk result (λ rows. (rules : List RuleData) (column : ℕ) → TellsBlocks rules column classes.now blocks.now → All (TellsRules rules column) rows.items) }
+{
+    let mut rows = Vec::with_capacity(alloc, classes.len())?;
+    for place in 0..classes.len() {
+        rows.push(rules_of(alloc, blocks, place, classes[place])?)?;
+    }
+    Ok(rows)
+}
+
 impl ColumnClasses {
     /// The classes of a column of these rules; none where they would take more than so many bytes.
     fn of(
@@ -170,10 +234,8 @@ impl ColumnClasses {
         if bytes_of(classes.len(), rules.len()) > room {
             classes.clear();
         }
-        let mut rows = Vec::with_capacity(alloc, classes.len())?;
-        for class in &classes {
-            rows.push(rules_for(alloc, rules, column, *class)?)?;
-        }
+        let blocks = blocks_of(alloc, rules, column, &classes)?;
+        let rows = rows_from(alloc, &blocks, &classes)?;
         Ok(ColumnClasses { cuts, rows })
     }
 

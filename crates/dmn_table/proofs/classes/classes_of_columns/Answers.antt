@@ -1,4 +1,4 @@
-use Rattle.std.proofs.Common.{◌≡◌, ◌∙◌, ◌+◌, sym, ap, subst, length, arith}
+use Rattle.std.proofs.Common.{sym, ap, subst, length, arith}
 use Rattle.std.proofs.lemmas.List.{length_push}
 use Rattle.dmn_table.specs.Classes.{TellsColumn}
 use Rattle.dmn_table.proofs.ClassWords.{column_more}

@@ -1,11 +1,10 @@
-use Rattle.std.proofs.Common.{◌≡◌, ◌∙◌, sym, ap, subst, Some, arith}
+use Rattle.std.proofs.Common.{◌≡◌, ◌∙◌, sym, ap, Some, arith}
 use Rattle.std.specs.Int.{bit_at}
 use Rattle.std.specs.List.{slice_get}
 use Rattle.std.proofs.lemmas.Nat.Bits.{bit_at_ones}
 use Rattle.std.proofs.lemmas.Option.{slice_get-get_or}
 use Rattle.dmn_table.proofs.ClassWords.{unset_after}
 use Rattle.dmn_table.proofs.classes.common.Goals.{in-Some+in-Some-get, in-Some+in_default-get, in_default}
-use Rattle.dmn_table.specs.Classes.{IsUnsetIn}
 use Rattle.dmn_table.proofs.classes.common.Goals as goal
 
 pub loop-row-init : goal.loop-row-init

@@ -1,4 +1,4 @@
-use Rattle.std.proofs.Common.{◌≡◌, ◌∙◌, sym, ap, refl, Bool, true, false, not, IsTrue, IsFalse, Some}
+use Rattle.std.proofs.Common.{◌∙◌, sym, ap, refl, Bool, true, false, not, IsTrue, IsFalse, Some}
 use Rattle.std.specs.List.{slice_get}
 use Rattle.std.proofs.lemmas.Option.{slice_get-get_or}
 use Rattle.dmn_table.proofs.classes.may_meet.Goals as goal

@@ -1,4 +1,4 @@
-use Rattle.std.proofs.Common.{◌≡◌, ◌∙◌, ◌<◌, ◌+◌, sym, subst, arith}
+use Rattle.std.proofs.Common.{◌<◌, ◌+◌, sym, subst, arith}
 use Rattle.std.proofs.lemmas.Option.{slice_get_within}
 use Rattle.dmn_table.proofs.ClassWords.{TellsBefore, bit_set, rule_missed}
 use Rattle.dmn_table.proofs.classes.word_for.Goals.{then-may_meet, else-may_meet}

@@ -1,4 +1,4 @@
-use Rattle.std.proofs.Common.{◌≡◌, ◌∙◌, ◌≤◌, ◌+◌, sym, ap, subst, refl, map, arith}
+use Rattle.std.proofs.Common.{◌+◌, sym, subst, refl, map, arith}
 use Rattle.dmn_table.specs.Classes.{AreRowsOf}
 use Rattle.dmn_table.specs.Parts.{rule_view}
 use Rattle.dmn_table.specs.RuleOutputs.{rules_view, hits_among}
