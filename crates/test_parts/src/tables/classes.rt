@@ -2,8 +2,9 @@
 use crate::logic::shown;
 use dmn_table::{Output, Rule, Table, decide};
 use feel_lang::{Env, Held, Tests, eval, holds, read_expr, read_literal, read_tests};
-use feel_value::{Feel, Outcome, Value};
+use feel_value::{ContextEntries, Feel, Outcome, Value};
 use std::alloc::{AllocError, Global};
+use std::sync::ArcStr;
 use std::test::Fail;
 
 /// How many tables are drawn.
@@ -37,8 +38,8 @@ const ENTRIES: [&str; 20] = [
 ];
 
 /// Values of each kind that are no drawn number: texts that an entry names, such that sort between them, one whose mark is that
-/// of another, numbers far out, booleans, null, and lists and contexts.
-const VALUES: [&str; 17] = [
+/// of another, numbers far out, booleans, null, and lists.
+const VALUES: [&str; 16] = [
     r#""a""#,
     r#""b""#,
     r#""ab""#,
@@ -54,7 +55,6 @@ const VALUES: [&str; 17] = [
     "0 - 1000000000",
     "[1, 2]",
     "[1]",
-    "{k: 1}",
     "[]",
 ];
 
@@ -200,6 +200,16 @@ fn value_of(alloc: Global, text: &str) -> Result<Feel, Fail> {
     }
 }
 
+/// A context of one entry.
+fn context(alloc: Global) -> Result<Feel, Fail> {
+    let mut entries = ContextEntries::new(alloc);
+    entries.push(ArcStr::from_str(alloc, "k")?, value_of(alloc, "1")?)?;
+    match entries.into_context(alloc)? {
+        Outcome::Is(value) => Ok(value),
+        Outcome::Limit => Err("no context".into()),
+    }
+}
+
 /// The values that are tried: each number that an entry may name and its neighbours, and values of each other kind.
 fn values(alloc: Global) -> Result<Vec<Feel>, Fail> {
     let mut values = Vec::new(alloc);
@@ -209,6 +219,7 @@ fn values(alloc: Global) -> Result<Vec<Feel>, Fail> {
     for text in VALUES {
         values.push(value_of(alloc, text)?)?;
     }
+    values.push(context(alloc)?)?;
     Ok(values)
 }
 
@@ -265,7 +276,7 @@ struct Drawn {
 }
 
 /// The tables of these entries, the last two of this hit policy.
-fn drawn(alloc: Global, hit: &str, entries: &[(String, String)]) -> Result<Drawn, Fail> {
+fn draw_tables(alloc: Global, hit: &str, entries: &[(String, String)]) -> Result<Drawn, Fail> {
     Ok(Drawn {
         rules: all_tests(alloc, entries)?,
         places: table(alloc, "C", entries, 0)?.with_classes(alloc)?,
@@ -318,7 +329,7 @@ fn first_wrong(alloc: Global) -> Result<Option<(u64, usize)>, Fail> {
     for number in 0..TABLES {
         let hit = draw.among(&POLICIES);
         let entries = entries(alloc, &mut draw)?;
-        let drawn = drawn(alloc, hit, &entries)?;
+        let drawn = draw_tables(alloc, hit, &entries)?;
         if let Some(place) = differs_at(alloc, &mut draw, &drawn, &values)? {
             return Ok(Some((number, place)));
         }
