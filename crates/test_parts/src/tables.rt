@@ -1,4 +1,5 @@
-//! Tables that are refused, each for its own reason; entries behind a miss; rules by classes; and calls while the heap refuses requests.
+//! Tables that are refused, each for its own reason; entries behind a miss; rules by classes; and calls while the heap refuses
+//! requests.
 mod classes;
 mod listed;
 mod memory;

@@ -276,7 +276,7 @@ struct Drawn {
 }
 
 /// The tables of these entries, the last two of this hit policy.
-fn draw_tables(alloc: Global, hit: &str, entries: &[(String, String)]) -> Result<Drawn, Fail> {
+fn tables_of(alloc: Global, hit: &str, entries: &[(String, String)]) -> Result<Drawn, Fail> {
     Ok(Drawn {
         rules: all_tests(alloc, entries)?,
         places: table(alloc, "C", entries, 0)?.with_classes(alloc)?,
@@ -329,7 +329,7 @@ fn first_wrong(alloc: Global) -> Result<Option<(u64, usize)>, Fail> {
     for number in 0..TABLES {
         let hit = draw.among(&POLICIES);
         let entries = entries(alloc, &mut draw)?;
-        let drawn = draw_tables(alloc, hit, &entries)?;
+        let drawn = tables_of(alloc, hit, &entries)?;
         if let Some(place) = differs_at(alloc, &mut draw, &drawn, &values)? {
             return Ok(Some((number, place)));
         }
