@@ -5,5 +5,5 @@
 pub const VERSION: &str = concat!(
     "0.9.0\n",
     "proved with rattle-kit-13f logic dac8208d650f15bf\n",
-    "sources 840403a6885b112f1c11bbb55ec048115bd4d9250438153e9d301eac8e925a0a",
+    "sources e6d568319f0b86bad7019cdaa35d5c35c710a5ab224a289eff6bbbf996f59d88",
 );
