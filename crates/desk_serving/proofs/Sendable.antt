@@ -14,13 +14,18 @@ use Rattle.feel_value.specs.contracts.feel.Feel as Feel
 use Rattle.feel_lang.specs.contracts.constant.Constant as Constant
 use Rattle.feel_lang.specs.contracts.constant.Constant.TheInside as ConstantInside
 use Rattle.feel_lang.specs.contracts.expression.Expr as Expr
+use Rattle.feel_lang.specs.contracts.name.Name as Name
+use Rattle.feel_lang.specs.contracts.name.Name.TheInside as NameInside
 use Rattle.feel_lang.specs.contracts.needs.Need as Need
 use Rattle.feel_lang.specs.contracts.needs.Needs as Needs
 use Rattle.feel_lang.specs.contracts.needs.Needs.TheInside as NeedsInside
 use Rattle.feel_lang.specs.contracts.reference.Reference as Reference
 use Rattle.feel_lang.specs.contracts.input_entry.Tests as Tests
+use Rattle.feel_lang.proofs.class.Class.TheSendSync as class
 use Rattle.feel_lang.proofs.ready.Span.TheSendSync as span
 use Rattle.feel_value.specs.contracts.value.Value as Value
+use Rattle.dmn_table.specs.contracts.classes.ClassRules as ClassRules
+use Rattle.dmn_table.specs.contracts.classes.ColumnClasses as ColumnClasses
 use Rattle.dmn_table.specs.contracts.table.Output as Output
 use Rattle.dmn_table.specs.contracts.table.Rule as Rule
 use Rattle.dmn_table.specs.contracts.table.Table as Table
@@ -56,8 +61,14 @@ ConstantInside-send = declared_send ConstantInside.the_type (Feel-send, tt)
 pub Constant-send : IsSend Constant.the_row
 Constant-send = view_send _ _ _ _ _ ConstantInside-send
 
+pub NameInside-send : IsSend NameInside.the_row
+NameInside-send = declared_send NameInside.the_type (maps.String-send, ((search (sendable, crosses) depth 20), tt))
+
+pub Name-send : IsSend Name.the_row
+Name-send = view_send _ _ _ _ _ NameInside-send
+
 pub Reference-send : IsSend Reference.the_row
-Reference-send = declared_send Reference.the_type (maps.String-send, ((search (sendable, crosses) depth 20), tt))
+Reference-send = declared_send Reference.the_type (Name-send, ((search (sendable, crosses) depth 20), tt))
 
 pub Expr-send : IsSend Expr.the_row
 Expr-send = search (Constant-send, Reference-send, operator.the_field_send, function.the_field_send, crosses, TreeKnot.crosses, sendable) depth 60 fits 20000
@@ -71,8 +82,14 @@ Output-send = declared_send Output.the_type (maps.String-send, (Vec-send Feel.th
 pub Rule-send : IsSend Rule.the_row
 Rule-send = declared_send Rule.the_type (Vec-send Tests.the_row Tests-send, (Vec-send Expr.the_row Expr-send, tt))
 
+pub ClassRules-send : IsSend ClassRules.the_row
+ClassRules-send = declared_send ClassRules.the_type (class.the_send, ((search (Vec-send, sendable, crosses) depth 20), tt))
+
+pub ColumnClasses-send : IsSend ColumnClasses.the_row
+ColumnClasses-send = declared_send ColumnClasses.the_type ((search (Vec-send, sendable, crosses) depth 20), (Vec-send ClassRules.the_row ClassRules-send, tt))
+
 pub TableInside-send : IsSend TableInside.the_row
-TableInside-send = declared_send TableInside.the_type (policy.the_send, (Vec-send Expr.the_row Expr-send, (Vec-send Output.the_row Output-send, (Vec-send Rule.the_row Rule-send, ((search (sendable, crosses) depth 20), tt)))))
+TableInside-send = declared_send TableInside.the_type (policy.the_send, (Vec-send Expr.the_row Expr-send, (Vec-send Output.the_row Output-send, (Vec-send Rule.the_row Rule-send, ((search (sendable, crosses) depth 20), (option.the_send _ (Vec-send ColumnClasses.the_row ColumnClasses-send), tt))))))
 
 pub Table-send : IsSend Table.the_row
 Table-send = view_send _ _ _ _ _ TableInside-send
@@ -89,8 +106,14 @@ ConstantInside-sync = declared_sync ConstantInside.the_type (Feel-sync, tt)
 pub Constant-sync : IsSync Constant.the_row
 Constant-sync = view_sync _ _ _ _ _ ConstantInside-sync
 
+pub NameInside-sync : IsSync NameInside.the_row
+NameInside-sync = declared_sync NameInside.the_type (maps.String-sync, ((search (sendable, crosses) depth 20), tt))
+
+pub Name-sync : IsSync Name.the_row
+Name-sync = view_sync _ _ _ _ _ NameInside-sync
+
 pub Reference-sync : IsSync Reference.the_row
-Reference-sync = declared_sync Reference.the_type (maps.String-sync, ((search (sendable, crosses) depth 20), tt))
+Reference-sync = declared_sync Reference.the_type (Name-sync, ((search (sendable, crosses) depth 20), tt))
 
 pub Expr-sync : IsSync Expr.the_row
 Expr-sync = search (Constant-sync, Reference-sync, operator.the_field_sync, function.the_field_sync, crosses, TreeKnot.crosses, sendable) depth 60 fits 20000
@@ -104,8 +127,14 @@ Output-sync = declared_sync Output.the_type (maps.String-sync, (Vec-sync Feel.th
 pub Rule-sync : IsSync Rule.the_row
 Rule-sync = declared_sync Rule.the_type (Vec-sync Tests.the_row Tests-sync, (Vec-sync Expr.the_row Expr-sync, tt))
 
+pub ClassRules-sync : IsSync ClassRules.the_row
+ClassRules-sync = declared_sync ClassRules.the_type (class.the_sync, ((search (Vec-sync, sendable, crosses) depth 20), tt))
+
+pub ColumnClasses-sync : IsSync ColumnClasses.the_row
+ColumnClasses-sync = declared_sync ColumnClasses.the_type ((search (Vec-sync, sendable, crosses) depth 20), (Vec-sync ClassRules.the_row ClassRules-sync, tt))
+
 pub TableInside-sync : IsSync TableInside.the_row
-TableInside-sync = declared_sync TableInside.the_type (policy.the_sync, (Vec-sync Expr.the_row Expr-sync, (Vec-sync Output.the_row Output-sync, (Vec-sync Rule.the_row Rule-sync, ((search (sendable, crosses) depth 20), tt)))))
+TableInside-sync = declared_sync TableInside.the_type (policy.the_sync, (Vec-sync Expr.the_row Expr-sync, (Vec-sync Output.the_row Output-sync, (Vec-sync Rule.the_row Rule-sync, ((search (sendable, crosses) depth 20), (option.the_sync _ (Vec-sync ColumnClasses.the_row ColumnClasses-sync), tt))))))
 
 pub Table-sync : IsSync Table.the_row
 Table-sync = view_sync _ _ _ _ _ TableInside-sync
@@ -114,7 +143,7 @@ pub Logic-send : IsSend Logic.the_row
 Logic-send = search (Expr-send, Table-send, crosses, LogicKnot.crosses, sendable) depth 60 fits 20000
 
 pub Need-send : IsSend Need.the_row
-Need-send = declared_send Need.the_type (maps.String-send, ((search (sendable, crosses) depth 20), tt))
+Need-send = declared_send Need.the_type (Name-send, ((search (sendable, crosses) depth 20), tt))
 
 pub NeedsInside-send : IsSend NeedsInside.the_row
 NeedsInside-send = declared_send NeedsInside.the_type (Vec-send Need.the_row Need-send, ((search (maps.BTreeMap-send, maps.String-send, sendable, crosses, as_row_send) depth 20 fits 20000), ((search (sendable, crosses) depth 20), tt)))
@@ -135,7 +164,7 @@ pub Logic-sync : IsSync Logic.the_row
 Logic-sync = search (Expr-sync, Table-sync, crosses, LogicKnot.crosses, sendable) depth 60 fits 20000
 
 pub Need-sync : IsSync Need.the_row
-Need-sync = declared_sync Need.the_type (maps.String-sync, ((search (sendable, crosses) depth 20), tt))
+Need-sync = declared_sync Need.the_type (Name-sync, ((search (sendable, crosses) depth 20), tt))
 
 pub NeedsInside-sync : IsSync NeedsInside.the_row
 NeedsInside-sync = declared_sync NeedsInside.the_type (Vec-sync Need.the_row Need-sync, ((search (maps.BTreeMap-sync, maps.String-sync, sendable, crosses, as_row_sync) depth 20 fits 20000), ((search (sendable, crosses) depth 20), tt)))
