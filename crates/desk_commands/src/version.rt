@@ -5,5 +5,5 @@
 pub const VERSION: &str = concat!(
     "0.9.0\n",
     "proved with rattle-kit-13f logic dac8208d650f15bf\n",
-    "sources e6d568319f0b86bad7019cdaa35d5c35c710a5ab224a289eff6bbbf996f59d88",
+    "sources 6e985c68b61fb4c3a1f6495587f308d1c7b3bd930b2a3fe64ac8402d0b40bee1",
 );
