@@ -1,29 +1,29 @@
 -- Words that tell which rules a class of values misses.
-use Rattle.std.proofs.Common.{◌≡◌, ◌∙◌, sym, ap, refl, subst, ℕ, zero, suc, ◌⊎◌, ◌+◌, ◌*◌, ◌^◌, ◌%◌, w64, ◌<◌, List, [], ◌∷◌, ◌++◌, length, drop, get_or, true, Option, Some, arith, inl, inr, min}
+use Rattle.std.proofs.Common.{◌≡◌, ◌∙◌, sym, ap, refl, subst, ℕ, zero, suc, ◌⊎◌, ◌+◌, ◌*◌, ◌^◌, ◌%◌, w64, ◌<◌, List, [], ◌∷◌, ◌++◌, length, drop, get_or, true, Option, Some, arith, inl, inr, min, max}
 use Rattle.std.specs.List.{slice_get}
 use Rattle.std.specs.Int.{bit_at}
 use denote.Ref.{Bor}
 use Rattle.std.specs.Prelude.{bit_or, bit_and, IfSome}
 use Rattle.std.proofs.lemmas.Bool.{cases_lt}
 use Rattle.std.proofs.lemmas.List.{drop_min, drop-drop}
-use Rattle.std.proofs.lemmas.Nat.Bits.{bit_at_set_same, bit_at_set_other, bit_at_and}
+use Rattle.std.proofs.lemmas.Nat.Bits.{bit_at_set_same, bit_at_set_other, bit_at_and, bit_at_or}
 use Rattle.std.proofs.lemmas.Option.{get_or_from_slice_get, same_Some}
 use Rattle.feel_value.specs.Datum.{Datum}
 use Rattle.feel_value.specs.Limits.{is_value}
 use Rattle.feel_lang.specs.declared.class.Class.{Class}
-use Rattle.dmn_table.specs.Classes.{AreRowsOf, IsBlockWord, IsRowOf, IsUnsetIn, MissesAt, TellsBlock, TellsBlocks, TellsColumn, TellsColumns, TellsWord}
+use Rattle.dmn_table.specs.Classes.{AreRowsOf, IsBlockWord, IsRowOf, IsUnsetIn, KeepsLimits, MissesAt, TellsBlock, TellsBlocks, TellsColumn, TellsColumns, TellsUnset, TellsWord}
 use Rattle.dmn_table.specs.declared.classes.BlockWords.{BlockWords}
 use Rattle.dmn_table.specs.declared.classes.ClassRules.{ClassRules}
 use Rattle.dmn_table.specs.declared.classes.ColumnClasses.{ColumnClasses}
 use Rattle.dmn_table.specs.declared.table.Rule.{Rule}
 
--- the rules before a place that a word tells of
-abbrev pub TellsBefore : ℕ → List Rule → ℕ → Class → ℕ → Type 0
-TellsBefore n rules column class word = (j : ℕ) (r : Rule) → j < n → slice_get rules j ≡ Some r → bit_at word j ≡ 0 → MissesAt class column r
+-- of the rules before a place, this holds of each whose bit is not set
+abbrev pub TellsBefore : (Rule → Type 0) → ℕ → List Rule → ℕ → Type 0
+TellsBefore P n rules word = (j : ℕ) (r : Rule) → j < n → slice_get rules j ≡ Some r → bit_at word j ≡ 0 → P r
 
 -- one bit more is set
-pub bit_set : (i : ℕ) (rules : List Rule) (column : ℕ) (class : Class) (old new : ℕ) → TellsBefore i rules column class old → new ≡ bit_or old (1 * 2 ^ i % 2 ^ 64) → i < 64 → TellsBefore (i + 1) rules column class new
-bit_set i rules column class old new h set small = λ j r before there unset.
+pub bit_set : (P : Rule → Type 0) (i : ℕ) (rules : List Rule) (old new : ℕ) → TellsBefore P i rules old → new ≡ bit_or old (1 * 2 ^ i % 2 ^ 64) → i < 64 → TellsBefore P (i + 1) rules new
+bit_set P i rules old new h set small = λ j r before there unset.
     elim (cases_lt j i) [
       | inl less ↦ h j r less there (sym (ap (λ n. bit_at n j) set ∙ bit_at_set_other w64 old i small j (λ e. absurd (omega (arith, e, less)))) ∙ unset)
       | inr more ↦
@@ -32,17 +32,25 @@ bit_set i rules column class old new h set small = λ j r before there unset.
           let none : 1 ≡ 0 = sym one ∙ unset in absurd (omega (arith, none))
     ]
 
--- one rule more misses
-pub rule_missed : (i : ℕ) (rules : List Rule) (column : ℕ) (class : Class) (word : ℕ) (x : Rule) → TellsBefore i rules column class word → x ≡ get_or rules i x → MissesAt class column x
-    → TellsBefore (i + 1) rules column class word
-rule_missed i rules column class word x h here misses = λ j r before there unset.
+-- it holds of one rule more
+pub rule_told : (P : Rule → Type 0) (i : ℕ) (rules : List Rule) (word : ℕ) (x : Rule) → TellsBefore P i rules word → x ≡ get_or rules i x → P x → TellsBefore P (i + 1) rules word
+rule_told P i rules word x h here told = λ j r before there unset.
     elim (cases_lt j i) [
       | inl less ↦ h j r less there unset
       | inr more ↦
           let at : j ≡ i = omega (arith, before, more) in
           let same : r ≡ x = sym (get_or_from_slice_get rules i r x (ap (slice_get rules) (sym at) ∙ there)) ∙ sym here in
-          subst (MissesAt class column) (sym same) misses
+          subst P (sym same) told
     ]
+
+none_of_max : (a b : ℕ) → max a b ≡ 0 → (a ≡ 0) × (b ≡ 0)
+none_of_max a b e = elim (cases_lt a b) [ inl less ↦ absurd (omega (arith, less, e)) | inr more ↦ (omega (arith, more, e), omega (arith, more, e)) ]
+
+-- what is not set in two words together is not set in each
+pub both_told : (class : Class) (column : ℕ) (rules : List Rule) (a b word : ℕ) → TellsUnset (MissesAt class column) rules a → TellsUnset KeepsLimits rules b → word ≡ bit_or a b → TellsWord rules column class word
+both_told class column rules a b word p q is = λ i r small there unset.
+    let parts = none_of_max (bit_at a i) (bit_at b i) (sym (ap (λ n. bit_at n i) is ∙ bit_at_or a b i) ∙ unset) in
+    record { missed = p i r small there parts.0; keeps = q i r small there parts.1 }
 
 -- ---- words of 64 rules
 

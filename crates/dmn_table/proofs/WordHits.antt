@@ -1,10 +1,9 @@
 -- The rules that hit where some are known to miss.
-use Rattle.std.proofs.Common.{◌≡◌, ◌∙◌, sym, ap, ap₂, refl, subst, ℕ, zero, suc, ◌+◌, ◌*◌, ◌<◌, ◌≤◌, List, [], ◌∷◌, ◌++◌, map, take, drop, length, Bool, true, false, Option, None, Some, append_assoc, arith}
+use Rattle.std.proofs.Common.{◌≡◌, ◌∙◌, sym, ap, ap₂, refl, ℕ, zero, suc, ◌+◌, ◌*◌, ◌<◌, ◌≤◌, List, [], ◌∷◌, ◌++◌, map, take, drop, length, get_or, Bool, true, false, Option, None, Some, append_assoc, arith}
 use Rattle.std.specs.List.{slice_get}
 use Rattle.std.specs.Int.{bit_at}
 use denote.Ref.{Bor}
 use Rattle.std.proofs.lemmas.List.{length-take, take-append-drop, map-append}
-use Rattle.std.proofs.lemmas.List.Elements.{All-drop, All-get_or}
 use Rattle.std.proofs.lemmas.Option.{get_or_from_slice_get, same_Some, slice_get_within}
 use Rattle.feel_value.specs.Datum.{Datum}
 use Rattle.feel_value.specs.Found.{each, ◌>>=◌}
@@ -16,7 +15,6 @@ use Rattle.dmn_table.specs.Hits.{does_hit, kept}
 use Rattle.dmn_table.specs.Parts.{rule_view}
 use Rattle.dmn_table.specs.RuleOutputs.{hits_among}
 use Rattle.dmn_table.specs.Table.{Rule}
-use Rattle.dmn_table.specs.Unbroken.{AllKeepLimits, KeepLimits}
 use Rattle.dmn_table.proofs.Each.{after, after_none}
 use Rattle.dmn_table.proofs.Unbroken.{missed_at}
 
@@ -65,6 +63,18 @@ broken : (o : Option Bool) (p : Option (List Bool)) (x : Rule) (xs : List Rule) 
 broken None p x xs e = refl
 broken (Some b) p x xs e = cc
 
+next_breaks : (m : Bindings) (vs : List Datum) (rules : List code.Rule) (i : ℕ) → i < length rules → ((r : code.Rule) → slice_get rules i ≡ Some r → does_hit m vs (rule_view r) ≡ None)
+    → hits_among m vs (map rule_view (drop i rules)) ≡ None
+next_breaks m vs [] i h none = absurd (omega (arith, h))
+next_breaks m vs (r ∷ rules) zero h none = broken (does_hit m vs (rule_view r)) (each (does_hit m vs) (map rule_view rules)) (rule_view r) (map rule_view rules) (none r refl)
+next_breaks m vs (r ∷ rules) (suc i) h none = next_breaks m vs rules i (omega (arith, h)) none
+
+-- where an entry of the next rule breaks a limit, there are no hits
+pub next_broken : (m : Bindings) (vs : List Datum) (rules : List code.Rule) (i : ℕ) (x : code.Rule) → i < length rules → x ≡ get_or rules i x → None ≡ does_hit m vs (rule_view x)
+    → hits_among m vs (map rule_view (drop i rules)) ≡ None
+next_broken m vs rules i x within here none =
+    next_breaks m vs rules i within (λ r there. ap (λ (y : code.Rule). does_hit m vs (rule_view y)) (sym (get_or_from_slice_get rules i r x there) ∙ sym here) ∙ sym none)
+
 after_both : (old hs : List Rule) (o : Option (List Rule)) → after old (after hs o) ≡ after (old ++ hs) o
 after_both old hs None = refl
 after_both old hs (Some ys) = ap Some (sym (append_assoc old hs ys))
@@ -87,6 +97,23 @@ hits_from_first m vs x xs ys zs e rest (Some true) f =
     ∙ after_both (x ∷ []) found.0 (hits_among m vs ys)
     ∙ ap (λ hs. after hs (hits_among m vs ys)) (sym found.2)
 
+-- where there are none behind others, there are none
+pub none_after : (old : List Rule) (o : Option (List Rule)) → None ≡ after old o → o ≡ None
+none_after old None e = refl
+none_after old (Some hs) e = cc
+
+none_from_first : (m : Bindings) (vs : List Datum) (x : Rule) (xs ys : List Rule) → hits_among m vs (x ∷ xs) ≡ None → (hits_among m vs xs ≡ None → hits_among m vs (xs ++ ys) ≡ None)
+    → (o : Option Bool) → does_hit m vs x ≡ o → hits_among m vs (x ∷ xs ++ ys) ≡ None
+none_from_first m vs x xs ys e rest None f = broken (does_hit m vs x) (each (does_hit m vs) (xs ++ ys)) x (xs ++ ys) f
+none_from_first m vs x xs ys e rest (Some false) f = miss_first m vs x (xs ++ ys) f ∙ rest (sym (miss_first m vs x xs f) ∙ e)
+none_from_first m vs x xs ys e rest (Some true) f =
+    hit_first m vs x (xs ++ ys) f ∙ ap (after (x ∷ [])) (rest (none_after (x ∷ []) (hits_among m vs xs) (sym (sym (hit_first m vs x xs f) ∙ e))))
+
+-- where an entry of the first of two lists of rules breaks a limit, there are no hits
+none_behind : (m : Bindings) (vs : List Datum) (xs ys : List Rule) → hits_among m vs xs ≡ None → hits_among m vs (xs ++ ys) ≡ None
+none_behind m vs [] ys e = let no : Some [] ≡ None = e in cc
+none_behind m vs (x ∷ xs) ys e = none_from_first m vs x xs ys e (λ f. none_behind m vs xs ys f) (does_hit m vs x) refl
+
 -- the hits of two lists of rules, one behind the other
 hits_behind : (m : Bindings) (vs : List Datum) (xs ys zs : List Rule) → hits_among m vs xs ≡ Some zs → hits_among m vs (xs ++ ys) ≡ after zs (hits_among m vs ys)
 hits_behind m vs [] ys zs e = after_none (hits_among m vs ys) ∙ ap (λ hs. after hs (hits_among m vs ys)) (same_Some [] zs e)
@@ -101,11 +128,9 @@ in_front (suc k) [] i x e = cc
 in_front (suc k) (y ∷ ys) zero x e = e
 in_front (suc k) (y ∷ ys) (suc i) x e = in_front k ys i x e
 
-kept_at : (rules : List code.Rule) (n i : ℕ) (r : code.Rule) → AllKeepLimits rules → slice_get (drop n rules) i ≡ Some r → KeepLimits r.tests.items
-kept_at rules n i r keep there =
-    let P : code.Rule → Type 0 = λ (x : code.Rule). KeepLimits x.tests.items in
-    subst P (get_or_from_slice_get (drop n rules) i r r there)
-    (All-get_or P (drop n rules) i r (slice_get_within (drop n rules) i r there) (All-drop P n rules keep))
+parted : (k : ℕ) (rest block others : List code.Rule) → block ≡ take k rest → others ≡ drop k rest → map rule_view rest ≡ map rule_view block ++ map rule_view others
+parted k rest block others front back =
+    ap (map rule_view) (sym (take-append-drop k rest)) ∙ map-append rule_view (take k rest) (drop k rest) ∙ ap₂ (λ xs ys. map rule_view xs ++ map rule_view ys) (sym front) (sym back)
 
 -- one block more
 pub block_more : (m : Bindings) (vs : List Datum) (whole : Option (List Rule)) (old new : List Rule) (k : ℕ) (rest block others : List code.Rule)
@@ -113,24 +138,29 @@ pub block_more : (m : Bindings) (vs : List Datum) (whole : Option (List Rule)) (
     → Some new ≡ after old (hits_among m vs (map rule_view block)) → whole ≡ after new (hits_among m vs (map rule_view others))
 block_more m vs whole old new k rest block others before front back added =
     let found = found_of old new (hits_among m vs (map rule_view block)) added in
-    let parts : map rule_view rest ≡ map rule_view block ++ map rule_view others =
-    ap (map rule_view) (sym (take-append-drop k rest)) ∙ map-append rule_view (take k rest) (drop k rest) ∙ ap₂ (λ xs ys. map rule_view xs ++ map rule_view ys) (sym front) (sym back)
-    in
     before
-    ∙ ap (λ rs. after old (hits_among m vs rs)) parts
+    ∙ ap (λ rs. after old (hits_among m vs rs)) (parted k rest block others front back)
     ∙ ap (after old) (hits_behind m vs (map rule_view block) (map rule_view others) found.0 found.1)
     ∙ after_both old found.0 (hits_among m vs (map rule_view others))
     ∙ ap (λ hs. after hs (hits_among m vs (map rule_view others))) (sym found.2)
 
+-- where an entry of a block breaks a limit, there are no hits
+pub block_broken : (m : Bindings) (vs : List Datum) (whole : Option (List Rule)) (old : List Rule) (k : ℕ) (rest block others : List code.Rule)
+    → whole ≡ after old (hits_among m vs (map rule_view rest)) → block ≡ take k rest → others ≡ drop k rest
+    → None ≡ after old (hits_among m vs (map rule_view block)) → None ≡ whole
+block_broken m vs whole old k rest block others before front back none =
+    sym (before
+    ∙ ap (λ rs. after old (hits_among m vs rs)) (parted k rest block others front back)
+    ∙ ap (after old) (none_behind m vs (map rule_view block) (map rule_view others) (none_after old (hits_among m vs (map rule_view block)) none)))
+
 -- in a block a rule whose bit is not set misses
-pub block_misses : (m : Bindings) (vs : List Datum) (rules block rest : List code.Rule) (rows : List (Option (Bor ClassRules))) (place k word : ℕ) → AreRowsOf rules vs rows → AllKeepLimits rules
+pub block_misses : (m : Bindings) (vs : List Datum) (rules block rest : List code.Rule) (rows : List (Option (Bor ClassRules))) (place k word : ℕ) → AreRowsOf rules vs rows
     → ((i : ℕ) → i < 64 → bit_at word i ≡ 0 → IsUnsetIn rows place i) → rest ≡ drop (64 * place) rules → block ≡ take k rest → k ≤ 64 → MissUnset m vs block word
-block_misses m vs rules block rest rows place k word told keep unset left front few = λ i r there zero.
+block_misses m vs rules block rest rows place k word told unset left front few = λ i r there zero.
     let within : slice_get (take k rest) i ≡ Some r = ap (λ rs. slice_get rs i) (sym front) ∙ there in
     let small : i < 64 = omega (arith, few, slice_get_within (take k rest) i r within, length-take k rest) in
     let here : slice_get (drop (64 * place) rules) i ≡ Some r = ap (λ rs. slice_get rs i) (sym left) ∙ in_front k rest i r within in
     let u = unset i small zero in
     let row = told u.column u.row u.there in
     let at = row.of_class.1 place u.word u.has i r small here u.unset in
-    missed_at m vs (rule_view r) u.column at.entry row.value
-    (kept_at rules (64 * place) i r keep here) at.there row.there (at.misses row.value m row.lawful row.of_class.0)
+    missed_at m vs (rule_view r) u.column at.missed.entry row.value at.keeps at.missed.there row.there (at.missed.misses row.value m row.lawful row.of_class.0)

@@ -17,6 +17,7 @@ use Rattle.dmn_table.specs.declared.classes.ColumnClasses.{ColumnClasses}
 use Rattle.dmn_table.specs.declared.table.Rule as rule
 use Rattle.dmn_table.specs.Hits.{does_hit}
 use Rattle.dmn_table.specs.Parts.{rule_view}
+use Rattle.dmn_table.specs.Unbroken.{KeepLimits}
 
 -- no value of the class meets the tests, whatever the names stand for
 abbrev pub Misses : Class → Tests → Type 0
@@ -28,10 +29,22 @@ pub record MissesAt (class : Class) (column : ℕ) (r : rule.Rule) : Type 0 wher
   pub there : slice_get r.tests.items column ≡ Some entry
   pub misses : Misses class entry
 
--- of these rules, whose first stands at the lowest bit, each whose bit is not set misses the class in this column
+-- of these rules, whose first stands at the lowest bit, this holds of each whose bit is not set
+abbrev pub TellsUnset : (rule.Rule → Type 0) → List rule.Rule → ℕ → Type 0
+TellsUnset P rules word = (i : ℕ) (r : rule.Rule) → i < 64 → slice_get rules i ≡ Some r → bit_at word i ≡ 0 → P r
+
+-- no entry of the rule breaks a limit
+abbrev pub KeepsLimits : rule.Rule → Type 0
+KeepsLimits r = KeepLimits r.tests.items
+
+-- no entry of the rule breaks a limit, and no value of the class meets the one in this column
+pub record IsPassedOver (class : Class) (column : ℕ) (r : rule.Rule) : Type 0 where
+  pub missed : MissesAt class column r
+  pub keeps : KeepsLimits r
+
+-- of these rules, each whose bit is not set is passed over for the class in this column
 abbrev pub TellsWord : List rule.Rule → ℕ → Class → ℕ → Type 0
-TellsWord rules column class word =
-    (i : ℕ) (r : rule.Rule) → i < 64 → slice_get rules i ≡ Some r → bit_at word i ≡ 0 → MissesAt class column r
+TellsWord rules column class word = TellsUnset (IsPassedOver class column) rules word
 
 -- the same of all rules, 64 to a word
 abbrev pub TellsRules : List rule.Rule → ℕ → ClassRules → Type 0

@@ -4,7 +4,7 @@ ghost use Rattle.std.specs.Int.{bit_at};
 ghost use Rattle.feel_lang.specs.Classes.{is_in_class};
 ghost use Rattle.feel_lang.specs.declared.class.Class.{Class as ClassData};
 ghost use Rattle.feel_value.specs.View.{datum_of};
-ghost use Rattle.dmn_table.specs.Classes.{AreRowsOf, IsRowOf, IsUnsetIn, MissesAt, TellsBlock, TellsBlocks, TellsColumn, TellsColumns, TellsRules, TellsWord};
+ghost use Rattle.dmn_table.specs.Classes.{AreRowsOf, IsRowOf, IsUnsetIn, KeepsLimits, MissesAt, TellsBlock, TellsBlocks, TellsColumn, TellsColumns, TellsRules, TellsUnset};
 ghost use Rattle.dmn_table.specs.declared.table.Rule.{Rule as RuleData};
 
 use crate::table::Rule;
@@ -27,7 +27,8 @@ const RULE_TEXT: usize = 24;
 const ENTRY_TEXT: usize = 4;
 
 /// A class of values of a column, and the rules that they may meet there: a bit for each rule, 64 to a word, of which the first
-/// is the lowest. The entry of a rule whose bit is not set is met by no value of the class.
+/// is the lowest. Of a rule whose bit is not set no entry breaks a limit, and the one in this column is met by no value of the
+/// class.
 #[derive(Drop)]
 pub(crate) struct ClassRules {
     pub(crate) class: Class,
@@ -71,9 +72,9 @@ fn may_meet(rule: &Rule, column: usize, class: Class) -> bool
     }
 }
 
-/// The bits of the first 64 of these rules.
+/// The bits of the first 64 of these rules that may meet the class in a column.
 fn word_for(rules: &[Rule], column: usize, class: Class) -> u64
-    ensures { TellsWord rules.now column class result }
+    ensures { TellsUnset (MissesAt class column) rules.now result }
 {
     let mut word = 0;
     for i in 0..rules.len().min(WORD) {
@@ -82,6 +83,19 @@ fn word_for(rules: &[Rule], column: usize, class: Class) -> u64
         }
     }
     word
+}
+
+/// The bits of the first 64 of these rules an entry of which may break a limit.
+fn word_of_breaking(rules: &[Rule]) -> u64
+    ensures { TellsUnset KeepsLimits rules.now result }
+{
+    let mut breaking = 0;
+    for i in 0..rules.len().min(WORD) {
+        if !rules[i].keeps_limits() {
+            breaking |= 1 << i;
+        }
+    }
+    breaking
 }
 
 /// The words of the first 64 of these rules, one for each class.
@@ -93,9 +107,11 @@ fn block_words(
 ) -> Result<BlockWords, AllocError>
     ensures { IfOk result (λ block. TellsBlock rules.now column classes.now block.words.items) }
 {
+    let breaking = word_of_breaking(rules);
     let mut words = Vec::with_capacity(alloc, classes.len())?;
     for class in classes {
-        words.push(word_for(rules, column, *class))?;
+        let word = word_for(rules, column, *class) | breaking;
+        words.push(word)?;
     }
     Ok(BlockWords { words })
 }

@@ -1,5 +1,5 @@
 //! The rules that hit, and their outputs and places.
-ghost use Rattle.std.specs.Prelude.{◌≡◌, ◌≤◌, ◌++◌, IsTrue, IfOk, IfSome, OnOk, Some, length, map, option_map};
+ghost use Rattle.std.specs.Prelude.{◌≡◌, ◌≤◌, ◌++◌, IsTrue, IfOk, IfSome, Some, None, if◌then◌else◌, length, map, option_map};
 ghost use Rattle.dmn_table.specs.Classes.{MissUnset, TellsColumns};
 ghost use Rattle.feel_value.specs.Found.{each};
 ghost use Rattle.dmn_table.specs.Hits.{does_hit as does_hit_of, hit_of as hit_of_rule};
@@ -46,51 +46,53 @@ fn does_hit(
     Ok(Some(hit))
 }
 
-/// Adds those of these rules that hit, whose entries are known to break no limit. A rule whose bit is not set is known to miss
-/// and is not asked; the first rule has the lowest bit.
+/// Adds those of these rules that hit; false where an entry breaks a limit. A rule whose bit is not set is known to miss and is
+/// not asked; the first rule has the lowest bit. `keep_limits` says that all entries are known to break none.
 fn add_hits<'a>(
     alloc: Global,
     rules: &'a [Rule],
     word: u64,
+    keep_limits: bool,
     values: &[Feel],
     env: &Env,
     hits: &mut Vec<&'a Rule>,
-) -> Result<(), AllocError>
+) -> Result<bool, AllocError>
     requires few { length rules.now ≤ 64 }
-    requires keep { AllKeepLimits rules.now }
+    requires keep { IsTrue keep_limits → AllKeepLimits rules.now }
     requires others { MissUnset env.now values.now rules.now word }
-    ensures { OnOk result (Some (rules_view hits.new.items) ≡ option_map (λ more. rules_view hits.old.items ++ more) (hits_among env.now values.now (map rule_view rules.now))) }
+    ensures { IfOk result (λ all. (if all then Some (rules_view hits.new.items) else None) ≡ option_map (λ more. rules_view hits.old.items ++ more) (hits_among env.now values.now (map rule_view rules.now))) }
 {
     if word == 0 {
-        return Ok(());
+        return Ok(true);
     }
     for i in 0..rules.len() {
         if (word >> i) & 1 == 0 {
             continue;
         }
         let rule = &rules[i];
-        let Some(is_hit) = does_hit(alloc, rule, true, values, env)? else {
-            unreachable!();
+        let Some(is_hit) = does_hit(alloc, rule, keep_limits, values, env)? else {
+            return Ok(false);
         };
         if is_hit {
             hits.push(rule)?;
         }
     }
-    Ok(())
+    Ok(true)
 }
 
-/// The rules that hit, in their order, where the entries of all are known to break no limit. Only those rules are asked that may
-/// meet the class of each value in its column.
+/// The rules that hit, in their order; None where an entry breaks a limit. Only those rules are asked that may meet the class of
+/// each value in its column, or an entry of which may break a limit.
 fn hits_by_classes<'a>(
     alloc: Global,
     rules: &'a [Rule],
+    keep_limits: bool,
     columns: &[ColumnClasses],
     values: &[Feel],
     env: &Env,
-) -> Result<Vec<&'a Rule>, AllocError>
-    requires keep { AllKeepLimits rules.now }
+) -> Result<Option<Vec<&'a Rule>>, AllocError>
+    requires keep { IsTrue keep_limits → AllKeepLimits rules.now }
     requires tell { TellsColumns rules.now columns.now }
-    ensures { IfOk result (λ hits. Some (rules_view hits.items) ≡ hits_among env.now values.now (map rule_view rules.now)) }
+    ensures { IfOk result (λ found. option_map (λ v. rules_view v.items) found ≡ hits_among env.now values.now (map rule_view rules.now)) }
 {
     let rows = rows_of(alloc, columns, values)?;
     let mut hits = Vec::new(alloc);
@@ -99,11 +101,14 @@ fn hits_by_classes<'a>(
     while !rest.is_empty() {
         let (block, others) = rest.split_at(WORD.min(rest.len()));
         let word = common(&rows, place);
-        add_hits(alloc, block, word, values, env, &mut hits)?;
+        let all = add_hits(alloc, block, word, keep_limits, values, env, &mut hits)?;
+        if !all {
+            return Ok(None);
+        }
         rest = others;
         place += 1;
     }
-    Ok(hits)
+    Ok(Some(hits))
 }
 
 /// The rules that hit, in their order; None where an entry breaks a limit. The entries of all rules are evaluated, but those
@@ -141,14 +146,13 @@ pub(crate) fn rules_that_hit<'a>(
     env: &Env,
 ) -> Result<Option<Vec<&'a Rule>>, AllocError>
     requires keep { IsTrue keep_limits → AllKeepLimits rules.now }
-    requires tell { IfSome classes.now (λ columns. AllKeepLimits rules.now × TellsColumns rules.now columns.items) }
+    requires tell { IfSome classes.now (λ columns. TellsColumns rules.now columns.items) }
     ensures { IfOk result (λ found. option_map (λ v. rules_view v.items) found ≡ hits_among env.now values.now (map rule_view rules.now)) }
 {
     let Some(columns) = classes else {
         return hits_by_scan(alloc, rules, keep_limits, values, env);
     };
-    let hits = hits_by_classes(alloc, rules, columns, values, env)?;
-    Ok(Some(hits))
+    hits_by_classes(alloc, rules, keep_limits, columns, values, env)
 }
 
 /// The places of a rule's values in the columns' lists of output values.

@@ -54,7 +54,7 @@ impl Rule {
     }
 
     /// Whether each input entry is known to break no limit.
-    fn keeps_limits(&self) -> bool
+    pub(crate) fn keeps_limits(&self) -> bool
         ensures { IsTrue result → KeepLimits self.now.tests.items }
     {
         self.tests.iter().all(|tests| tests.keep_limits())
@@ -90,7 +90,7 @@ impl Model for Table {
 
     ghost view = { λ t. table_of t.policy t.inputs.items t.outputs.items t.rules.items };
 
-    ghost invariant = { λ t. (columns_fit (length t.inputs.items) (names_of t.outputs.items) (entry_counts t.rules.items) ≡ true) × (operator_fits t.policy (names_of t.outputs.items) ≡ true) × (IsTrue t.entries_keep_limits → AllKeepLimits t.rules.items) × IfSome t.classes (λ columns. AllKeepLimits t.rules.items × TellsColumns t.rules.items columns.items) };
+    ghost invariant = { λ t. (columns_fit (length t.inputs.items) (names_of t.outputs.items) (entry_counts t.rules.items) ≡ true) × (operator_fits t.policy (names_of t.outputs.items) ≡ true) × (IsTrue t.entries_keep_limits → AllKeepLimits t.rules.items) × IfSome t.classes (λ columns. TellsColumns t.rules.items columns.items) };
 }
 
 impl Table {
@@ -146,31 +146,17 @@ impl Table {
     }
 
     /// The same table with the classes of its columns, by which a decision finds the rules that hit without asking each, where it
-    /// has many rules and all entries are known to break no limit; otherwise it stays as it is. Its value is the same. On an error
-    /// the table is let go.
-    pub fn with_classes(self, alloc: Global) -> Result<Table, AllocError>
+    /// has many rules; otherwise it stays as it is. A rule an entry of which may break a limit is always asked. Its value is the
+    /// same. On an error the table is let go.
+    pub fn with_classes(mut self, alloc: Global) -> Result<Table, AllocError>
         ensures { IfOk result (λ t. t ≡ self) }
     {
-        if !self.entries_keep_limits || self.rules.len() < FEWEST_RULES {
+        if self.rules.len() < FEWEST_RULES || !self.rules.iter().any(|rule| rule.keeps_limits()) {
             return Ok(self);
         }
         let classes = classes_of_columns(alloc, &self.rules, self.inputs.len())?;
-        let Table {
-            policy,
-            inputs,
-            outputs,
-            rules,
-            entries_keep_limits,
-            ..
-        } = self;
-        Ok(Table {
-            policy,
-            inputs,
-            outputs,
-            rules,
-            entries_keep_limits,
-            classes: Some(classes),
-        })
+        self.classes = Some(classes);
+        Ok(self)
     }
 }
 

@@ -1,16 +1,16 @@
-use Rattle.std.proofs.Common.{◌∙◌, ap, length, arith}
+use Rattle.std.proofs.Common.{◌∙◌, ap, refl, length, arith, bit_or}
 use Rattle.std.specs.List.{slice_get}
 use Rattle.std.proofs.lemmas.List.{length_push}
 use Rattle.std.proofs.lemmas.Option.{slice_get-get_or}
-use Rattle.dmn_table.proofs.ClassWords.{class_more}
+use Rattle.dmn_table.proofs.ClassWords.{both_told, class_more}
 use Rattle.dmn_table.proofs.classes.block_words.Goals as goal
 
 pub loop-class-preserved : goal.loop-class-preserved
 loop-class-preserved c =
     let words = c.loop-class.words.items in
-    let last = c.word_for.result in (
+    let last = bit_or c.word_for.result c.word_of_breaking-breaking.result in (
       omega (arith, ap length c.in_ok-push.ensures.items, length_push words last, c.loop-class.invariant.0),
       class_more c.args.rules.now c.args.column c.args.classes.now words c.push.new.self.items last _ c.loop-class.invariant.1 c.in_ok-push.ensures.items
           (ap (slice_get c.args.classes.now) c.loop-class.invariant.0 ∙ slice_get-get_or c.args.classes.now c.loop-class.class-index _ c.loop-class-test.true)
-          c.word_for.ensures,
+          (both_told _ c.args.column c.args.rules.now c.word_for.result c.word_of_breaking-breaking.result last c.word_for.ensures c.word_of_breaking-breaking.ensures refl),
     )

@@ -1,5 +1,6 @@
 -- The rules fit the columns, so each rule that hits has an entry for each output.
-use Rattle.std.proofs.Common.{arith, eq-eqb, nat_eq, vec_len, true≢false, ◌≡◌, [], length, true, Some, sym, ap, ◌∙◌, option_map, subst, IfOk}
+use Rattle.std.proofs.Common.{arith, eq-eqb, nat_eq, vec_len, true≢false, ◌≡◌, [], length, true, Some, sym, ap, ◌∙◌, option_map, subst, IfOk, IfSome}
+use Rattle.dmn_table.specs.Classes.{TellsColumns}
 use Rattle.dmn_table.specs.Faults.{columns_fit}
 use Rattle.dmn_table.specs.Hits.{values_of}
 use Rattle.dmn_table.specs.Parts.{names_of, entry_counts, table_of}
@@ -18,6 +19,10 @@ result_of-requires c =
     let fits : columns_fit (length table.inputs.items) (names_of outputs) (entry_counts rules) ≡ true = rw (c.deref-5.ensures.value, c.deref-2.ensures.value) c.table.invariant.0 in
     entries_of_hits (length table.inputs.items) outputs rules c.args.env.now c.deref-3.result.now (rules_view c.deref-4.result.now) fits
     (ap (λ xs. Some (rules_view xs)) c.deref-4.ensures.value ∙ sym (ap (option_map (λ v. rules_view v.items)) c.in-Some-2.is) ∙ c.in_ok-rules.ensures)
+
+pub rules_that_hit-requires-clause-tell : goal.rules_that_hit-requires-clause-tell
+rules_that_hit-requires-clause-tell c =
+    subst (λ rules. IfSome c.table.inside.classes (λ columns. TellsColumns rules columns.items)) (sym c.deref-2.ensures.value) c.table.invariant.3
 
 pub returns : goal.returns
 returns c =

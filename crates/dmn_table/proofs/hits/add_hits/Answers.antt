@@ -1,14 +1,9 @@
-use Rattle.std.proofs.Common.{◌≡◌, ◌∙◌, sym, ap, subst, append-nil, arith, Some}
+use Rattle.std.proofs.Common.{◌≡◌, ◌∙◌, sym, ap, append-nil, arith, Some}
 use Rattle.std.specs.Int.{bit_at}
-use Rattle.std.proofs.lemmas.List.Elements.{All-get_or}
 use Rattle.std.proofs.lemmas.Nat.Bits.{bit_at-zero, shr_and_one}
-use Rattle.dmn_table.specs.declared.table.Rule.{Rule}
-use Rattle.dmn_table.specs.Parts.{rule_view}
 use Rattle.dmn_table.specs.RuleOutputs.{rules_view}
-use Rattle.dmn_table.specs.Unbroken.{KeepLimits}
 use Rattle.dmn_table.proofs.Each.{after}
-use Rattle.dmn_table.proofs.Unbroken.{hits_or_misses}
-use Rattle.dmn_table.proofs.WordHits.{none_hit, next_missed}
+use Rattle.dmn_table.proofs.WordHits.{none_hit, next_broken, next_missed}
 use Rattle.dmn_table.proofs.hits.add_hits.Goals as goal
 
 pub returns-then-word-eq0 : goal.returns-then-word-eq0
@@ -26,12 +21,8 @@ loop-i-preserved-then-word-i-eq0 c =
     ∙ ap (after (rules_view c.loop-i.hits.items))
     (next_missed c.args.env.now c.args.values.now c.args.rules.now i c.loop-i-test.true (λ r there. c.requires.others i r there unset))
 
-pub unreachable-requires : goal.unreachable-requires
-unreachable-requires c =
-    let rules = c.args.rules.now in
+pub returns-in_default : goal.returns-in_default
+returns-in_default c =
     let i = c.loop-i.i in
-    let rule = c.index-rules-i.result in
-    let P : Rule → Type 0 = λ (r : Rule). KeepLimits r.tests.items in
-    hits_or_misses c.args.env.now c.args.values.now (rule_view rule)
-    (subst P (sym c.index-rules-i.is) (All-get_or P rules i rule c.loop-i-test.true c.requires.keep))
-    (sym c.in_default.is ∙ c.in_ok-is_hit.ensures)
+    let old = rules_view c.args.hits.now.items in
+    sym (c.loop-i.invariant ∙ ap (after (rules_view c.loop-i.hits.items)) (next_broken c.args.env.now c.args.values.now c.args.rules.now i c.index-rules-i.result c.loop-i-test.true c.index-rules-i.is (sym c.in_default.is ∙ c.in_ok-is_hit.ensures)))
