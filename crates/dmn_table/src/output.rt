@@ -1,5 +1,6 @@
 //! The output of a rule, and what stands where none hits.
-ghost use Rattle.std.specs.Prelude.{◌≡◌, IfOk, map, option_map, string_bytes};
+ghost use Rattle.std.specs.Prelude.{◌≡◌, IfOk, map, option_map};
+ghost use Rattle.std.specs.Arc.{arc_str_bytes};
 ghost use Rattle.feel_value.specs.Outcome.{held};
 ghost use Rattle.feel_value.specs.Datum.{context, entries_of};
 ghost use Rattle.std.specs.List.{zip, list_all};
@@ -16,7 +17,6 @@ use crate::table::{Output, Rule};
 use feel_lang::{Env, Expr, eval};
 use feel_value::{Feel, Outcome, Value};
 use std::alloc::{AllocError, Global};
-use std::sync::ArcStr;
 
 /// The values of the expressions; None where one breaks a limit.
 pub(crate) fn evaluated(
@@ -120,7 +120,7 @@ pub(crate) fn has_no_default(outputs: &[Output]) -> bool
 
 /// The context of the values under the columns' names.
 fn named(alloc: Global, outputs: &[Output], values: Vec<Feel>) -> Result<Outcome, AllocError>
-    ensures { IfOk result (λ o. o ≡ held (context (entries_of (zip (map (λ o. string_bytes o.name) outputs.now) values.items)))) }
+    ensures { IfOk result (λ o. o ≡ held (context (entries_of (zip (map (λ o. arc_str_bytes o.name) outputs.now) values.items)))) }
 {
     let mut entries = Vec::with_capacity(alloc, outputs.len())?;
     let mut values = values.into_iter();
@@ -128,8 +128,7 @@ fn named(alloc: Global, outputs: &[Output], values: Vec<Feel>) -> Result<Outcome
         let Some(value) = values.next() else {
             break;
         };
-        let name = ArcStr::from_str(alloc, output.name.as_str())?;
-        entries.push((name, value.into_value()))?;
+        entries.push((output.name.clone()?, value.into_value()))?;
     }
     Outcome::context(alloc, entries)
 }

@@ -37,6 +37,13 @@ const ENTRIES: [&str; 20] = [
     "not(x)",
 ];
 
+/// The texts of entries that break a limit for some of the values and for others not.
+const MAY_BREAK: [&str; 3] = [
+    "> a + 9223372036854775800",
+    "b - 9223372036854775800, 3",
+    "not(a + 9223372036854775800)",
+];
+
 /// Values of each kind that are no drawn number: texts that an entry names, such that sort between them, one whose mark is that
 /// of another, numbers far out, booleans, null, and lists.
 const VALUES: [&str; 16] = [
@@ -126,11 +133,23 @@ fn entry(alloc: Global, draw: &mut Draw) -> Result<String, AllocError> {
     }
 }
 
-/// The texts of the entries of a table's rules, two for each. One table in sixteen has an entry that breaks a limit.
+/// The text of an entry; one in eight of a mixed table may break a limit.
+fn entry_of(alloc: Global, draw: &mut Draw, is_mixed: bool) -> Result<String, AllocError> {
+    if is_mixed && draw.below(8) == 0 {
+        return String::from_str(alloc, draw.among(&MAY_BREAK));
+    }
+    entry(alloc, draw)
+}
+
+/// The texts of the entries of a table's rules, two for each. One table in four is mixed, and one in sixteen has an entry that
+/// breaks a limit.
 fn entries(alloc: Global, draw: &mut Draw) -> Result<Vec<(String, String)>, AllocError> {
     let mut entries = Vec::new(alloc);
+    let is_mixed = draw.below(4) == 0;
     for _ in 0..draw.below(80).saturating_add(64) {
-        entries.push((entry(alloc, draw)?, entry(alloc, draw)?))?;
+        let first = entry_of(alloc, draw, is_mixed)?;
+        let second = entry_of(alloc, draw, is_mixed)?;
+        entries.push((first, second))?;
     }
     if draw.below(16) == 0 {
         let broken = String::from_str(alloc, "> x + 9223372036854775807")?;
@@ -179,7 +198,7 @@ fn table(
     for name in INPUTS {
         inputs.push(read_expr(alloc, name)?)?;
     }
-    let name = String::from_str(alloc, "r")?;
+    let name = ArcStr::from_str(alloc, "r")?;
     let values = vec![in alloc; read_literal(alloc, "3")?, read_literal(alloc, "1")?]?;
     let fallback = None;
     let output = Output {
