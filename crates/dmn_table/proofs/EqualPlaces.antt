@@ -110,6 +110,12 @@ entries_of_hits inputs os rules m values hits fits found = go (each (does_hit m 
     go None e = cc
     go (Some answers) e = ap (have_entries (length os)) (same_Some _ _ e) ∙ each_have (length os) _ (kept_gives (length os) (map rule_view rules) answers gives)
 
+-- the names of columns that fit are distinct
+pub fitting_distinct : (inputs : ℕ) (os : List Output) (counts : List (ℕ × ℕ)) → columns_fit inputs (names_of os) counts ≡ true → are_distinct (names_of os) ≡ true
+fitting_distinct inputs os counts fits =
+    let n = length (names_of os) in
+    and_second (nat_lt 0 n) (are_distinct (names_of os)) (and_first (nat_lt 0 n && are_distinct (names_of os)) (list_all (fits_columns inputs n) counts) fits)
+
 -- what is found for rules that have an entry for each output
 pub equal_places : (os : List Output) (rules : List Rule) (m : Bindings) (hs : List hit.Hit) → have_entries (length os) rules ≡ true
     → Some (map hit_view hs) ≡ each (hit_of (map column_view os) m) rules

@@ -17,3 +17,5 @@ pub mod FittingHits
 pub mod Unbroken
 pub mod ClassWords
 pub mod WordHits
+pub mod Scalars
+pub mod LawfulValues

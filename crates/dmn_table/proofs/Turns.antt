@@ -1,5 +1,5 @@
 -- One turn of a loop over the outputs of rules.
-use Rattle.std.proofs.Common.{◌≡◌, ℕ, ◌+◌, ◌<◌, List, [], ◌∷◌, ◌++◌, length, get_or, drop, refl, ap, ◌∙◌, false, if◌then◌else◌, Option, None, Some, option_map, ℤ}
+use Rattle.std.proofs.Common.{◌≡◌, ℕ, ◌+◌, ◌<◌, List, [], ◌∷◌, ◌++◌, length, get_or, drop, refl, sym, ap, ◌∙◌, Bool, ◌&&◌, false, if◌then◌else◌, Option, None, Some, option_map, ℤ}
 use Rattle.std.specs.Option.{is_some}
 use denote.Ref.{Bor}
 use Rattle.feel_value.specs.Datum.{Datum, list, item, items_of}
@@ -36,6 +36,15 @@ module _ (cs : List Column) (m : Bindings) (rs : List (Bor Rule)) where
   module _ (i : ℕ) (r : Bor Rule) (here : r ≡ get_or rs i r) (more : i < length rs) where
     next_output : (o : Option Datum) → rule_output cs m (rule_view r.now) ≡ o → outputs_from cs m rs i ≡ (o >>= λ d. outputs_from cs m rs (i + 1) >>= λ ds. Some (d ∷ ds))
     next_output o e = rest_from (λ (a : Bor Rule). rule_output cs m (rule_view a.now)) (λ xs. outputs_of cs m (rules_view xs)) (λ a bs. refl) rs i r o here more e
+
+    -- there are outputs for all where there is one for the rule at hand and there are for the rest
+    pub one_there : (b : Bool) → b ≡ is_some (rule_output cs m (rule_view r.now)) → is_some (outputs_from cs m rs i) ≡ (b && is_some (outputs_from cs m rs (i + 1)))
+    one_there b e = ap is_some (next_output (rule_output cs m (rule_view r.now)) refl) ∙ go (rule_output cs m (rule_view r.now)) (outputs_from cs m rs (i + 1)) ∙ ap (λ c. c && is_some (outputs_from cs m rs (i + 1))) (sym e)
+      where
+        go : (o : Option Datum) (p : Option (List Datum)) → is_some (o >>= λ d. p >>= λ ds. Some (d ∷ ds)) ≡ (is_some o && is_some p)
+        go None p = refl
+        go (Some d) None = refl
+        go (Some d) (Some ds) = refl
 
     -- ---- the list of them
 

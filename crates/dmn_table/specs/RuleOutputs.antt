@@ -1,9 +1,11 @@
 -- Internal: no public contract cites these words. The rules that hit, and their outputs.
-use Rattle.std.specs.Prelude.{List, map, length, nat_eq, Option, Some, None, ℕ, Bool, if◌then◌else◌}
+use Rattle.std.specs.Prelude.{◌≡◌, true, List, map, length, nat_eq, Option, Some, None, ℕ, Bool, if◌then◌else◌}
 use Rattle.std.specs.List.{list_all}
 use denote.Ref.{Bor}
-use Rattle.feel_value.specs.Datum.{Datum, list, items_of}
-use Rattle.feel_value.specs.Limits.{is_value}
+use Rattle.feel_value.specs.Datum.{Datum, null, list, items_of}
+use Rattle.feel_value.specs.Limits.{is_value, nodes, depth}
+use Rattle.feel_value.specs.declared.feel.Outcome.{Outcome}
+use Rattle.feel_value.specs.declared.feel.Outcome.TheVariants.{Is, Limit}
 use Rattle.feel_lang.specs.Meaning.{Bindings}
 use Rattle.dmn_table.specs.declared.table.Rule as rule
 use Rattle.feel_value.specs.Found.{value_of, ◌>>=◌, each}
@@ -23,6 +25,21 @@ hits_among m values rules = each (does_hit m values) rules >>= λ answers. Some 
 -- the output of a rule; None where a limit was broken
 abbrev pub rule_output : List Column → Bindings → Rule → Option Datum
 rule_output columns m rule = values_of m rule.gives >>= λ values. value_of (output_of columns values)
+
+-- a value that has no parts
+pub record IsScalar (d : Datum) : Type 0 where
+  pub lawful : is_value d ≡ true
+  pub single : nodes d ≡ 1
+  pub flat : depth d ≡ 1
+
+-- the values of a rule, where they make an output; None where a limit was broken
+abbrev pub lawful_values : List Column → Bindings → Rule → Option (List Datum)
+lawful_values columns m rule = values_of m rule.gives >>= λ values. value_of (output_of columns values) >>= λ output. Some values
+
+-- the value of an outcome that is one
+abbrev pub value_or_null : Outcome → Datum
+value_or_null (Is d) = d
+value_or_null Limit = null
 
 -- the outputs of rules
 abbrev pub outputs_of : List Column → Bindings → List Rule → Option (List Datum)

@@ -1,6 +1,6 @@
 //! What hit policies make of the outputs of the rules that hit, where it takes no places. The output of each rule is evaluated,
 //! and no more outputs are kept than the result needs.
-ghost use Rattle.std.specs.Prelude.{◌≡◌, IfOk, map, option_map, length, pos};
+ghost use Rattle.std.specs.Prelude.{◌≡◌, IfOk, map, option_map, length, pos, true};
 ghost use Rattle.std.specs.List.{list_all};
 ghost use Rattle.std.specs.Option.{is_some};
 ghost use Rattle.feel_value.specs.Datum.{number};
@@ -9,11 +9,12 @@ ghost use Rattle.feel_value.specs.Comparison.{equal as equal_of};
 ghost use Rattle.feel_value.specs.Outcome.{held};
 ghost use Rattle.feel_value.specs.declared.feel.Outcome.TheVariants.{Is};
 ghost use Rattle.feel_value.specs.Found.{outcome_from};
-ghost use Rattle.dmn_table.specs.Parts.{column_view};
+ghost use Rattle.feel_value.specs.Distinct.{are_distinct};
+ghost use Rattle.dmn_table.specs.Parts.{column_view, names_of};
 ghost use Rattle.dmn_table.specs.Result.{first_of, only_one as only_one_of, common_one as common_one_of, list_of as list_of_values};
 ghost use Rattle.dmn_table.specs.RuleOutputs.{outputs_of, rules_view};
 
-use crate::output::rule_output;
+use crate::output::{has_output, rule_output};
 use crate::table::{Output, Rule};
 use feel_lang::Env;
 use feel_value::{Feel, Members, Outcome, Truth, Value, equal};
@@ -47,12 +48,15 @@ pub(crate) fn have_outputs(
     outputs: &[Output],
     env: &Env,
 ) -> Result<bool, AllocError>
+    requires { are_distinct (names_of outputs.now) ≡ true }
     ensures { IfOk result (λ all. all ≡ is_some (outputs_of (map column_view outputs.now) env.now (rules_view rules.now))) }
 {
+    let mut values = Vec::new(alloc);
     for rule in rules {
-        let Outcome::Is(_) = rule_output(alloc, rule, outputs, env)? else {
+        let is_output = has_output(alloc, rule, outputs, env, &mut values)?;
+        if !is_output {
             return Ok(false);
-        };
+        }
     }
     Ok(true)
 }
@@ -64,6 +68,7 @@ pub(crate) fn first(
     outputs: &[Output],
     env: &Env,
 ) -> Result<Outcome, AllocError>
+    requires { are_distinct (names_of outputs.now) ≡ true }
     ensures { IfOk result (λ o. o ≡ outcome_from (λ ds. Is (first_of ds)) (outputs_of (map column_view outputs.now) env.now (rules_view rules.now))) }
 {
     let Some((rule, rest)) = rules.split_first() else {
@@ -85,6 +90,7 @@ pub(crate) fn only_one(
     outputs: &[Output],
     env: &Env,
 ) -> Result<Outcome, AllocError>
+    requires { are_distinct (names_of outputs.now) ≡ true }
     ensures { IfOk result (λ o. o ≡ outcome_from (λ ds. Is (only_one_of ds)) (outputs_of (map column_view outputs.now) env.now (rules_view rules.now))) }
 {
     if rules.len() <= 1 {
@@ -147,6 +153,7 @@ pub(crate) fn count(
     outputs: &[Output],
     env: &Env,
 ) -> Result<Outcome, AllocError>
+    requires { are_distinct (names_of outputs.now) ≡ true }
     ensures { IfOk result (λ o. o ≡ outcome_from (λ ds. held (number (pos (length ds)))) (outputs_of (map column_view outputs.now) env.now (rules_view rules.now))) }
 {
     if !have_outputs(alloc, rules, outputs, env)? {

@@ -1,18 +1,20 @@
 //! The rules that hit, and their outputs and places.
-ghost use Rattle.std.specs.Prelude.{◌≡◌, ◌≤◌, ◌++◌, IsTrue, IfOk, IfSome, Some, None, if◌then◌else◌, length, map, option_map};
+ghost use Rattle.std.specs.Prelude.{◌≡◌, ◌≤◌, ◌++◌, IsTrue, IfOk, IfSome, Some, None, true, if◌then◌else◌, length, map, option_map};
 ghost use Rattle.dmn_table.specs.Classes.{MissUnset, TellsColumns};
+ghost use Rattle.feel_value.specs.Distinct.{are_distinct};
 ghost use Rattle.feel_value.specs.Found.{each};
-ghost use Rattle.dmn_table.specs.Hits.{does_hit as does_hit_of, hit_of as hit_of_rule};
+ghost use Rattle.feel_value.specs.declared.feel.Outcome.TheVariants.{Is};
+ghost use Rattle.dmn_table.specs.Hits.{does_hit as does_hit_of, hit_of as hit_of_rule, output_of};
 ghost use Rattle.dmn_table.specs.Listed.{listed_values, places_among};
-ghost use Rattle.dmn_table.specs.Parts.{rule_view, column_view};
+ghost use Rattle.dmn_table.specs.Parts.{rule_view, column_view, names_of};
 ghost use Rattle.dmn_table.specs.RuleOutputs.{rules_view, hits_among, fitting};
 ghost use Rattle.dmn_table.specs.Unbroken.{KeepLimits, AllKeepLimits};
-ghost use Rattle.dmn_table.specs.View.{hit_view};
+ghost use Rattle.dmn_table.specs.View.{hit_view, ranked_hit};
 
 use crate::classes::{ColumnClasses, WORD, common, rows_of};
 use crate::listed::{Listed, lists_of};
-use crate::output::{evaluated, one_or_context};
-use crate::priority::Hit;
+use crate::output::{evaluated, lawful_values, one_or_context};
+use crate::priority::{Hit, Ranked};
 use crate::table::{Output, Rule};
 use feel_lang::{Env, Held, holds};
 use feel_value::{Feel, Members, Outcome};
@@ -186,6 +188,26 @@ pub(crate) fn found_hit(
         Outcome::Is(output) => Ok(Some(Hit { places, output })),
         Outcome::Limit => Ok(None),
     }
+}
+
+/// The values of a rule that hit, with their places; None where a limit is broken.
+pub(crate) fn ranked(
+    alloc: Global,
+    rule: &Rule,
+    lists: &[Listed],
+    outputs: &[Output],
+    env: &Env,
+) -> Result<Option<Ranked>, AllocError>
+    requires lists { lists.now ≡ listed_values (map column_view outputs.now) }
+    requires distinct { are_distinct (names_of outputs.now) ≡ true }
+    ensures hit { IfOk result (λ found. option_map (ranked_hit (map column_view outputs.now)) found ≡ hit_of_rule (map column_view outputs.now) env.now (rule_view rule.now)) }
+    ensures output { IfOk result (λ found. IfSome found (λ r. output_of (map column_view outputs.now) r.values.items ≡ Is (ranked_hit (map column_view outputs.now) r).output)) }
+{
+    let Some(values) = lawful_values(alloc, rule, outputs, env)? else {
+        return Ok(None);
+    };
+    let places = places(alloc, lists, &values)?;
+    Ok(Some(Ranked { places, values }))
 }
 
 /// These rules, with their outputs and places; None where a limit is broken, or the list of the outputs would be no value. The

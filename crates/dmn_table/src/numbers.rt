@@ -1,9 +1,10 @@
 //! Sums and extremes of outputs.
-ghost use Rattle.std.specs.Prelude.{◌≡◌, IfOk, map, option_map};
+ghost use Rattle.std.specs.Prelude.{◌≡◌, IfOk, map, option_map, true};
 ghost use Rattle.feel_value.specs.Datum.{number};
 ghost use Rattle.feel_value.specs.Outcome.{held};
 ghost use Rattle.feel_value.specs.Found.{outcome_from};
-ghost use Rattle.dmn_table.specs.Parts.{column_view};
+ghost use Rattle.feel_value.specs.Distinct.{are_distinct};
+ghost use Rattle.dmn_table.specs.Parts.{column_view, names_of};
 ghost use Rattle.dmn_table.specs.RuleOutputs.{outputs_of, rules_view};
 ghost use Rattle.dmn_table.specs.Result.{number_in, numbers_of, of_numbers, sum_of, least_of, greatest_of};
 
@@ -21,6 +22,7 @@ pub(crate) fn sum(
     outputs: &[Output],
     env: &Env,
 ) -> Result<Outcome, AllocError>
+    requires { are_distinct (names_of outputs.now) ≡ true }
     ensures { IfOk result (λ o. o ≡ outcome_from (λ ds. of_numbers sum_of (numbers_of ds)) (outputs_of (map column_view outputs.now) env.now (rules_view rules.now))) }
 {
     match numbers(alloc, rules, outputs, env)? {
@@ -37,6 +39,7 @@ pub(crate) fn least(
     outputs: &[Output],
     env: &Env,
 ) -> Result<Outcome, AllocError>
+    requires { are_distinct (names_of outputs.now) ≡ true }
     ensures { IfOk result (λ o. o ≡ outcome_from (λ ds. of_numbers least_of (numbers_of ds)) (outputs_of (map column_view outputs.now) env.now (rules_view rules.now))) }
 {
     match numbers(alloc, rules, outputs, env)? {
@@ -53,6 +56,7 @@ pub(crate) fn greatest(
     outputs: &[Output],
     env: &Env,
 ) -> Result<Outcome, AllocError>
+    requires { are_distinct (names_of outputs.now) ≡ true }
     ensures { IfOk result (λ o. o ≡ outcome_from (λ ds. of_numbers greatest_of (numbers_of ds)) (outputs_of (map column_view outputs.now) env.now (rules_view rules.now))) }
 {
     match numbers(alloc, rules, outputs, env)? {
@@ -70,6 +74,7 @@ fn numbers(
     outputs: &[Output],
     env: &Env,
 ) -> Result<Option<Option<Vec<i64>>>, AllocError>
+    requires { are_distinct (names_of outputs.now) ≡ true }
     ensures { IfOk result (λ found. option_map (option_map (λ v. v.items)) found ≡ option_map numbers_of (outputs_of (map column_view outputs.now) env.now (rules_view rules.now))) }
 {
     let mut numbers = Vec::new(alloc);

@@ -1,22 +1,45 @@
 //! The output of a rule, and what stands where none hits.
-ghost use Rattle.std.specs.Prelude.{◌≡◌, IfOk, map, option_map};
+ghost use Rattle.std.specs.Prelude.{◌≡◌, All, IfOk, IsTrue, None, Some, true, if◌then◌else◌, map, option_map};
 ghost use Rattle.std.specs.Arc.{arc_str_bytes};
 ghost use Rattle.feel_value.specs.Outcome.{held};
 ghost use Rattle.feel_value.specs.Datum.{context, entries_of};
 ghost use Rattle.std.specs.List.{zip, list_all};
-ghost use Rattle.std.specs.Option.{is_none};
+ghost use Rattle.std.specs.Option.{is_none, is_some};
+ghost use Rattle.feel_value.specs.Distinct.{are_distinct};
 ghost use Rattle.feel_value.specs.declared.feel.Outcome.TheVariants.{Is};
 ghost use Rattle.feel_value.specs.View.{datum_of};
 ghost use Rattle.dmn_table.specs.Hits.{values_of, output_of};
 ghost use Rattle.dmn_table.specs.Result.{first_of, default_of, default_values as default_values_of};
-ghost use Rattle.dmn_table.specs.Parts.{column_view, rule_view};
-ghost use Rattle.dmn_table.specs.RuleOutputs.{rule_output as rule_output_of};
+ghost use Rattle.dmn_table.specs.Parts.{column_view, names_of, rule_view};
+ghost use Rattle.dmn_table.specs.RuleOutputs.{IsScalar, lawful_values as lawful_values_of, rule_output as rule_output_of};
 ghost use Rattle.feel_value.specs.Found.{value_of};
 
 use crate::table::{Output, Rule};
 use feel_lang::{Env, Expr, eval};
 use feel_value::{Feel, Outcome, Value};
 use std::alloc::{AllocError, Global};
+
+/// So many values are too many for a context: each is a node, and so is the context.
+const MOST_NODES: usize = 10_000;
+
+/// Puts the values of the expressions in the place of those that are there; false where one breaks a limit.
+fn evaluate(
+    alloc: Global,
+    expressions: &[Expr],
+    env: &Env,
+    values: &mut Vec<Feel>,
+) -> Result<bool, AllocError>
+    ensures { IfOk result (λ all. (if all then Some values.new.items else None) ≡ values_of env.now expressions.now) }
+{
+    values.clear();
+    for expression in expressions {
+        match eval(alloc, expression, env)? {
+            Outcome::Is(value) => values.push(value)?,
+            Outcome::Limit => return Ok(false),
+        }
+    }
+    Ok(true)
+}
 
 /// The values of the expressions; None where one breaks a limit.
 pub(crate) fn evaluated(
@@ -27,11 +50,9 @@ pub(crate) fn evaluated(
     ensures { IfOk result (λ found. option_map (λ v. v.items) found ≡ values_of env.now expressions.now) }
 {
     let mut values = Vec::with_capacity(alloc, expressions.len())?;
-    for expression in expressions {
-        match eval(alloc, expression, env)? {
-            Outcome::Is(value) => values.push(value)?,
-            Outcome::Limit => return Ok(None),
-        }
+    let all = evaluate(alloc, expressions, env, &mut values)?;
+    if !all {
+        return Ok(None);
     }
     Ok(Some(values))
 }
@@ -49,6 +70,96 @@ pub(crate) fn rule_output(
         Some(values) => one_or_context(alloc, outputs, values),
         None => Ok(Outcome::Limit),
     }
+}
+
+/// Whether the value has no parts; false says nothing.
+fn is_scalar(value: &Feel) -> bool
+    ensures { IsTrue result → IsScalar value.now }
+{
+    match value.value() {
+        Value::Null | Value::Bool(_) | Value::Number(_) | Value::Text(_) => true,
+        Value::List(_) | Value::Context(_) => false,
+    }
+}
+
+/// Whether no value has parts; false says nothing.
+fn are_scalars(values: &[Feel]) -> bool
+    ensures { IsTrue result → All IsScalar values.now }
+{
+    values.iter().all(|value| is_scalar(value))
+}
+
+/// Whether the values are known to make an output, without making it; false says nothing.
+fn fit(outputs: &[Output], values: &[Feel]) -> bool
+    requires { are_distinct (names_of outputs.now) ≡ true }
+    ensures { IsTrue result → is_some (value_of (output_of (map column_view outputs.now) values.now)) ≡ true }
+{
+    if outputs.len() == 1 && values.len() == 1 {
+        return true;
+    }
+    values.len() < MOST_NODES && are_scalars(values)
+}
+
+/// Copies of the values.
+fn copies(alloc: Global, values: &[Feel]) -> Result<Vec<Feel>, AllocError>
+    ensures { IfOk result (λ v. v.items ≡ values.now) }
+{
+    let mut copies = Vec::with_capacity(alloc, values.len())?;
+    for value in values {
+        copies.push(value.try_clone()?)?;
+    }
+    Ok(copies)
+}
+
+/// Whether the values make an output; false where that breaks a limit. None is made where that is known without.
+fn make_output(alloc: Global, outputs: &[Output], values: &[Feel]) -> Result<bool, AllocError>
+    requires { are_distinct (names_of outputs.now) ≡ true }
+    ensures { IfOk result (λ b. b ≡ is_some (value_of (output_of (map column_view outputs.now) values.now))) }
+{
+    if fit(outputs, values) {
+        return Ok(true);
+    }
+    let values = copies(alloc, values)?;
+    let output = one_or_context(alloc, outputs, values)?;
+    Ok(output.value().is_some())
+}
+
+/// Whether a rule has an output; false where a limit is broken. Its values take the place of those that are there.
+pub(crate) fn has_output(
+    alloc: Global,
+    rule: &Rule,
+    outputs: &[Output],
+    env: &Env,
+    values: &mut Vec<Feel>,
+) -> Result<bool, AllocError>
+    requires { are_distinct (names_of outputs.now) ≡ true }
+    ensures { IfOk result (λ b. b ≡ is_some (rule_output_of (map column_view outputs.now) env.now (rule_view rule.now))) }
+{
+    let all = evaluate(alloc, &rule.gives, env, values)?;
+    if !all {
+        return Ok(false);
+    }
+    make_output(alloc, outputs, values)
+}
+
+/// The values of a rule, which make an output; None where a limit is broken.
+pub(crate) fn lawful_values(
+    alloc: Global,
+    rule: &Rule,
+    outputs: &[Output],
+    env: &Env,
+) -> Result<Option<Vec<Feel>>, AllocError>
+    requires { are_distinct (names_of outputs.now) ≡ true }
+    ensures { IfOk result (λ found. option_map (λ v. v.items) found ≡ lawful_values_of (map column_view outputs.now) env.now (rule_view rule.now)) }
+{
+    let Some(values) = evaluated(alloc, &rule.gives, env)? else {
+        return Ok(None);
+    };
+    let is_output = make_output(alloc, outputs, &values)?;
+    if !is_output {
+        return Ok(None);
+    }
+    Ok(Some(values))
 }
 
 /// The value of a column's default, null where it has none.

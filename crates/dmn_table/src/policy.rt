@@ -3,7 +3,8 @@ ghost use Rattle.std.specs.Prelude.{◌≡◌, IfOk, map, true, length};
 ghost use Rattle.feel_value.specs.declared.feel.Outcome.TheVariants.{Is};
 ghost use Rattle.feel_value.specs.Found.{each, outcome_from};
 ghost use Rattle.dmn_table.specs.Hits.{hit_of};
-ghost use Rattle.dmn_table.specs.Parts.{column_view};
+ghost use Rattle.feel_value.specs.Distinct.{are_distinct};
+ghost use Rattle.dmn_table.specs.Parts.{column_view, names_of};
 ghost use Rattle.dmn_table.specs.Priority.{in_priority as in_priority_of};
 ghost use Rattle.dmn_table.specs.Result.{policy_result, first_of, list_of as list_of_values};
 ghost use Rattle.dmn_table.specs.RuleOutputs.{rules_view, have_entries};
@@ -11,9 +12,10 @@ ghost use Rattle.dmn_table.specs.View.{hit_view};
 
 use crate::collected::{common_one, count, first, list_of, only_one};
 use crate::hit_policy::HitPolicy;
-use crate::hits::{fitting_hits, found_hit};
+use crate::hits::{fitting_hits, ranked};
 use crate::listed::lists_of;
 use crate::numbers::{greatest, least, sum};
+use crate::output::one_or_context;
 use crate::priority::{Hit, in_priority};
 use crate::table::{Output, Rule};
 use feel_lang::Env;
@@ -29,7 +31,8 @@ pub(crate) fn result_of(
     outputs: &[Output],
     env: &Env,
 ) -> Result<Outcome, AllocError>
-    requires { have_entries (length outputs.now) (rules_view rules.now) ≡ true }
+    requires entries { have_entries (length outputs.now) (rules_view rules.now) ≡ true }
+    requires distinct { are_distinct (names_of outputs.now) ≡ true }
     ensures { IfOk result (λ o. o ≡ outcome_from (policy_result policy) (each (hit_of (map column_view outputs.now) env.now) (rules_view rules.now))) }
 {
     match policy {
@@ -46,32 +49,34 @@ pub(crate) fn result_of(
     }
 }
 
-/// The output of the highest priority. The output of each rule is evaluated; of the hits, only the best so far is kept.
+/// The output of the highest priority. The output entries of each rule are evaluated; of the hits, only the best so far is kept,
+/// and its output is made at the end.
 fn highest(
     alloc: Global,
     rules: &[&Rule],
     outputs: &[Output],
     env: &Env,
 ) -> Result<Outcome, AllocError>
-    requires { have_entries (length outputs.now) (rules_view rules.now) ≡ true }
+    requires entries { have_entries (length outputs.now) (rules_view rules.now) ≡ true }
+    requires distinct { are_distinct (names_of outputs.now) ≡ true }
     ensures { IfOk result (λ o. o ≡ outcome_from (λ hs. Is (first_of (map (λ h. h.output) (in_priority_of hs)))) (each (hit_of (map column_view outputs.now) env.now) (rules_view rules.now))) }
 {
     let Some((rule, rest)) = rules.split_first() else {
         return Ok(Outcome::of(Value::Null));
     };
     let lists = lists_of(alloc, outputs, rules.len())?;
-    let Some(mut best) = found_hit(alloc, rule, &lists, outputs, env)? else {
+    let Some(mut best) = ranked(alloc, rule, &lists, outputs, env)? else {
         return Ok(Outcome::Limit);
     };
     for rule in rest {
-        let Some(hit) = found_hit(alloc, rule, &lists, outputs, env)? else {
+        let Some(hit) = ranked(alloc, rule, &lists, outputs, env)? else {
             return Ok(Outcome::Limit);
         };
         if hit.is_higher(&best) {
             best = hit;
         }
     }
-    Ok(Outcome::Is(best.output))
+    one_or_context(alloc, outputs, best.values)
 }
 
 /// The list of the outputs in decreasing priority. The evaluation ends where they are too many for a value, whatever their

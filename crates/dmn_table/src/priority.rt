@@ -14,9 +14,16 @@ pub(crate) struct Hit {
     pub(crate) output: Feel,
 }
 
-impl Hit {
+/// The values of a rule that hit, which make an output, and the place of each in its column's list of output values.
+#[derive(Drop)]
+pub(crate) struct Ranked {
+    pub(crate) places: Vec<usize>,
+    pub(crate) values: Vec<Feel>,
+}
+
+impl Ranked {
     /// Whether this one has the higher priority: its places are less.
-    pub(crate) fn is_higher(&self, other: &Hit) -> bool
+    pub(crate) fn is_higher(&self, other: &Ranked) -> bool
         requires { length self.now.places.items ≡ length other.now.places.items }
         ensures { result ≡ is_higher_of self.now.places.items other.now.places.items }
     {

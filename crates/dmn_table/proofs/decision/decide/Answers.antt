@@ -7,18 +7,23 @@ use Rattle.dmn_table.specs.Parts.{names_of, entry_counts, table_of}
 use Rattle.dmn_table.specs.Result.{table_result}
 use Rattle.dmn_table.specs.RuleOutputs.{rules_view, hits_among}
 use Rattle.dmn_table.specs.Table.{Table}
-use Rattle.dmn_table.proofs.EqualPlaces.{entries_of_hits}
+use Rattle.dmn_table.proofs.EqualPlaces.{entries_of_hits, fitting_distinct}
 use Rattle.dmn_table.proofs.FromRules.{by_policy, none_behind}
 use Rattle.dmn_table.proofs.decision.decide.Goals as goal
 
-pub result_of-requires : goal.result_of-requires
-result_of-requires c =
+pub result_of-requires-clause-entries : goal.result_of-requires-clause-entries
+result_of-requires-clause-entries c =
     let table = c.table.inside in
     let outputs = c.deref-5.result.now in
     let rules = c.deref-2.result.now in
     let fits : columns_fit (length table.inputs.items) (names_of outputs) (entry_counts rules) ≡ true = rw (c.deref-5.ensures.value, c.deref-2.ensures.value) c.table.invariant.0 in
     entries_of_hits (length table.inputs.items) outputs rules c.args.env.now c.deref-3.result.now (rules_view c.deref-4.result.now) fits
     (ap (λ xs. Some (rules_view xs)) c.deref-4.ensures.value ∙ sym (ap (option_map (λ v. rules_view v.items)) c.in-Some-2.is) ∙ c.in_ok-rules.ensures)
+
+pub result_of-requires-clause-distinct : goal.result_of-requires-clause-distinct
+result_of-requires-clause-distinct c =
+    let table = c.table.inside in
+    rw c.deref-5.ensures.value (fitting_distinct (length table.inputs.items) table.outputs.items (entry_counts table.rules.items) c.table.invariant.0)
 
 pub rules_that_hit-requires-clause-tell : goal.rules_that_hit-requires-clause-tell
 rules_that_hit-requires-clause-tell c =

@@ -5,13 +5,13 @@ use Rattle.feel_lang.specs.Meaning.{den, Bindings}
 use Rattle.feel_value.specs.Found.{value_of}
 use Rattle.dmn_table.specs.Hits.{values_of}
 use Rattle.dmn_table.proofs.Each.{rest_begun, rest_done, rest_more, rest_none}
-use Rattle.dmn_table.proofs.output.evaluated.Goals as goal
+use Rattle.dmn_table.proofs.output.evaluate.Goals as goal
 
 abbrev found : Bindings → Expr → Option Datum
 found m e = value_of (den e m)
 
 pub loop-expression-init : goal.loop-expression-init
-loop-expression-init c = rest_begun (values_of c.args.env.now) c.in_ok-values.values.items c.args.expressions.now c.in_ok-values.ensures.items
+loop-expression-init c = rest_begun (values_of c.args.env.now) c.clear.new.self.items c.args.expressions.now c.clear.ensures.items
 
 pub loop-expression-preserved : goal.loop-expression-preserved
 loop-expression-preserved c =

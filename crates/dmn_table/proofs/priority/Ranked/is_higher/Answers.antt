@@ -2,7 +2,7 @@ use Rattle.std.proofs.Common.{◌≡◌, sym, ◌∙◌, rules}
 use Rattle.std.specs.Ordering.{nat_cmp, is_lt}
 use Rattle.std.specs.Cmp.Lexicographic.{slice_cmp}
 use Rattle.dmn_table.proofs.PriorityOrder.{higher_is_first}
-use Rattle.dmn_table.proofs.priority.Hit.is_higher.Goals as goal
+use Rattle.dmn_table.proofs.priority.Ranked.is_higher.Goals as goal
 
 pub returns : goal.returns
 returns c =
