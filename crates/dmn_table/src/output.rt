@@ -1,6 +1,5 @@
 //! The output of a rule, and what stands where none hits.
-ghost use Rattle.std.specs.Prelude.{◌≡◌, All, IfOk, IsTrue, None, Some, true, if◌then◌else◌, map, option_map};
-ghost use Rattle.std.specs.Arc.{arc_str_bytes};
+ghost use Rattle.std.specs.Prelude.{◌≡◌, All, IfOk, IsTrue, None, Some, true, if◌then◌else◌, map, option_map, string_bytes};
 ghost use Rattle.feel_value.specs.Outcome.{held};
 ghost use Rattle.feel_value.specs.Datum.{context, entries_of};
 ghost use Rattle.std.specs.List.{zip, list_all};
@@ -18,6 +17,7 @@ use crate::table::{Output, Rule};
 use feel_lang::{Env, Expr, eval};
 use feel_value::{Feel, Outcome, Value};
 use std::alloc::{AllocError, Global};
+use std::sync::ArcStr;
 
 /// So many values are too many for a context: each is a node, and so is the context.
 const MOST_NODES: usize = 10_000;
@@ -231,7 +231,7 @@ pub(crate) fn has_no_default(outputs: &[Output]) -> bool
 
 /// The context of the values under the columns' names.
 fn named(alloc: Global, outputs: &[Output], values: Vec<Feel>) -> Result<Outcome, AllocError>
-    ensures { IfOk result (λ o. o ≡ held (context (entries_of (zip (map (λ o. arc_str_bytes o.name) outputs.now) values.items)))) }
+    ensures { IfOk result (λ o. o ≡ held (context (entries_of (zip (map (λ o. string_bytes o.name) outputs.now) values.items)))) }
 {
     let mut entries = Vec::with_capacity(alloc, outputs.len())?;
     let mut values = values.into_iter();
@@ -239,7 +239,8 @@ fn named(alloc: Global, outputs: &[Output], values: Vec<Feel>) -> Result<Outcome
         let Some(value) = values.next() else {
             break;
         };
-        entries.push((output.name.clone()?, value.into_value()))?;
+        let name = ArcStr::from_str(alloc, output.name.as_str())?;
+        entries.push((name, value.into_value()))?;
     }
     Outcome::context(alloc, entries)
 }

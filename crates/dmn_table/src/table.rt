@@ -1,6 +1,5 @@
 //! Decision tables and their parts.
-ghost use Rattle.std.specs.Prelude.{◌≡◌, true, IsTrue, IfOk, IfErr, bytes_eq, length};
-ghost use Rattle.std.specs.Arc.{arc_str_bytes};
+ghost use Rattle.std.specs.Prelude.{◌≡◌, true, IsTrue, IfOk, IfErr, string_bytes, bytes_eq, length};
 ghost use Rattle.std.specs.List.{list_all, list_any};
 ghost use Rattle.dmn_table.specs.Faults.{columns_fit as columns_fit_of, fits_columns};
 ghost use Rattle.feel_value.specs.Distinct.{are_distinct};
@@ -14,7 +13,6 @@ use feel_lang::{Expr, Tests};
 use feel_value::Feel;
 use std::alloc::{AllocError, Global};
 use std::marker::Model;
-use std::sync::ArcStr;
 
 /// The fewest rules that are worth the classes of their columns.
 const FEWEST_RULES: usize = 64;
@@ -22,8 +20,8 @@ const FEWEST_RULES: usize = 64;
 /// An output column: its name, its list of output values (empty where it has none) and its default.
 #[derive(Drop)]
 pub struct Output {
-    /// Its name, under which a context has its value where there are several columns. The contexts share it.
-    pub name: ArcStr,
+    /// Its name, under which a context has its value where there are several columns.
+    pub name: String,
     /// Its output values, the highest in priority first; empty where it has none.
     pub values: Vec<Feel>,
     /// Its default, where no rule hits.
@@ -41,7 +39,7 @@ pub struct Rule {
 
 impl Output {
     fn is_named(&self, name: &str) -> bool
-        ensures { result ≡ bytes_eq name.now (arc_str_bytes self.now.name) }
+        ensures { result ≡ bytes_eq name.now (string_bytes self.now.name) }
     {
         name == self.name.as_str()
     }
@@ -192,7 +190,7 @@ fn names_are_distinct(outputs: &[Output]) -> bool
 }
 
 fn is_among(name: &str, outputs: &[Output]) -> bool
-    ensures { result ≡ list_any (λ o. bytes_eq name.now (arc_str_bytes o.name)) outputs.now }
+    ensures { result ≡ list_any (λ o. bytes_eq name.now (string_bytes o.name)) outputs.now }
 {
     outputs.iter().any(|output| output.is_named(name))
 }

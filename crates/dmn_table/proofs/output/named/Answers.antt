@@ -1,5 +1,4 @@
-use Rattle.std.proofs.Common.{◌≡◌, ℕ, List, [], ◌∷◌, ◌++◌, map, length, refl, sym, ap, ◌∙◌, drop, subst, IfOk, arith}
-use Rattle.std.specs.Arc.{arc_str_bytes}
+use Rattle.std.proofs.Common.{◌≡◌, ℕ, List, [], ◌∷◌, ◌++◌, map, length, refl, sym, ap, ◌∙◌, drop, subst, IfOk, arith, string_bytes}
 use Rattle.std.specs.List.{zip}
 use Rattle.std.proofs.lemmas.List.{append-nil, drop_all}
 use Rattle.feel_value.specs.Datum.{context, entries_of}
@@ -10,7 +9,7 @@ use Rattle.dmn_table.proofs.output.named.Goals as goal
 use Rattle.dmn_table.proofs.output.named.Goals.{else-loop-output-test, then-loop-output-test+in_default}
 
 abbrev names : List Output → List (List ℕ)
-names os = map (λ o. arc_str_bytes o.name) os
+names os = map (λ o. string_bytes o.name) os
 
 empty : {A : Type 0} (xs : List A) → length xs ≡ 0 → xs ≡ []
 empty [] e = refl
