@@ -45,7 +45,7 @@ fn tell_fault<F: Sink>(fault: FrontFault, faults: &mut F) -> u8
     FAULT
 }
 
-/// Tells why the words of the command line can't be had: for want of memory, or since one of them is not UTF-8.
+/// Tells why the words of the command line can't be had: since memory is refused, or since one of them is not UTF-8.
 pub fn tell_of_words<F: Sink>(error: &io::Error, faults: &mut F) -> u8
     requires counts { F.faults faults.old < 2 ^ 64 - 1 }
     ensures memory { error_kind error.now ≡ IoKind.OutOfMemory → (result ≡ 1) × IsTold F.contents F.faults faults.old faults.new (fault_line FrontFault.Memory) }

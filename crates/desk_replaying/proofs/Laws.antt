@@ -111,7 +111,7 @@ line_of_object (Resize name n) = refl
 pub one_line : (says other : Line) → object_of says ≡ object_of other → says ≡ other
 one_line says other e = some_same says other (sym (line_of_object says) ∙ ap line_of e ∙ line_of_object other)
 
--- ---- where no want of memory is told, what is due is one deed
+-- ---- where out of memory is not told, what is due is one deed
 
 memory_told : {A : Type 0} (tells : A → Bool) (x y : A) → x ≡ y → tells y ≡ true → tells x ≡ false → ⊥
 memory_told tells x y e is_true quiet = true≢false (sym is_true ∙ sym (ap tells e) ∙ quiet)
@@ -223,7 +223,7 @@ turns_once before (t ∷ ts) (u ∷ us) order other e quiet silent =
     let P : Turn → Type 0 = λ x. AreInOrder (before ++ x ∷ []) us in
     ap (λ x. x ∷ ts) same ∙ ap (λ l. u ∷ l) (turns_once (before ++ t ∷ []) ts us order.1 (subst P (sym same) other.1) tail n.1 m.1)
 
--- where no want of memory is told, the output is one function of the input
+-- where out of memory is not told, the output is one function of the input
 pub one_output : (lines output other : List (List ℕ)) (script : Script lines output) (second : Script lines other)
     → list_any (λ (t : Turn). tells_memory t.deed) script.turns ≡ false → list_any (λ (t : Turn). tells_memory t.deed) second.turns ≡ false → output ≡ other
 one_output lines output other script second quiet silent =

@@ -86,7 +86,7 @@ IsDone past (Refuses why) deed = deed ≡ Refused why
 IsDone past (Asks event) deed =
     (report : broker.Report Request Outcome) × Reports (λ request. request) request_result past event report × (deed ≡ Asked event report)
 
--- On these lines the front may tell want of memory in place of what is due, and then nothing is done. On lines that open,
+-- On these lines the front may tell out of memory in place of what is due, and then nothing is done. On lines that open,
 -- take or resize the broker's own report may.
 abbrev pub MayLackMemory : Line → Type 0
 MayLackMemory (Model json) = Unit {0}

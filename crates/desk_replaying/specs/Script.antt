@@ -23,7 +23,7 @@ pub record Script (lines output : List (List ℕ)) : Type 0 where
   pub due : AreInOrder [] turns
   pub said : output ≡ flat_map said_of turns
 
--- whether a report, and a deed, tells want of memory: where none does, the output is one function of the lines
+-- whether a report, and a deed, tells out of memory: where none does, the output is one function of the lines
 abbrev pub told_memory : broker.Report Request Outcome → Bool
 told_memory (broker.NotAdded unadded.Memory) = true
 told_memory (broker.Refused refusal.Memory) = true

@@ -42,7 +42,7 @@ on_ok_both (Err e) f a b = tt
 
 -- ## Models
 
--- a fault but for want of memory is the one that the reading has
+-- a fault other than out of memory is the one that the reading has
 pub due_model : {Y : Type 0} (r : Result Y ModelFault) (f : ModelFault) → IsDue r f → f ≢ model.Memory → r ≡ Err f
 due_model r model.Syntax h n = h
 due_model r model.Shape h n = h

@@ -9,7 +9,8 @@ use Rattle.std.proofs.lemmas.Slice.Eq.{bytes_eq-Decides}
 use Rattle.dmn_plan.specs.Request.{Request, request_result}
 use Rattle.desk_lines.specs.Lines.{ended}
 use Rattle.desk_serving.specs.Owed.{Lane, replies, due, due_to, due_to_name, unhanded, AreDistinct, AreHanded, AreOwn, AreFirst, AreFirstOwn, Hands, HandsOwn, HandsThen, with_handed}
-use Rattle.desk_serving.specs.Served.{Entry, same_client, of_client, of_name, is_among, texts_of}
+use Rattle.desk_serving.specs.Served.{Entry, same_client, of_client, of_name, texts_of}
+use Rattle.feel_value.specs.Distinct.{is_among}
 use Rattle.desk_reports.specs.Shown.{reply}
 
 -- ## Names
@@ -38,16 +39,16 @@ or_false true b h = cc
 or_false false b h = (refl, h)
 
 -- a name that isn't among the names is none of them
-pub not_among_at : (n m : List ℕ) (names : List (List ℕ)) (c : ℕ) → is_among n names ≡ false → slice_get names c ≡ Some m → bytes_eq m n ≡ false
+pub not_among_at : (n m : List ℕ) (names : List (List ℕ)) (c : ℕ) → is_among names n ≡ false → slice_get names c ≡ Some m → bytes_eq m n ≡ false
 not_among_at n m [] c h at = cc
-not_among_at n m (k ∷ names) zero h at = let is : k ≡ m = cc in subst (λ x. bytes_eq x n ≡ false) is (or_false (bytes_eq k n) (is_among n names) h).0
-not_among_at n m (k ∷ names) (suc c) h at = not_among_at n m names c (or_false (bytes_eq k n) (is_among n names) h).1 at
+not_among_at n m (k ∷ names) zero h at = let is : k ≡ m = cc in subst (λ x. bytes_eq x n ≡ false) is (turned_name k n ∙ (or_false (bytes_eq n k) (is_among names n) h).0)
+not_among_at n m (k ∷ names) (suc c) h at = not_among_at n m names c (or_false (bytes_eq n k) (is_among names n) h).1 at
 
 -- a name at a place is among the names
-pub among_at : (n : List ℕ) (names : List (List ℕ)) (c : ℕ) → slice_get names c ≡ Some n → is_among n names ≡ true
+pub among_at : (n : List ℕ) (names : List (List ℕ)) (c : ℕ) → slice_get names c ≡ Some n → is_among names n ≡ true
 among_at n [] c at = cc
-among_at n (k ∷ names) zero at = let is : k ≡ n = cc in let e : bytes_eq k n ≡ true = subst (λ x. bytes_eq x n ≡ true) (sym is) (name_itself n) in rw e refl
-among_at n (k ∷ names) (suc c) at = rw (among_at n names c at) (or_true (bytes_eq k n))
+among_at n (k ∷ names) zero at = let is : k ≡ n = cc in let e : bytes_eq n k ≡ true = subst (λ x. bytes_eq n x ≡ true) (sym is) (name_itself n) in rw e refl
+among_at n (k ∷ names) (suc c) at = rw (among_at n names c at) (or_true (bytes_eq n k))
 
 -- ## Entries
 
@@ -115,11 +116,12 @@ due_to_other m (k ∷ names) (x ∷ lanes) zero n lane at h =
 due_to_other m (k ∷ names) (x ∷ lanes) (suc c) n lane at h = ap (λ (t : List Entry). if bytes_eq k m then due k x else t) (due_to_other m names lanes c n lane at h)
 
 -- nothing is owed to a name without a lane
-pub due_to_none : (m : List ℕ) (names : List (List ℕ)) (lanes : List Lane) → is_among m names ≡ false → due_to_name m names lanes ≡ []
+pub due_to_none : (m : List ℕ) (names : List (List ℕ)) (lanes : List Lane) → is_among names m ≡ false → due_to_name m names lanes ≡ []
 due_to_none m [] lanes h = refl
 due_to_none m (n ∷ names) [] h = refl
 due_to_none m (n ∷ names) (lane ∷ lanes) h =
-    let both = or_false (bytes_eq n m) (is_among m names) h in rw both.0 (due_to_none m names lanes both.1)
+    let both = or_false (bytes_eq m n) (is_among names m) h in
+    let other : bytes_eq n m ≡ false = turned_name n m ∙ both.0 in rw other (due_to_none m names lanes both.1)
 
 -- ## Lists of lanes
 

@@ -15,7 +15,8 @@ use Rattle.desk_serving.specs.Owed.{Lane, due_to, due_to_name, unhanded, AreDist
 use Rattle.desk_reports.specs.Reading.{Reading, Blank, Long, Syntax, Shape, Says}
 use Rattle.desk_reports.specs.Shown.{refusal, named_refusal}
 use Rattle.desk_serving.specs.Said.{resize_said}
-use Rattle.desk_serving.specs.Served.{Entry, of_none, of_name, of_client, texts_of, is_among, callers, has_lane, in_force, is_closed, requests_under, requests, number_after, answer, request_answer, task_answer, close_answer, resize_answer, model_answer}
+use Rattle.desk_serving.specs.Served.{Entry, of_none, of_name, of_client, texts_of, callers, has_lane, in_force, is_closed, requests_under, requests, number_after, answer, request_answer, task_answer, close_answer, resize_answer, model_answer}
+use Rattle.feel_value.specs.Distinct.{is_among}
 use Rattle.desk_serving.proofs.Owing.{same_name, name_itself, among_at, due_to_none, hands_none, hands_then_entry, length-unhanded}
 use Rattle.desk_serving.proofs.Standing.{requests-other, requests-refused, requests-closed, requests-accepted, quiet, booked_same, booked_at, booked-set, due_to_quiet, stands_answered, stands_named}
 
@@ -119,20 +120,20 @@ named_request n s i t earlier names names' model lanes said st some is =
     let out : in_force earlier ≡ Some t = sym st.model ∙ some in
     stands_named n (Says (Request n s i)) earlier names names' model lanes said st (rw out refl) is
 
-apart : (n m : List ℕ) (names : List (List ℕ)) (t : Bool) → bytes_eq n m ≡ t → is_among n names ≡ false → is_among m names ≡ true → bytes_eq n m ≡ false
+apart : (n m : List ℕ) (names : List (List ℕ)) (t : Bool) → bytes_eq n m ≡ t → is_among names n ≡ false → is_among names m ≡ true → bytes_eq n m ≡ false
 apart n m names true e absent among =
-    let there : is_among n names ≡ true = subst (λ k. is_among k names ≡ true) (sym (same_name n m e)) among in
+    let there : is_among names n ≡ true = subst (λ k. is_among names k ≡ true) (sym (same_name n m e)) among in
     let wrong : true ≡ false = sym there ∙ absent in cc
 apart n m names false e absent among = e
 
 -- no lane is left
 pub heard_no_lane : (n s : List ℕ) (i : Data) (t : List ℕ) (k : ℕ) (d : Data) (earlier : List (Reading Asked)) (names : List (List ℕ)) (model : Option (List ℕ)) (lanes : List Lane) (said : List Entry) (text text' : List ℕ)
-    → Stands (Says (Request n s i) ∷ earlier) earlier names model lanes said → model ≡ Some t → is_among n names ≡ false → k ≡ number_after earlier
+    → Stands (Says (Request n s i) ∷ earlier) earlier names model lanes said → model ≡ Some t → is_among names n ≡ false → k ≡ number_after earlier
     → d ≡ named_refusal n k (codes "clients") → text' ≡ text ++ ended (compact_text d) → IsHeard (Says (Request n s i)) earlier names model lanes said text text'
 heard_no_lane n s i t k d earlier names model lanes said text text' st some absent num v is =
     let reading = Says (Request n s i) in
     let out : in_force earlier ≡ Some t = sym st.model ∙ some in
-    let lane : has_lane (length lanes) (reading ∷ earlier) n ≡ false = ap (is_among n) (sym st.names) ∙ absent in
+    let lane : has_lane (length lanes) (reading ∷ earlier) n ≡ false = ap (λ ns. is_among ns n) (sym st.names) ∙ absent in
     heard reading earlier names model model lanes lanes said (of_name n d) text text' st
     (hands_then_entry names lanes lanes (of_name n d) text text text' (hands_none names lanes text) (due_to_none n names lanes absent) is)
     (ap (λ b. of_name n (request_answer (number_after earlier) n (in_force earlier) b (is_closed n earlier) (length (requests n earlier)) s i) ∷ []) lane
@@ -143,13 +144,13 @@ heard_no_lane n s i t k d earlier names model lanes said text text' st some abse
 
 -- the name has a lane, and this is the answer there
 pub heard_task : (n s : List ℕ) (i : Data) (t : List ℕ) (k : ℕ) (d : Data) (earlier : List (Reading Asked)) (names : List (List ℕ)) (model : Option (List ℕ)) (lanes new : List Lane) (said : List Entry) (text text' : List ℕ)
-    → Stands (Says (Request n s i) ∷ earlier) earlier names model lanes said → model ≡ Some t → is_among n names ≡ true → k ≡ number_after earlier
+    → Stands (Says (Request n s i) ∷ earlier) earlier names model lanes said → model ≡ Some t → is_among names n ≡ true → k ≡ number_after earlier
     → d ≡ task_answer k n (is_closed n earlier) (length (requests n earlier)) (plan.request_of t s i) → HandsThen names lanes new (of_name n d) text text'
     → length new ≡ length lanes → AreBooked names new (Says (Request n s i) ∷ earlier) → IsHeard (Says (Request n s i)) earlier names model new said text text'
 heard_task n s i t k d earlier names model lanes new said text text' st some inside num v h len booked =
     let reading = Says (Request n s i) in
     let out : in_force earlier ≡ Some t = sym st.model ∙ some in
-    let lane : has_lane (length lanes) (reading ∷ earlier) n ≡ true = ap (is_among n) (sym st.names) ∙ inside in
+    let lane : has_lane (length lanes) (reading ∷ earlier) n ≡ true = ap (λ ns. is_among ns n) (sym st.names) ∙ inside in
     heard reading earlier names model model lanes new said (of_name n d) text text' st h
     (ap (λ b. of_name n (request_answer (number_after earlier) n (in_force earlier) b (is_closed n earlier) (length (requests n earlier)) s i) ∷ []) lane
     ∙ ap (λ o. of_name n (request_answer (number_after earlier) n o true (is_closed n earlier) (length (requests n earlier)) s i) ∷ []) out
@@ -158,7 +159,7 @@ heard_task n s i t k d earlier names model lanes new said text text' st some ins
 
 -- there is no such task
 pub heard_no_task : (n s : List ℕ) (i : Data) (t : List ℕ) (k : ℕ) (d : Data) (f : TaskFault) (earlier : List (Reading Asked)) (names : List (List ℕ)) (model : Option (List ℕ)) (lanes new : List Lane) (said : List Entry) (text text' : List ℕ)
-    → Stands (Says (Request n s i) ∷ earlier) earlier names model lanes said → model ≡ Some t → is_among n names ≡ true → k ≡ number_after earlier
+    → Stands (Says (Request n s i) ∷ earlier) earlier names model lanes said → model ≡ Some t → is_among names n ≡ true → k ≡ number_after earlier
     → plan.request_of t s i ≡ Err f → d ≡ named_refusal n k (line_word (line_refusal f)) → HandsThen names lanes new (of_name n d) text text'
     → unhanded new ≡ unhanded lanes → IsHeard (Says (Request n s i)) earlier names model new said text text'
 heard_no_task n s i t k d f earlier names model lanes new said text text' st some inside num bad v h same =
@@ -224,11 +225,11 @@ closed-own : (n : List ℕ) (earlier : List (Reading Asked)) → is_closed n (Sa
 closed-own n earlier = rw (name_itself n) refl
 
 pub heard_close_no_lane : (n : List ℕ) (k : ℕ) (d : Data) (earlier : List (Reading Asked)) (names : List (List ℕ)) (model : Option (List ℕ)) (lanes : List Lane) (said : List Entry) (text text' : List ℕ)
-    → Stands (Says (Close n) ∷ earlier) earlier names model lanes said → is_among n names ≡ false → k ≡ number_after earlier
+    → Stands (Says (Close n) ∷ earlier) earlier names model lanes said → is_among names n ≡ false → k ≡ number_after earlier
     → d ≡ named_refusal n k (codes "clients") → text' ≡ text ++ ended (compact_text d) → IsHeard (Says (Close n)) earlier names model lanes said text text'
 heard_close_no_lane n k d earlier names model lanes said text text' st absent num v is =
     let reading = Says (Close n) in
-    let lane : has_lane (length lanes) (reading ∷ earlier) n ≡ false = ap (is_among n) (sym st.names) ∙ absent in
+    let lane : has_lane (length lanes) (reading ∷ earlier) n ≡ false = ap (λ ns. is_among ns n) (sym st.names) ∙ absent in
     heard reading earlier names model model lanes lanes said (of_name n d) text text' st
     (hands_then_entry names lanes lanes (of_name n d) text text text' (hands_none names lanes text) (due_to_none n names lanes absent) is)
     (ap (λ b. of_name n (close_answer (number_after earlier) n b (is_closed n earlier)) ∷ []) lane
@@ -245,7 +246,7 @@ pub heard_close : (n : List ℕ) (k c : ℕ) (d : Data) (earlier : List (Reading
 heard_close n k c d earlier names model lanes mid new lane said text text' st at la num v is same owes h =
     let reading = Says (Close n) in
     let book = booked_at names lanes earlier c n lane st.booked at la in
-    let inside : has_lane (length lanes) (reading ∷ earlier) n ≡ true = ap (is_among n) (sym st.names) ∙ among_at n names c at in
+    let inside : has_lane (length lanes) (reading ∷ earlier) n ≡ true = ap (λ ns. is_among ns n) (sym st.names) ∙ among_at n names c at in
     let h' : HandsThen names lanes new (of_name n d) text text' = record {
       more = h.more;
       is = h.is;
@@ -277,11 +278,11 @@ pub named_resize : (n : List ℕ) (size : ℕ) (earlier : List (Reading Asked)) 
 named_resize n size earlier names names' model lanes said st is = stands_named n (Says (Resize n size)) earlier names names' model lanes said st refl is
 
 pub heard_resize_no_lane : (n : List ℕ) (size k : ℕ) (d : Data) (earlier : List (Reading Asked)) (names : List (List ℕ)) (model : Option (List ℕ)) (lanes : List Lane) (said : List Entry) (text text' : List ℕ)
-    → Stands (Says (Resize n size) ∷ earlier) earlier names model lanes said → is_among n names ≡ false → k ≡ number_after earlier
+    → Stands (Says (Resize n size) ∷ earlier) earlier names model lanes said → is_among names n ≡ false → k ≡ number_after earlier
     → d ≡ named_refusal n k (codes "clients") → text' ≡ text ++ ended (compact_text d) → IsHeard (Says (Resize n size)) earlier names model lanes said text text'
 heard_resize_no_lane n size k d earlier names model lanes said text text' st absent num v is =
     let reading = Says (Resize n size) in
-    let lane : has_lane (length lanes) (reading ∷ earlier) n ≡ false = ap (is_among n) (sym st.names) ∙ absent in
+    let lane : has_lane (length lanes) (reading ∷ earlier) n ≡ false = ap (λ ns. is_among ns n) (sym st.names) ∙ absent in
     heard reading earlier names model model lanes lanes said (of_name n d) text text' st
     (hands_then_entry names lanes lanes (of_name n d) text text text' (hands_none names lanes text) (due_to_none n names lanes absent) is)
     (ap (λ b. of_name n (resize_answer (number_after earlier) n size b (is_closed n earlier)) ∷ []) lane
@@ -304,7 +305,7 @@ pub heard_resize : (n : List ℕ) (size k c : ℕ) (d : Data) (earlier : List (R
 heard_resize n size k c d earlier names model lanes new lane said text text' st at la num v same h =
     let reading = Says (Resize n size) in
     let book = booked_at names lanes earlier c n lane st.booked at la in
-    let inside : has_lane (length lanes) (reading ∷ earlier) n ≡ true = ap (is_among n) (sym st.names) ∙ among_at n names c at in
+    let inside : has_lane (length lanes) (reading ∷ earlier) n ≡ true = ap (λ ns. is_among ns n) (sym st.names) ∙ among_at n names c at in
     heard reading earlier names model model lanes new said (of_name n d) text text' st h
     (ap (λ b. of_name n (resize_answer (number_after earlier) n size b (is_closed n earlier)) ∷ []) inside
     ∙ ap (λ x. of_name n x ∷ []) (sym (v ∙ resize_by k n size lane.closed (is_no_capacity size) refl ∙ ap (λ j. resize_answer j n size true lane.closed) num

@@ -8,6 +8,7 @@ use Rattle.feel_lang.proofs.expr.Operator.TheSendSync as operator
 use Rattle.feel_lang.proofs.expr.Function.TheSendSync as function
 use Rattle.feel_lang.proofs.unary.Bound.TheSendSync as bound
 use Rattle.dmn_table.proofs.hit_policy.HitPolicy.TheSendSync as policy
+use Rattle.feel_value.proofs.size.Size.TheSendSync as size
 use Rattle.feel_value.proofs.value.Value.TheLaws.TheKnot as ValueKnot
 use Rattle.feel_lang.proofs.expr.Tree.TheLaws.TheKnot as TreeKnot
 use Rattle.feel_value.specs.contracts.feel.Feel as Feel
@@ -50,7 +51,7 @@ pub Text-sync : IsSync (ArcStr.the_row Heap.the_row ghosts)
 Text-sync = search (maps.String-send, maps.String-sync, Arc-sync, sendable) depth 20
 
 pub Feel-send : IsSend Feel.the_row
-Feel-send = search (Text-send, Text-sync, Vec-send, Vec-sync, Arc-send, Arc-sync, ValueKnot.crosses_both, sendable) depth 60 fits 200000
+Feel-send = search (Text-send, Text-sync, Vec-send, Vec-sync, Arc-send, Arc-sync, size.the_field_send, ValueKnot.crosses_both, sendable) depth 60 fits 200000
 
 pub Value-send : IsSend Value.the_row
 Value-send = search (Text-send, Text-sync, Vec-send, Vec-sync, Arc-send, Arc-sync, ValueKnot.crosses_both, sendable) depth 60 fits 200000
@@ -95,7 +96,7 @@ pub Table-send : IsSend Table.the_row
 Table-send = view_send _ _ _ _ _ TableInside-send
 
 pub Feel-sync : IsSync Feel.the_row
-Feel-sync = search (Text-send, Text-sync, Vec-send, Vec-sync, Arc-send, Arc-sync, ValueKnot.crosses_both, sendable) depth 60 fits 200000
+Feel-sync = search (Text-send, Text-sync, Vec-send, Vec-sync, Arc-send, Arc-sync, size.the_field_sync, ValueKnot.crosses_both, sendable) depth 60 fits 200000
 
 pub Value-sync : IsSync Value.the_row
 Value-sync = search (Text-send, Text-sync, Vec-send, Vec-sync, Arc-send, Arc-sync, ValueKnot.crosses_both, sendable) depth 60 fits 200000

@@ -12,7 +12,8 @@ use Rattle.dmn_plan.specs.declared.fault.TaskFault.{TaskFault}
 use Rattle.desk_serving.specs.Asked.{Asked, Model, Request, Close, Resize}
 use Rattle.desk_serving.specs.Owed.{Lane, due, due_to, due_to_name, unhanded, AreDistinct, AreHanded, AreBooked, Stands, with_lane}
 use Rattle.desk_reports.specs.Reading.{Reading, Blank, Long, Syntax, Shape, Says}
-use Rattle.desk_serving.specs.Served.{Entry, of_client, is_among, with_one, with_requester, callers, names_with_lanes, in_force, newer_model, is_closed, ok_list, requests_under, requests, answer, answers}
+use Rattle.desk_serving.specs.Served.{Entry, of_client, with_one, with_requester, callers, names_with_lanes, in_force, newer_model, is_closed, ok_list, requests_under, requests, answer, answers}
+use Rattle.feel_value.specs.Distinct.{is_among}
 use Rattle.desk_serving.proofs.Owing.{same_name, name_itself, turned_name, or_true, or_false, not_among_at, of_client-append, due-whole, stripped, length-unhanded}
 
 -- ## Requests and closes
@@ -80,40 +81,41 @@ requests-few m (Says (Resize n k) ∷ earlier) = let h = requests-few m earlier 
 
 -- ## The names
 
-is_among-append : (n m : List ℕ) (names : List (List ℕ)) → is_among n (names ++ m ∷ []) ≡ (is_among n names || (bytes_eq m n || false))
-is_among-append n m names = list_any-append (λ k. bytes_eq k n) names (m ∷ [])
+is_among-append : (n m : List ℕ) (names : List (List ℕ)) → is_among (names ++ m ∷ []) n ≡ (is_among names n || (bytes_eq n m || false))
+is_among-append n m names = list_any-append (bytes_eq n) names (m ∷ [])
 
 or_nothing : (b : Bool) → (b || false) ≡ b
 or_nothing true = refl
 or_nothing false = refl
 
 -- who isn't among more names isn't among fewer
-not_with_one_at : (n m : List ℕ) (names : List (List ℕ)) (b : Bool) → is_among m names ≡ b → is_among n (if b then names else names ++ m ∷ []) ≡ false
-    → (is_among n names ≡ false) × (bytes_eq m n ≡ false)
+not_with_one_at : (n m : List ℕ) (names : List (List ℕ)) (b : Bool) → is_among names m ≡ b → is_among (if b then names else names ++ m ∷ []) n ≡ false
+    → (is_among names n ≡ false) × (bytes_eq m n ≡ false)
 not_with_one_at n m names true e h = (h, apart (bytes_eq m n) refl)
   where
     apart : (t : Bool) → bytes_eq m n ≡ t → t ≡ false
-    apart true s = let there : is_among n names ≡ true = subst (λ k. is_among k names ≡ true) (same_name m n s) e in let wrong : true ≡ false = sym there ∙ h in wrong
+    apart true s = let there : is_among names n ≡ true = subst (λ k. is_among names k ≡ true) (same_name m n s) e in let wrong : true ≡ false = sym there ∙ h in wrong
     apart false s = refl
 not_with_one_at n m names false e h =
-    let both = or_false (is_among n names) (bytes_eq m n || false) (sym (is_among-append n m names) ∙ h) in (both.0, sym (or_nothing (bytes_eq m n)) ∙ both.1)
+    let both = or_false (is_among names n) (bytes_eq n m || false) (sym (is_among-append n m names) ∙ h) in
+    (both.0, turned_name m n ∙ (sym (or_nothing (bytes_eq n m)) ∙ both.1))
 
-not_with_one : (n m : List ℕ) (names : List (List ℕ)) → is_among n (with_one m names) ≡ false → (is_among n names ≡ false) × (bytes_eq m n ≡ false)
-not_with_one n m names h = not_with_one_at n m names (is_among m names) refl h
+not_with_one : (n m : List ℕ) (names : List (List ℕ)) → is_among (with_one m names) n ≡ false → (is_among names n ≡ false) × (bytes_eq m n ≡ false)
+not_with_one n m names h = not_with_one_at n m names (is_among names m) refl h
 
 -- a name that never asked for a lane has no requests, and isn't closed
 abbrev IsStranger : List ℕ → List (Reading Asked) → Type 0
 IsStranger n earlier = (requests n earlier ≡ []) × (is_closed n earlier ≡ false)
 
 stranger_request : (n m s : List ℕ) (i : Data) (earlier : List (Reading Asked)) (model : Option (List ℕ)) → in_force earlier ≡ model
-    → (is_among n (callers earlier) ≡ false → IsStranger n earlier) → is_among n (with_requester model m (callers earlier)) ≡ false → IsStranger n (Says (Request m s i) ∷ earlier)
+    → (is_among (callers earlier) n ≡ false → IsStranger n earlier) → is_among (with_requester model m (callers earlier)) n ≡ false → IsStranger n (Says (Request m s i) ∷ earlier)
 stranger_request n m s i earlier None e before h =
     let b = before h in (requests-refused n m s i earlier (rw e refl) ∙ b.0, b.1)
 stranger_request n m s i earlier (Some text) e before h =
     let no = not_with_one n m (callers earlier) h in let b = before no.0 in
     (requests-other n m s i earlier no.1 ∙ b.0, b.1)
 
-pub stranger : (n : List ℕ) (earlier : List (Reading Asked)) → is_among n (callers earlier) ≡ false → IsStranger n earlier
+pub stranger : (n : List ℕ) (earlier : List (Reading Asked)) → is_among (callers earlier) n ≡ false → IsStranger n earlier
 stranger n [] h = (refl, refl)
 stranger n (Blank ∷ earlier) h = stranger n earlier h
 stranger n (Long ∷ earlier) h = stranger n earlier h
@@ -125,13 +127,13 @@ stranger n (Says (Close m) ∷ earlier) h = let no = not_with_one n m (callers e
 stranger n (Says (Resize m k) ∷ earlier) h = let no = not_with_one n m (callers earlier) h in stranger n earlier no.0
 
 -- the names with lanes, after one more name
-take_with : (lanes : ℕ) (n : List ℕ) (names : List (List ℕ)) (b c d : Bool) → is_among n (take lanes names) ≡ b → nat_le lanes (length (take lanes names)) ≡ c → is_among n names ≡ d
+take_with : (lanes : ℕ) (n : List ℕ) (names : List (List ℕ)) (b c d : Bool) → is_among (take lanes names) n ≡ b → nat_le lanes (length (take lanes names)) ≡ c → is_among names n ≡ d
     → (if b || c then take lanes names else take lanes names ++ n ∷ []) ≡ take lanes (if d then names else names ++ n ∷ [])
 take_with lanes n names true c true eb ec ed = refl
 take_with lanes n names true c false eb ec ed =
-    let whole : is_among n (take lanes names ++ drop lanes names) ≡ (true || is_among n (drop lanes names)) =
-    list_any-append (λ k. bytes_eq k n) (take lanes names) (drop lanes names) ∙ ap (λ (t : Bool). t || is_among n (drop lanes names)) eb in
-    let there : is_among n names ≡ true = ap (is_among n) (sym (take-append-drop lanes names)) ∙ whole in
+    let whole : is_among (take lanes names ++ drop lanes names) n ≡ (true || is_among (drop lanes names) n) =
+    list_any-append (bytes_eq n) (take lanes names) (drop lanes names) ∙ ap (λ (t : Bool). t || is_among (drop lanes names) n) eb in
+    let there : is_among names n ≡ true = ap (λ ns. is_among ns n) (sym (take-append-drop lanes names)) ∙ whole in
     let wrong : true ≡ false = sym there ∙ ed in cc
 take_with lanes n names false true true eb ec ed = refl
 take_with lanes n names false true false eb ec ed =
@@ -142,23 +144,23 @@ take_with lanes n names false false d eb ec ed =
     let room : length (take lanes names) < lanes = grind (arith, nat_tests) in
     let short : length names < lanes = omega (arith, length-take lanes names) in
     let all : take lanes names ≡ names = take_all lanes names (omega arith) in
-    let no : d ≡ false = sym ed ∙ (ap (is_among n) (sym all) ∙ eb) in
+    let no : d ≡ false = sym ed ∙ (ap (λ ns. is_among ns n) (sym all) ∙ eb) in
     rw (no, all) (sym (take_all lanes (names ++ n ∷ []) (omega (arith, length-append names (n ∷ [])))))
 
 pub with_lane-take : (lanes : ℕ) (n : List ℕ) (names : List (List ℕ)) → with_lane lanes n (take lanes names) ≡ take lanes (with_one n names)
-with_lane-take lanes n names = take_with lanes n names (is_among n (take lanes names)) (nat_le lanes (length (take lanes names))) (is_among n names) refl refl refl
+with_lane-take lanes n names = take_with lanes n names (is_among (take lanes names) n) (nat_le lanes (length (take lanes names))) (is_among names n) refl refl refl
 
-pub distinct-push : (names : List (List ℕ)) (n : List ℕ) → AreDistinct names → is_among n names ≡ false → AreDistinct (names ++ n ∷ [])
+pub distinct-push : (names : List (List ℕ)) (n : List ℕ) → AreDistinct names → is_among names n ≡ false → AreDistinct (names ++ n ∷ [])
 distinct-push [] n d h = (refl, tt)
 distinct-push (m ∷ names) n d h =
-    let no = or_false (bytes_eq m n) (is_among n names) h in
-    let back : bytes_eq n m ≡ false = turned_name n m ∙ no.0 in
+    let no = or_false (bytes_eq n m) (is_among names n) h in
+    let back : bytes_eq m n ≡ false = turned_name m n ∙ no.0 in
     (is_among-append m n names ∙ rw (d.0, back) refl, distinct-push names n d.1 no.1)
 
 -- ## The lanes' books
 
 pub booked_same : (names : List (List ℕ)) (lanes new : List Lane) (earlier later : List (Reading Asked)) → unhanded new ≡ unhanded lanes → AreBooked names lanes earlier
-    → ((m : List ℕ) → is_among m names ≡ true → (requests m later ≡ requests m earlier) × (is_closed m later ≡ is_closed m earlier)) → AreBooked names new later
+    → ((m : List ℕ) → is_among names m ≡ true → (requests m later ≡ requests m earlier) × (is_closed m later ≡ is_closed m earlier)) → AreBooked names new later
 booked_same [] [] [] earlier later e b h = tt
 booked_same [] [] (x ∷ new) earlier later e b h = cc
 booked_same [] (l ∷ lanes) [] earlier later e b h = cc
@@ -211,10 +213,10 @@ booked-set (k ∷ names) (l ∷ lanes) (x ∷ new) earlier later zero n lane dis
       booked_same names lanes new earlier later rest b.2 (λ m among. others m (apart m (bytes_eq n m) refl among is)),
     )
   where
-    apart : (m : List ℕ) (t : Bool) → bytes_eq n m ≡ t → is_among m names ≡ true → n ≡ k → bytes_eq n m ≡ false
+    apart : (m : List ℕ) (t : Bool) → bytes_eq n m ≡ t → is_among names m ≡ true → n ≡ k → bytes_eq n m ≡ false
     apart m true s among is =
         let same : m ≡ k = sym (same_name n m s) ∙ is in
-        let there : is_among k names ≡ true = subst (λ j. is_among j names ≡ true) same among in
+        let there : is_among names k ≡ true = subst (λ j. is_among names j ≡ true) same among in
         let wrong : true ≡ false = sym there ∙ dis.0 in cc
     apart m false s among is = s
 booked-set (k ∷ names) (l ∷ lanes) (x ∷ new) earlier later (suc c) n lane dis b at e put closed others =
@@ -292,7 +294,7 @@ stands_answered reading earlier names model model' lanes new said more e s is ow
 
 -- The line's name got a lane, if there was one.
 named_at : (n : List ℕ) (reading : Reading Asked) (earlier : List (Reading Asked)) (names : List (List ℕ)) (model : Option (List ℕ)) (lanes : List Lane) (said : List Entry) (b c : Bool)
-    → Stands earlier earlier names model lanes said → is_among n names ≡ b → nat_le (length lanes) (length names) ≡ c
+    → Stands earlier earlier names model lanes said → is_among names n ≡ b → nat_le (length lanes) (length names) ≡ c
     → with_lane (length lanes) n names ≡ names_with_lanes (length lanes) (reading ∷ earlier)
     → Stands (reading ∷ earlier) earlier (if b || c then names else names ++ n ∷ []) model lanes said
 named_at n reading earlier names model lanes said true c s eb ec same =
@@ -306,7 +308,7 @@ named_at n reading earlier names model lanes said false false s eb ec same =
     let room : length names < length lanes = grind (arith, nat_tests) in
     let size : length names ≡ length (take (length lanes) (callers earlier)) = ap length s.names in
     let all : take (length lanes) (callers earlier) ≡ callers earlier = take_all (length lanes) (callers earlier) (omega (arith, length-take (length lanes) (callers earlier))) in
-    let new : is_among n (callers earlier) ≡ false = ap (is_among n) (sym all ∙ sym s.names) ∙ eb in
+    let new : is_among (callers earlier) n ≡ false = ap (λ ns. is_among ns n) (sym all ∙ sym s.names) ∙ eb in
     record {
       names = sym now ∙ same;
       distinct = distinct-push names n s.distinct eb;
@@ -322,4 +324,4 @@ stands_named n reading earlier names names' model lanes said s cs is =
     let same : with_lane (length lanes) n names ≡ names_with_lanes (length lanes) (reading ∷ earlier) =
     ap (with_lane (length lanes) n) s.names ∙ (with_lane-take (length lanes) n (callers earlier) ∙ ap (take (length lanes)) (sym cs)) in
     subst (λ ms. Stands (reading ∷ earlier) earlier ms model lanes said) (sym is)
-    (named_at n reading earlier names model lanes said (is_among n names) (nat_le (length lanes) (length names)) s refl refl same)
+    (named_at n reading earlier names model lanes said (is_among names n) (nat_le (length lanes) (length names)) s refl refl same)

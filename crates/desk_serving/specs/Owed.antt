@@ -15,7 +15,8 @@ use Rattle.lanes.specs.declared.settled.Settled.{Settled}
 use Rattle.desk_serving.specs.Asked.{Asked}
 use Rattle.desk_lines.specs.Lines.{ended}
 use Rattle.desk_reports.specs.Reading.{Reading}
-use Rattle.desk_serving.specs.Served.{Entry, same_client, of_client, of_name, is_among, requests, is_closed, answers, names_with_lanes, in_force, texts_of}
+use Rattle.desk_serving.specs.Served.{Entry, same_client, of_client, of_name, requests, is_closed, answers, names_with_lanes, in_force, texts_of}
+use Rattle.feel_value.specs.Distinct.{is_among}
 use Rattle.desk_reports.specs.Shown.{reply}
 
 -- a client's lane as the front sees it: the requests that were put, how many results were handed out, and whether it is closed
@@ -58,7 +59,7 @@ unhanded (lane ∷ lanes) = (record { put = lane.put; handed = 0; closed = lane.
 
 abbrev pub AreDistinct : List (List ℕ) → Type 0
 AreDistinct [] = Unit {0}
-AreDistinct (n ∷ names) = (is_among n names ≡ false) × AreDistinct names
+AreDistinct (n ∷ names) = (is_among names n ≡ false) × AreDistinct names
 
 pub AreDistinct-prop : (names : List (List ℕ)) → IsProp (AreDistinct names)
 AreDistinct-prop [] = Unit-prop
@@ -123,7 +124,7 @@ pub record Stands (named earlier : List (Reading Asked)) (known : List (List ℕ
 
 -- the names with one more, if there is a lane for it
 abbrev pub with_lane : ℕ → List ℕ → List (List ℕ) → List (List ℕ)
-with_lane lanes name names = if is_among name names || nat_le lanes (length names) then names else names ++ name ∷ []
+with_lane lanes name names = if is_among names name || nat_le lanes (length names) then names else names ++ name ∷ []
 
 -- the lane with one more request, and one result more handed out
 abbrev pub with_put : Lane → Request → Lane

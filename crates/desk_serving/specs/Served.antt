@@ -8,6 +8,7 @@ use Rattle.std.specs.List.{list_any}
 use Rattle.serde_json.specs.Data.{Data, boolean, object, member, no_members}
 use Rattle.serde_json.specs.Written.{compact_text}
 use Rattle.box_core.specs.Mail.{is_no_capacity}
+use Rattle.feel_value.specs.Distinct.{is_among}
 use Rattle.dmn_plan.specs.ReadModel.{read_model}
 use Rattle.dmn_plan.specs.Request as plan
 use Rattle.dmn_plan.specs.declared.fault.ModelFault.{ModelFault}
@@ -51,12 +52,9 @@ abbrev pub in_force : List (Reading Asked) → Option (List ℕ)
 in_force [] = None
 in_force (reading ∷ earlier) = model_after (in_force earlier) reading
 
-abbrev pub is_among : List ℕ → List (List ℕ) → Bool
-is_among name names = list_any (λ n. bytes_eq n name) names
-
 -- the names with one more, unless it is among them
 abbrev pub with_one : List ℕ → List (List ℕ) → List (List ℕ)
-with_one name names = if is_among name names then names else names ++ name ∷ []
+with_one name names = if is_among names name then names else names ++ name ∷ []
 
 -- a request's name counts once a model is in force
 abbrev pub with_requester : Option (List ℕ) → List ℕ → List (List ℕ) → List (List ℕ)
@@ -79,7 +77,7 @@ abbrev pub names_with_lanes : ℕ → List (Reading Asked) → List (List ℕ)
 names_with_lanes lanes read = take lanes (callers read)
 
 abbrev pub has_lane : ℕ → List (Reading Asked) → List ℕ → Bool
-has_lane lanes read name = is_among name (names_with_lanes lanes read)
+has_lane lanes read name = is_among (names_with_lanes lanes read) name
 
 abbrev pub closes : List ℕ → Reading Asked → Bool
 closes name (Says (Close n)) = bytes_eq n name

@@ -64,7 +64,8 @@ fn take_back<T>(x: &mut T)
 
 /// Answers the lines of the reader to its end. The front runs on the calling thread, and each worker in one of its own.
 ///
-/// Each of the first clients to ask has a lane, as many as the options say. Want of memory, also of a thread, ends the run.
+/// Each of the first clients to ask has a lane, as many as the options say. Where memory is refused, also for a thread, the run
+/// ends.
 pub fn serve<T: Threads + Wait + Sync, R: Source, W: Sink, G: Gate + Sync>(
     alloc: Global,
     rt: &T,

@@ -8,7 +8,8 @@ ghost use Rattle.box_core.specs.Mail.{resize_refusal_by};
 ghost use Rattle.dmn_plan.specs.Request.{request_result};
 ghost use Rattle.desk_lines.specs.Lines.{ended};
 ghost use Rattle.desk_serving.specs.Owed.{AreDistinct, AreDistinct-prop, Hands, HandsThen, Lane, unhanded, with_closed, with_lane, with_put, with_put_if};
-ghost use Rattle.desk_serving.specs.Served.{is_among, of_name, task_answer};
+ghost use Rattle.desk_serving.specs.Served.{of_name, task_answer};
+ghost use Rattle.feel_value.specs.Distinct.{is_among};
 ghost use Rattle.desk_reports.specs.Shown.{named_refusal, reply};
 
 use crate::lane::{self, Submitted};
@@ -78,7 +79,7 @@ impl Lanes {
     /// The place of a name's lane, if it has one.
     fn place_of(&self, name: &str) -> Option<usize>
         ensures found { IfSome result (λ place. slice_get (names_in self.now) place ≡ Some name.now) }
-        ensures none { IfNone result (is_among name.now (names_in self.now) ≡ false) }
+        ensures none { IfNone result (is_among (names_in self.now) name.now ≡ false) }
     {
         for (place, known) in self.names.iter().enumerate() {
             if known.as_str() == name {
@@ -94,7 +95,7 @@ impl Lanes {
         ensures lanes { lanes_in self.new ≡ lanes_in self.old }
         ensures names { OnOk result (names_in self.new ≡ with_lane (length (lanes_in self.old)) name.now (names_in self.old)) }
         ensures found { IfOk result (λ place. IfSome place (λ place. slice_get (names_in self.new) place ≡ Some name.now)) }
-        ensures none { IfOk result (λ place. IfNone place (is_among name.now (names_in self.new) ≡ false)) }
+        ensures none { IfOk result (λ place. IfNone place (is_among (names_in self.new) name.now ≡ false)) }
     {
         if let Some(place) = self.place_of(name) {
             return Ok(Some(place));

@@ -2,7 +2,7 @@
 use Rattle.std.proofs.Common.{◌≡◌, ◌⊎◌, inl, inr, ℕ, zero, suc, ◌<◌, ◌≤◌, List, Bool, true, length, arith}
 use Rattle.std.specs.Bool.{Decides}
 use Rattle.std.specs.List.{flat_map}
-use Rattle.dmn_graph.specs.Reach.{is_among, reached, Leads, directly, through}
+use Rattle.dmn_graph.specs.Reach.{has_same, reached, Leads, directly, through}
 use Rattle.dmn_graph.specs.Members.{IsIn, IsWithin}
 use Rattle.dmn_graph.proofs.Members.{in_right, in_either, in_flat, from_flat, is_in, among}
 use Rattle.dmn_graph.proofs.Reaching.{reached_more, reached_enough}
@@ -31,7 +31,7 @@ module _ {X : Type 0} (same : X → X → Bool) (decides : (a b : X) → Decides
       ]
 
   -- what the list of reached things has is a chain
-  pub leads_from_reached : (m : ℕ) (a b : X) → is_among same (reached m next (next a)) b ≡ true → Leads same next a b
+  pub leads_from_reached : (m : ℕ) (a b : X) → has_same same (reached m next (next a)) b ≡ true → Leads same next a b
   leads_from_reached m a b e =
       elim (reached_leads m (next a) b (is_in same decides b (reached m next (next a)) e)) [
         | inl i ↦ directly (among same decides b (next a) i)
@@ -40,16 +40,16 @@ module _ {X : Type 0} (same : X → X → Bool) (decides : (a b : X) → Decides
 
   -- a chain shows in as many steps as there are things that name any
   pub leads_within : (k : ℕ) (ds : List X) → ((x y : X) → IsIn y (next x) → IsIn x ds) → length ds ≤ k
-      → (a b : X) → Leads same next a b → is_among same (reached k next (next a)) b ≡ true
+      → (a b : X) → Leads same next a b → has_same same (reached k next (next a)) b ≡ true
   leads_within k ds covers fits a b l =
       let w = leads_reached a b l in
       among same decides b (reached k next (next a)) (reached_enough same decides k ds next covers fits w.0 (next a) b w.1)
 
   -- where each thing has a higher rank than all that it names, none leads to itself
-  pub leads_down : (rank : X → ℕ) → ((n q : X) → is_among same (next n) q ≡ true → rank q < rank n) → (a b : X) → Leads same next a b → rank b < rank a
+  pub leads_down : (rank : X → ℕ) → ((n q : X) → has_same same (next n) q ≡ true → rank q < rank n) → (a b : X) → Leads same next a b → rank b < rank a
   leads_down rank falls a b (directly e) = falls a b e
   leads_down rank falls a c (through {b = b} e l) =
       let first : rank b < rank a = falls a b e in let rest : rank c < rank b = leads_down rank falls b c l in omega arith
 
-  pub leads_not_to_itself : (rank : X → ℕ) → ((n q : X) → is_among same (next n) q ≡ true → rank q < rank n) → (n : X) → Leads same next n n → ⊥
+  pub leads_not_to_itself : (rank : X → ℕ) → ((n q : X) → has_same same (next n) q ≡ true → rank q < rank n) → (n : X) → Leads same next n n → ⊥
   leads_not_to_itself rank falls n l = let d : rank n < rank n = leads_down rank falls n n l in omega arith

@@ -2,7 +2,7 @@
 use Rattle.std.proofs.Common.{◌≡◌, ◌⊎◌, inl, inr, ◌≤◌, ◌<◌, List, [], ◌∷◌, ◌++◌, refl, sym, ◌∙◌, ap, subst, arith, Bool, true, false, ◌||◌, length, cond}
 use Rattle.std.specs.Bool.{Decides}
 use Rattle.std.specs.List.{flat_map}
-use Rattle.dmn_graph.specs.Reach.{is_among, IsDistinct}
+use Rattle.dmn_graph.specs.Reach.{has_same, IsDistinct}
 use Rattle.dmn_graph.specs.Members.{IsIn, IsWithin}
 
 pub in_left : {X : Type 0} (x : X) (xs ys : List X) → IsIn x xs → IsIn x (xs ++ ys)
@@ -35,32 +35,32 @@ removed same x (y ∷ ys) = cond (same x y) (removed same x ys) (y ∷ removed s
 
 -- the test of a list, and standing in it
 module _ {X : Type 0} (same : X → X → Bool) (decides : (a b : X) → Decides (same a b) (a ≡ b)) where
-  pub is_in : (x : X) (xs : List X) → is_among same xs x ≡ true → IsIn x xs
+  pub is_in : (x : X) (xs : List X) → has_same same xs x ≡ true → IsIn x xs
   is_in x [] e = absurd (cc)
   is_in x (y ∷ ys) e = go (same x y) refl e (is_in x ys)
     where
-      go : (b : Bool) → same x y ≡ b → (b || is_among same ys x) ≡ true → (is_among same ys x ≡ true → IsIn x ys) → (x ≡ y) ⊎ IsIn x ys
+      go : (b : Bool) → same x y ≡ b → (b || has_same same ys x) ≡ true → (has_same same ys x ≡ true → IsIn x ys) → (x ≡ y) ⊎ IsIn x ys
       go true t h rest = inl ((decides x y).0 t)
       go false t h rest = inr (rest h)
 
-  pub among : (x : X) (xs : List X) → IsIn x xs → is_among same xs x ≡ true
+  pub among : (x : X) (xs : List X) → IsIn x xs → has_same same xs x ≡ true
   among x [] h = absurd h
-  among x (y ∷ ys) (inl e) = ap (λ b. b || is_among same ys x) ((decides x y).1 e)
+  among x (y ∷ ys) (inl e) = ap (λ b. b || has_same same ys x) ((decides x y).1 e)
   among x (y ∷ ys) (inr h) = go (same x y) (among x ys h)
     where
-      go : (b : Bool) → is_among same ys x ≡ true → (b || is_among same ys x) ≡ true
+      go : (b : Bool) → has_same same ys x ≡ true → (b || has_same same ys x) ≡ true
       go true t = refl
       go false t = t
 
-  pub among_not : (x : X) (xs : List X) → (IsIn x xs → ⊥) → is_among same xs x ≡ false
-  among_not x xs n = go (is_among same xs x) refl
+  pub among_not : (x : X) (xs : List X) → (IsIn x xs → ⊥) → has_same same xs x ≡ false
+  among_not x xs n = go (has_same same xs x) refl
     where
-      go : (b : Bool) → is_among same xs x ≡ b → b ≡ false
+      go : (b : Bool) → has_same same xs x ≡ b → b ≡ false
       go true e = absurd (n (is_in x xs e))
       go false e = refl
 
-  pub not_in : (x : X) (xs : List X) → is_among same xs x ≡ false → IsIn x xs → ⊥
-  not_in x xs e h = let t : is_among same xs x ≡ true = among x xs h in cc
+  pub not_in : (x : X) (xs : List X) → has_same same xs x ≡ false → IsIn x xs → ⊥
+  not_in x xs e h = let t : has_same same xs x ≡ true = among x xs h in cc
 
   pub equal_or_not : (a b : X) → (a ≡ b) ⊎ (a ≡ b → ⊥)
   equal_or_not a b = go (same a b) refl

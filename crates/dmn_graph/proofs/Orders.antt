@@ -1,7 +1,7 @@
 -- Laws of orders in which each thing stands behind all that it names.
 use Rattle.std.proofs.Common.{◌≡◌, ◌⊎◌, inl, inr, ℕ, List, [], ◌∷◌, ◌++◌, refl, sym, subst, Bool, true}
 use Rattle.std.specs.Bool.{Decides}
-use Rattle.dmn_graph.specs.Reach.{is_among, reached, Each, IsInOrder, IsDistinct}
+use Rattle.dmn_graph.specs.Reach.{has_same, reached, Each, IsInOrder, IsDistinct}
 use Rattle.dmn_graph.specs.Members.{IsIn}
 use Rattle.dmn_graph.proofs.Members.{in_either, is_in, among, among_not, not_in}
 use Rattle.dmn_graph.proofs.Reaching.{reached_closed}
@@ -29,7 +29,7 @@ module _ {X : Type 0} (same : X → X → Bool) (decides : (a b : X) → Decides
   pub in_order_push : (next : X → List X) (seen ks : List X) (k : X) → IsInOrder same next seen ks
       → ((q : X) → IsIn q (next k) → IsIn q seen ⊎ IsIn q ks) → IsInOrder same next seen (ks ++ k ∷ [])
   in_order_push next seen [] k o h =
-      (each_from (λ q. is_among same seen q ≡ true) (next k) (λ q i. among same decides q seen (elim (h q i) [ inl j ↦ j | inr j ↦ absurd j ])), tt)
+      (each_from (λ q. has_same same seen q ≡ true) (next k) (λ q i. among same decides q seen (elim (h q i) [ inl j ↦ j | inr j ↦ absurd j ])), tt)
   in_order_push next seen (j ∷ js) k o h =
       (o.0, in_order_push next (j ∷ seen) js k o.1 (λ q i. elim (h q i) [ inl a ↦ inl (inr a) | inr a ↦ elim a [ inl e ↦ inl (inl e) | inr b ↦ inr b ] ]))
 
@@ -41,12 +41,12 @@ module _ {X : Type 0} (same : X → X → Bool) (decides : (a b : X) → Decides
   in_order_not_itself next seen [] closed apart once o x i m h = i
   in_order_not_itself next seen (k ∷ ks) closed apart once o x (inl e) m h =
       let first : (y : X) → IsIn y (next x) → IsIn y seen
-      = λ y q. is_in same decides y seen (each_at (λ z. is_among same seen z ≡ true) (next k) y o.0 (subst (λ w. IsIn y (next w)) e q)) in
+      = λ y q. is_in same decides y seen (each_at (λ z. has_same same seen z ≡ true) (next k) y o.0 (subst (λ w. IsIn y (next w)) e q)) in
       apart x (inl e) (reached_closed next (λ y. IsIn y seen) closed m (next x) first x h)
   in_order_not_itself next seen (k ∷ ks) closed apart once o x (inr i) m h =
       in_order_not_itself next (k ∷ seen) ks
       (λ a b j q. elim j [
-        | inl e ↦ inr (is_in same decides b seen (each_at (λ z. is_among same seen z ≡ true) (next k) b o.0 (subst (λ w. IsIn b (next w)) e q)))
+        | inl e ↦ inr (is_in same decides b seen (each_at (λ z. has_same same seen z ≡ true) (next k) b o.0 (subst (λ w. IsIn b (next w)) e q)))
         | inr j' ↦ inr (closed a b j' q)
       ])
       (λ y j s. elim s [

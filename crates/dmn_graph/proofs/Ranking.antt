@@ -8,7 +8,7 @@ use Rattle.std.proofs.lemmas.Bool.Decides.{Decides-eqb}
 use Rattle.std.proofs.lemmas.List.Sorted.{list_any-IsPermutation}
 use Rattle.std.proofs.lemmas.Map.Keys.{IsDistinct-IsPermutation}
 use Rattle.dmn_graph.specs.Reach as reach
-use Rattle.dmn_graph.specs.Reach.{is_among, reached, Each, IsInOrder}
+use Rattle.dmn_graph.specs.Reach.{has_same, reached, Each, IsInOrder}
 use Rattle.dmn_graph.specs.Needs.{needs_of, count_needing, IsOrderOf, DoRanksFall}
 use Rattle.dmn_graph.specs.Within.{needs_within, IsReachOf}
 use Rattle.dmn_graph.specs.Members.{IsIn}
@@ -21,18 +21,18 @@ use Rattle.dmn_graph.proofs.ReachSteps.{next_open}
 
 -- ---- one list in another order
 
-apart_of : (x : ℕ) (xs : List ℕ) → is_among nat_eq xs x ≡ false → AllByRecursion (λ y. nat_eq x y ≡ false) xs
+apart_of : (x : ℕ) (xs : List ℕ) → has_same nat_eq xs x ≡ false → AllByRecursion (λ y. nat_eq x y ≡ false) xs
 apart_of x [] e = tt
 apart_of x (y ∷ ys) e = go (nat_eq x y) refl e (apart_of x ys)
   where
-    go : (b : Bool) → nat_eq x y ≡ b → (b || is_among nat_eq ys x) ≡ false → (is_among nat_eq ys x ≡ false → AllByRecursion (λ z. nat_eq x z ≡ false) ys)
+    go : (b : Bool) → nat_eq x y ≡ b → (b || has_same nat_eq ys x) ≡ false → (has_same nat_eq ys x ≡ false → AllByRecursion (λ z. nat_eq x z ≡ false) ys)
         → (nat_eq x y ≡ false) × AllByRecursion (λ z. nat_eq x z ≡ false) ys
     go true t h rest = absurd (cc)
     go false t h rest = (t, rest h)
 
-of_apart : (x : ℕ) (xs : List ℕ) → AllByRecursion (λ y. nat_eq x y ≡ false) xs → is_among nat_eq xs x ≡ false
+of_apart : (x : ℕ) (xs : List ℕ) → AllByRecursion (λ y. nat_eq x y ≡ false) xs → has_same nat_eq xs x ≡ false
 of_apart x [] h = refl
-of_apart x (y ∷ ys) h = ap (λ b. b || is_among nat_eq ys x) h.0 ∙ of_apart x ys h.1
+of_apart x (y ∷ ys) h = ap (λ b. b || has_same nat_eq ys x) h.0 ∙ of_apart x ys h.1
 
 to_std : (xs : List ℕ) → reach.IsDistinct nat_eq xs → IsDistinct nat_eq xs
 unfolding IsDistinct
@@ -70,7 +70,7 @@ in_order_by_rank : (next : ℕ → List ℕ) (rank : ℕ → ℕ) → ((x q : �
     → ((k q : ℕ) → IsIn k ks → IsIn q (next k) → IsIn q seen ⊎ IsIn q ks) → IsNonDecreasingBy rank ks → IsInOrder nat_eq next seen ks
 in_order_by_rank next rank falls seen [] all rises = tt
 in_order_by_rank next rank falls seen (k ∷ ks) all rises = (
-  each_from (λ q. is_among nat_eq seen q ≡ true) (next k) (λ q i. among nat_eq Decides-eqb q seen (elim (all k q (inl refl) i) [
+  each_from (λ q. has_same nat_eq seen q ≡ true) (next k) (λ q i. among nat_eq Decides-eqb q seen (elim (all k q (inl refl) i) [
     | inl s ↦ s
     | inr j ↦ (let low : rank k ≤ rank q = least q j in let f : rank q < rank k = falls k q i in absurd (omega arith))
   ])),
@@ -94,7 +94,7 @@ reach_in_order given needs starts ranks xs falls r rises =
     in_order_by_rank (needs_of needs) (λ q. get_or ranks q 0) (λ x q i. falls x q (among nat_eq Decides-eqb q (needs_of needs x) i)) given xs closed rises
   where
     closed : (k q : ℕ) → IsIn k xs → IsIn q (needs_of needs k) → IsIn q given ⊎ IsIn q xs
-    closed k q i j = go (is_among nat_eq given q) refl
+    closed k q i j = go (has_same nat_eq given q) refl
       where
         steps : ℕ
         steps = count_needing needs
@@ -107,19 +107,19 @@ reach_in_order given needs starts ranks xs falls r rises =
         of_not true e = cc
         of_not false e = refl
 
-        source : (is_among nat_eq (reached steps (needs_within given needs) starts) k ≡ true) × (is_among nat_eq given k ≡ false)
+        source : (has_same nat_eq (reached steps (needs_within given needs) starts) k ≡ true) × (has_same nat_eq given k ≡ false)
         source =
-            let e = parts (is_among nat_eq (reached steps (needs_within given needs) starts) k) (not (is_among nat_eq given k)) (sym (r.which steps k (omega arith)) ∙ among nat_eq Decides-eqb k xs i) in
-            (e.0, of_not (is_among nat_eq given k) e.1)
+            let e = parts (has_same nat_eq (reached steps (needs_within given needs) starts) k) (not (has_same nat_eq given k)) (sym (r.which steps k (omega arith)) ∙ among nat_eq Decides-eqb k xs i) in
+            (e.0, of_not (has_same nat_eq given k) e.1)
 
-        further : is_among nat_eq (reached (suc steps) (needs_within given needs) starts) q ≡ true
+        further : has_same nat_eq (reached (suc steps) (needs_within given needs) starts) q ≡ true
         further = among nat_eq Decides-eqb q (reached (suc steps) (needs_within given needs) starts)
             (reached_step (needs_within given needs) steps starts k q (is_in nat_eq Decides-eqb k (reached steps (needs_within given needs) starts) source.0)
             (next_open needs [] given starts k q source.1 j))
 
-        go : (b : Bool) → is_among nat_eq given q ≡ b → IsIn q given ⊎ IsIn q xs
+        go : (b : Bool) → has_same nat_eq given q ≡ b → IsIn q given ⊎ IsIn q xs
         go true e = inl (is_in nat_eq Decides-eqb q given e)
-        go false e = inr (is_in nat_eq Decides-eqb q xs (r.which (suc steps) q (omega arith) ∙ (ap (λ b. b && not (is_among nat_eq given q)) further ∙ ap not e)))
+        go false e = inr (is_in nat_eq Decides-eqb q xs (r.which (suc steps) q (omega arith) ∙ (ap (λ b. b && not (has_same nat_eq given q)) further ∙ ap not e)))
 
 -- ---- ranks
 
@@ -127,7 +127,7 @@ reach_in_order given needs starts ranks xs falls r rises =
 behind_at : (next : ℕ → List ℕ) (seen ks : List ℕ) → IsInOrder nat_eq next seen ks → (j q : ℕ) → j < length ks → IsIn q (next (get_or ks j 0))
     → IsIn q seen ⊎ ((i : ℕ) × (i < j) × (get_or ks i 0 ≡ q))
 behind_at next seen [] o j q l h = absurd (omega arith)
-behind_at next seen (k ∷ ks) o zero q l h = inl (is_in nat_eq Decides-eqb q seen (each_at (λ z. is_among nat_eq seen z ≡ true) (next k) q o.0 h))
+behind_at next seen (k ∷ ks) o zero q l h = inl (is_in nat_eq Decides-eqb q seen (each_at (λ z. has_same nat_eq seen z ≡ true) (next k) q o.0 h))
 behind_at next seen (k ∷ ks) o (suc j) q l h =
     elim (behind_at next (k ∷ seen) ks o.1 j q (omega arith) h) [
       | inl s ↦ elim s [ inl e ↦ inr (0, omega arith, sym e) | inr t ↦ inl t ]

@@ -5,7 +5,7 @@ use Rattle.std.specs.List.{list_all}
 use Rattle.std.proofs.lemmas.Bool.Decides.{Decides-eqb}
 use Rattle.std.proofs.lemmas.List.{take_more, take-append-le}
 use Rattle.dmn_graph.specs.declared.walk.Walk.{Walk}
-use Rattle.dmn_graph.specs.Reach.{is_among, reached}
+use Rattle.dmn_graph.specs.Reach.{has_same, reached}
 use Rattle.dmn_graph.specs.Needs.{needs_of, count_needing, AreNeedsBelow}
 use Rattle.dmn_graph.specs.Within.{needs_within, reaches_only, IsReachOf}
 use Rattle.dmn_graph.specs.Members.{IsIn}
@@ -21,13 +21,13 @@ module _ (needs : List (List ℕ)) (through given starts : List ℕ) where
   next = needs_within given needs
 
   -- what is not given leads to what it needs
-  pub next_open : (x y : ℕ) → is_among nat_eq given x ≡ false → IsIn y (needs_of needs x) → IsIn y (next x)
+  pub next_open : (x y : ℕ) → has_same nat_eq given x ≡ false → IsIn y (needs_of needs x) → IsIn y (next x)
   next_open x y e i = subst (λ b. IsIn y (cond b [] (needs_of needs x))) (sym e) i
 
-  next_less : (x y : ℕ) → IsIn y (next x) → (is_among nat_eq given x ≡ false) × IsIn y (needs_of needs x)
-  next_less x y i = go (is_among nat_eq given x) refl i
+  next_less : (x y : ℕ) → IsIn y (next x) → (has_same nat_eq given x ≡ false) × IsIn y (needs_of needs x)
+  next_less x y i = go (has_same nat_eq given x) refl i
     where
-      go : (b : Bool) → is_among nat_eq given x ≡ b → IsIn y (cond b [] (needs_of needs x)) → (is_among nat_eq given x ≡ false) × IsIn y (needs_of needs x)
+      go : (b : Bool) → has_same nat_eq given x ≡ b → IsIn y (cond b [] (needs_of needs x)) → (has_same nat_eq given x ≡ false) × IsIn y (needs_of needs x)
       go true e j = absurd j
       go false e j = (e, j)
 
@@ -35,11 +35,11 @@ module _ (needs : List (List ℕ)) (through given starts : List ℕ) where
   enough steps l m x i =
       reached_enough nat_eq Decides-eqb steps (needing needs) next (λ a b j. needing_covers needs a b (next_less a b j).1) (let e = needing_length needs in omega arith) m starts x i
 
-  found_bounded : (w : Walk) → IsWalk w → ((q : ℕ) → has_place w.through q ≡ is_among nat_eq through q) → length w.found.items ≤ length through
+  found_bounded : (w : Walk) → IsWalk w → ((q : ℕ) → has_place w.through q ≡ has_same nat_eq through q) → length w.found.items ≤ length through
   found_bounded w s t = distinct_length nat_eq Decides-eqb w.found.items through s.once (λ q i. is_in nat_eq Decides-eqb q through (sym (t q) ∙ (s.inside q i).0))
 
-  pub reached_begun : (old w : Walk) → old.found.items ≡ [] → ((q : ℕ) → has_place old.through q ≡ is_among nat_eq through q)
-      → ((q : ℕ) → has_place old.given q ≡ is_among nat_eq given q) → All (λ q. q < length needs) starts → HasMet old starts w → IsReached needs through given starts w 0
+  pub reached_begun : (old w : Walk) → old.found.items ≡ [] → ((q : ℕ) → has_place old.through q ≡ has_same nat_eq through q)
+      → ((q : ℕ) → has_place old.given q ≡ has_same nat_eq given q) → All (λ q. q < length needs) starts → HasMet old starts w → IsReached needs through given starts w 0
   reached_begun old w none t g inside h =
       let throughs = λ (q : ℕ). ap (λ s. has_place s q) h.through ∙ t q in
       record {
@@ -89,7 +89,7 @@ module _ (needs : List (List ℕ)) (through given starts : List ℕ) where
         bounded = found_bounded w' h.state throughs;
       }
     where
-      kept : (q : ℕ) → (is_among nat_eq given q ≡ true) ⊎ IsIn q w.found.items → (is_among nat_eq given q ≡ true) ⊎ IsIn q w'.found.items
+      kept : (q : ℕ) → (has_same nat_eq given q ≡ true) ⊎ IsIn q w.found.items → (has_same nat_eq given q ≡ true) ⊎ IsIn q w'.found.items
       kept q (inl e) = inl e
       kept q (inr i) = inr (subst (λ xs. IsIn q xs) (sym h.found) (in_left q w.found.items h.more i))
 
@@ -114,13 +114,13 @@ module _ (needs : List (List ℕ)) (through given starts : List ℕ) where
   all_true p [] h = refl
   all_true p (x ∷ xs) h = ap (λ b. b && list_all p xs) (h x (inl refl)) ∙ all_true p xs (λ q i. h q (inr i))
 
-  missed : (q m : ℕ) → IsIn q (reached m next starts) → is_among nat_eq given q ≡ false → is_among nat_eq through q ≡ false
+  missed : (q m : ℕ) → IsIn q (reached m next starts) → has_same nat_eq given q ≡ false → has_same nat_eq through q ≡ false
       → (steps : ℕ) → count_needing needs ≤ steps → false ≡ reaches_only steps through given needs starts
   missed q m i g t steps l =
-      sym (all_false (is_among nat_eq (through ++ given)) (reached steps next starts) q (enough steps l m q i)
+      sym (all_false (has_same nat_eq (through ++ given)) (reached steps next starts) q (enough steps l m q i)
       (among_not nat_eq Decides-eqb q (through ++ given) (λ j. elim (in_either q through given j) [ inl a ↦ not_in nat_eq Decides-eqb q through t a | inr a ↦ not_in nat_eq Decides-eqb q given g a ])))
 
-  pub missed_start : (w : Walk) → ((q : ℕ) → has_place w.through q ≡ is_among nat_eq through q) → ((q : ℕ) → has_place w.given q ≡ is_among nat_eq given q)
+  pub missed_start : (w : Walk) → ((q : ℕ) → has_place w.through q ≡ has_same nat_eq through q) → ((q : ℕ) → has_place w.given q ≡ has_same nat_eq given q)
       → IsUnlisted w starts → (steps : ℕ) → count_needing needs ≤ steps → false ≡ reaches_only steps through given needs starts
   missed_start w t g u steps l = missed u.0 0 u.1 (sym (g u.0) ∙ u.2) (sym (t u.0) ∙ u.3) steps l
 
@@ -134,38 +134,38 @@ module _ (needs : List (List ℕ)) (through given starts : List ℕ) where
       (sym (s.givens u.0) ∙ u.2) (sym (s.throughs u.0) ∙ u.3) steps b
 
   module _ (w : Walk) (k : ℕ) (s : IsReached needs through given starts w k) (whole : length w.found.items ≤ k) where
-    at_hand : (m x : ℕ) → IsIn x (reached m next starts) → (is_among nat_eq given x ≡ true) ⊎ IsIn x w.found.items
-    at_hand m x i = reached_closed next (λ y. (is_among nat_eq given y ≡ true) ⊎ IsIn y w.found.items) closed m starts s.begun x i
+    at_hand : (m x : ℕ) → IsIn x (reached m next starts) → (has_same nat_eq given x ≡ true) ⊎ IsIn x w.found.items
+    at_hand m x i = reached_closed next (λ y. (has_same nat_eq given y ≡ true) ⊎ IsIn y w.found.items) closed m starts s.begun x i
       where
-        closed : (a b : ℕ) → (is_among nat_eq given a ≡ true) ⊎ IsIn a w.found.items → IsIn b (next a) → (is_among nat_eq given b ≡ true) ⊎ IsIn b w.found.items
+        closed : (a b : ℕ) → (has_same nat_eq given a ≡ true) ⊎ IsIn a w.found.items → IsIn b (next a) → (has_same nat_eq given b ≡ true) ⊎ IsIn b w.found.items
         closed a b (inl e) j = let f = (next_less a b j).0 in absurd (cc)
         closed a b (inr f) j = s.passed a b (subst (λ xs. IsIn a xs) (sym (take_all k w.found.items whole)) f) (next_less a b j).1
 
     pub reached_listed : (steps : ℕ) → true ≡ reaches_only steps through given needs starts
-    reached_listed steps = sym (all_true (is_among nat_eq (through ++ given)) (reached steps next starts) (λ q i. among nat_eq Decides-eqb q (through ++ given) (listed q (at_hand steps q i))))
+    reached_listed steps = sym (all_true (has_same nat_eq (through ++ given)) (reached steps next starts) (λ q i. among nat_eq Decides-eqb q (through ++ given) (listed q (at_hand steps q i))))
       where
-        listed : (q : ℕ) → (is_among nat_eq given q ≡ true) ⊎ IsIn q w.found.items → IsIn q (through ++ given)
+        listed : (q : ℕ) → (has_same nat_eq given q ≡ true) ⊎ IsIn q w.found.items → IsIn q (through ++ given)
         listed q (inl e) = in_right q through given (is_in nat_eq Decides-eqb q given e)
         listed q (inr f) = in_left q through given (is_in nat_eq Decides-eqb q through (sym (s.throughs q) ∙ (s.state.inside q f).0))
 
     pub reach_found : IsReachOf given needs starts w.found.items
     reach_found = record {
       once = s.state.once;
-      which = λ steps q l. go steps q l (is_among nat_eq w.found.items q) refl;
+      which = λ steps q l. go steps q l (has_same nat_eq w.found.items q) refl;
     }
       where
-        not_found : (steps q : ℕ) → (IsIn q w.found.items → ⊥) → (b c : Bool) → is_among nat_eq (reached steps next starts) q ≡ b → is_among nat_eq given q ≡ c → (b && not c) ≡ false
+        not_found : (steps q : ℕ) → (IsIn q w.found.items → ⊥) → (b c : Bool) → has_same nat_eq (reached steps next starts) q ≡ b → has_same nat_eq given q ≡ c → (b && not c) ≡ false
         not_found steps q n true true e f = refl
         not_found steps q n true false e f = elim (at_hand steps q (is_in nat_eq Decides-eqb q (reached steps next starts) e)) [ inl g ↦ cc | inr i ↦ absurd (n i) ]
         not_found steps q n false c e f = refl
 
-        go : (steps q : ℕ) → count_needing needs ≤ steps → (b : Bool) → is_among nat_eq w.found.items q ≡ b
-            → is_among nat_eq w.found.items q ≡ (is_among nat_eq (reached steps next starts) q && not (is_among nat_eq given q))
+        go : (steps q : ℕ) → count_needing needs ≤ steps → (b : Bool) → has_same nat_eq w.found.items q ≡ b
+            → has_same nat_eq w.found.items q ≡ (has_same nat_eq (reached steps next starts) q && not (has_same nat_eq given q))
         go steps q l true e =
             let i = is_in nat_eq Decides-eqb q w.found.items e in
             let m = s.source q i in
-            let r : is_among nat_eq (reached steps next starts) q ≡ true = among nat_eq Decides-eqb q (reached steps next starts) (enough steps l m.0 q m.1) in
-            let g : is_among nat_eq given q ≡ false = sym (s.givens q) ∙ (s.state.inside q i).1 in
-            e ∙ sym (ap (λ b. b && not (is_among nat_eq given q)) r ∙ ap not g)
+            let r : has_same nat_eq (reached steps next starts) q ≡ true = among nat_eq Decides-eqb q (reached steps next starts) (enough steps l m.0 q m.1) in
+            let g : has_same nat_eq given q ≡ false = sym (s.givens q) ∙ (s.state.inside q i).1 in
+            e ∙ sym (ap (λ b. b && not (has_same nat_eq given q)) r ∙ ap not g)
         go steps q l false e =
-            e ∙ sym (not_found steps q (not_in nat_eq Decides-eqb q w.found.items e) (is_among nat_eq (reached steps next starts) q) (is_among nat_eq given q) refl refl)
+            e ∙ sym (not_found steps q (not_in nat_eq Decides-eqb q w.found.items e) (has_same nat_eq (reached steps next starts) q) (has_same nat_eq given q) refl refl)

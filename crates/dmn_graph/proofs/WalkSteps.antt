@@ -7,7 +7,7 @@ use Rattle.std.proofs.lemmas.Bool.Decides.{Decides-eqb, nat_tests}
 use Rattle.std.proofs.lemmas.List.{append_assoc, append-nil}
 use Rattle.std.proofs.lemmas.List.Folds.{list_any-append}
 use Rattle.dmn_graph.specs.declared.walk.Walk.{Walk}
-use Rattle.dmn_graph.specs.Reach.{is_among, IsDistinct}
+use Rattle.dmn_graph.specs.Reach.{has_same, IsDistinct}
 use Rattle.dmn_graph.specs.Members.{IsIn}
 use Rattle.dmn_graph.specs.WalkState.{has_place, IsWalk, HasMet, IsUnlisted}
 use Rattle.dmn_graph.proofs.Members.{in_left, in_right, in_either, is_in, among}
@@ -34,8 +34,8 @@ or_swap true true = refl
 or_swap true false = refl
 or_swap false b = sym (or_false b)
 
-pub among_push : (xs : List ℕ) (k q : ℕ) → is_among nat_eq (xs ++ k ∷ []) q ≡ (nat_eq q k || is_among nat_eq xs q)
-among_push xs k q = list_any-append (nat_eq q) xs (k ∷ []) ∙ (ap (λ b. is_among nat_eq xs q || b) (or_false (nat_eq q k)) ∙ or_swap (is_among nat_eq xs q) (nat_eq q k))
+pub among_push : (xs : List ℕ) (k q : ℕ) → has_same nat_eq (xs ++ k ∷ []) q ≡ (nat_eq q k || has_same nat_eq xs q)
+among_push xs k q = list_any-append (nat_eq q) xs (k ∷ []) ∙ (ap (λ b. has_same nat_eq xs q || b) (or_false (nat_eq q k)) ∙ or_swap (has_same nat_eq xs q) (nat_eq q k))
 
 pub from_not : (a b : Bool) → a ≡ not b → b ≡ not a
 from_not true true e = cc
@@ -49,7 +49,7 @@ pub met_new : (old new : Walk) (k : ℕ) → IsWalk old → has_place old.given 
     → new.found.items ≡ old.found.items ++ k ∷ [] → HasMet old (k ∷ []) new
 met_new old new k w ungiven open_to fresh through given seen found = record {
   state = record {
-    seen_found = λ q. inserted old.seen new.seen k seen q ∙ (ap (λ b. nat_eq q k || b) (w.seen_found q) ∙ (sym (among_push old.found.items k q) ∙ ap (λ xs. is_among nat_eq xs q) (sym found)));
+    seen_found = λ q. inserted old.seen new.seen k seen q ∙ (ap (λ b. nat_eq q k || b) (w.seen_found q) ∙ (sym (among_push old.found.items k q) ∙ ap (λ xs. has_same nat_eq xs q) (sym found)));
     inside = λ q i. elim (in_either q old.found.items (k ∷ []) (subst (λ xs. IsIn q xs) found i)) [
       | inl j ↦ (ap (λ s. has_place s q) through ∙ (w.inside q j).0, ap (λ s. has_place s q) given ∙ (w.inside q j).1)
       | inr j ↦ elim j [
@@ -58,7 +58,7 @@ met_new old new k w ungiven open_to fresh through given seen found = record {
       ]
     ];
     once = subst (λ xs. IsDistinct nat_eq xs) (sym found) (distinct_push nat_eq Decides-eqb old.found.items k w.once
-        (λ i. let t : is_among nat_eq old.found.items k ≡ true = among nat_eq Decides-eqb k old.found.items i in let s = w.seen_found k in cc));
+        (λ i. let t : has_same nat_eq old.found.items k ≡ true = among nat_eq Decides-eqb k old.found.items i in let s = w.seen_found k in cc));
   };
   through = through;
   given = given;
@@ -74,7 +74,7 @@ pub met_again : (old new : Walk) (k : ℕ) → IsWalk old → has_place old.seen
     → new.found.items ≡ old.found.items → HasMet old (k ∷ []) new
 met_again old new k w known through given seen found = record {
   state = record {
-    seen_found = λ q. inserted old.seen new.seen k seen q ∙ (same q ∙ (w.seen_found q ∙ ap (λ xs. is_among nat_eq xs q) (sym found)));
+    seen_found = λ q. inserted old.seen new.seen k seen q ∙ (same q ∙ (w.seen_found q ∙ ap (λ xs. has_same nat_eq xs q) (sym found)));
     inside = λ q i. let j = w.inside q (subst (λ xs. IsIn q xs) found i) in (ap (λ s. has_place s q) through ∙ j.0, ap (λ s. has_place s q) given ∙ j.1);
     once = subst (λ xs. IsDistinct nat_eq xs) (sym found) w.once;
   };

@@ -1,7 +1,7 @@
 -- What places need: a list for each place, of the places that it needs.
 use Rattle.std.specs.Prelude.{◌≡◌, ℕ, suc, ◌<◌, ◌≤◌, List, [], ◌∷◌, map, length, Vec, Bool, true, false, nat_eq, slice_index_or, slice_index, All}
 use Rattle.std.specs.declared.alloc.Global.{Global}
-use Rattle.dmn_graph.specs.Reach.{is_among, reached, IsInOrder, IsDistinct}
+use Rattle.dmn_graph.specs.Reach.{has_same, reached, IsInOrder, IsDistinct}
 
 abbrev pub needs_view : List (Vec ℕ Global) → List (List ℕ)
 needs_view needs = map (λ v. v.items) needs
@@ -22,7 +22,7 @@ count_needing ((q ∷ qs) ∷ rest) = suc (count_needing rest)
 
 -- a place needs itself, directly or through others, in so many steps
 abbrev pub needs_itself : ℕ → List (List ℕ) → ℕ → Bool
-needs_itself steps needs x = is_among nat_eq (reached steps (needs_of needs) (needs_of needs x)) x
+needs_itself steps needs x = has_same nat_eq (reached steps (needs_of needs) (needs_of needs x)) x
 
 -- some place needs itself, which as many steps as places need anything show
 abbrev pub HasCycle : List (List ℕ) → Type 0
@@ -36,9 +36,9 @@ HasNoCycle needs = (steps x : ℕ) → needs_itself steps needs x ≡ false
 pub record IsOrderOf (needs : List (List ℕ)) (order : List ℕ) : Type 0 where
   pub behind : IsInOrder nat_eq (needs_of needs) [] order
   pub once : IsDistinct nat_eq order
-  pub every : (x : ℕ) → x < length needs → is_among nat_eq order x ≡ true
-  pub only : (x : ℕ) → is_among nat_eq order x ≡ true → x < length needs
+  pub every : (x : ℕ) → x < length needs → has_same nat_eq order x ≡ true
+  pub only : (x : ℕ) → has_same nat_eq order x ≡ true → x < length needs
 
 -- each place has a higher rank than all that it needs
 abbrev pub DoRanksFall : List (List ℕ) → List ℕ → Type 0
-DoRanksFall needs ranks = (x q : ℕ) → is_among nat_eq (needs_of needs x) q ≡ true → slice_index ranks q < slice_index ranks x
+DoRanksFall needs ranks = (x q : ℕ) → has_same nat_eq (needs_of needs x) q ≡ true → slice_index ranks q < slice_index ranks x

@@ -3,7 +3,7 @@ use Rattle.std.specs.Prelude.{◌≡◌, ◌⊎◌, ℕ, ◌≤◌, ◌<◌, len
 use Rattle.std.specs.Ordering.{nat_cmp}
 use Rattle.std.specs.BTreeSet.{BTreeSet, contains}
 use Rattle.dmn_graph.specs.declared.walk.Walk.{Walk}
-use Rattle.dmn_graph.specs.Reach.{is_among, reached, IsDistinct}
+use Rattle.dmn_graph.specs.Reach.{has_same, reached, IsDistinct}
 use Rattle.dmn_graph.specs.Needs.{needs_of}
 use Rattle.dmn_graph.specs.Within.{needs_within}
 use Rattle.dmn_graph.specs.Members.{IsIn}
@@ -12,7 +12,7 @@ abbrev pub has_place : BTreeSet ℕ → ℕ → Bool
 has_place s q = contains nat_cmp s q
 
 pub record IsWalk (w : Walk) : Type 0 where
-  pub seen_found : (q : ℕ) → has_place w.seen q ≡ is_among nat_eq w.found.items q
+  pub seen_found : (q : ℕ) → has_place w.seen q ≡ has_same nat_eq w.found.items q
   pub inside : (q : ℕ) → IsIn q w.found.items → (has_place w.through q ≡ true) × (has_place w.given q ≡ false)
   pub once : IsDistinct nat_eq w.found.items
 
@@ -34,16 +34,16 @@ IsUnlisted w qs = (q : ℕ) × IsIn q qs × (has_place w.given q ≡ false) × (
 pub record IsNewWalk (through given : List ℕ) (w : Walk) : Type 0 where
   pub state : IsWalk w
   pub none : w.found.items ≡ []
-  pub throughs : (q : ℕ) → has_place w.through q ≡ is_among nat_eq through q
-  pub givens : (q : ℕ) → has_place w.given q ≡ is_among nat_eq given q
+  pub throughs : (q : ℕ) → has_place w.through q ≡ has_same nat_eq through q
+  pub givens : (q : ℕ) → has_place w.given q ≡ has_same nat_eq given q
 
 -- the starts were met, and all that the first so many of the found places need
 pub record IsReached (needs : List (List ℕ)) (through given starts : List ℕ) (w : Walk) (next : ℕ) : Type 0 where
   pub state : IsWalk w
-  pub throughs : (q : ℕ) → has_place w.through q ≡ is_among nat_eq through q
-  pub givens : (q : ℕ) → has_place w.given q ≡ is_among nat_eq given q
-  pub begun : (q : ℕ) → IsIn q starts → (is_among nat_eq given q ≡ true) ⊎ IsIn q w.found.items
-  pub passed : (q y : ℕ) → IsIn q (take next w.found.items) → IsIn y (needs_of needs q) → (is_among nat_eq given y ≡ true) ⊎ IsIn y w.found.items
+  pub throughs : (q : ℕ) → has_place w.through q ≡ has_same nat_eq through q
+  pub givens : (q : ℕ) → has_place w.given q ≡ has_same nat_eq given q
+  pub begun : (q : ℕ) → IsIn q starts → (has_same nat_eq given q ≡ true) ⊎ IsIn q w.found.items
+  pub passed : (q y : ℕ) → IsIn q (take next w.found.items) → IsIn y (needs_of needs q) → (has_same nat_eq given y ≡ true) ⊎ IsIn y w.found.items
   pub source : (q : ℕ) → IsIn q w.found.items → (m : ℕ) × IsIn q (reached m (needs_within given needs) starts)
   pub places : (q : ℕ) → IsIn q w.found.items → q < length needs
   pub sofar : next ≤ length w.found.items

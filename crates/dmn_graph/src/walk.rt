@@ -2,7 +2,7 @@
 ghost use Rattle.std.specs.Prelude.{◌≡◌, ◌≤◌, ◌<◌, ◌∷◌, [], ℕ, nat_eq, length, slice_index, is_some, IfOk, IfSome, MatchBool, All};
 ghost use Rattle.std.specs.BTreeSet.{contains};
 ghost use Rattle.std.specs.Ordering.{nat_cmp};
-ghost use Rattle.dmn_graph.specs.Reach.{is_among};
+ghost use Rattle.dmn_graph.specs.Reach.{has_same};
 ghost use Rattle.dmn_graph.specs.Needs.{needs_view, needs_of, AreNeedsBelow, count_needing};
 ghost use Rattle.dmn_graph.specs.Within.{reaches_only, IsReachOf};
 ghost use Rattle.dmn_graph.specs.Members.{IsIn};
@@ -100,7 +100,7 @@ impl Walk {
 
 /// The set of these places. It takes memory in their number.
 pub fn set_of(alloc: Global, places: &[usize]) -> Result<BTreeSet<usize>, AllocError>
-    ensures { IfOk result (λ s. (q : ℕ) → contains nat_cmp s q ≡ is_among nat_eq places.now q) }
+    ensures { IfOk result (λ s. (q : ℕ) → contains nat_cmp s q ≡ has_same nat_eq places.now q) }
 {
     let mut set = BTreeSet::new(alloc);
     for place in places {

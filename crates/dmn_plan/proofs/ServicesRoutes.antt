@@ -76,19 +76,19 @@ module _ (m : Draft) (s : Service) (needs : List (List ℕ)) (p : PlacedService)
   abbrev all_reached : List ℕ
   all_reached = reached_within (length m.decisions) (parameter_places p) needs p.outputs
 
-  which : (q : ℕ) → reach.is_among nat_eq plan.order.items q ≡ (reach.is_among nat_eq all_reached q && not (reach.is_among nat_eq (parameter_places p) q))
+  which : (q : ℕ) → reach.has_same nat_eq plan.order.items q ≡ (reach.has_same nat_eq all_reached q && not (reach.has_same nat_eq (parameter_places p) q))
   which q = made.which.which (length m.decisions) q (few_need m needs distinct known)
 
   -- what stands in the order is reached, and no parameter
-  ordered : (q : ℕ) → IsIn q plan.order.items → IsIn q all_reached × (reach.is_among nat_eq (parameter_places p) q ≡ false)
+  ordered : (q : ℕ) → IsIn q plan.order.items → IsIn q all_reached × (reach.has_same nat_eq (parameter_places p) q ≡ false)
   ordered q i =
-      let parts = both (reach.is_among nat_eq all_reached q) (not (reach.is_among nat_eq (parameter_places p) q)) (sym (which q) ∙ among nat_eq Decides-eqb q plan.order.items i) in
-      (is_in nat_eq Decides-eqb q all_reached parts.0, not_so (reach.is_among nat_eq (parameter_places p) q) parts.1)
+      let parts = both (reach.has_same nat_eq all_reached q) (not (reach.has_same nat_eq (parameter_places p) q)) (sym (which q) ∙ among nat_eq Decides-eqb q plan.order.items i) in
+      (is_in nat_eq Decides-eqb q all_reached parts.0, not_so (reach.has_same nat_eq (parameter_places p) q) parts.1)
 
   order_inner : (q : ℕ) → IsIn q plan.order.items → IsIn q (inner_places p)
   order_inner q i =
       let o = ordered q i in
-      let t = all_pass (reach.is_among nat_eq (inner_places p ++ parameter_places p)) all_reached q (so (reaches_only (length m.decisions) (inner_places p) (parameter_places p) needs p.outputs) fault_parts.1) o.0 in
+      let t = all_pass (reach.has_same nat_eq (inner_places p ++ parameter_places p)) all_reached q (so (reaches_only (length m.decisions) (inner_places p) (parameter_places p) needs p.outputs) fault_parts.1) o.0 in
       elim (in_either q (inner_places p) (parameter_places p) (is_in nat_eq Decides-eqb q (inner_places p ++ parameter_places p) t)) [
         | inl j ↦ j
         | inr j ↦ absurd (not_in nat_eq Decides-eqb q (parameter_places p) o.1 j)
@@ -112,7 +112,7 @@ module _ (m : Draft) (s : Service) (needs : List (List ℕ)) (p : PlacedService)
   -- an output is no parameter, so it stands in the order
   output_open : (q : ℕ) → IsIn q p.outputs → IsIn q (parameter_places p) → ⊥
   output_open q i j = elim (in_either q p.input_decisions p.input_data j) [
-    | inl k ↦ not_in nat_eq Decides-eqb q (inner_places p) (none_passes (reach.is_among nat_eq (inner_places p)) p.input_decisions q fault_parts.0 k) (in_left q p.outputs p.encapsulated i)
+    | inl k ↦ not_in nat_eq Decides-eqb q (inner_places p) (none_passes (reach.has_same nat_eq (inner_places p)) p.input_decisions q fault_parts.0 k) (in_left q p.outputs p.encapsulated i)
     | inr k ↦ (let a = (output_below m s needs p distinct known placed places q i).0 in let b = data_below m s needs p distinct known placed places q k in absurd (omega arith))
   ]
 

@@ -1,7 +1,7 @@
 -- Internal, cited by no public contract: services by places, and the way to their outputs.
 use Rattle.std.specs.Prelude.{◌≡◌, ℕ, List, ◌++◌, length, Bool, not, ◌||◌, nat_eq, nat_lt}
 use Rattle.std.specs.List.{list_any}
-use Rattle.dmn_graph.specs.Reach.{is_among, IsInOrder}
+use Rattle.dmn_graph.specs.Reach.{has_same, IsInOrder}
 use Rattle.dmn_graph.specs.Needs.{needs_of}
 use Rattle.dmn_graph.specs.Within.{reaches_only, IsReachOf}
 use Rattle.dmn_names.specs.Places.{PlacedService}
@@ -16,7 +16,7 @@ parameter_places p = p.input_decisions ++ p.input_data
 
 -- one of these places is among the others
 abbrev pub do_share : List ℕ → List ℕ → Bool
-do_share places others = list_any (is_among nat_eq others) places
+do_share places others = list_any (has_same nat_eq others) places
 
 -- no output; an input decision that is also an output or encapsulated; something that is reached in so many steps and isn't listed
 abbrev pub is_bad_by_place : ℕ → List (List ℕ) → PlacedService → Bool

@@ -6,7 +6,7 @@ use Rattle.feel_value.specs.declared.feel.Outcome.{Outcome}
 use Rattle.feel_lang.specs.Expr.{Expr}
 use Rattle.feel_value.specs.Distinct.{are_distinct}
 use Rattle.dmn_table.specs.Table.{Table}
-use Rattle.dmn_graph.specs.Reach.{Each, IsInOrder, is_among}
+use Rattle.dmn_graph.specs.Reach.{Each, IsInOrder, has_same}
 use Rattle.dmn_form.specs.Model.{Name, Decision, Service, Model}
 use Rattle.dmn_logic.specs.LogicView.{logic_view}
 use Rattle.dmn_service.specs.Decision.{Given, parameters_of, stands_for, outcome_within, outputs_result, service_result}
@@ -23,10 +23,10 @@ pub record HasPlacesWithin (items : List Item) (plan : ServicePlan) : Type 0 whe
   pub outputs : All (λ q. q < length items) plan.outputs.items
 
 abbrev pub IsAmong : List ℕ → ℕ → Type 0
-IsAmong qs q = is_among nat_eq qs q ≡ true
+IsAmong qs q = has_same nat_eq qs q ≡ true
 
 abbrev pub IsNotAmong : List ℕ → ℕ → Type 0
-IsNotAmong qs q = is_among nat_eq qs q ≡ false
+IsNotAmong qs q = has_same nat_eq qs q ≡ false
 
 -- the decision that an item is; none where it is an input
 abbrev pub decision_of : List Item → Item → Option (Decision Expr Table)

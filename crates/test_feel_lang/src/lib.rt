@@ -1,5 +1,5 @@
 //! The tests of `feel_lang` through its public interface, for what no line of the program shows: trees, bindings, texts of a
-//! megabyte and want of memory. What texts give, and which are none, stands in the program's stored run. They stand in a crate
+//! megabyte and a full heap. What texts give, and which are none, stands in the program's stored run. They stand in a crate
 //! of their own, so that the library's proofs are not made once more for them.
 #![tactic(auto)]
 

@@ -7,7 +7,7 @@ use std::alloc::{AllocError, Global};
 use std::sync::{Arc, ArcStr};
 use std::test::Fail;
 
-/// The word for why a text is no value; want of memory has none.
+/// The word for why a text is no value; out of memory has none.
 fn word_of(fault: ValueFault) -> Result<&'static str, AllocError> {
     match fault {
         ValueFault::Number => Ok("number"),

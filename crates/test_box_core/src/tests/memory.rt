@@ -104,7 +104,7 @@ fn added_within(
     Ok((added, left))
 }
 
-// A client that was not added for want of memory was not there, and is added later.
+// A client that was not added since memory was refused was not there, and is added later.
 fn is_added_later(
     rt: &impl Abort,
     broker: &mut Broker<Successor>,
@@ -155,7 +155,7 @@ fn releases(alloc: Global) -> Result<Vec<Event<Successor>>, AllocError> {
     Ok(events)
 }
 
-// Whether a client was added, where it was, or not for want of memory.
+// Whether a client was added, where it was, or not since memory was refused.
 fn is_added(report: Option<&Report<Successor>>) -> Option<bool> {
     match report? {
         Report::Added(0) => Some(true),
@@ -164,7 +164,7 @@ fn is_added(report: Option<&Report<Successor>>) -> Option<bool> {
     }
 }
 
-// The client was added, or not for want of memory, and each later report says the same.
+// The client was added, or not since memory was refused, and each later report says the same.
 fn are_alike(rt: &impl Abort, reports: &[Report<Successor>]) {
     assert!(rt; reports.len() == 40);
     let added = is_added(reports.first());
@@ -254,7 +254,7 @@ fn are_right(reports: &[Report<Successor>], history: &[(Ask, Said)]) -> bool {
     are_right
 }
 
-// Whether no client was added for want of memory, and so each later event has none.
+// Whether no client was added since memory was refused, and so each later event has none.
 fn are_of_no_client(reports: &[Report<Successor>], count: usize) -> bool {
     let Some((first, later)) = reports.split_first() else {
         return false;

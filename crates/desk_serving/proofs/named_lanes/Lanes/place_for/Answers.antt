@@ -1,7 +1,7 @@
 use Rattle.std.proofs.Common.{◌≡◌, ◌<◌, ◌++◌, ◌∷◌, [], ℕ, List, Some, false, length, slice_get, string_bytes, subst, sym, ap, ◌∙◌, arith, is_ok, map}
 use Rattle.std.proofs.lemmas.List.{map-append, length-map}
 use Rattle.desk_serving.specs.LanesView.{lanes_in, names_in}
-use Rattle.desk_serving.specs.Served.{is_among}
+use Rattle.feel_value.specs.Distinct.{is_among}
 use Rattle.desk_serving.proofs.Owing.{among_at}
 use Rattle.desk_serving.proofs.Putting.{with_lane-known, pushed_names, last_at}
 use Rattle.desk_serving.proofs.named_lanes.Lanes.place_for.Goals as goal
@@ -15,7 +15,7 @@ pub invariant_of-self-2 : goal.invariant_of-self-2
 invariant_of-self-2 c =
     let self = c.args.self.now in let s = c.in_ok-from_str.field-0 in
     let is : c.args.name.now ≡ string_bytes c.in_ok-from_str.field-0 = cc (c.in_ok-from_str.ensures.ok) in
-    let new : is_among (string_bytes s) (names_in self) ≡ false = subst (λ (n : List ℕ). is_among n (names_in self) ≡ false) is c.in_default.ensures.none in
+    let new : is_among (names_in self) (string_bytes s) ≡ false = subst (λ (n : List ℕ). is_among (names_in self) n ≡ false) is c.in_default.ensures.none in
     let room : length self.names.items < length self.clients.items = omega (arith, self.names.ok.0, self.clients.ok.0) in
     let made = pushed_names string_bytes self.clients.items self.names.items c.push.new.self.items s (is_ok c.push.result) c.push.ensures.items self.distinct new room in
     record { named = made.0; distinct = made.1 }

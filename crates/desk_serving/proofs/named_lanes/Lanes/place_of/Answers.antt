@@ -2,7 +2,7 @@ use Rattle.std.proofs.Common.{◌≡◌, ◌<◌, ◌+◌, ℕ, List, Some, true
 use Rattle.std.specs.Str.{bytes_eq}
 use Rattle.std.proofs.lemmas.Grind.{common_steps}
 use Rattle.desk_serving.specs.LanesView.{names_in}
-use Rattle.desk_serving.specs.Served.{is_among}
+use Rattle.feel_value.specs.Distinct.{is_among}
 use Rattle.desk_serving.proofs.Laning.{get_map}
 use Rattle.desk_serving.proofs.Owing.{get_at, same_name}
 use Rattle.desk_serving.proofs.Putting.{among_take}
@@ -24,6 +24,6 @@ loop-place-preserved c =
     let here : c.known-item.result ≡ get_or c.args.self.now.names.items c.loop-place.place c.known-item.result = cc (c.known-item.is, c.deref-known-items.ensures.value) in
     let other : bytes_eq (string_bytes c.known-item.result) c.args.name.now ≡ false = first_of (search rules, grind (arith, common_steps)) in
     let next : suc place ≡ place + 1 = omega arith in
-    subst (λ (k : ℕ). is_among c.args.name.now (take k (names_in c.args.self.now)) ≡ false) next
+    subst (λ (k : ℕ). is_among (take k (names_in c.args.self.now)) c.args.name.now ≡ false) next
     (among_take c.args.name.now (names_in c.args.self.now) place (string_bytes c.known-item.result)
     (get_map string_bytes names place c.known-item.result (get_at names place c.known-item.result within here)) other c.loop-place.invariant)

@@ -1,7 +1,7 @@
 use Rattle.std.proofs.Common.{◌≡◌, false, take}
 use Rattle.desk_serving.specs.LanesView.{names_in}
-use Rattle.desk_serving.specs.Served.{is_among}
+use Rattle.feel_value.specs.Distinct.{is_among}
 use Rattle.desk_serving.proofs.named_lanes.Lanes.place_of.Given as goal
 
 abbrev pub invariant-loop-place : goal.invariant-loop-place
-invariant-loop-place l = is_among l.name (take l.place (names_in l.self)) ≡ false
+invariant-loop-place l = is_among (take l.place (names_in l.self)) l.name ≡ false
