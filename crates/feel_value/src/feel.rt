@@ -14,7 +14,7 @@ use crate::json::{read, write};
 use crate::limits::{MOST_DEPTH, MOST_NODES, is_in_range, size_of, size_within};
 use crate::logic::Truth;
 use crate::names::has_distinct_names;
-use crate::size::{Size, size_at_once};
+use crate::size::Size;
 use crate::value::Value;
 use std::alloc::{AllocError, Global};
 use std::marker::Model;
@@ -27,7 +27,7 @@ use std::sync::{Arc, ArcStr};
 #[derive(Drop)]
 pub struct Feel {
     value: Value,
-    // Known but for a list or a context that was a part of another value.
+    // Known but for a list or a context that was an entry of another value.
     size: Option<Size>,
 }
 
@@ -127,16 +127,21 @@ impl Feel {
         write(alloc, self.value())
     }
 
-    // A copy of a part of a value. The size of a list or a context is not known there.
-    pub(crate) fn copy_of(part: &Value) -> Result<Feel, AllocError>
-        requires { is_value (datum_of part.now) ≡ true }
+    // A copy of a part of a value. Its size is that of the part, as far as it is known.
+    pub(crate) fn copy_of(part: &Value, size: Option<Size>) -> Result<Feel, AllocError>
+        requires lawful { is_value (datum_of part.now) ≡ true }
+        requires size { IfSome size (λ s. IsSizeOf s (datum_of part.now)) }
         ensures { IfOk result (λ f. f ≡ datum_of part.now) }
     {
         let value = copy(part)?;
-        Ok(Feel {
-            value,
-            size: size_at_once(part),
-        })
+        Ok(Feel { value, size })
+    }
+
+    // The size, as far as it is known.
+    pub(crate) fn size(&self) -> Option<Size>
+        ensures { IfSome result (λ s. IsSizeOf s self.now) }
+    {
+        self.size
     }
 
     /// A copy, which shares its texts, lists and contexts with this value. The time is constant.
