@@ -1,10 +1,9 @@
--- The room that the members of a list leave, as one more is taken.
+-- The room that the first members of a list leave to the others.
 use Rattle.std.proofs.Common.{◌≡◌, ℕ, ◌-◌, Bool, true, false, ◌&&◌, nat_le, if◌then◌else◌, Option, Some, None, is_some, option_and_then, List, [], ◌∷◌, ◌++◌, refl, sym, ap, ap₂, ◌∙◌, arith, true≢false}
 use Rattle.std.proofs.lemmas.Bool.Decides.{nat_tests}
 use Rattle.feel_value.specs.Datum.{Datum, list, Items, no_items, item, items_of}
 use Rattle.feel_value.specs.Limits.{keeps_limits, is_value, names_distinct, items_distinct}
 use Rattle.feel_value.specs.Places.{fits, left_of, items_left_of}
-use Rattle.feel_value.specs.Room.{LeavesRoom}
 use Rattle.feel_value.proofs.Places.{items_left_of-item, left_of-list}
 
 -- these members before the others
@@ -51,20 +50,6 @@ left_behind (x ∷ xs) es levels places =
     ∙ in_turn (λ q. items_left_of (items_of xs) levels q) (λ q. items_left_of es levels q) (left_of x levels places)
     ∙ ap (option_and_then (λ q. items_left_of es levels q)) (sym (items_left_of-item x (items_of xs) levels places))
 
-alone : (o : Option ℕ) (levels : ℕ) → option_and_then (λ q. items_left_of no_items levels q) o ≡ o
-alone None levels = refl
-alone (Some q) levels = all_left levels q
-
-last : (d : Datum) (levels : ℕ) (o : Option ℕ) → option_and_then (λ q. items_left_of (item d no_items) levels q) o ≡ option_and_then (λ q. left_of d levels q) o
-last d levels None = refl
-last d levels (Some q) = items_left_of-item d no_items levels q ∙ alone (left_of d levels q) levels
-
-one_more : (ds : List Datum) (d : Datum) (levels places : ℕ) → items_left_of (items_of (ds ++ d ∷ [])) levels places ≡ option_and_then (λ q. left_of d levels q) (items_left_of (items_of ds) levels places)
-one_more ds d levels places =
-    ap (λ xs. items_left_of xs levels places) (sym (behind-end (ds ++ d ∷ [])) ∙ sym (behind-push ds d no_items))
-    ∙ left_behind ds (item d no_items) levels places
-    ∙ last d levels (items_left_of (items_of ds) levels places)
-
 and_assoc : (a b c : Bool) → ((a && b) && c) ≡ (a && (b && c))
 and_assoc true b c = refl
 and_assoc false b c = refl
@@ -78,37 +63,13 @@ pub both : (a b : Bool) → (a && b) ≡ true → (a ≡ true) × (b ≡ true)
 both true b h = (refl, h)
 both false b h = absurd (true≢false (sym h))
 
-distinct_more : (ds : List Datum) (d : Datum) → items_distinct (items_of ds) ≡ true → is_value d ≡ true → items_distinct (items_of (ds ++ d ∷ [])) ≡ true
-distinct_more ds d h v =
-    ap items_distinct (sym (behind-end (ds ++ d ∷ [])) ∙ sym (behind-push ds d no_items))
-    ∙ distinct_behind ds (item d no_items)
-    ∙ ap (λ b. b && (names_distinct d && true)) h ∙ ap (λ b. b && true) ((both (keeps_limits d) (names_distinct d) v).1)
-
 -- whether a list is a value, by the room that its members leave
 some_if : (b : Bool) (n : ℕ) → is_some (if b then Some n else None) ≡ b
 some_if true n = refl
 some_if false n = refl
 
-pub and_true : (b : Bool) → (b && true) ≡ b
-and_true true = refl
-and_true false = refl
-
 limits_by_room : (xs : Items) → keeps_limits (list xs) ≡ is_some (items_left_of xs 99 9999)
 limits_by_room xs = sym (some_if (fits (list xs) 100 10000) _) ∙ ap is_some (left_of-list xs 100 10000 (omega arith) (omega arith))
-
-pub limits_grown : (ds : List Datum) (d : Datum) (room : ℕ) → LeavesRoom ds room → is_some (left_of d 99 room) ≡ keeps_limits (list (items_of (ds ++ d ∷ [])))
-limits_grown ds d room h = sym (limits_by_room (items_of (ds ++ d ∷ [])) ∙ ap is_some (one_more ds d 99 9999 ∙ ap (option_and_then (λ q. left_of d 99 q)) h.0))
-
-pub grown : (ds : List Datum) (d : Datum) (room : ℕ) → LeavesRoom ds room → is_value d ≡ true → is_some (left_of d 99 room) ≡ is_value (list (items_of (ds ++ d ∷ [])))
-grown ds d room h v =
-    let xs = items_of (ds ++ d ∷ []) in
-    limits_grown ds d room h ∙ sym (ap (λ b. keeps_limits (list xs) && b) (distinct_more ds d h.1 v) ∙ and_true (keeps_limits (list xs)))
-
-pub room_left : (ds : List Datum) (d : Datum) (room left : ℕ) → LeavesRoom ds room → is_value d ≡ true → left_of d 99 room ≡ Some left → LeavesRoom (ds ++ d ∷ []) left
-room_left ds d room left h v e = (one_more ds d 99 9999 ∙ ap (option_and_then (λ q. left_of d 99 q)) h.0 ∙ e, distinct_more ds d h.1 v)
-
-pub lawful : (ds : List Datum) (room : ℕ) → LeavesRoom ds room → is_value (list (items_of ds)) ≡ true
-lawful ds room h = ap (λ b. keeps_limits (list (items_of ds)) && b) h.1 ∙ and_true _ ∙ limits_by_room (items_of ds) ∙ ap is_some h.0
 
 -- a list that begins with too much is no value
 some_before : (f : ℕ → Option ℕ) (o : Option ℕ) → is_some (option_and_then f o) ≡ true → is_some o ≡ true

@@ -3,7 +3,7 @@ pub mod View
 pub mod Code
 pub mod Limits
 pub mod Places
-pub mod Room
+pub mod Sizes
 pub mod Names
 pub mod Logic
 pub mod Comparison

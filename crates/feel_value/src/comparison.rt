@@ -44,6 +44,7 @@ pub(crate) fn less_value(a: &Value, b: &Value) -> Truth
 }
 
 #[cycle(same)]
+#[inline(always)]
 pub(crate) fn same_value(a: &Value, b: &Value) -> Truth
     ensures { result ≡ equal_of (datum_of a.now) (datum_of b.now) }
 {

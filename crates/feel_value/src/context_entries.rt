@@ -6,8 +6,8 @@ ghost use Rattle.feel_value.specs.Limits.{keeps_limits};
 ghost use Rattle.feel_value.specs.Outcome.{held};
 
 use crate::feel::{Feel, Outcome};
-use crate::limits::{MOST_DEPTH, MOST_NODES, places_left};
 use crate::names::names_differ;
+use crate::size::Size;
 use crate::value::Value;
 use std::alloc::{AllocError, Global};
 use std::marker::Model;
@@ -17,8 +17,8 @@ use std::sync::{Arc, ArcStr};
 #[derive(Drop)]
 pub struct ContextEntries {
     entries: Vec<(ArcStr, Value)>,
-    // How many more nodes there may be.
-    room: usize,
+    // The size of their context.
+    size: Size,
 }
 
 impl Model for ContextEntries {
@@ -31,12 +31,12 @@ impl Model for ContextEntries {
 
     ghost coded = { coded_list (coded× (coded_list coded_ℕ) datum_code) };
 
-    ghost use Rattle.feel_value.specs.Room.{EntriesLeaveRoom};
+    ghost use Rattle.feel_value.specs.Sizes.{IsContext};
     ghost use Rattle.feel_value.specs.View.{named};
 
     ghost view = { λ e. map named e.entries.items };
 
-    ghost invariant = { λ e. EntriesLeaveRoom (map named e.entries.items) e.room };
+    ghost invariant = { λ e. IsContext (map named e.entries.items) e.size };
 }
 
 impl ContextEntries {
@@ -46,22 +46,23 @@ impl ContextEntries {
     {
         ContextEntries {
             entries: Vec::new(alloc),
-            room: MOST_NODES - 1,
+            size: Size::of_one_node(),
         }
     }
 
     /// Takes one more entry; or answers false, and drops it, where the context of all would no longer keep the limits.
     ///
-    /// The time is linear in the nodes of the new value, as far as there is room for them.
+    /// The time is constant, but for a value of more than 8 levels and for a list or a context that is the copy of an entry
+    /// (`Part::entry`): there it is linear in the nodes, as far as there is room for them.
     pub fn push(&mut self, name: ArcStr, value: Feel) -> Result<bool, AllocError>
         ensures fits { IfOk result (λ b. b ≡ keeps_limits (context (entries_of (self.old ++ (arc_str_bytes name, value) ∷ [])))) }
         ensures taken { MatchResult result (λ b. self.new ≡ (if b then self.old ++ (arc_str_bytes name, value) ∷ [] else self.old)) (λ _. self.new ≡ self.old) }
     {
-        let Some(room) = places_left(value.value(), MOST_DEPTH - 1, self.room) else {
+        let Some(size) = value.grown(self.size) else {
             return Ok(false);
         };
         self.entries.push((name, value.into_value()))?;
-        self.room = room;
+        self.size = size;
         Ok(true)
     }
 
@@ -71,11 +72,11 @@ impl ContextEntries {
         ensures outcome { IfOk result (λ o. o ≡ held (context (entries_of self))) }
         ensures kept { keeps_limits (context (entries_of self)) ≡ true }
     {
-        let ContextEntries { entries, room: _ } = self;
+        let ContextEntries { entries, size } = self;
         if !names_differ(&entries) {
             return Ok(Outcome::Limit);
         }
-        let value = Feel::of_entries(alloc, entries)?;
+        let value = Feel::of_entries(alloc, entries, size)?;
         Ok(Outcome::Is(value))
     }
 }

@@ -1,18 +1,20 @@
 //! Values within the limits of the profile.
-ghost use Rattle.std.specs.Prelude.{option_map, ◌≡◌, true, Some, None, if◌then◌else◌, IfOk};
+ghost use Rattle.std.specs.Prelude.{option_map, ◌≡◌, ◌+◌, ◌≤◌, ◌&&◌, nat_le, true, Some, None, if◌then◌else◌, is_some, IfOk, IfSome};
 ghost use Rattle.serde_json.specs.View.{view};
 ghost use Rattle.feel_value.specs.Faults.{json_reading, IsDueUnlessMemory};
 ghost use Rattle.feel_value.specs.Json.{json_of};
-ghost use Rattle.feel_value.specs.Limits.{is_value};
+ghost use Rattle.feel_value.specs.Limits.{is_value, nodes, depth, most_nodes, most_depth};
 ghost use Rattle.feel_value.specs.Datum.{list, context};
+ghost use Rattle.feel_value.specs.Sizes.{IsSizeOf, IsGrown};
 ghost use Rattle.feel_value.specs.View.{datum_of, items_view, entries_view};
 
 use crate::copy::copy;
 use crate::fault::ValueFault;
 use crate::json::{read, write};
-use crate::limits::{is_in_range, keeps_limits};
+use crate::limits::{MOST_DEPTH, MOST_NODES, is_in_range, size_of, size_within};
 use crate::logic::Truth;
 use crate::names::has_distinct_names;
+use crate::size::Size;
 use crate::value::Value;
 use std::alloc::{AllocError, Global};
 use std::marker::Model;
@@ -25,10 +27,12 @@ use std::sync::{Arc, ArcStr};
 #[derive(Drop)]
 pub struct Feel {
     value: Value,
+    // Known but for a list or a context that was an entry of another value.
+    size: Option<Size>,
 }
 
 impl Model for Feel {
-    ghost use Rattle.std.specs.Prelude.{◌≡◌, true};
+    ghost use Rattle.std.specs.Prelude.{◌≡◌, true, IfSome};
     ghost use Rattle.feel_value.specs.Datum.{Datum};
     ghost use Rattle.feel_value.specs.Code.{datum_code};
 
@@ -37,11 +41,12 @@ impl Model for Feel {
     ghost coded = { datum_code };
 
     ghost use Rattle.feel_value.specs.Limits.{is_value};
+    ghost use Rattle.feel_value.specs.Sizes.{IsSizeOf};
     ghost use Rattle.feel_value.specs.View.{datum_of};
 
     ghost view = { λ f. datum_of f.value };
 
-    ghost invariant = { λ f. is_value (datum_of f.value) ≡ true };
+    ghost invariant = { λ f. (is_value (datum_of f.value) ≡ true) × IfSome f.size (λ s. IsSizeOf s (datum_of f.value)) };
 }
 
 impl Feel {
@@ -53,32 +58,49 @@ impl Feel {
     pub fn of(value: Value) -> Option<Feel>
         ensures { result ≡ (if is_value (datum_of value) then Some (datum_of value) else None) }
     {
-        if keeps_limits(&value) && has_distinct_names(&value) {
-            Some(Feel { value })
+        let size = size_of(&value)?;
+        if has_distinct_names(&value) {
+            Some(Feel {
+                value,
+                size: Some(size),
+            })
         } else {
             None
         }
     }
 
-    // The list of these members, which is a value.
-    pub(crate) fn of_members(alloc: Global, members: Vec<Value>) -> Result<Feel, AllocError>
-        requires { is_value (list (items_view members.items)) ≡ true }
+    // The list of these members, which is a value of that size.
+    pub(crate) fn of_members(
+        alloc: Global,
+        members: Vec<Value>,
+        size: Size,
+    ) -> Result<Feel, AllocError>
+        requires lawful { is_value (list (items_view members.items)) ≡ true }
+        requires size { IsSizeOf size (list (items_view members.items)) }
         ensures { IfOk result (λ f. f ≡ list (items_view members.items)) }
     {
         let value = Value::List(Arc::new(alloc, members)?);
-        Ok(Feel { value })
+        Ok(Feel {
+            value,
+            size: Some(size),
+        })
     }
 
-    // The context of these entries, which is a value.
+    // The context of these entries, which is a value of that size.
     pub(crate) fn of_entries(
         alloc: Global,
         entries: Vec<(ArcStr, Value)>,
+        size: Size,
     ) -> Result<Feel, AllocError>
-        requires { is_value (context (entries_view entries.items)) ≡ true }
+        requires lawful { is_value (context (entries_view entries.items)) ≡ true }
+        requires size { IsSizeOf size (context (entries_view entries.items)) }
         ensures { IfOk result (λ f. f ≡ context (entries_view entries.items)) }
     {
         let value = Value::Context(Arc::new(alloc, entries)?);
-        Ok(Feel { value })
+        Ok(Feel {
+            value,
+            size: Some(size),
+        })
     }
 
     /// The value that a JSON value stands for. An object is a context of its members in the order of their keys.
@@ -89,10 +111,13 @@ impl Feel {
         ensures { IsDueUnlessMemory result (json_reading (view json.now)) }
     {
         let value = read(alloc, json)?;
-        if !keeps_limits(&value) {
+        let Some(size) = size_of(&value) else {
             return Err(ValueFault::Size);
-        }
-        Ok(Feel { value })
+        };
+        Ok(Feel {
+            value,
+            size: Some(size),
+        })
     }
 
     /// The same value in JSON, with each context as an object.
@@ -102,21 +127,65 @@ impl Feel {
         write(alloc, self.value())
     }
 
-    // A copy of a part of a value.
-    pub(crate) fn copy_of(part: &Value) -> Result<Feel, AllocError>
-        requires { is_value (datum_of part.now) ≡ true }
+    // A copy of a part of a value. Its size is that of the part, as far as it is known.
+    pub(crate) fn copy_of(part: &Value, size: Option<Size>) -> Result<Feel, AllocError>
+        requires lawful { is_value (datum_of part.now) ≡ true }
+        requires size { IfSome size (λ s. IsSizeOf s (datum_of part.now)) }
         ensures { IfOk result (λ f. f ≡ datum_of part.now) }
     {
         let value = copy(part)?;
-        Ok(Feel { value })
+        Ok(Feel { value, size })
+    }
+
+    // The size, as far as it is known.
+    pub(crate) fn size(&self) -> Option<Size>
+        ensures { IfSome result (λ s. IsSizeOf s self.now) }
+    {
+        self.size
     }
 
     /// A copy, which shares its texts, lists and contexts with this value. The time is constant.
     pub fn try_clone(&self) -> Result<Feel, AllocError>
         ensures { IfOk result (λ f. f ≡ self.now) }
     {
-        let value = copy(self.value())?;
-        Ok(Feel { value })
+        let value = copy(&self.value)?;
+        Ok(Feel {
+            value,
+            size: self.size,
+        })
+    }
+
+    // The size of a list or a context that takes this value as one part more, where it is none too large and none too deep.
+    pub(crate) fn grown(&self, whole: Size) -> Option<Size>
+        requires { whole.nodes ≤ most_nodes }
+        ensures within { is_some result ≡ (nat_le (1 + depth self.now) most_depth && nat_le (whole.nodes + nodes self.now) most_nodes) }
+        ensures size { IfSome result (λ s. IsGrown whole self.now s) }
+        ensures lawful { is_value self.now ≡ true }
+    {
+        let part = self.size_within(MOST_DEPTH - 1, MOST_NODES - whole.nodes)?;
+        Some(Size {
+            nodes: whole.nodes + part.nodes,
+            levels: whole.levels.max(part.levels + 1),
+        })
+    }
+
+    // The size, where the value is at most `levels` deep and has at most `places` nodes. It is walked through only where the
+    // size that is kept leaves that open.
+    fn size_within(&self, levels: usize, places: usize) -> Option<Size>
+        ensures within { is_some result ≡ (nat_le (depth self.now) levels && nat_le (nodes self.now) places) }
+        ensures size { IfSome result (λ s. IsSizeOf s self.now) }
+        ensures levels { IfSome result (λ s. s.levels ≤ levels) }
+        ensures lawful { is_value self.now ≡ true }
+    {
+        if let Some(size) = self.size {
+            if size.nodes > places {
+                return None;
+            }
+            if size.levels <= levels {
+                return Some(size);
+            }
+        }
+        size_within(&self.value, levels, places)
     }
 
     /// The value itself.
@@ -132,7 +201,7 @@ impl Feel {
         ensures same { datum_of result ≡ self }
         ensures lawful { is_value self ≡ true }
     {
-        let Feel { value } = self;
+        let Feel { value, size: _ } = self;
         value
     }
 }
@@ -156,7 +225,10 @@ impl Outcome {
     pub fn null() -> Outcome
         ensures { result ≡ Is null }
     {
-        Outcome::Is(Feel { value: Value::Null })
+        Outcome::Is(Feel {
+            value: Value::Null,
+            size: Some(Size::of_one_node()),
+        })
     }
 
     /// The number held against the range.
@@ -166,6 +238,7 @@ impl Outcome {
         if is_in_range(n) {
             Outcome::Is(Feel {
                 value: Value::Number(n),
+                size: Some(Size::of_one_node()),
             })
         } else {
             Outcome::Limit
@@ -181,7 +254,10 @@ impl Outcome {
             Truth::No => Value::Bool(false),
             Truth::Unknown => Value::Null,
         };
-        Outcome::Is(Feel { value })
+        Outcome::Is(Feel {
+            value,
+            size: Some(Size::of_one_node()),
+        })
     }
 
     /// The list of the members, held against the limits.

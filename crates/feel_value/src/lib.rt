@@ -14,6 +14,7 @@ mod members;
 mod names;
 mod part;
 mod reading;
+mod size;
 mod value;
 
 pub use comparison::{equal, less};

@@ -1,15 +1,20 @@
-//! Whether a value keeps the limits, in one walk that goes no deeper and no further than they allow.
-ghost use Rattle.std.specs.Prelude.{◌≡◌};
-ghost use Rattle.feel_value.specs.Limits.{in_range, keeps_limits as keeps_limits_of};
-ghost use Rattle.feel_value.specs.Places.{left_of, items_left_of, entries_left_of};
+//! Whether a value keeps the limits, in a walk that goes no deeper and no further than they allow.
+ghost use Rattle.std.specs.Prelude.{◌≡◌, IfSome, is_some};
+ghost use Rattle.feel_value.specs.Limits.{in_range, keeps_limits};
+ghost use Rattle.feel_value.specs.Places.{fits, left_of, items_left_of, entries_left_of};
+ghost use Rattle.feel_value.specs.Sizes.{IsSizeOf};
 ghost use Rattle.feel_value.specs.View.{datum_of, items_view, entries_view};
 
+use crate::size::Size;
 use crate::value::Value;
 use std::sync::ArcStr;
 
 pub(crate) const MOST_NODES: usize = 10_000;
 
 pub(crate) const MOST_DEPTH: usize = 100;
+
+// Most values are no deeper than this.
+const FEW_LEVELS: usize = 8;
 
 // Whether a number is in range: as far from 0 as `i64::MAX` at most.
 pub(crate) fn is_in_range(n: i64) -> bool
@@ -18,16 +23,34 @@ pub(crate) fn is_in_range(n: i64) -> bool
     n != i64::MIN
 }
 
-// Whether the value keeps the limits.
-pub(crate) fn keeps_limits(value: &Value) -> bool
-    ensures { result ≡ keeps_limits_of (datum_of value.now) }
+// The size of the value, where it keeps the limits. The second walk is for a deep value.
+pub(crate) fn size_of(value: &Value) -> Option<Size>
+    ensures kept { is_some result ≡ keeps_limits (datum_of value.now) }
+    ensures size { IfSome result (λ s. IsSizeOf s (datum_of value.now)) }
 {
-    places_left(value, MOST_DEPTH, MOST_NODES).is_some()
+    if let Some(size) = size_within(value, FEW_LEVELS, MOST_NODES) {
+        return Some(size);
+    }
+    size_within(value, MOST_DEPTH, MOST_NODES)
+}
+
+// The size of the value, where it is at most `levels` deep and has at most `places` nodes.
+pub(crate) fn size_within(value: &Value, levels: usize, places: usize) -> Option<Size>
+    ensures fits { is_some result ≡ fits (datum_of value.now) levels places }
+    ensures size { IfSome result (λ s. IsSizeOf s (datum_of value.now)) }
+    ensures levels { IfSome result (λ s. s.levels ≡ levels) }
+{
+    let left = places_left(value, levels, places)?;
+    Some(Size {
+        nodes: places - left,
+        levels,
+    })
 }
 
 // What is left of `places` once the value's nodes are counted, where it fits.
 #[cycle(places_left)]
-pub(crate) fn places_left(value: &Value, levels: usize, places: usize) -> Option<usize>
+#[inline(always)]
+fn places_left(value: &Value, levels: usize, places: usize) -> Option<usize>
     ensures { result ≡ left_of (datum_of value.now) levels places }
 {
     if levels == 0 || places == 0 {

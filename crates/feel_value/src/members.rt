@@ -4,7 +4,7 @@ ghost use Rattle.feel_value.specs.Datum.{list, items_of};
 ghost use Rattle.feel_value.specs.Limits.{is_value};
 
 use crate::feel::Feel;
-use crate::limits::{MOST_DEPTH, MOST_NODES, places_left};
+use crate::size::Size;
 use crate::value::Value;
 use std::alloc::{AllocError, Global};
 use std::marker::Model;
@@ -14,8 +14,8 @@ use std::sync::Arc;
 #[derive(Drop)]
 pub struct Members {
     values: Vec<Value>,
-    // How many more nodes there may be.
-    room: usize,
+    // The size of their list.
+    size: Size,
 }
 
 impl Model for Members {
@@ -28,12 +28,12 @@ impl Model for Members {
 
     ghost coded = { coded_list datum_code };
 
-    ghost use Rattle.feel_value.specs.Room.{LeavesRoom};
+    ghost use Rattle.feel_value.specs.Sizes.{IsList};
     ghost use Rattle.feel_value.specs.View.{datum_of};
 
     ghost view = { λ m. map datum_of m.values.items };
 
-    ghost invariant = { λ m. LeavesRoom (map datum_of m.values.items) m.room };
+    ghost invariant = { λ m. IsList (map datum_of m.values.items) m.size };
 }
 
 impl Members {
@@ -43,22 +43,23 @@ impl Members {
     {
         Members {
             values: Vec::new(alloc),
-            room: MOST_NODES - 1,
+            size: Size::of_one_node(),
         }
     }
 
     /// Takes one more member; or answers false, and drops it, where the list of all would be no value.
     ///
-    /// The time is linear in the nodes of the new member, as far as there is room for them.
+    /// The time is constant, but for a member of more than 8 levels and for a list or a context that is the copy of an entry
+    /// (`Part::entry`): there it is linear in the nodes, as far as there is room for them.
     pub fn push(&mut self, value: Feel) -> Result<bool, AllocError>
         ensures fits { IfOk result (λ b. b ≡ is_value (list (items_of (self.old ++ value ∷ [])))) }
         ensures taken { MatchResult result (λ b. self.new ≡ (if b then self.old ++ value ∷ [] else self.old)) (λ _. self.new ≡ self.old) }
     {
-        let Some(room) = places_left(value.value(), MOST_DEPTH - 1, self.room) else {
+        let Some(size) = value.grown(self.size) else {
             return Ok(false);
         };
         self.values.push(value.into_value())?;
-        self.room = room;
+        self.size = size;
         Ok(true)
     }
 
@@ -67,7 +68,7 @@ impl Members {
         ensures members { IfOk result (λ f. f ≡ list (items_of self)) }
         ensures lawful { is_value (list (items_of self)) ≡ true }
     {
-        let Members { values, room: _ } = self;
-        Feel::of_members(alloc, values)
+        let Members { values, size } = self;
+        Feel::of_members(alloc, values, size)
     }
 }

@@ -5,6 +5,7 @@ ghost use Rattle.feel_value.specs.Limits.{is_value};
 ghost use Rattle.feel_value.specs.View.{datum_of};
 
 use crate::feel::Feel;
+use crate::size::{Size, size_at_once};
 use crate::value::Value;
 use std::alloc::AllocError;
 use std::marker::Model;
@@ -13,10 +14,12 @@ use std::marker::Model;
 #[derive(Drop)]
 pub struct Part<'a> {
     value: &'a Value,
+    // Known but for a list or a context that is an entry.
+    size: Option<Size>,
 }
 
 impl<'a> Model for Part<'a> {
-    ghost use Rattle.std.specs.Prelude.{◌≡◌, true};
+    ghost use Rattle.std.specs.Prelude.{◌≡◌, true, IfSome};
     ghost use Rattle.feel_value.specs.Datum.{Datum};
     ghost use Rattle.feel_value.specs.Code.{datum_code};
 
@@ -25,11 +28,12 @@ impl<'a> Model for Part<'a> {
     ghost coded = { datum_code };
 
     ghost use Rattle.feel_value.specs.Limits.{is_value};
+    ghost use Rattle.feel_value.specs.Sizes.{IsSizeOf};
     ghost use Rattle.feel_value.specs.View.{datum_of};
 
     ghost view = { λ p. datum_of p.value.now };
 
-    ghost invariant = { λ p. is_value (datum_of p.value.now) ≡ true };
+    ghost invariant = { λ p. (is_value (datum_of p.value.now) ≡ true) × IfSome p.size (λ s. IsSizeOf s (datum_of p.value.now)) };
 }
 
 impl<'a> Part<'a> {
@@ -39,6 +43,7 @@ impl<'a> Part<'a> {
     {
         Part {
             value: value.value(),
+            size: value.size(),
         }
     }
 
@@ -48,7 +53,10 @@ impl<'a> Part<'a> {
         ensures { result ≡ entry_named name.now self.now }
     {
         match self.value.entry(name) {
-            Some(value) => Some(Part { value }),
+            Some(value) => Some(Part {
+                value,
+                size: size_at_once(value),
+            }),
             None => None,
         }
     }
@@ -65,6 +73,6 @@ impl<'a> Part<'a> {
     pub fn try_clone(&self) -> Result<Feel, AllocError>
         ensures { IfOk result (λ f. f ≡ self.now) }
     {
-        Feel::copy_of(self.value)
+        Feel::copy_of(self.value, self.size)
     }
 }
