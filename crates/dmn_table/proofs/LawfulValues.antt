@@ -1,5 +1,6 @@
 -- The values of a rule that make an output, and the hit that they make.
-use Rattle.std.proofs.Common.{◌≡◌, List, refl, sym, ap, ◌∙◌, Option, None, Some, ℕ, ◌≤◌, length}
+use Rattle.std.proofs.Common.{◌≡◌, ℕ, ◌≤◌, List, length, Bool, true, false, if◌then◌else◌, Option, None, Some, refl, sym, ap, ◌∙◌}
+use Rattle.std.specs.Option.{is_some}
 use Rattle.std.proofs.lemmas.List.{drop_all}
 use Rattle.std.proofs.lemmas.Option.{same_Some}
 use denote.Ref.{Bor}
@@ -11,7 +12,7 @@ use Rattle.feel_lang.specs.Meaning.{Bindings}
 use Rattle.dmn_table.specs.declared.table.Rule as rule
 use Rattle.dmn_table.specs.Hits.{hit_of, output_of, values_of}
 use Rattle.dmn_table.specs.Priority.{Hit, places_of}
-use Rattle.dmn_table.specs.RuleOutputs.{lawful_values, rules_view, value_or_null}
+use Rattle.dmn_table.specs.RuleOutputs.{lawful_values, rule_output, rules_view, value_or_null}
 use Rattle.dmn_table.specs.Table.{Column, Rule}
 use Rattle.dmn_table.proofs.FirstInPriority.{from_best, hits_from}
 
@@ -19,6 +20,22 @@ abbrev hit_with : List Column → List Datum → Datum → Hit
 hit_with cs ds d = record { places = places_of cs ds; output = d }
 
 module _ (cs : List Column) (m : Bindings) (r : Rule) where
+  -- there is an output where the values are lawful
+  pub there : (ds : List Datum) (b : Bool) → (if b then Some ds else None) ≡ lawful_values cs m r → b ≡ is_some (rule_output cs m r)
+  there ds b e = some_if b ∙ ap is_some e ∙ go (values_of m r.gives)
+    where
+      some_if : (a : Bool) → a ≡ is_some (if a then Some ds else None)
+      some_if true = refl
+      some_if false = refl
+
+      same : (es : List Datum) (o : Option Datum) → is_some (o >>= λ output. Some es) ≡ is_some o
+      same es None = refl
+      same es (Some d) = refl
+
+      go : (o : Option (List Datum)) → is_some (o >>= λ values. value_of (output_of cs values) >>= λ output. Some values) ≡ is_some (o >>= λ values. value_of (output_of cs values))
+      go None = refl
+      go (Some es) = same es (value_of (output_of cs es))
+
   -- values that are kept make an output, and a hit with it
   pub lawful_hit : (ds : List Datum) → Some ds ≡ lawful_values cs m r
       → (Some (hit_with cs ds (value_or_null (output_of cs ds))) ≡ hit_of cs m r) × (output_of cs ds ≡ Is (value_or_null (output_of cs ds)))

@@ -14,7 +14,7 @@ ghost use Rattle.dmn_table.specs.Parts.{column_view, names_of};
 ghost use Rattle.dmn_table.specs.Result.{first_of, only_one as only_one_of, common_one as common_one_of, list_of as list_of_values};
 ghost use Rattle.dmn_table.specs.RuleOutputs.{outputs_of, rules_view};
 
-use crate::output::{has_output, rule_output};
+use crate::output::{lawful_values, rule_output};
 use crate::table::{Output, Rule};
 use feel_lang::Env;
 use feel_value::{Feel, Members, Outcome, Truth, Value, equal};
@@ -53,8 +53,8 @@ pub(crate) fn have_outputs(
 {
     let mut values = Vec::new(alloc);
     for rule in rules {
-        let is_output = has_output(alloc, rule, outputs, env, &mut values)?;
-        if !is_output {
+        let are_lawful = lawful_values(alloc, rule, outputs, env, &mut values)?;
+        if !are_lawful {
             return Ok(false);
         }
     }

@@ -1,5 +1,5 @@
 //! The rules that hit, and their outputs and places.
-ghost use Rattle.std.specs.Prelude.{◌≡◌, ◌≤◌, ◌++◌, IsTrue, IfOk, IfSome, Some, None, true, if◌then◌else◌, length, map, option_map};
+ghost use Rattle.std.specs.Prelude.{◌≡◌, ◌≤◌, ◌++◌, IsTrue, IfOk, IfSome, OnOk, Some, None, true, if◌then◌else◌, length, map, option_map};
 ghost use Rattle.dmn_table.specs.Classes.{MissUnset, TellsColumns};
 ghost use Rattle.feel_value.specs.Distinct.{are_distinct};
 ghost use Rattle.feel_value.specs.Found.{each};
@@ -157,15 +157,15 @@ pub(crate) fn rules_that_hit<'a>(
     hits_by_classes(alloc, rules, keep_limits, columns, values, env)
 }
 
-/// The places of a rule's values in the columns' lists of output values.
-fn places(alloc: Global, lists: &[Listed], values: &[Feel]) -> Result<Vec<usize>, AllocError>
-    ensures { IfOk result (λ p. p.items ≡ places_among lists.now values.now) }
+/// Puts the places of a rule's values in the columns' lists of output values in the place of those that are there.
+fn put_places(lists: &[Listed], values: &[Feel], places: &mut Vec<usize>) -> Result<(), AllocError>
+    ensures { OnOk result (places.new.items ≡ places_among lists.now values.now) }
 {
-    let mut places = Vec::with_capacity(alloc, lists.len())?;
+    places.clear();
     for (listed, value) in lists.iter().zip(values) {
         places.push(listed.place(value))?;
     }
-    Ok(places)
+    Ok(())
 }
 
 /// A rule that hit, with its output and the places of its values; None where a limit is broken.
@@ -183,31 +183,34 @@ pub(crate) fn found_hit(
     let Some(values) = evaluated(alloc, &rule.gives, env)? else {
         return Ok(None);
     };
-    let places = places(alloc, lists, &values)?;
+    let mut places = Vec::with_capacity(alloc, lists.len())?;
+    put_places(lists, &values, &mut places)?;
     match one_or_context(alloc, outputs, values)? {
         Outcome::Is(output) => Ok(Some(Hit { places, output })),
         Outcome::Limit => Ok(None),
     }
 }
 
-/// The values of a rule that hit, with their places; None where a limit is broken.
-pub(crate) fn ranked(
+/// Puts the values of a rule that hit, and their places, in the place of those that are there; false where a limit is broken.
+pub(crate) fn rank(
     alloc: Global,
     rule: &Rule,
     lists: &[Listed],
     outputs: &[Output],
     env: &Env,
-) -> Result<Option<Ranked>, AllocError>
+    ranked: &mut Ranked,
+) -> Result<bool, AllocError>
     requires lists { lists.now ≡ listed_values (map column_view outputs.now) }
     requires distinct { are_distinct (names_of outputs.now) ≡ true }
-    ensures hit { IfOk result (λ found. option_map (ranked_hit (map column_view outputs.now)) found ≡ hit_of_rule (map column_view outputs.now) env.now (rule_view rule.now)) }
-    ensures output { IfOk result (λ found. IfSome found (λ r. output_of (map column_view outputs.now) r.values.items ≡ Is (ranked_hit (map column_view outputs.now) r).output)) }
+    ensures hit { IfOk result (λ all. (if all then Some (ranked_hit (map column_view outputs.now) ranked.new) else None) ≡ hit_of_rule (map column_view outputs.now) env.now (rule_view rule.now)) }
+    ensures output { IfOk result (λ all. IsTrue all → output_of (map column_view outputs.now) ranked.new.values.items ≡ Is (ranked_hit (map column_view outputs.now) ranked.new).output) }
 {
-    let Some(values) = lawful_values(alloc, rule, outputs, env)? else {
-        return Ok(None);
-    };
-    let places = places(alloc, lists, &values)?;
-    Ok(Some(Ranked { places, values }))
+    let are_lawful = lawful_values(alloc, rule, outputs, env, &mut ranked.values)?;
+    if !are_lawful {
+        return Ok(false);
+    }
+    put_places(lists, &ranked.values, &mut ranked.places)?;
+    Ok(true)
 }
 
 /// These rules, with their outputs and places; None where a limit is broken, or the list of the outputs would be no value. The

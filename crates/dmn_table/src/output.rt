@@ -124,8 +124,8 @@ fn make_output(alloc: Global, outputs: &[Output], values: &[Feel]) -> Result<boo
     Ok(output.value().is_some())
 }
 
-/// Whether a rule has an output; false where a limit is broken. Its values take the place of those that are there.
-pub(crate) fn has_output(
+/// Puts the values of a rule in the place of those that are there; false where one breaks a limit, or the output that they make.
+pub(crate) fn lawful_values(
     alloc: Global,
     rule: &Rule,
     outputs: &[Output],
@@ -133,33 +133,13 @@ pub(crate) fn has_output(
     values: &mut Vec<Feel>,
 ) -> Result<bool, AllocError>
     requires { are_distinct (names_of outputs.now) ≡ true }
-    ensures { IfOk result (λ b. b ≡ is_some (rule_output_of (map column_view outputs.now) env.now (rule_view rule.now))) }
+    ensures { IfOk result (λ all. (if all then Some values.new.items else None) ≡ lawful_values_of (map column_view outputs.now) env.now (rule_view rule.now)) }
 {
     let all = evaluate(alloc, &rule.gives, env, values)?;
     if !all {
         return Ok(false);
     }
     make_output(alloc, outputs, values)
-}
-
-/// The values of a rule, which make an output; None where a limit is broken.
-pub(crate) fn lawful_values(
-    alloc: Global,
-    rule: &Rule,
-    outputs: &[Output],
-    env: &Env,
-) -> Result<Option<Vec<Feel>>, AllocError>
-    requires { are_distinct (names_of outputs.now) ≡ true }
-    ensures { IfOk result (λ found. option_map (λ v. v.items) found ≡ lawful_values_of (map column_view outputs.now) env.now (rule_view rule.now)) }
-{
-    let Some(values) = evaluated(alloc, &rule.gives, env)? else {
-        return Ok(None);
-    };
-    let is_output = make_output(alloc, outputs, &values)?;
-    if !is_output {
-        return Ok(None);
-    }
-    Ok(Some(values))
 }
 
 /// The value of a column's default, null where it has none.

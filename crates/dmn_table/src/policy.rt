@@ -12,15 +12,16 @@ ghost use Rattle.dmn_table.specs.View.{hit_view};
 
 use crate::collected::{common_one, count, first, list_of, only_one};
 use crate::hit_policy::HitPolicy;
-use crate::hits::{fitting_hits, ranked};
+use crate::hits::{fitting_hits, rank};
 use crate::listed::lists_of;
 use crate::numbers::{greatest, least, sum};
 use crate::output::one_or_context;
-use crate::priority::{Hit, in_priority};
+use crate::priority::{Hit, Ranked, in_priority};
 use crate::table::{Output, Rule};
 use feel_lang::Env;
 use feel_value::{Outcome, Value};
 use std::alloc::{AllocError, Global};
+use std::mem;
 
 /// The result that a hit policy makes of the rules that hit.
 #[tactic(auto, using(crate::proofs::ByOutputs::by_outputs))]
@@ -65,15 +66,19 @@ fn highest(
         return Ok(Outcome::of(Value::Null));
     };
     let lists = lists_of(alloc, outputs, rules.len())?;
-    let Some(mut best) = ranked(alloc, rule, &lists, outputs, env)? else {
+    let mut best = Ranked::new(alloc);
+    let is_hit = rank(alloc, rule, &lists, outputs, env, &mut best)?;
+    if !is_hit {
         return Ok(Outcome::Limit);
-    };
+    }
+    let mut next = Ranked::new(alloc);
     for rule in rest {
-        let Some(hit) = ranked(alloc, rule, &lists, outputs, env)? else {
+        let is_hit = rank(alloc, rule, &lists, outputs, env, &mut next)?;
+        if !is_hit {
             return Ok(Outcome::Limit);
-        };
-        if hit.is_higher(&best) {
-            best = hit;
+        }
+        if next.is_higher(&best) {
+            mem::swap(&mut best, &mut next);
         }
     }
     one_or_context(alloc, outputs, best.values)

@@ -1,11 +1,11 @@
 //! The order of hits by their output values.
-ghost use Rattle.std.specs.Prelude.{◌≡◌, IfOk, map, length};
+ghost use Rattle.std.specs.Prelude.{◌≡◌, [], IfOk, map, length};
 ghost use Rattle.std.specs.List.{AllPairs};
 ghost use Rattle.dmn_table.specs.Priority.{is_higher as is_higher_of, in_priority as in_priority_of};
 ghost use Rattle.dmn_table.specs.View.{hit_view};
 
 use feel_value::Feel;
-use std::alloc::AllocError;
+use std::alloc::{AllocError, Global};
 
 /// A rule that hit: the place of each of its values in its column's list of output values, and its output.
 #[derive(Drop)]
@@ -22,6 +22,16 @@ pub(crate) struct Ranked {
 }
 
 impl Ranked {
+    /// No values and no places. It takes no memory.
+    pub(crate) fn new(alloc: Global) -> Ranked
+        ensures { result.values.items ≡ [] }
+    {
+        Ranked {
+            places: Vec::new(alloc),
+            values: Vec::new(alloc),
+        }
+    }
+
     /// Whether this one has the higher priority: its places are less.
     pub(crate) fn is_higher(&self, other: &Ranked) -> bool
         requires { length self.now.places.items ≡ length other.now.places.items }

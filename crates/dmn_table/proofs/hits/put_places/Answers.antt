@@ -3,7 +3,7 @@ use Rattle.std.proofs.lemmas.List.{append-nil}
 use Rattle.feel_value.specs.Datum.{Datum}
 use Rattle.dmn_table.specs.Listed.{places_among}
 use Rattle.dmn_table.proofs.ZipEnd.{at_zip_end}
-use Rattle.dmn_table.proofs.hits.places.Goals as goal
+use Rattle.dmn_table.proofs.hits.put_places.Goals as goal
 
 no_values : (lists : List (List Datum)) → places_among lists [] ≡ []
 no_values [] = refl
