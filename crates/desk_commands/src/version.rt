@@ -5,5 +5,5 @@
 pub const VERSION: &str = concat!(
     "0.9.0\n",
     "proved with rattle-kit-13f logic dac8208d650f15bf\n",
-    "sources 6e985c68b61fb4c3a1f6495587f308d1c7b3bd930b2a3fe64ac8402d0b40bee1",
+    "sources 64b66d01350286a2ac573bab2af4774ffcc9f0618609645dbc4f5ad9bd962d0d",
 );
