@@ -5,5 +5,5 @@
 pub const VERSION: &str = concat!(
     "0.9.0\n",
     "proved with rattle-kit-13f logic dac8208d650f15bf\n",
-    "sources 64b66d01350286a2ac573bab2af4774ffcc9f0618609645dbc4f5ad9bd962d0d",
+    "sources 31527d3b204b774cd6c19ba5dbfcca4018b19227358b10586042d60367acd7f2",
 );

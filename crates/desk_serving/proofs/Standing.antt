@@ -176,7 +176,7 @@ booked_same (n ∷ names) (l ∷ lanes) (x ∷ new) earlier later e b h =
     let first : stripped x ≡ stripped l = cc in
     let put : x.put ≡ l.put = ap (λ (y : Lane). y.put) first in let closed : x.closed ≡ l.closed = ap (λ (y : Lane). y.closed) first in
     let mine = h n (rw (name_itself n) refl) in
-    (put ∙ (b.0 ∙ sym mine.0), closed ∙ (b.1 ∙ sym mine.1), booked_same names lanes new earlier later rest b.2 (λ m among. h m (rw among (or_true (bytes_eq n m)))))
+    (put ∙ (b.0 ∙ sym mine.0), closed ∙ (b.1 ∙ sym mine.1), booked_same names lanes new earlier later rest b.2 (λ m among. h m (rw among (or_true (bytes_eq m n)))))
 
 pub booked_at : (names : List (List ℕ)) (lanes : List Lane) (earlier : List (Reading Asked)) (c : ℕ) (n : List ℕ) (lane : Lane) → AreBooked names lanes earlier
     → slice_get names c ≡ Some n → slice_get lanes c ≡ Some lane → (lane.put ≡ requests n earlier) × (lane.closed ≡ is_closed n earlier)
