@@ -162,7 +162,7 @@ impl Feel {
         ensures size { IfSome result (λ s. IsGrown whole self.now s) }
         ensures lawful { is_value self.now ≡ true }
     {
-        let part = self.size_within(MOST_DEPTH - 1, MOST_NODES - whole.nodes)?;
+        let part = self.size_within(MOST_DEPTH - 1, MOST_NODES - usize::from(whole.nodes))?;
         Some(Size {
             nodes: whole.nodes + part.nodes,
             levels: whole.levels.max(part.levels + 1),
@@ -172,16 +172,19 @@ impl Feel {
     // The size, where the value is at most `levels` deep and has at most `places` nodes. It is walked through only where the
     // size that is kept leaves that open.
     fn size_within(&self, levels: usize, places: usize) -> Option<Size>
+        requires levels { levels ≤ most_depth }
+        requires places { places ≤ most_nodes }
         ensures within { is_some result ≡ (nat_le (depth self.now) levels && nat_le (nodes self.now) places) }
         ensures size { IfSome result (λ s. IsSizeOf s self.now) }
         ensures levels { IfSome result (λ s. s.levels ≤ levels) }
+        ensures places { IfSome result (λ s. s.nodes ≤ places) }
         ensures lawful { is_value self.now ≡ true }
     {
         if let Some(size) = self.size {
-            if size.nodes > places {
+            if usize::from(size.nodes) > places {
                 return None;
             }
-            if size.levels <= levels {
+            if usize::from(size.levels) <= levels {
                 return Some(size);
             }
         }

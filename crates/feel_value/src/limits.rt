@@ -1,6 +1,6 @@
 //! Whether a value keeps the limits, in a walk that goes no deeper and no further than they allow.
-ghost use Rattle.std.specs.Prelude.{◌≡◌, IfSome, is_some};
-ghost use Rattle.feel_value.specs.Limits.{in_range, keeps_limits};
+ghost use Rattle.std.specs.Prelude.{◌≡◌, ◌≤◌, IfSome, is_some};
+ghost use Rattle.feel_value.specs.Limits.{in_range, keeps_limits, depth, items_depth, entries_depth, most_depth, most_nodes};
 ghost use Rattle.feel_value.specs.Places.{fits, left_of, items_left_of, entries_left_of};
 ghost use Rattle.feel_value.specs.Sizes.{IsSizeOf};
 ghost use Rattle.feel_value.specs.View.{datum_of, items_view, entries_view};
@@ -23,28 +23,74 @@ pub(crate) fn is_in_range(n: i64) -> bool
     n != i64::MIN
 }
 
-// The size of the value, where it keeps the limits. The second walk is for a deep value.
+// The size of the value, where it keeps the limits.
 pub(crate) fn size_of(value: &Value) -> Option<Size>
     ensures kept { is_some result ≡ keeps_limits (datum_of value.now) }
     ensures size { IfSome result (λ s. IsSizeOf s (datum_of value.now)) }
 {
-    if let Some(size) = size_within(value, FEW_LEVELS, MOST_NODES) {
-        return Some(size);
-    }
     size_within(value, MOST_DEPTH, MOST_NODES)
 }
 
-// The size of the value, where it is at most `levels` deep and has at most `places` nodes.
+// The size of the value, where it is at most `levels` deep and has at most `places` nodes. A value of more than a few levels
+// is walked through again, and then once more to tell how deep it is.
 pub(crate) fn size_within(value: &Value, levels: usize, places: usize) -> Option<Size>
+    requires levels { levels ≤ most_depth }
+    requires places { places ≤ most_nodes }
     ensures fits { is_some result ≡ fits (datum_of value.now) levels places }
     ensures size { IfSome result (λ s. IsSizeOf s (datum_of value.now)) }
-    ensures levels { IfSome result (λ s. s.levels ≡ levels) }
+    ensures levels { IfSome result (λ s. s.levels ≤ levels) }
+    ensures places { IfSome result (λ s. s.nodes ≤ places) }
 {
+    if levels > FEW_LEVELS {
+        if let Some(left) = places_left(value, FEW_LEVELS, places) {
+            return Some(Size {
+                nodes: (places - left) as u16,
+                levels: FEW_LEVELS as u8,
+            });
+        }
+    }
     let left = places_left(value, levels, places)?;
     Some(Size {
-        nodes: places - left,
-        levels,
+        nodes: (places - left) as u16,
+        levels: depth_of(value, levels) as u8,
     })
+}
+
+// How deep the value is, which is at most `levels`.
+#[cycle(depth)]
+fn depth_of(value: &Value, levels: usize) -> usize
+    requires { depth (datum_of value.now) ≤ levels }
+    ensures { result ≡ depth (datum_of value.now) }
+{
+    match value {
+        Value::Null | Value::Bool(_) | Value::Number(_) | Value::Text(_) => 1,
+        Value::List(items) => 1 + depth_of_items(items, levels - 1),
+        Value::Context(entries) => 1 + depth_of_entries(entries, levels - 1),
+    }
+}
+
+#[cycle(depth)]
+fn depth_of_items(items: &[Value], levels: usize) -> usize
+    requires { items_depth (items_view items.now) ≤ levels }
+    ensures { result ≡ items_depth (items_view items.now) }
+{
+    let mut deepest = 0;
+    for item in items {
+        deepest = deepest.max(depth_of(item, levels));
+    }
+    deepest
+}
+
+#[cycle(depth)]
+fn depth_of_entries(entries: &[(ArcStr, Value)], levels: usize) -> usize
+    requires { entries_depth (entries_view entries.now) ≤ levels }
+    ensures { result ≡ entries_depth (entries_view entries.now) }
+{
+    let mut deepest = 0;
+    for (_, value) in entries {
+        deepest = deepest.max(depth_of(value, levels));
+    }
+    deepest
 }
 
 // What is left of `places` once the value's nodes are counted, where it fits.

@@ -5,12 +5,12 @@ ghost use Rattle.feel_value.specs.View.{datum_of};
 
 use crate::value::Value;
 
-/// How many nodes a value has, and how deep it is at most.
+/// How many nodes a value has, and how deep it is at most. It takes four bytes, since each value that is formed keeps one.
 #[derive(Clone, Copy)]
 pub struct Size {
-    pub nodes: usize,
+    pub nodes: u16,
     /// The value is no deeper than this.
-    pub levels: usize,
+    pub levels: u8,
 }
 
 impl Size {
