@@ -65,11 +65,24 @@ impl<'a> Lent<'a> {
     pub(crate) fn find_at(&self, reference: &Reference) -> Option<&Feel>
         ensures { option_map (λ v. v.now) result ≡ bound reference.now.name self.now }
     {
-        let Some(position) = reference.position else {
-            return self.find(reference.name.as_str());
-        };
-        if position < self.count && self.needs.stands_at(position, &reference.name) {
-            return self.value_at(position);
+        if let Some(position) = reference.position {
+            if position < self.count && self.needs.stands_at_once(position, &reference.name) {
+                return self.value_at(position);
+            }
+        }
+        self.find_by_bytes(reference)
+    }
+
+    // The same, where the bytes of the name are looked at.
+    #[inline(never)]
+    fn find_by_bytes(&self, reference: &Reference) -> Option<&Feel>
+        ensures { option_map (λ v. v.now) result ≡ bound reference.now.name self.now }
+    {
+        if let Some(position) = reference.position {
+            if position < self.count && self.needs.stands_at(position, &reference.name) {
+                let value = self.value_at(position);
+                return value;
+            }
         }
         self.find(reference.name.as_str())
     }

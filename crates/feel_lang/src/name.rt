@@ -1,5 +1,5 @@
 //! Names that are compared quickly.
-ghost use Rattle.std.specs.Prelude.{◌≡◌, IfOk, bytes_eq, string_bytes};
+ghost use Rattle.std.specs.Prelude.{◌≡◌, IfOk, IsTrue, true, bytes_eq, string_bytes};
 ghost use Rattle.feel_lang.specs.Packed.{IsPacked};
 
 use std::alloc::AllocError;
@@ -49,10 +49,18 @@ impl Name {
     pub(crate) fn is(&self, other: &Name) -> bool
         ensures { result ≡ bytes_eq self.now other.now }
     {
-        if self.packed != 0 && self.packed == other.packed && self.text.len() == other.text.len() {
+        if self.is_at_once(other) {
             return true;
         }
         is_same_text(&self.text, &other.text)
+    }
+
+    /// Whether it is known to be the same as another with no look at their bytes. Of names of more than eight it is not.
+    #[inline(always)]
+    pub(crate) fn is_at_once(&self, other: &Name) -> bool
+        ensures { IsTrue result → bytes_eq self.now other.now ≡ true }
+    {
+        self.packed != 0 && self.packed == other.packed && self.text.len() == other.text.len()
     }
 
     /// A copy.

@@ -117,6 +117,17 @@ impl Needs {
         }
     }
 
+    /// The same with no look at the bytes of the names, so that longer ones are not known.
+    #[inline(always)]
+    pub(crate) fn stands_at_once(&self, position: usize, name: &Name) -> bool
+        ensures { IsTrue result → last_place name.now self.now ≡ Some position }
+    {
+        match self.needs.get(position) {
+            Some(need) => name.is_at_once(&need.name) && self.are_distinct,
+            None => false,
+        }
+    }
+
     /// The place of the need at a position.
     pub(crate) fn place(&self, position: usize) -> usize
         requires { position < length self.now }

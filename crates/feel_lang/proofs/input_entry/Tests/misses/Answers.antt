@@ -1,5 +1,5 @@
-use Rattle.std.proofs.Common.{◌≡◌, ◌∙◌, sym, ap, subst, IfSome}
-use Rattle.feel_lang.specs.Ready.{Meets, told}
+use Rattle.std.proofs.Common.{◌∙◌, sym, ap, subst, IfSome}
+use Rattle.feel_lang.specs.Ready.{Meets}
 use Rattle.feel_lang.specs.Satisfied.{satisfied, held_of}
 use Rattle.feel_lang.specs.TestsView.{tests_view}
 use Rattle.feel_lang.proofs.input_entry.Tests.misses.Goals as goal

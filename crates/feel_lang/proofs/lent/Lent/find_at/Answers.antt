@@ -4,12 +4,12 @@ use Rattle.feel_lang.specs.Places.{last_place}
 use Rattle.feel_lang.proofs.Needed.{bound_at, last_taken, last_lent}
 use Rattle.feel_lang.proofs.lent.Lent.find_at.Goals as goal
 
-pub returns-then-stands_at : goal.returns-then-stands_at
-returns-then-stands_at c =
+pub returns-then-stands_at_once : goal.returns-then-stands_at_once
+returns-then-stands_at_once c =
     let here = c.self.inside in
     let name = c.args.reference.now.name in
     let stands : last_place name here.needs.now ≡ Some c.in-Some.position =
-    c.stands_at.ensures c.if-stands_at.true in
+    c.stands_at_once.ensures c.if-stands_at_once.true in
     let last : last_place name c.args.self.now ≡ Some c.in-Some.position =
     sym (last_lent name here.found.now here.needs.now here.count c.args.self.now c.self.view_is)
     ∙ last_taken name here.needs.now c.in-Some.position here.count stands c.if-position-self.true in
