@@ -11,6 +11,8 @@ pub mod Members
 pub mod Rows
 pub mod Bindings
 pub mod Few
+pub mod NameOrder
+pub mod Ordered
 pub mod Needed
 pub mod Modulo
 pub mod ListMembers

@@ -1,19 +1,19 @@
 -- Needed names, and what was found for them.
-use Rattle.std.proofs.Common.{◌≡◌, ◌∙◌, sym, ap, refl, not, ℕ, zero, suc, ◌+◌, ◌<◌, ◌≤◌, Bool, true, false, List, [], ◌∷◌, ◌++◌, map, take, length, get_or, Option, Some, None, is_some, unwrap_or, option_map, String, Global, bytes_eq, if◌then◌else◌, ◌&&◌, arith, inl, inr}
+use Rattle.std.proofs.Common.{◌≡◌, ◌∙◌, sym, ap, refl, subst, ◌-◌, ℕ, zero, suc, ◌+◌, ◌<◌, ◌≤◌, Bool, true, false, List, [], ◌∷◌, ◌++◌, map, take, length, get_or, Option, Some, None, is_some, unwrap_or, option_map, bytes_eq, if◌then◌else◌, ◌&&◌, MatchOption, arith}
 use Rattle.std.specs.List.{list_all}
-use Rattle.std.specs.BTreeMap.{BTreeMap, get_by_text}
-use Rattle.std.proofs.lemmas.Bool.{cases_lt}
-use Rattle.std.proofs.lemmas.List.{map-append, length-map, get_or_append_left, get_or_push, get_or-map, take_more, take-map, take_all, length_push, length-take-le, get_or-take}
+use Rattle.std.proofs.lemmas.List.{map-append, length-map, get_or-map, take_more, take-map, take_all, length-take-le, get_or-take}
 use Rattle.std.proofs.lemmas.List.Folds.{list_all-map}
 use Rattle.std.proofs.lemmas.Option.{same_Some}
 use Rattle.feel_value.specs.Datum.{Datum, null}
 use Rattle.feel_value.specs.Found.{◌>>=◌}
 use Rattle.feel_value.specs.declared.feel.Outcome.{Outcome}
 use Rattle.feel_lang.specs.Meaning.{Bindings, bound, first_some}
-use Rattle.feel_lang.specs.Needed.{Places, named_places, found_at, bindings_from, is_found, lent_to, need_at, value_at, ArePositioned, AreLast, AreLent}
+use Rattle.feel_lang.specs.Needed.{Places, named_places, names_of, found_at, bindings_from, is_found, lent_to, need_at, value_at, AreLent}
+use Rattle.feel_lang.specs.NameOrder.{IsBefore, IsInOrder, IsNameAt, name_ranked}
 use Rattle.feel_lang.specs.Places.{place_after, last_place}
 use Rattle.feel_lang.specs.declared.needs.Need.{Need}
-use Rattle.feel_lang.proofs.Bindings.{last_place-push, same_text, text_itself, bytes_eq-turned}
+use Rattle.feel_lang.proofs.Bindings.{last_place-push, same_text, text_itself}
+use Rattle.feel_lang.proofs.Ordered.{one_behind, same_position}
 
 -- ---- positions of the last of a name
 
@@ -33,70 +33,72 @@ last_up_to name xs i x e h =
     ∙ ap (λ n. if bytes_eq name (x.name) then Some n else last_place name (map place_of (take i xs))) (length-map (take i xs) place_of ∙ length-take-le i xs (omega (arith, h)))
     ∙ ap (λ o. if bytes_eq name (x.name) then Some i else o) cut
 
--- one more
-pub last_more : (name : List ℕ) (xs : List Need) (x : Need)
-    → last_place name (named_places (xs ++ x ∷ [])) ≡ (if bytes_eq name (x.name) then Some (length xs) else last_place name (named_places xs))
-last_more name xs x =
-    ap (last_place name) (map-append place_of xs (x ∷ []))
-    ∙ last_place-push name (named_places xs) (place_of x)
-    ∙ ap (λ n. if bytes_eq name (x.name) then Some n else last_place name (named_places xs)) (length-map xs place_of)
+-- a name stands nowhere
+none_named : (name : List ℕ) (xs : List Need) → ((i : ℕ) → i < length (names_of xs) → bytes_eq name (get_or (names_of xs) i []) ≡ false) → last_place name (named_places xs) ≡ None
+none_named name [] h = refl
+none_named name (x ∷ xs) h =
+    ap (λ o. place_after o (if bytes_eq name x.name then Some 0 else None)) (none_named name xs (λ i w. h (suc i) (omega (arith, w))))
+    ∙ ap (λ t. if t then Some 0 else None) (h 0 (omega arith))
 
--- the map of one more
-pub positioned_more : (xs : List Need) (x : Need) (old new : BTreeMap (String Global) ℕ) → ArePositioned (named_places xs) old
-    → ((q : List ℕ) → get_by_text new q ≡ (if bytes_eq (x.name) q then Some (length xs) else get_by_text old q)) → ArePositioned (named_places (xs ++ x ∷ [])) new
-positioned_more xs x old new h placed = λ q.
-    placed q ∙ ap (λ o. if bytes_eq (x.name) q then Some (length xs) else o) (h q)
-    ∙ ap (λ t. if t then Some (length xs) else last_place q (named_places xs)) (bytes_eq-turned (x.name) q)
-    ∙ sym (last_more q xs x)
-
--- where one more has a new name, each is the last of its name
-pub last_each : (xs : List Need) (x : Need) → AreLast (named_places xs) → last_place (x.name) (named_places xs) ≡ None → AreLast (named_places (xs ++ x ∷ []))
-last_each xs x h new = λ i within.
-    let ys = xs ++ x ∷ [] in
-    let size : length (named_places ys) ≡ length ys = length-map ys place_of in
-    let inside : i < length ys = omega (arith, size, within) in
-    elim (cases_lt i (length xs)) [ inl less ↦ before i less | inr more ↦ last i (omega (arith, inside, length_push xs x, more)) ]
+unnamed : (name : List ℕ) (xs : List Need) (i : ℕ) → last_place name (named_places xs) ≡ None → i < length (names_of xs) → bytes_eq name (get_or (names_of xs) i []) ≡ false
+unnamed name [] i e h = absurd (omega (arith, h))
+unnamed name (x ∷ xs) i e h = go (last_place name (named_places xs)) (bytes_eq name x.name) i refl (λ k f w. unnamed name xs k f w) e h
   where
-    name_at : (ys : List Need) (i : ℕ) → i < length ys → (need_at (named_places ys) i).0 ≡ (get_or ys i x).name
-    name_at ys i h = ap (λ (p : List ℕ × ℕ). p.0) (get_or-map place_of ys i x ([], 0) h)
+    go : (o : Option ℕ) (t : Bool) (i : ℕ) → bytes_eq name x.name ≡ t → ((k : ℕ) → o ≡ None → k < length (names_of xs) → bytes_eq name (get_or (names_of xs) k []) ≡ false)
+        → place_after o (if t then Some 0 else None) ≡ None → i < suc (length (names_of xs)) → bytes_eq name (get_or (names_of (x ∷ xs)) i []) ≡ false
+    go None true i s g f w = cc
+    go None false zero s g f w = s
+    go None false (suc i) s g f w = g i refl (omega (arith, w))
+    go (Some k) t i s g f w = cc
 
-    other : (i : ℕ) (n : List ℕ) (b : Bool) → bytes_eq n (x.name) ≡ b → last_place n (named_places xs) ≡ Some i
-        → (if b then Some (length xs) else last_place n (named_places xs)) ≡ Some i
-    other i n false e p = p
-    other i n true e p = let no : None ≡ Some i = sym new ∙ ap (λ m. last_place m (named_places xs)) (sym (same_text n (x.name) e)) ∙ p in cc
+-- the name stands at its last place
+last_named : (name : List ℕ) (xs : List Need) (j : ℕ) → last_place name (named_places xs) ≡ Some j → (j < length (names_of xs)) × (bytes_eq name (get_or (names_of xs) j []) ≡ true)
+last_named name [] j e = cc
+last_named name (x ∷ xs) j e = go (last_place name (named_places xs)) (bytes_eq name x.name) j refl (λ k f. last_named name xs k f) e
+  where
+    go : (o : Option ℕ) (t : Bool) (j : ℕ) → bytes_eq name x.name ≡ t → ((k : ℕ) → o ≡ Some k → (k < length (names_of xs)) × (bytes_eq name (get_or (names_of xs) k []) ≡ true))
+        → place_after o (if t then Some 0 else None) ≡ Some j → (j < suc (length (names_of xs))) × (bytes_eq name (get_or (names_of (x ∷ xs)) j []) ≡ true)
+    go None true j s g f =
+        let z : 0 ≡ j = same_Some 0 j f in
+        (omega (arith, z), subst (λ k. bytes_eq name (get_or (names_of (x ∷ xs)) k []) ≡ true) z s)
+    go None false j s g f = cc
+    go (Some k) t j s g f =
+        let z : suc k ≡ j = same_Some (suc k) j f in
+        let there = g k refl in
+        (omega (arith, z, there.0), subst (λ m. bytes_eq name (get_or (names_of (x ∷ xs)) m []) ≡ true) z there.1)
 
-    before : (i : ℕ) → i < length xs → last_place (need_at (named_places (xs ++ x ∷ [])) i).0 (named_places (xs ++ x ∷ [])) ≡ Some i
-    before i less =
-        let n = (get_or xs i x).name in
-        let named : (need_at (named_places (xs ++ x ∷ [])) i).0 ≡ n =
-        name_at (xs ++ x ∷ []) i (omega (arith, less, length_push xs x)) ∙ ap (λ (y : Need). y.name) (get_or_append_left xs (x ∷ []) x i less) in
-        let here : last_place n (named_places xs) ≡ Some i = ap (λ m. last_place m (named_places xs)) (sym (name_at xs i less)) ∙ h i (rw (length-map xs place_of) less) in
-        ap (λ m. last_place m (named_places (xs ++ x ∷ []))) named ∙ last_more n xs x ∙ other i n (bytes_eq n (x.name)) refl here
+-- where no name stands twice, each is the last of its name
+each_last : (xs : List Need) (order : List ℕ) (i : ℕ) → IsInOrder (names_of xs) order → i < length (names_of xs) → last_place (get_or (names_of xs) i []) (named_places xs) ≡ Some i
+each_last xs order i h w = go (last_place (get_or (names_of xs) i []) (named_places xs)) refl
+  where
+    go : (o : Option ℕ) → last_place (get_or (names_of xs) i []) (named_places xs) ≡ o → o ≡ Some i
+    go None e = let no : true ≡ false = sym (text_itself (get_or (names_of xs) i [])) ∙ unnamed (get_or (names_of xs) i []) xs i e w in cc
+    go (Some j) e =
+        let there = last_named (get_or (names_of xs) i []) xs j e in
+        ap Some (same_position (names_of xs) order j i h there.0 w (sym (same_text (get_or (names_of xs) i []) (get_or (names_of xs) j []) there.1)))
 
-    last : (i : ℕ) → i ≡ length xs → last_place (need_at (named_places (xs ++ x ∷ [])) i).0 (named_places (xs ++ x ∷ [])) ≡ Some i
-    last i e =
-        let n = x.name in
-        let named : (need_at (named_places (xs ++ x ∷ [])) i).0 ≡ n =
-        name_at (xs ++ x ∷ []) i (omega (arith, e, length_push xs x)) ∙ ap (λ (y : Need). y.name) (get_or_push xs x x i (sym e)) in
-        ap (λ m. last_place m (named_places (xs ++ x ∷ []))) named ∙ last_more n xs x
-        ∙ ap (λ t. if t then Some (length xs) else last_place n (named_places xs)) (text_itself n) ∙ ap Some (sym e)
+-- what was found in the order
+pub found_in_order : (name : List ℕ) (xs : List Need) (order : List ℕ) (o : Option ℕ) → IsInOrder (names_of xs) order
+    → MatchOption o ((i : ℕ) → i < length xs → bytes_eq name (get_or (names_of xs) i []) ≡ false) (IsNameAt (names_of xs) name) → o ≡ last_place name (named_places xs)
+found_in_order name xs order None h e = sym (none_named name xs (λ i w. e i (rw (sym (length-map xs (λ (n : Need). n.name))) w)))
+found_in_order name xs order (Some i) h e = sym (each_last xs order i h e.0) ∙ ap (λ n. last_place n (named_places xs)) e.1
+
+-- one more need, which comes behind all
+pub listed_more : (xs : List Need) (x : Need) (order : List ℕ) → IsInOrder (names_of xs) order → (0 < length xs → IsBefore (name_ranked (names_of xs) order (length xs - 1)) x.name) → IsInOrder (names_of (xs ++ x ∷ [])) order
+listed_more xs x order h behind =
+    let size : length (names_of xs) ≡ length xs = length-map xs (λ (n : Need). n.name) in
+    subst (λ ns. IsInOrder ns order) (sym (map-append (λ (n : Need). n.name) xs (x ∷ [])))
+    (one_behind (names_of xs) x.name order h (λ l. subst (λ k. IsBefore (name_ranked (names_of xs) order (k - 1)) x.name) (sym size) (behind (omega (arith, l, size)))))
 
 -- the last of a name, where each is the last of its name
-pub stands_last : (name : List ℕ) (xs : List Need) (i : ℕ) (x : Need) → AreLast (named_places xs) → x ≡ get_or xs i x → i < length xs → bytes_eq name (x.name) ≡ true → last_place name (named_places xs) ≡ Some i
-stands_last name xs i x h there within e =
-    let named : (need_at (named_places xs) i).0 ≡ name =
-    ap (λ (p : List ℕ × ℕ). p.0) (get_or-map place_of xs i x ([], 0) within) ∙ ap (λ (y : Need). y.name) (sym there) ∙ sym (same_text name (x.name) e) in
-    ap (λ m. last_place m (named_places xs)) (sym named) ∙ h i (rw (length-map xs place_of) within)
+pub stands_last : (name : List ℕ) (xs : List Need) (order : List ℕ) (i : ℕ) (x : Need) → IsInOrder (names_of xs) order → x ≡ get_or xs i x → i < length xs → bytes_eq name (x.name) ≡ true → last_place name (named_places xs) ≡ Some i
+stands_last name xs order i x h there within e =
+    let named : get_or (names_of xs) i [] ≡ name = get_or-map (λ (n : Need). n.name) xs i x [] within ∙ ap (λ (y : Need). y.name) (sym there) ∙ sym (same_text name (x.name) e) in
+    ap (λ m. last_place m (named_places xs)) (sym named) ∙ each_last xs order i h (rw (length-map xs (λ (n : Need). n.name)) within)
 
 -- the place of a need
 pub place_there : (xs : List Need) (i : ℕ) (x : Need) → x ≡ get_or xs i x → i < length xs → x.place ≡ (need_at (named_places xs) i).1
 place_there xs i x e h = ap (λ (y : Need). y.place) e ∙ sym (ap (λ (p : List ℕ × ℕ). p.1) (get_or-map place_of xs i x ([], 0) h))
-
--- what is known to be none
-pub none_is : (o : Option ℕ) (b t : Bool) → b ≡ t → is_some o ≡ not t → b ≡ true → o ≡ None
-none_is None b t e f h = refl
-none_is (Some i) b true e f h = cc
-none_is (Some i) b false e f h = let no : true ≡ false = sym h ∙ e in cc
 
 -- ---- what was found
 

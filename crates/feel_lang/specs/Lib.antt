@@ -17,6 +17,7 @@ pub mod Meaning
 pub mod Numbers
 pub mod Packed
 pub mod Places
+pub mod NameOrder
 pub mod Needed
 pub mod Few
 pub mod Operands

@@ -1,13 +1,11 @@
 -- Internal but for `Places`, `bindings_from`, `found_at`, `named_places` and `lent_to`: needed names by places.
-use Rattle.std.specs.Prelude.{◌≡◌, ◌<◌, ◌≤◌, ◌^◌, ℕ, List, [], map, length, slice_index_or, Bool, Option, Some, is_some, IsTrue, unwrap_or, String}
+use Rattle.std.specs.Prelude.{◌≡◌, ◌<◌, ◌≤◌, ◌^◌, ℕ, List, [], map, length, slice_index_or, Bool, Option, Some, is_some, IsTrue, unwrap_or}
 use Rattle.std.specs.List.{slice_get}
-use Rattle.std.specs.declared.alloc.Global.{Global}
-use Rattle.std.specs.BTreeMap.{BTreeMap, get_by_text}
 use Rattle.feel_value.specs.Datum.{Datum, null}
 use Rattle.feel_value.specs.Found.{value_of, ◌>>=◌, each}
 use Rattle.feel_value.specs.declared.feel.Outcome.{Outcome}
 use Rattle.feel_lang.specs.Meaning.{Bindings}
-use Rattle.feel_lang.specs.Places.{last_place}
+use Rattle.feel_lang.specs.NameOrder.{IsInOrder}
 use Rattle.feel_lang.specs.declared.needs.Need.{Need}
 
 -- names, each with the place of its value
@@ -41,19 +39,14 @@ lent_to found = map (λ n. (n.0, unwrap_or (found_at found n.1) null))
 abbrev pub value_at : Bindings → ℕ → Datum
 value_at bs i = (slice_index_or bs i ([], null)).1
 
--- the map has the position of the last of each name
-abbrev pub ArePositioned : Places → BTreeMap (String Global) ℕ → Type 0
-ArePositioned needs positions = (name : List ℕ) → get_by_text positions name ≡ last_place name needs
+-- the names of needs
+abbrev pub names_of : List Need → List (List ℕ)
+names_of = map (λ n. n.name)
 
--- each is the last of its name
-abbrev pub AreLast : Places → Type 0
-AreLast needs = (i : ℕ) → i < length needs → last_place (need_at needs i).0 needs ≡ Some i
-
--- The map has the position of the last of each name, and each is the last of its name where all are known to be distinct.
-pub record IsListed (needs : Places) (positions : BTreeMap (String Global) ℕ) (distinct : Bool) : Type 0 where
+-- they are in order, where that is said
+pub record IsListed (needs : List Need) (order : List ℕ) (ordered : Bool) : Type 0 where
   pub size : length needs < 2 ^ 60
-  pub positioned : ArePositioned needs positions
-  pub last : IsTrue distinct → AreLast needs
+  pub sorted : IsTrue ordered → IsInOrder (names_of needs) order
 
 -- So many of the names count, and a value was found for each.
 pub record AreLent (found : List Outcome) (needs : Places) (count : ℕ) : Type 0 where

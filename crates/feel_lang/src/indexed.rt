@@ -105,7 +105,7 @@ impl Indexed {
 }
 
 /// Gives the name the place behind the items, where there is then room. Tells a copy of the name, and the place that it had.
-pub(crate) fn placed<T>(
+fn placed<T>(
     items: &mut Vec<T>,
     places: &mut BTreeMap<String, usize>,
     name: &str,

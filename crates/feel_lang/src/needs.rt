@@ -1,14 +1,14 @@
 //! The names that a decision needs.
-ghost use Rattle.std.specs.Prelude.{◌≡◌, ◌≤◌, ◌<◌, ◌^◌, IsTrue, [], ◌∷◌, ◌++◌, Some, length, take, is_some, option_map, MatchResult};
+ghost use Rattle.std.specs.Prelude.{◌≡◌, ◌≤◌, ◌<◌, ◌^◌, IsTrue, [], ◌∷◌, ◌++◌, ℕ, List, Some, length, take, is_some, option_map, MatchResult};
 ghost use Rattle.std.specs.List.{list_all};
-ghost use Rattle.feel_lang.specs.Needed.{is_found, found_at, need_at};
+ghost use Rattle.feel_lang.specs.NameOrder.{IsInOrder};
+ghost use Rattle.feel_lang.specs.Needed.{is_found, found_at, need_at, named_places, names_of};
 ghost use Rattle.feel_lang.specs.Places.{last_place};
 
-use crate::indexed::placed;
 use crate::name::Name;
+use crate::name_order::{HasName, found_by_halves, is_behind_all, order_by_name};
 use feel_value::{Feel, Outcome};
 use std::alloc::{AllocError, Global};
-use std::collections::BTreeMap;
 use std::marker::Model;
 
 // More needs lie in no memory that a machine can address.
@@ -24,14 +24,23 @@ struct Need {
 /// The names that a decision needs, each with the place of its value among what a run finds. They are listed once, when a model
 /// is read; a text that is read under them knows where its names stand in this list.
 ///
-/// A name is found in steps in proportion to the logarithm of how many there are.
+/// Where no name stands twice, and the names were put in order or came in order, a name is found in steps in proportion to the
+/// logarithm of how many there are.
 #[derive(Drop)]
 pub struct Needs {
     needs: Vec<Need>,
-    // Where the last need of each name stands.
-    positions: BTreeMap<String, usize>,
-    // No name stands twice.
-    are_distinct: bool,
+    // The positions in the order of their names. Where it has none for a rank, the need of this rank stands at the rank itself.
+    order: Vec<usize>,
+    // The order is right, and no name stands twice.
+    is_ordered: bool,
+}
+
+impl HasName for Need {
+    ghost name_of = { λ n. n.name };
+
+    fn name(&self) -> &str {
+        self.name.as_str()
+    }
 }
 
 impl Model for Needs {
@@ -46,7 +55,7 @@ impl Model for Needs {
 
     ghost view = { λ n. named_places n.needs.items };
 
-    ghost invariant = { λ n. IsListed (named_places n.needs.items) n.positions n.are_distinct };
+    ghost invariant = { λ n. IsListed n.needs.items n.order.items n.is_ordered };
 }
 
 impl Needs {
@@ -56,8 +65,8 @@ impl Needs {
     {
         Needs {
             needs: Vec::new(alloc),
-            positions: BTreeMap::new(alloc),
-            are_distinct: true,
+            order: Vec::new(alloc),
+            is_ordered: true,
         }
     }
 
@@ -68,12 +77,28 @@ impl Needs {
         if self.needs.len() >= MOST_NEEDS {
             return Err(AllocError);
         }
-        let (name, hidden) = placed(&mut self.needs, &mut self.positions, name)?;
-        self.are_distinct = self.are_distinct && hidden.is_none();
+        let is_ordered = self.is_ordered && is_behind_all(&self.needs, &self.order, name);
+        let name = String::from_str(*self.needs.allocator(), name)?;
         self.needs.push(Need {
             name: Name::of(name),
             place,
         })?;
+        self.is_ordered = is_ordered;
+        Ok(())
+    }
+
+    /// Puts the names in order, if they did not come in order, so that each is found quickly from here on. The needs stay as
+    /// they are.
+    pub fn put_in_order(&mut self) -> Result<(), AllocError>
+        ensures { self.new ≡ self.old }
+    {
+        if self.is_ordered {
+            return Ok(());
+        }
+        if let Some(order) = order_by_name(*self.needs.allocator(), &self.needs)? {
+            self.order = order;
+            self.is_ordered = true;
+        }
         Ok(())
     }
 
@@ -89,7 +114,10 @@ impl Needs {
     pub(crate) fn position(&self, name: &str) -> Option<usize>
         ensures { result ≡ last_place name.now self.now }
     {
-        Some(*self.positions.get(name)?)
+        if !self.is_ordered {
+            return self.position_among(self.needs.len(), name);
+        }
+        position_in_order(&self.needs, &self.order, name)
     }
 
     /// Where the last of the first `len` needs of the name stands.
@@ -112,7 +140,7 @@ impl Needs {
         ensures { IsTrue result → last_place name.now self.now ≡ Some position }
     {
         match self.needs.get(position) {
-            Some(need) => name.is(&need.name) && self.are_distinct,
+            Some(need) => name.is(&need.name) && self.is_ordered,
             None => false,
         }
     }
@@ -142,6 +170,14 @@ impl Needs {
     {
         have_values(&self.needs, found)
     }
+}
+
+// Where the last need of the name stands, among needs that are in this order.
+fn position_in_order(needs: &[Need], order: &[usize], name: &str) -> Option<usize>
+    requires { IsInOrder (names_of needs.now) order.now }
+    ensures { result ≡ last_place name.now (named_places needs.now) }
+{
+    found_by_halves(needs, order, name)
 }
 
 // Whether a value was found at the place of each.
