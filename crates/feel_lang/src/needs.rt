@@ -151,7 +151,7 @@ impl Needs {
         ensures { IsTrue result → last_place name.now self.now ≡ Some position }
     {
         match self.needs.get(position) {
-            Some(need) => name.is_at_once(&need.name) && self.are_distinct,
+            Some(need) => name.is_at_once(&need.name) && self.is_ordered,
             None => false,
         }
     }
