@@ -4,9 +4,10 @@ use std::sync::atomic::{AtomicU64, Ordering};
 /// Which lanes may hold a job: a mark for each, a bit of one word. A worker passes a lane that has none.
 ///
 /// No job is passed for good: each step is sequentially consistent. A client puts a job first and marks its lane after
-/// that, unless it is marked. A worker that finds a lane empty takes the mark away and looks once more: a job that was put
-/// between the two looks may have found the mark still there. Where this look doesn't find the lane empty, the lane is
-/// marked again. So a lane whose mark stays away was empty at the second look, and a job that is put later finds no mark.
+/// that, unless it is marked. A worker that finds a lane empty takes the mark away, and who took it away looks once more: a
+/// job that was put between the two looks may have found the mark still there. Where this look doesn't find the lane empty,
+/// the lane is marked again. So a lane whose mark stays away was empty at the second look, and a job that is put later
+/// finds no mark.
 #[derive(Drop)]
 pub struct Marks {
     marked: AtomicU64,
@@ -36,9 +37,13 @@ impl Marks {
         }
     }
 
-    /// Takes a lane's mark away.
-    pub fn unmark(&self, lane: u32) {
-        self.marked.fetch_and(!mark_of(lane), Ordering::SeqCst);
+    /// Takes a lane's mark away, and tells whether there was one. Where another thread did it already this costs a read.
+    pub fn unmark(&self, lane: u32) -> bool {
+        let mark = mark_of(lane);
+        if self.marked() & mark == 0 {
+            return false;
+        }
+        self.marked.fetch_and(!mark, Ordering::SeqCst) & mark != 0
     }
 
     /// Marks each lane.

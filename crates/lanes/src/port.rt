@@ -60,7 +60,7 @@ impl<W: Work> Port<W> {
     }
 
     /// The same of a lane that is marked. Where it is empty its mark is taken away, and it is looked at once more: a job
-    /// that was put between may have found the mark still there.
+    /// that was put between may have found the mark still there. Another worker that took the mark away does the same.
     pub(crate) fn steal_marked(&mut self, signals: &Signals, lane: u32) -> Steal<()>
         requires { held_at self.old ≡ [] }
         ensures same { SamePort self.old self.new × (sent_at self.new ≡ sent_at self.old) }
@@ -70,7 +70,9 @@ impl<W: Work> Port<W> {
         if !stolen.is_empty() {
             return stolen;
         }
-        signals.unmark(lane);
+        if !signals.unmark(lane) {
+            return stolen;
+        }
         let stolen = self.steal();
         if !stolen.is_empty() {
             signals.mark_again(lane);

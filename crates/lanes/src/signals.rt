@@ -181,9 +181,9 @@ impl Signals {
         self.marks.mark(lane);
     }
 
-    /// A lane was found empty, and is looked at once more after this.
-    pub(crate) fn unmark(&self, lane: u32) {
-        self.marks.unmark(lane);
+    /// A lane was found empty. It is looked at once more after this, unless another worker does so.
+    pub(crate) fn unmark(&self, lane: u32) -> bool {
+        self.marks.unmark(lane)
     }
 
     /// A lane was not found empty after its mark was taken away: one that passed it meanwhile looks again.
