@@ -1,5 +1,5 @@
 -- A worker steals a job of one lane and runs it.
-use Rattle.std.proofs.Common.{◌≡◌, ◌≢◌, ℕ, zero, suc, ◌+◌, ◌<◌, ◌≤◌, List, [], ◌∷◌, ◌++◌, length, get_or, set, sym, refl, ap, ◌∙◌, subst, append-nil, arith, get_or-set_same, get_or-set_other}
+use Rattle.std.proofs.Common.{◌≡◌, ◌≢◌, ℕ, zero, suc, ◌+◌, ◌<◌, ◌≤◌, List, [], ◌∷◌, ◌++◌, length, get_or, set, sym, refl, ap, ◌∙◌, subst, append-nil, false, true≢false, arith, get_or-set_same, get_or-set_other}
 use lib.ListN.{length-set}
 use Rattle.std.specs.Prelude.{sum_by, map}
 use mathlib.Core.Logic.{dite}
@@ -15,7 +15,7 @@ use Rattle.lanes.specs.declared.port.Held.TheVariants as held
 use Rattle.lanes.specs.declared.port.Port.{Port}
 use Rattle.lanes.specs.Held.{held_in, answers_in, HoldsJob}
 use Rattle.lanes.specs.Ports.{taken_at, sent_at, held_at, SamePort, SameBooks, Finishes}
-use Rattle.lanes.specs.Steps.{Holds, Rests, HoldNothing, Unchanged, Ends, Serves, ServesOne, Steps}
+use Rattle.lanes.specs.Steps.{Holds, Rests, HoldNothing, Unchanged, Ends, Serves, ServesOne, Steps, keeps}
 
 pub holds_one : {W O : Type 0} (h : Held W O) → HoldsJob h → length (held_in h) ≡ 1
 holds_one held.Nothing j = absurd j
@@ -219,16 +219,24 @@ module _ {W O : Type 0} {g : Ghosts W O} where
   steps_links stepped.NoMemory old new s = serves_links old new stepped.NoMemory s
   steps_links stepped.RingFull old new s = serves_links old new stepped.RingFull s
 
+  -- what is held for the lane that was served is all that is held
+  served_all : (old new : List (Port W O g)) (result : Stepped) (d : Port W O g) (s : ServesOne old result new) → sum_by (λ p. length (held_at p)) new ≡ length (held_at (get_or new s.lane d))
+  served_all old new result d s =
+      one_of (λ (p : Port W O g). length (held_at p)) new s.lane d (let w = s.within in let n = s.count in omega (arith, w, n))
+      (λ c e h ne. let k : c < length old = (let n = s.count in omega (arith, n, h)) in
+      ap length ((s.rests c e k ne).1.2 ∙ s.first c e k ne))
+
   serves_one : (old new : List (Port W O g)) (result : Stepped) → ServesOne old result new → sum_by (λ p. length (held_at p)) new ≤ 1
   serves_one [] new result s = let w = s.within in absurd (omega (arith, w))
   serves_one (x ∷ xs) new result s =
-      let all = one_of (λ (p : Port W O g). length (held_at p)) new s.lane x (let w = s.within in let n = s.count in omega (arith, w, n))
-      (λ c d h ne. let k : c < length (x ∷ xs) = (let n = s.count in omega (arith, n, h)) in
-      ap length ((s.rests c d k ne).1.2 ∙ s.first c d k ne)) in
-      let most = most_held (get_or new s.lane x).held in omega (arith, all, most)
+      let all = served_all (x ∷ xs) new result x s in let most = most_held (get_or new s.lane x).held in omega (arith, all, most)
 
   unchanged_one : (old new : List (Port W O g)) → Unchanged old new → sum_by (λ p. length (held_at p)) old ≤ 1 → sum_by (λ p. length (held_at p)) new ≤ 1
   unchanged_one old new u most = let e = same_sum (λ (p : Port W O g). length (held_at p)) old new u.count (λ c d h. ap length (u.rests c d h).1.2) in omega (arith, e, most)
+
+  unchanged_free : (old new : List (Port W O g)) → HoldNothing old → Unchanged old new → sum_by (λ p. length (held_at p)) new ≡ 0
+  unchanged_free old new nothing u =
+      all_zero (λ (p : Port W O g). length (held_at p)) new (λ c d h. let k : c < length old = (let n = u.count in omega (arith, n, h)) in ap length ((u.rests c d k).1.2 ∙ nothing c d k))
 
   -- and leaves it holding at most one
   pub steps_one : (result : Stepped) (old new : List (Port W O g)) → Steps old result new → sum_by (λ p. length (held_at p)) old ≤ 1 → sum_by (λ p. length (held_at p)) new ≤ 1
@@ -237,6 +245,16 @@ module _ {W O : Type 0} {g : Ghosts W O} where
   steps_one stepped.Again old new s most = unchanged_one old new s.1 most
   steps_one stepped.NoMemory old new s most = serves_one old new stepped.NoMemory s
   steps_one stepped.RingFull old new s most = serves_one old new stepped.RingFull s
+
+  -- where it leaves nothing held, all hold nothing
+  pub steps_free : (result : Stepped) (old new : List (Port W O g)) → Steps old result new → keeps result ≡ false → sum_by (λ p. length (held_at p)) new ≡ 0
+  steps_free stepped.Answered [] new s frees = let w = s.within in absurd (omega (arith, w))
+  steps_free stepped.Answered (x ∷ xs) new s frees =
+      let all = served_all (x ∷ xs) new stepped.Answered x s in let none = ap length (s.serves x).ends.1 in omega (arith, all, none)
+  steps_free stepped.Idle old new s frees = unchanged_free old new s.0 s.1
+  steps_free stepped.Again old new s frees = unchanged_free old new s.0 s.1
+  steps_free stepped.NoMemory old new s frees = absurd (true≢false frees)
+  steps_free stepped.RingFull old new s frees = absurd (true≢false frees)
 
   pub steps_length : (result : Stepped) (old new : List (Port W O g)) → Steps old result new → length new ≡ length old
   steps_length stepped.Answered old new s = s.count

@@ -1,5 +1,5 @@
 -- What a clause says of a worker's step: of its ports before and after.
-use Rattle.std.specs.Prelude.{◌≡◌, ◌≢◌, ℕ, ◌+◌, ◌<◌, All, List, [], ◌++◌, length, slice_index_or}
+use Rattle.std.specs.Prelude.{◌≡◌, ◌≢◌, ℕ, ◌+◌, ◌<◌, Bool, true, false, All, List, [], ◌++◌, length, slice_index_or}
 use Rattle.box_core.specs.Answer.{Ticketed}
 use Rattle.box_core.specs.declared.work.Work.{Ghosts}
 use Rattle.lanes.specs.declared.gate.Stepped.{Stepped}
@@ -7,6 +7,14 @@ use Rattle.lanes.specs.declared.gate.Stepped.TheVariants as stepped
 use Rattle.lanes.specs.declared.port.Port.{Port}
 use Rattle.lanes.specs.Held.{HoldsJob, HoldsAnswer, answers_in}
 use Rattle.lanes.specs.Ports.{taken_at, sent_at, held_at, SamePort, SameBooks}
+
+-- whether a job or an answer is held after a step
+abbrev pub keeps : Stepped → Bool
+keeps stepped.Answered = false
+keeps stepped.Idle = false
+keeps stepped.Again = false
+keeps stepped.NoMemory = true
+keeps stepped.RingFull = true
 
 module _ {W O : Type 0} {g : Ghosts W O} where
   -- the same port, and no book of it changed

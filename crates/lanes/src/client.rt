@@ -21,6 +21,8 @@ pub struct Client<W: Work> {
     pub(crate) mailbox: Mailbox<W>,
     pub(crate) rings: Vec<Consumer<Done<W>>>,
     pub(crate) signals: Arc<Signals>,
+    // Which lane it is, from 0 on.
+    pub(crate) lane: u32,
     ghost owns: { (worker_port owner ≡ 0) × (worker_flavor owner ≡ 0) },
     // No pass has come back yet.
     ghost lent: { ((worker_view owner).out ≡ vec_len rings) × ((worker_view owner).taken ≡ []) },
@@ -70,6 +72,7 @@ impl<W: Work> Client<W> {
         let job = Job::of(self.mailbox.accepted(), copy);
         match self.owner.push_as::<Puts>(job) {
             Ok(()) => {
+                self.signals.mark(self.lane);
                 self.signals.add_job();
                 Ok(accept(&mut self.mailbox, work))
             }

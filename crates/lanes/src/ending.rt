@@ -37,6 +37,7 @@ pub(crate) fn settle_lane<W: Work>(
         mut mailbox,
         rings,
         signals: _,
+        lane: _,
     } = client;
     join_ports(&mut owner, column, rings, &mut mailbox, &mut left);
     pop_rest(&mut owner, &mut left);

@@ -18,6 +18,17 @@ pub enum Stepped {
     RingFull,
 }
 
+impl Stepped {
+    ghost use Rattle.lanes.specs.Steps.{keeps};
+
+    // Whether the worker holds a job or an answer after the step.
+    pub(crate) fn keeps(self) -> bool
+        ensures { result ≡ keeps self }
+    {
+        matches!(self, Stepped::NoMemory | Stepped::RingFull)
+    }
+}
+
 /// It sees each run of a job of one worker, in that worker's thread.
 pub trait Watch {
     /// What a call before a run does: by client and ticket, before it and after it.

@@ -7,6 +7,7 @@ mod client;
 mod ending;
 mod fault;
 mod gate;
+mod marks;
 mod open;
 mod port;
 mod settled;

@@ -72,10 +72,10 @@ fn open_all<W: Work>(
     ensures new { IfOk result (λ ends. AreNew capacity ends.0.items × AreIdle ends.1.items) }
 {
     let mut ends = Vec::new(alloc);
-    let signals = Arc::new(alloc, Signals::new())?;
+    let signals = Arc::new(alloc, Signals::of_lanes(clients))?;
     let mut crew = crew_of(alloc, workers, &signals)?;
-    for _ in 0..clients {
-        let client = open_lane(alloc, capacity, &mut crew, &signals)?;
+    for lane in 0..clients {
+        let client = open_lane(alloc, lane, capacity, &mut crew, &signals)?;
         ends.push(client)?;
     }
     Ok((ends, crew))
@@ -101,6 +101,7 @@ fn crew_of<W: Work>(
 // One lane more, with a port for each worker.
 fn open_lane<W: Work>(
     alloc: Global,
+    lane: u32,
     capacity: u32,
     crew: &mut Vec<Worker<W>>,
     signals: &Arc<Signals>,
@@ -121,6 +122,7 @@ fn open_lane<W: Work>(
         mailbox,
         rings,
         signals,
+        lane,
     })
 }
 

@@ -7,6 +7,7 @@ ghost use Rattle.lanes.specs.Held.{held_in};
 
 use crate::book::{Seat, Steals, Thief};
 use crate::gate::{Stepped, Watch};
+use crate::signals::Signals;
 use box_core::{Done, Job, Work};
 use crossbeam_deque::Steal;
 use rtrb::{Producer, PushError};
@@ -56,6 +57,27 @@ impl<W: Work> Port<W> {
             Steal::Empty => Steal::Empty,
             Steal::Retry => Steal::Retry,
         }
+    }
+
+    /// The same of a lane that is marked. Where it is empty its mark is taken away, and it is looked at once more: a job
+    /// that was put between may have found the mark still there. Another worker that took the mark away does the same.
+    pub(crate) fn steal_marked(&mut self, signals: &Signals, lane: u32) -> Steal<()>
+        requires { held_at self.old ≡ [] }
+        ensures same { SamePort self.old self.new × (sent_at self.new ≡ sent_at self.old) }
+        ensures taken { MatchSteal result (SameBooks self.old self.new) (SameBooks self.old self.new) (λ _. HoldsJob self.new.held × (taken_at self.new ≡ taken_at self.old ++ held_at self.new)) }
+    {
+        let stolen = self.steal();
+        if !stolen.is_empty() {
+            return stolen;
+        }
+        if !signals.unmark(lane) {
+            return stolen;
+        }
+        let stolen = self.steal();
+        if !stolen.is_empty() {
+            signals.mark_again(lane);
+        }
+        stolen
     }
 
     /// Runs the job that is held, and sends its answer. What cannot be done is held still.

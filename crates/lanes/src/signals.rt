@@ -1,4 +1,5 @@
 //! How threads that have nothing to do sleep, and what wakes them. No answer rests on it.
+use crate::marks::Marks;
 use std::hint;
 use std::sync::Wait;
 use std::sync::atomic::{AtomicU64, Ordering};
@@ -13,7 +14,8 @@ const MANY: u64 = 16;
 /// How often workers may be refused memory, with nothing answered between, before they count as starved.
 const STARVED: u64 = 2_000;
 
-/// The longest sleep in milliseconds. No wake-up is lost, as `Bell` says; this bounds what one would cost.
+/// The longest sleep in milliseconds. No wake-up is lost, as `Bell` says, and no job is passed; this bounds what it would
+/// cost.
 const LONGEST_SLEEP: u64 = 100;
 /// The longest sleep, in milliseconds, of a front that waits for many answers: so long one that is there may wait for others.
 const LONGEST_GATHERING: u64 = 1;
@@ -116,9 +118,15 @@ impl Bell {
 /// Who wakes a worker sets `called` first, counts as for a job, and then wakes; while it is set nobody else wakes one. It is
 /// set no longer once a worker sleeps: each clears it before it sleeps and once it looks again. One that read the count
 /// before the waker counted does not sleep, or is woken; one that read it later clears what the waker had set.
+///
+/// Who looks passes each lane that isn't marked: `Marks` says why no job is lost by that. Between the two looks of a worker
+/// at an empty lane another may pass it, though a job was put. Where a lane is marked again, that is counted as for a job,
+/// so that who passed it looks again. A worker whose sleep ended by itself looks at each lane, and so do the workers that
+/// are woken all at once.
 #[derive(Drop)]
 pub struct Signals {
     jobs: Bell,
+    marks: Marks,
     taken: AtomicU64,
     looking: AtomicU64,
     called: AtomicU64,
@@ -131,10 +139,16 @@ pub struct Signals {
 }
 
 impl Signals {
-    /// Nobody looks, and nobody sleeps.
+    /// Nobody looks, and nobody sleeps. There are no lanes.
     pub fn new() -> Signals {
+        Signals::of_lanes(0)
+    }
+
+    /// The same for so many lanes.
+    pub(crate) fn of_lanes(lanes: u32) -> Signals {
         Signals {
             jobs: Bell::new(),
+            marks: Marks::of(lanes),
             taken: AtomicU64::new(0),
             looking: AtomicU64::new(0),
             called: AtomicU64::new(0),
@@ -155,6 +169,33 @@ impl Signals {
         self.put.fetch_add(1, Ordering::SeqCst);
         self.jobs.add();
         self.call_worker_for(MANY);
+    }
+
+    /// The lanes that may hold a job: a bit for each, the lowest for the first.
+    pub(crate) fn marked(&self) -> u64 {
+        self.marks.marked()
+    }
+
+    /// A lane holds a job that was put, and is not counted yet.
+    pub(crate) fn mark(&self, lane: u32) {
+        self.marks.mark(lane);
+    }
+
+    /// A lane was found empty. It is looked at once more after this, unless another worker does so.
+    pub(crate) fn unmark(&self, lane: u32) -> bool {
+        self.marks.unmark(lane)
+    }
+
+    /// A lane was not found empty after its mark was taken away: one that passed it meanwhile looks again.
+    pub(crate) fn mark_again(&self, lane: u32) {
+        self.marks.mark(lane);
+        self.jobs.add();
+        self.taken.fetch_add(1, Ordering::SeqCst);
+    }
+
+    /// Each lane may hold a job: the next look of a worker passes none.
+    pub fn mark_all(&self) {
+        self.marks.mark_all();
     }
 
     /// Jobs may wait, and no other is put before some are run: a worker is woken for them where none looks.
@@ -228,12 +269,16 @@ impl Signals {
         self.jobs.watch(seen, turns)
     }
 
-    /// A worker that looks sleeps, unless more jobs were put than this, and looks again after it.
+    /// A worker that looks sleeps, unless more jobs were put than this, and looks again after it: at each lane, where none
+    /// were put.
     pub fn await_job<R: Wait>(&self, rt: &R, seen: u64) {
         self.jobs.add_sleeper();
         self.looking.fetch_sub(1, Ordering::SeqCst);
         self.called.store(0, Ordering::SeqCst);
         self.jobs.sleep(rt, seen, LONGEST_SLEEP);
+        if self.jobs() == seen {
+            self.mark_all();
+        }
         self.looking.fetch_add(1, Ordering::SeqCst);
         self.called.store(0, Ordering::SeqCst);
     }

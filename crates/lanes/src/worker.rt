@@ -1,5 +1,5 @@
 //! A worker's end of every lane.
-ghost use Rattle.std.specs.Prelude.{◌≡◌, ◌<◌, ◌≤◌, vec_len, length, sum_by};
+ghost use Rattle.std.specs.Prelude.{◌≡◌, ◌<◌, ◌≤◌, false, vec_len, length, sum_by};
 ghost use Rattle.lanes.specs.Ports.{held_at};
 
 use crate::gate::{AtGate, Gate, Stepped, Watch};
@@ -18,17 +18,20 @@ pub struct Worker<W: Work> {
     alloc: Global,
     pub(crate) ports: Vec<Port<W>>,
     // The lane that it looks at first: the one behind the last that gave a job.
-    first: usize,
+    first: u32,
+    // Whether it holds a job or an answer.
+    holds: bool,
     signals: Arc<Signals>,
     ghost few: { vec_len ports ≤ 64 },
     // It holds at most one job or answer.
     ghost one: { sum_by (λ p. length (held_at p)) ports.items ≤ 1 },
+    ghost free: { holds ≡ false → sum_by (λ p. length (held_at p)) ports.items ≡ 0 },
 }
 
 impl<W: Work> Worker<W> {
     ghost use Rattle.std.specs.Prelude.{◌≡◌, ◌<◌, ◌++◌, [], ◌∷◌, vec_len, IfOk, IfSome, IfNone};
     ghost use Rattle.lanes.specs.Ports.{held_at};
-    ghost use Rattle.lanes.specs.Steps.{Steps};
+    ghost use Rattle.lanes.specs.Steps.{Steps, HoldNothing, Holds};
     ghost use Rattle.lanes.specs.Watched.{Watches};
     ghost use Rattle.lanes.specs.Workers.{worker_links, ports_of};
 
@@ -40,6 +43,7 @@ impl<W: Work> Worker<W> {
             alloc,
             ports: Vec::new(alloc),
             first: 0,
+            holds: false,
             signals,
         }
     }
@@ -69,7 +73,8 @@ impl<W: Work> Worker<W> {
 
     /// Does one step: what the worker holds is tried first, and is then the whole step. Otherwise it takes the oldest
     /// job of some lane, where one waits, runs it, and posts the answer. The lanes have their turns: it looks first at the
-    /// lane behind the last that gave a job. A step that finds nothing looks at each lane once and takes no memory.
+    /// lane behind the last that gave a job, and passes the lanes that nothing was put into since they were found empty. A
+    /// step that finds nothing takes no memory.
     pub fn step<G: Gate>(&mut self, gate: &G) -> Stepped
         ensures same { worker_links self.new ≡ worker_links self.old }
         ensures steps { Steps (ports_of self.old) result (ports_of self.new) }
@@ -85,10 +90,35 @@ impl<W: Work> Worker<W> {
         ensures seen { Watches V.entered V.left (ports_of self.old) result (ports_of self.new) watch.old watch.new }
     {
         let alloc = self.alloc;
-        match first_held(&self.ports) {
-            Some(lane) => finish_held(&mut self.ports, alloc, watch, lane),
-            None => look(&mut self.ports, &mut self.first, alloc, watch),
+        match self.held_lane() {
+            Some(lane) => {
+                let stepped = finish_held(&mut self.ports, alloc, watch, lane);
+                self.holds = stepped.keeps();
+                stepped
+            }
+            None => {
+                let stepped = look(
+                    &mut self.ports,
+                    &mut self.first,
+                    &self.signals,
+                    alloc,
+                    watch,
+                );
+                self.holds = stepped.keeps();
+                stepped
+            }
         }
+    }
+
+    // The lane for which something is held.
+    fn held_lane(&self) -> Option<usize>
+        ensures found { IfSome result (λ lane. (lane < vec_len self.now.ports) × Holds (ports_of self.now) lane) }
+        ensures none { IfNone result (HoldNothing (ports_of self.now)) }
+    {
+        if !self.holds {
+            return None;
+        }
+        first_held(&self.ports)
     }
 }
 
@@ -129,18 +159,18 @@ fn finish_held<W: Work, V: Watch>(
     port.finish(alloc, watch, lane as u32)
 }
 
-// The lane of a turn, where the lanes have their turns in order from this one on.
-fn lane_of(first: usize, turn: usize, lanes: usize) -> usize
-    requires { turn < lanes }
-    ensures { result < lanes }
+// The lane of a turn, where 64 lanes have their turns in order from this one on.
+fn lane_of(first: u32, turn: u32) -> u32
+    ensures { result < 64 }
 {
-    first.wrapping_add(turn) % lanes
+    first.wrapping_add(turn) % 64
 }
 
-// Takes a job of some lane where one waits, and runs it.
+// Takes a job of some lane that may hold one, and runs it.
 fn look<W: Work, V: Watch>(
     ports: &mut Vec<Port<W>>,
-    first: &mut usize,
+    first: &mut u32,
+    signals: &Signals,
     alloc: Global,
     watch: &mut V,
 ) -> Stepped
@@ -149,15 +179,19 @@ fn look<W: Work, V: Watch>(
     ensures steps { Steps ports.old.items result ports.new.items }
     ensures seen { Watches V.entered V.left ports.old.items result ports.new.items watch.old watch.new }
 {
-    let lanes = ports.len();
     let mut again = false;
-    for turn in 0..lanes {
-        let lane = lane_of(*first, turn, lanes);
-        let port = &mut ports[lane];
-        match port.steal() {
+    // The turns of the marked lanes that are left, a bit each.
+    let mut turns = signals.marked().rotate_right(*first);
+    while turns != 0 {
+        let lane = lane_of(*first, turns.trailing_zeros());
+        turns &= turns - 1;
+        let Some(port) = ports.get_mut(lane as usize) else {
+            continue;
+        };
+        match port.steal_marked(signals, lane) {
             Steal::Success(()) => {
                 *first = lane + 1;
-                return port.finish(alloc, watch, lane as u32);
+                return port.finish(alloc, watch, lane);
             }
             Steal::Retry => again = true,
             Steal::Empty => {}

@@ -8,8 +8,8 @@ use Rattle.lanes.proofs.Crossing.{one_call_none}
 use Rattle.lanes.proofs.Making.{few_lanes, lanes_more, new_none, new_more, worker_links_none, idle_none, map_length}
 use Rattle.lanes.proofs.open.open_all.Goals as goal
 
-pub loop-init : goal.loop-init
-loop-init g c =
+pub loop-lane-init : goal.loop-lane-init
+loop-lane-init g c =
     let made = c.in_ok-crew.ensures in let crew = c.in_ok-crew.crew.items in
     let links = worker_links_none crew c.args.workers made.empty in
     let many : c.args.workers ≡ length (map worker_links crew) = (let n = map_length worker_links crew in omega (arith, n, made.len, c.in_ok-crew.crew.ok.0)) in
@@ -20,15 +20,15 @@ loop-init g c =
     }
 
 pub open_lane-requires-clause-few : goal.open_lane-requires-clause-few
-open_lane-requires-clause-few g c = few_lanes c.loop.ends.items c.loop.crew.items c.loop.invariant.one_call (omega (arith, c.loop.invariant.count.0, c.loop-test.true, c.requires.0, c.loop.ends.ok.0))
+open_lane-requires-clause-few g c = few_lanes c.loop-lane.ends.items c.loop-lane.crew.items c.loop-lane.invariant.one_call (omega (arith, c.loop-lane.invariant.count.0, c.loop-lane-test.true, c.requires.0, c.loop-lane.ends.ok.0))
 
-pub loop-preserved : goal.loop-preserved
-loop-preserved g c =
-    let inv = c.loop.invariant in let opened = c.in_ok-client.ensures in let pushed = c.in_ok-push.ensures in
+pub loop-lane-preserved : goal.loop-lane-preserved
+loop-lane-preserved g c =
+    let inv = c.loop-lane.invariant in let opened = c.in_ok-client.ensures in let pushed = c.in_ok-push.ensures in
     record {
       count = search rules;
-      one_call = lanes_more c.loop.ends.items c.push.new.self.items c.loop.crew.items c.open_lane.new.crew.items c.in_ok-client.client inv.one_call pushed.items (let n = opened.links.0 in omega (arith, n, c.loop.crew.ok.0)) opened.links.1;
-      new = (new_more c.args.capacity c.loop.ends.items c.push.new.self.items c.in_ok-client.client inv.new.0 pushed.items opened.new, opened.idle inv.new.1);
+      one_call = lanes_more c.loop-lane.ends.items c.push.new.self.items c.loop-lane.crew.items c.open_lane.new.crew.items c.in_ok-client.client inv.one_call pushed.items (let n = opened.links.0 in omega (arith, n, c.loop-lane.crew.ok.0)) opened.links.1;
+      new = (new_more c.args.capacity c.loop-lane.ends.items c.push.new.self.items c.in_ok-client.client inv.new.0 pushed.items opened.new, opened.idle inv.new.1);
     }
 
 pub returns-in_err-crew : goal.returns-in_err-crew

@@ -25,6 +25,7 @@ invariant_of-self g c =
     record {
       few = omega (arith, c.args.self.now.few, c.pop.ensures.len);
       one = omega (arith, c.args.self.now.one, parts, sum);
+      free = λ none. (let before = c.args.self.now.free none in omega (arith, before, parts, sum));
     }
 
 pub returns-clause-some : goal.returns-clause-some
