@@ -147,7 +147,7 @@ pub Need-send : IsSend Need.the_row
 Need-send = declared_send Need.the_type (Name-send, ((search (sendable, crosses) depth 20), tt))
 
 pub NeedsInside-send : IsSend NeedsInside.the_row
-NeedsInside-send = declared_send NeedsInside.the_type (Vec-send Need.the_row Need-send, ((search (maps.BTreeMap-send, maps.String-send, sendable, crosses, as_row_send) depth 20 fits 20000), ((search (sendable, crosses) depth 20), tt)))
+NeedsInside-send = declared_send NeedsInside.the_type (Vec-send Need.the_row Need-send, ((search (Vec-send, sendable, crosses, as_row_send) depth 20 fits 20000), ((search (sendable, crosses) depth 20), tt)))
 
 pub Needs-send : IsSend Needs.the_row
 Needs-send = view_send _ _ _ _ _ NeedsInside-send
@@ -168,7 +168,7 @@ pub Need-sync : IsSync Need.the_row
 Need-sync = declared_sync Need.the_type (Name-sync, ((search (sendable, crosses) depth 20), tt))
 
 pub NeedsInside-sync : IsSync NeedsInside.the_row
-NeedsInside-sync = declared_sync NeedsInside.the_type (Vec-sync Need.the_row Need-sync, ((search (maps.BTreeMap-sync, maps.String-sync, sendable, crosses, as_row_sync) depth 20 fits 20000), ((search (sendable, crosses) depth 20), tt)))
+NeedsInside-sync = declared_sync NeedsInside.the_type (Vec-sync Need.the_row Need-sync, ((search (Vec-sync, sendable, crosses, as_row_sync) depth 20 fits 20000), ((search (sendable, crosses) depth 20), tt)))
 
 pub Needs-sync : IsSync Needs.the_row
 Needs-sync = view_sync _ _ _ _ _ NeedsInside-sync
