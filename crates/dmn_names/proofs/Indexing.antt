@@ -1,63 +1,86 @@
--- Names that are put into a map with their places, one after another.
-use Rattle.std.proofs.Common.{◌≡◌, ℕ, ◌+◌, ◌<◌, suc, List, ◌∷◌, map, drop, length, get_or, Option, Some, None, option_map, is_some, refl, sym, ap, ◌∙◌, Bool, true, false, if◌then◌else◌, String, Global, string_bytes, cond, arith}
-use Rattle.std.specs.Prelude.{bytes_eq}
-use Rattle.std.specs.BTreeMap.{BTreeMap, get_by_text, Updates}
-use Rattle.std.specs.String.{string_cmp}
-use Rattle.std.proofs.lemmas.List.{at_drop_more}
-use Rattle.std.proofs.lemmas.Map.Text.{btree_map_updates_text}
-use Rattle.std.proofs.lemmas.Slice.Eq.{bytes_eq-Decides}
+-- Names that are found by their order, or one after another.
+use Rattle.std.proofs.Common.{◌≡◌, ℕ, ◌+◌, ◌<◌, ◌≤◌, zero, suc, List, [], ◌∷◌, drop, length, get_or, Option, Some, None, option_map, MatchOption, refl, sym, ap, ap₂, ◌∙◌, Bool, true, false, if◌then◌else◌, Bor, bytes_eq, arith}
+use Rattle.std.proofs.lemmas.List.{at_drop_more, at_drop_all, get_or-map, length-map}
+use Rattle.feel_lang.specs.NameOrder.{IsInOrder, IsNameAt}
+use Rattle.feel_lang.proofs.Bindings.{same_text, text_itself}
+use Rattle.feel_lang.proofs.Ordered.{same_position}
 use Rattle.dmn_form.specs.Model.{Name}
 use Rattle.dmn_names.specs.Places.{place_among}
-use Rattle.dmn_names.specs.Index.{first_of}
+use Rattle.dmn_names.specs.Index.{names_in}
+use Rattle.dmn_names.proofs.Placing.{place_within}
+use Rattle.dmn_names.proofs.NamesBack.{name_at_place}
+
+-- ---- by their order
+
+no_place : (ns : List Name) (n : Name) → ((i : ℕ) → i < length ns → bytes_eq n (get_or ns i []) ≡ false) → place_among ns n ≡ None
+no_place [] n h = refl
+no_place (m ∷ ms) n h = ap₂ (λ b o. if b then Some 0 else option_map suc o) (h 0 (omega arith)) (no_place ms n (λ i w. h (suc i) (omega (arith, w))))
+
+nowhere : (ns : List Name) (n : Name) (i : ℕ) → place_among ns n ≡ None → i < length ns → bytes_eq n (get_or ns i []) ≡ false
+nowhere [] n i e w = absurd (omega (arith, w))
+nowhere (m ∷ ms) n i e w = go (bytes_eq n m) (place_among ms n) i refl (λ k f v. nowhere ms n k f v) e w
+  where
+    go : (b : Bool) (o : Option ℕ) (i : ℕ) → bytes_eq n m ≡ b → ((k : ℕ) → o ≡ None → k < length ms → bytes_eq n (get_or ms k []) ≡ false)
+        → (if b then Some 0 else option_map suc o) ≡ None → i < suc (length ms) → bytes_eq n (get_or (m ∷ ms) i []) ≡ false
+    go true o i s g f w = cc
+    go false (Some k) i s g f w = cc
+    go false None zero s g f w = s
+    go false None (suc i) s g f w = g i refl (omega (arith, w))
+
+-- where no name stands twice, a name has the place at which it stands
+pub place_there : (ns : List Name) (order : List ℕ) (n : Name) (i : ℕ) → IsInOrder ns order → IsNameAt ns n i → place_among ns n ≡ Some i
+place_there ns order n i h at = go (place_among ns n) refl
+  where
+    go : (o : Option ℕ) → place_among ns n ≡ o → place_among ns n ≡ Some i
+    go None e =
+        let yes : bytes_eq n (get_or ns i []) ≡ true = ap (bytes_eq n) at.1 ∙ text_itself n in
+        let no : true ≡ false = sym yes ∙ nowhere ns n i e at.0 in
+        cc
+    go (Some p) e = e ∙ ap Some (same_position ns order p i h (place_within ns n p e) at.0 (name_at_place ns n p [] e ∙ sym at.1))
+
+-- what was found in the order
+pub place_in : (xs : List (Bor (List ℕ))) (order : List ℕ) (n : Name) (o : Option ℕ) → IsInOrder (names_in xs) order
+    → MatchOption o ((i : ℕ) → i < length xs → bytes_eq n (get_or (names_in xs) i []) ≡ false) (IsNameAt (names_in xs) n) → o ≡ place_among (names_in xs) n
+place_in xs order n None h e = sym (no_place (names_in xs) n (λ i w. e i (rw (sym (length-map xs (λ (x : Bor (List ℕ)). x.now))) w)))
+place_in xs order n (Some i) h e = sym (place_there (names_in xs) order n i h e)
+
+-- a name that was looked at
+pub named_at : (xs : List (Bor (List ℕ))) (i : ℕ) (x : Bor (List ℕ)) (n : Name) → x ≡ get_or xs i x → i < length xs → bytes_eq x.now n ≡ true → IsNameAt (names_in xs) n i
+named_at xs i x n e w same =
+    (rw (length-map xs (λ (x : Bor (List ℕ)). x.now)) w, get_or-map (λ (x : Bor (List ℕ)). x.now) xs i x [] w ∙ ap (λ (x : Bor (List ℕ)). x.now) (sym e) ∙ same_text x.now n same)
+
+-- ---- one after another
 
 -- a place of a list that begins at this place
 abbrev pub from_place : ℕ → Option ℕ → Option ℕ
 from_place i o = option_map (λ k. i + k) o
 
-same_text : (a b : Name) → bytes_eq a b ≡ true → a ≡ b
-same_text a b h = (bytes_eq-Decides a b).0 h
+pub at_first : (o : Option ℕ) → o ≡ from_place 0 o
+at_first None = refl
+at_first (Some i) = ap Some (omega arith)
 
-text_itself : (a : Name) → bytes_eq a a ≡ true
-text_itself a = (bytes_eq-Decides a a).1 refl
+a_turn : (i : ℕ) (o : Option ℕ) → from_place i (option_map suc o) ≡ from_place (i + 1) o
+a_turn i None = refl
+a_turn i (Some k) = ap Some (omega arith)
 
-turned : (a b : Name) (s t : Bool) → bytes_eq a b ≡ s → bytes_eq b a ≡ t → s ≡ t
-turned a b true true p q = refl
-turned a b false false p q = refl
-turned a b true false p q = sym (ap (λ x. bytes_eq x a) (sym (same_text a b p)) ∙ text_itself a) ∙ q
-turned a b false true p q = sym (sym (ap (λ x. bytes_eq x b) (sym (same_text b a q)) ∙ text_itself b) ∙ p)
+at_place : (xs : List (Bor (List ℕ))) (i : ℕ) (x : Bor (List ℕ)) (n : Name) → x ≡ get_or xs i x → i < length xs
+    → place_among (names_in (drop i xs)) n ≡ (if bytes_eq n x.now then Some 0 else option_map suc (place_among (names_in (drop (i + 1) xs)) n))
+at_place xs i x n e w =
+    at_drop_more (λ ys. place_among (names_in ys) n) xs i x w
+    ∙ ap (λ (y : Bor (List ℕ)). if bytes_eq n y.now then Some 0 else option_map suc (place_among (names_in (drop (i + 1) xs)) n)) (sym e)
 
-bytes_eq-turned : (a b : Name) → bytes_eq a b ≡ bytes_eq b a
-bytes_eq-turned a b = turned a b (bytes_eq a b) (bytes_eq b a) refl refl
+pub placed_here : (xs : List (Bor (List ℕ))) (i : ℕ) (x : Bor (List ℕ)) (n : Name) (whole : Option ℕ) → whole ≡ from_place i (place_among (names_in (drop i xs)) n) → x ≡ get_or xs i x → i < length xs
+    → bytes_eq n x.now ≡ true → Some i ≡ whole
+placed_here xs i x n whole before e w same =
+    sym (before ∙ ap (from_place i) (at_place xs i x n e w)
+    ∙ ap (λ b. from_place i (if b then Some 0 else option_map suc (place_among (names_in (drop (i + 1) xs)) n))) same ∙ ap Some (omega arith))
 
-by_test : (place : ℕ) (b : Bool) (o : Option ℕ) → (b ≡ true → is_some o ≡ false) → cond b (Some place) o ≡ first_of o (if b then Some place else None)
-by_test place true None h = refl
-by_test place true (Some i) h = let e : true ≡ false = h refl in cc
-by_test place false None h = refl
-by_test place false (Some i) h = refl
+pub placed_later : (xs : List (Bor (List ℕ))) (i : ℕ) (x : Bor (List ℕ)) (n : Name) (whole : Option ℕ) → whole ≡ from_place i (place_among (names_in (drop i xs)) n) → x ≡ get_or xs i x → i < length xs
+    → bytes_eq n x.now ≡ false → whole ≡ from_place (i + 1) (place_among (names_in (drop (i + 1) xs)) n)
+placed_later xs i x n whole before e w other =
+    before ∙ ap (from_place i) (at_place xs i x n e w)
+    ∙ ap (λ b. from_place i (if b then Some 0 else option_map suc (place_among (names_in (drop (i + 1) xs)) n))) other
+    ∙ a_turn i (place_among (names_in (drop (i + 1) xs)) n)
 
--- a name that was not in the map
-pub put_new : (old new : BTreeMap (String Global) ℕ) (name : String Global) (place : ℕ)
-    → Updates string_cmp old new name (Some place) → is_some (get_by_text old (string_bytes name)) ≡ false
-    → (other : Name) → get_by_text new other ≡ first_of (get_by_text old other) (if bytes_eq other (string_bytes name) then Some place else None)
-put_new old new name place put absent other =
-    btree_map_updates_text (string_bytes name) old new (Some place) put other
-    ∙ ap (λ b. cond b (Some place) (get_by_text old other)) (bytes_eq-turned (string_bytes name) other)
-    ∙ by_test place (bytes_eq other (string_bytes name)) (get_by_text old other) (λ e. ap (λ n. is_some (get_by_text old n)) (same_text other (string_bytes name) e) ∙ absent)
-
-a_turn : (i : ℕ) (old : Option ℕ) (b : Bool) (o : Option ℕ)
-    → first_of old (from_place i (if b then Some 0 else option_map suc o)) ≡ first_of (first_of old (if b then Some i else None)) (from_place (i + 1) o)
-a_turn i (Some j) b o = refl
-a_turn i None true o = ap Some (omega arith)
-a_turn i None false None = refl
-a_turn i None false (Some k) = ap Some (omega arith)
-
--- a turn of the walk along the names of xs
-pub after_turn : {X : Type 0} (name : X → Name) (xs : List X) (i : ℕ) (x : X) (key n : Name) (old new whole : Option ℕ)
-    → whole ≡ first_of old (from_place i (place_among (map name (drop i xs)) n)) → x ≡ get_or xs i x → i < length xs → key ≡ name x
-    → new ≡ first_of old (if bytes_eq n key then Some i else None)
-    → whole ≡ first_of new (from_place (i + 1) (place_among (map name (drop (i + 1) xs)) n))
-after_turn name xs i x key n old new whole before e h k put =
-    before ∙ at_drop_more (λ ys. first_of old (from_place i (place_among (map name ys) n))) xs i x h
-    ∙ ap (λ m. first_of old (from_place i (place_among (m ∷ map name (drop (i + 1) xs)) n))) (ap name (sym e) ∙ sym k)
-    ∙ a_turn i old (bytes_eq n key) (place_among (map name (drop (i + 1) xs)) n)
-    ∙ ap (λ o. first_of o (from_place (i + 1) (place_among (map name (drop (i + 1) xs)) n))) (sym put)
+pub placed_nowhere : (xs : List (Bor (List ℕ))) (i : ℕ) (n : Name) (whole : Option ℕ) → whole ≡ from_place i (place_among (names_in (drop i xs)) n) → length xs ≤ i → None ≡ whole
+placed_nowhere xs i n whole before past = sym (before ∙ at_drop_all (λ ys. from_place i (place_among (names_in ys) n)) xs i past)

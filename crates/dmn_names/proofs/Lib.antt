@@ -1,8 +1,9 @@
 pub mod Walks
 pub mod Seen
-pub mod Indexing
 pub mod Placing
 pub mod Strangers
 pub mod Within
 pub mod NamesBack
+pub mod Indexing
 pub mod Parameters
+pub mod Rising

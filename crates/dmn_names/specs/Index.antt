@@ -1,13 +1,15 @@
--- Internal, cited by no public contract: a map from names to places.
-use Rattle.std.specs.Prelude.{◌≡◌, ℕ, List, Option, None, Some, String}
-use Rattle.std.specs.declared.alloc.Global.{Global}
-use Rattle.std.specs.BTreeMap.{BTreeMap, get_by_text}
+-- Internal, cited by no public contract: names in a list, with their order.
+use Rattle.std.specs.Prelude.{ℕ, List, map, Bool, IsTrue, Option, None, Some}
+use Rattle.std.specs.Borrow.{Bor}
+use Rattle.feel_lang.specs.NameOrder.{IsInOrder}
 use Rattle.dmn_form.specs.Model.{Name}
-use Rattle.dmn_names.specs.Places.{place_among}
 
--- the map has the place of each of these names
-abbrev pub IsIndex : BTreeMap (String Global) ℕ → List Name → Type 0
-IsIndex places ns = (n : Name) → get_by_text places n ≡ place_among ns n
+abbrev pub names_in : List (Bor (List ℕ)) → List Name
+names_in = map (λ n. n.now)
+
+-- they are in order, where that is said
+abbrev pub IsIndexed : List Name → List ℕ → Bool → Type 0
+IsIndexed names order ordered = IsTrue ordered → IsInOrder names order
 
 abbrev pub first_of : Option ℕ → Option ℕ → Option ℕ
 first_of None o = o

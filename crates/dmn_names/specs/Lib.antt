@@ -6,3 +6,4 @@ pub mod Index
 pub mod PlacedModel
 pub mod Size
 pub mod Kinds
+pub mod Rising

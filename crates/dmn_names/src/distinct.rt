@@ -1,19 +1,68 @@
 //! Whether a name stands twice where it may stand once.
-ghost use Rattle.std.specs.Prelude.{◌≡◌, IfOk, map, string_bytes};
+ghost use Rattle.std.specs.Prelude.{◌≡◌, false, IfOk, IsTrue, map, string_bytes};
 ghost use Rattle.std.specs.List.{list_any, flat_map};
 ghost use Rattle.dmn_form.specs.LogicView.{logic_view};
 ghost use Rattle.dmn_form.specs.ModelView.{decision_view, service_view, model_view};
+ghost use Rattle.feel_value.specs.Distinct.{is_among};
+ghost use Rattle.dmn_names.specs.Rising.{are_rising as names_rise};
 ghost use Rattle.dmn_names.specs.Names.{have_twice as twice_among, has_name_twice as name_twice_in};
 ghost use Rattle.dmn_names.specs.Parts.{lists_in, decision_lists, service_lists, value_names, service_names, part_lists};
 ghost use Rattle.dmn_names.specs.Views.{member_lists_view, entry_lists_view, context_lists_view};
 
 use crate::named::Named;
 use dmn_form::{WrittenDecision, WrittenLogic, WrittenModel, WrittenService};
+use feel_lang::compare_names;
 use std::alloc::{AllocError, Global};
 use std::collections::BTreeSet;
 
-/// Whether two of these have one name.
-fn have_twice<T: Named>(alloc: Global, items: &[T]) -> Result<bool, AllocError>
+// Up to so many names are compared each with each, which takes no memory.
+const FEW: usize = 8;
+
+/// Whether each name comes behind the one before it.
+fn are_rising<T: Named>(items: &[T]) -> bool
+    ensures { result ≡ names_rise (map T.name_of items.now) }
+{
+    let Some((first, others)) = items.split_first() else {
+        return true;
+    };
+    let mut last = first.name();
+    for item in others {
+        let name = item.name();
+        if !compare_names(last, name).is_lt() {
+            return false;
+        }
+        last = name;
+    }
+    true
+}
+
+/// Whether one of these has the name.
+fn is_name_of_one<T: Named>(items: &[T], name: &str) -> bool
+    ensures { result ≡ is_among (map T.name_of items.now) name.now }
+{
+    for item in items {
+        if name == item.name() {
+            return true;
+        }
+    }
+    false
+}
+
+/// Whether two of these have one name, each compared with each.
+fn few_have_twice<T: Named>(items: &[T]) -> bool
+    ensures { result ≡ twice_among (map T.name_of items.now) }
+{
+    for (place, item) in items.iter().enumerate() {
+        let (_, others) = items.split_at(place + 1);
+        if is_name_of_one(others, item.name()) {
+            return true;
+        }
+    }
+    false
+}
+
+/// Whether two of these have one name, by a set of the names that were seen.
+fn many_have_twice<T: Named>(alloc: Global, items: &[T]) -> Result<bool, AllocError>
     ensures { IfOk result (λ b. b ≡ twice_among (map T.name_of items.now)) }
 {
     let mut seen = BTreeSet::new(alloc);
@@ -24,6 +73,20 @@ fn have_twice<T: Named>(alloc: Global, items: &[T]) -> Result<bool, AllocError>
         }
     }
     Ok(false)
+}
+
+/// Whether two of these have one name.
+fn have_twice<T: Named>(alloc: Global, items: &[T]) -> Result<bool, AllocError>
+    ensures { IfOk result (λ b. b ≡ twice_among (map T.name_of items.now)) }
+{
+    if are_rising(items) {
+        return Ok(false);
+    }
+    if items.len() <= FEW {
+        return Ok(few_have_twice(items));
+    }
+    let is_twice = many_have_twice(alloc, items)?;
+    Ok(is_twice)
 }
 
 /// Whether a name stands twice in a context or a table within the boxed expression.

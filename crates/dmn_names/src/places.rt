@@ -1,23 +1,21 @@
 //! Where what is named stands in a model.
 ghost use Rattle.std.specs.Prelude.{◌≡◌, map, string_bytes};
 ghost use Rattle.dmn_form.specs.FormView.{texts_view};
-ghost use Rattle.dmn_names.specs.Index.{IsIndex};
 ghost use Rattle.std.proofs.Props.{props};
 
-use crate::index::index_of;
+use crate::index::Index;
 use dmn_form::{WrittenModel, WrittenService};
 use std::alloc::{AllocError, Global};
-use std::collections::BTreeMap;
 
 /// Where each input and each decision of a model stands: first the inputs, and then the decisions, in the order in which they
 /// are written.
 #[derive(Drop)]
 pub struct Places<'a> {
     model: &'a WrittenModel,
-    inputs: BTreeMap<String, usize>,
-    decisions: BTreeMap<String, usize>,
-    ghost inputs_placed: { IsIndex inputs (texts_view model.now.inputs) } by { Prim.hlevel props },
-    ghost decisions_placed: { IsIndex decisions (map (λ d. string_bytes d.name) model.now.decisions.items) } by { Prim.hlevel props },
+    inputs: Index<'a>,
+    decisions: Index<'a>,
+    ghost inputs_placed: { inputs ≡ texts_view model.now.inputs } by { Prim.hlevel props },
+    ghost decisions_placed: { decisions ≡ map (λ d. string_bytes d.name) model.now.decisions.items } by { Prim.hlevel props },
 }
 
 /// What a name is to name.
@@ -55,8 +53,8 @@ impl<'a> Places<'a> {
     pub fn new(alloc: Global, model: &'a WrittenModel) -> Result<Places<'a>, AllocError>
         ensures { IfOk result (λ p. placed_model p ≡ model_view model.now) }
     {
-        let inputs = index_of(alloc, &model.inputs)?;
-        let decisions = index_of(alloc, &model.decisions)?;
+        let inputs = Index::of(alloc, &model.inputs)?;
+        let decisions = Index::of(alloc, &model.decisions)?;
         Ok(Places {
             model,
             inputs,
@@ -68,38 +66,59 @@ impl<'a> Places<'a> {
     pub fn input(&self, name: &str) -> Option<usize>
         ensures { result ≡ input_place (placed_model self.now) name.now }
     {
-        self.inputs.get(name).copied()
+        self.input_near(0, name)
     }
 
     /// The place of the decision of this name.
     pub fn decision(&self, name: &str) -> Option<usize>
         ensures { result ≡ decision_place (placed_model self.now) name.now }
     {
-        let place = self.decisions.get(name)?;
-        Some(self.model.inputs.len() + *place)
+        self.decision_near(0, name)
     }
 
     /// The place of the input or decision of this name; of an input and a decision of one name, the input's.
     pub fn of(&self, name: &str) -> Option<usize>
         ensures { result ≡ value_place (placed_model self.now) name.now }
     {
-        let Some(place) = self.input(name) else {
-            return self.decision(name);
+        self.value_near(0, name)
+    }
+
+    // The same three, each with a guess at the place.
+
+    fn input_near(&self, guess: usize, name: &str) -> Option<usize>
+        ensures { result ≡ input_place (placed_model self.now) name.now }
+    {
+        self.inputs.place(guess, name)
+    }
+
+    fn decision_near(&self, guess: usize, name: &str) -> Option<usize>
+        ensures { result ≡ decision_place (placed_model self.now) name.now }
+    {
+        let inputs = self.model.inputs.len();
+        let place = self.decisions.place(guess.saturating_sub(inputs), name)?;
+        Some(inputs + place)
+    }
+
+    fn value_near(&self, guess: usize, name: &str) -> Option<usize>
+        ensures { result ≡ value_place (placed_model self.now) name.now }
+    {
+        let Some(place) = self.input_near(guess, name) else {
+            return self.decision_near(guess, name);
         };
         Some(place)
     }
 
-    fn find(&self, kind: Kind, name: &str) -> Option<usize>
+    fn find(&self, kind: Kind, guess: usize, name: &str) -> Option<usize>
         ensures { result ≡ place_as kind (placed_model self.now) name.now }
     {
         match kind {
-            Kind::Value => self.of(name),
-            Kind::Input => self.input(name),
-            Kind::Decision => self.decision(name),
+            Kind::Value => self.value_near(guess, name),
+            Kind::Input => self.input_near(guess, name),
+            Kind::Decision => self.decision_near(guess, name),
         }
     }
 
-    /// The place of each of these names, or None where one names nothing of this kind.
+    /// The place of each of these names, or None where one names nothing of this kind. Often each stands behind the one before it.
     fn places_of(
         &self,
         alloc: Global,
@@ -109,11 +128,13 @@ impl<'a> Places<'a> {
         ensures { IfOk result (λ o. option_map (λ v. v.items) o ≡ each (place_as kind (placed_model self.now)) (map string_bytes names.now)) }
     {
         let mut places = Vec::with_capacity(alloc, names.len())?;
+        let mut guess = 0;
         for name in names {
-            let Some(place) = self.find(kind, name.as_str()) else {
+            let Some(place) = self.find(kind, guess, name.as_str()) else {
                 return Ok(None);
             };
             places.push(place)?;
+            guess = place.saturating_add(1);
         }
         Ok(Some(places))
     }

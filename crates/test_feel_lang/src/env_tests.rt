@@ -140,3 +140,25 @@ fn needs_without_a_value(rt: HostRuntime) -> Result<(), Fail> {
     }
     Ok(())
 }
+
+/// What a, b and c are found to be over these needs once they were put in order.
+fn found_in_order(alloc: Global, places: &[(&str, usize)]) -> Result<[Option<i64>; 3], Fail> {
+    let mut needs = needs(alloc, places)?;
+    needs.put_in_order()?;
+    let values = found_values(alloc)?;
+    let env = Env::over(alloc, &needs, &values).ok_or("no environment")?;
+    Ok(all_found(&env))
+}
+
+/// Needs that were put in order are found as before: whether they came in order or not, also where one is needed twice.
+#[test]
+fn needs_that_were_put_in_order(rt: HostRuntime) -> Result<(), Fail> {
+    let alloc = rt.alloc();
+    let rising = found_in_order(alloc, &[("a", 2), ("b", 0), ("c", 1), ("aa", 0)])?;
+    assert_eq!(rt; rising, [Some(3), Some(1), Some(2)]);
+    let falling = found_in_order(alloc, &[("aa", 2), ("c", 0), ("b", 2), ("a", 1)])?;
+    assert_eq!(rt; falling, [Some(2), Some(3), Some(1)]);
+    let twice = found_in_order(alloc, &[("c", 0), ("a", 2), ("bb", 0), ("c", 1)])?;
+    assert_eq!(rt; twice, [Some(3), None, Some(2)]);
+    Ok(())
+}
