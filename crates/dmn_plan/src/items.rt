@@ -57,6 +57,7 @@ fn named_needs(alloc: Global, model: &WrittenModel, places: &[usize]) -> Result<
     for place in places {
         needs.push(name_of_place(model, *place), *place)?;
     }
+    needs.put_in_order()?;
     Ok(needs)
 }
 
