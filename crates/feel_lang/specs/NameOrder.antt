@@ -10,7 +10,7 @@ name_cmp a b = ordering_then (nat_cmp (length a) (length b)) (slice_cmp nat_cmp 
 abbrev pub IsBefore : List ℕ → List ℕ → Type 0
 IsBefore a b = is_lt (name_cmp a b) ≡ true
 
--- Internal from here on: names with the position that each rank has in their order.
+-- Names with the position that each rank has in their order. `IsRising` and `AreAll` are internal.
 
 -- the position that has this rank; the rank itself, where the order has none for it
 abbrev pub ranked : List ℕ → ℕ → ℕ
