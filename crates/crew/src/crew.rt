@@ -26,6 +26,7 @@ impl Crew {
     /// Tells the workers to stop, and wakes those that sleep. Each goes on while its steps post answers or meet another
     /// thread. It ends with the first step begun after this that finds no job, or keeps hold of a job or of an answer.
     pub fn stop(&self) {
+        // A worker that is told to stop passes no lane.
         self.signals.mark_all();
         self.stopping.store(true, Ordering::SeqCst);
         self.signals.wake_workers();

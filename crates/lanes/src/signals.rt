@@ -121,8 +121,8 @@ impl Bell {
 ///
 /// Who looks passes each lane that isn't marked: `Marks` says why no job is lost by that. Between the two looks of a worker
 /// at an empty lane another may pass it, though a job was put. Where a lane is marked again, that is counted as for a job,
-/// so that who passed it looks again. A worker whose sleep ended by itself looks at each lane, and so do the workers that
-/// are woken all at once.
+/// so that who passed it looks again. Where a worker's sleep ended by itself, and before workers are told to stop, all lanes
+/// are marked.
 #[derive(Drop)]
 pub struct Signals {
     jobs: Bell,
@@ -193,7 +193,7 @@ impl Signals {
         self.taken.fetch_add(1, Ordering::SeqCst);
     }
 
-    /// Each lane may hold a job: the next look of a worker passes none.
+    /// Each lane may hold a job: the next worker that looks passes none.
     pub fn mark_all(&self) {
         self.marks.mark_all();
     }
@@ -269,8 +269,8 @@ impl Signals {
         self.jobs.watch(seen, turns)
     }
 
-    /// A worker that looks sleeps, unless more jobs were put than this, and looks again after it: at each lane, where none
-    /// were put.
+    /// A worker that looks sleeps, unless more jobs were put than this, and looks again after it. Where none were put, all
+    /// lanes are marked.
     pub fn await_job<R: Wait>(&self, rt: &R, seen: u64) {
         self.jobs.add_sleeper();
         self.looking.fetch_sub(1, Ordering::SeqCst);
