@@ -1,5 +1,5 @@
 //! Whether a name stands twice where it may stand once.
-ghost use Rattle.std.specs.Prelude.{◌≡◌, false, IfOk, IsTrue, map, string_bytes};
+ghost use Rattle.std.specs.Prelude.{◌≡◌, IfOk, map, string_bytes};
 ghost use Rattle.std.specs.List.{list_any, flat_map};
 ghost use Rattle.dmn_form.specs.LogicView.{logic_view};
 ghost use Rattle.dmn_form.specs.ModelView.{decision_view, service_view, model_view};
