@@ -3,3 +3,7 @@ pub mod Presence
 pub mod ToldLaws
 pub mod UnreadLaws
 pub mod RefusedLaws
+pub mod NameLaws
+pub mod Marking
+pub mod UnknownLaws
+pub mod LargeLaws

@@ -1,5 +1,5 @@
 -- What is told of a list of findings, from the notes of them.
-use Rattle.std.proofs.Common.{◌≡◌, ℕ, ◌+◌, ◌-◌, ◌<◌, suc, ◌≤◌, List, [], ◌∷◌, ◌++◌, map, length, take, refl, sym, ap, ap₂, ◌∙◌, Bool, true, false, nat_lt, if◌then◌else◌, append_assoc, append-nil, arith, lit≤}
+use Rattle.std.proofs.Common.{◌≡◌, ℕ, ◌+◌, ◌-◌, ◌<◌, suc, ◌≤◌, List, [], ◌∷◌, ◌++◌, map, length, take, refl, sym, ap, ap₂, ◌∙◌, Bool, true, false, nat_lt, if◌then◌else◌, append_assoc, append-nil, take_all, zero-add, arith, lit≤}
 use Rattle.std.proofs.lemmas.Grind.{common_steps}
 use Rattle.std.proofs.lemmas.Bool.Decides.{nat_tests}
 use Rattle.std.proofs.lemmas.List.{take-append-le}
@@ -38,7 +38,7 @@ from_start (f ∷ fs) = ap (λ gs. f ∷ gs) (from_start fs)
 
 -- the findings that are kept
 kept_first : (c : Notes) (fs : List Finding) → length c.findings ≤ most_findings → (with_all c fs).findings ≡ take most_findings (c.findings ++ map (from c.path) fs)
-kept_first c [] h = grind (arith, common_steps)
+kept_first c [] h = sym (ap (take most_findings) (append-nil c.findings) ∙ take_all most_findings c.findings h)
 kept_first c (f ∷ fs) h =
     kept_first (with_one c f) fs (kept_within most_findings c.findings (from c.path f) (nat_lt (length c.findings) most_findings) refl h)
     ∙ kept_by most_findings c.findings (from c.path f) (map (from c.path) fs) (nat_lt (length c.findings) most_findings) refl
@@ -57,9 +57,15 @@ pub told_first : (fs : List Finding) → (with_all empty fs).findings ≡ take m
 told_first fs = kept_first empty fs (lit≤ tt) ∙ ap (take most_findings) (from_start fs)
 
 pub told_count : (fs : List Finding) → (with_all empty fs).count ≡ capped (length fs)
-told_count fs = counted_all empty fs (lit≤ tt)
+told_count fs = counted_all empty fs (lit≤ tt) ∙ ap capped (zero-add (length fs))
 
 -- something is told exactly where there is a finding
 pub some_told : (fs : List Finding) → nat_lt 0 (capped (length fs)) ≡ have_any fs
 some_told [] = refl
 some_told (f ∷ fs) = grind (arith, nat_tests)
+
+-- what is told of the notes
+pub told_of : (fs : List Finding) (c : Notes) → with_all empty fs ≡ c → record { findings = c.findings; count = c.count } ≡ first_of fs
+told_of fs c e =
+    ap (λ (d : Notes). record { findings = d.findings; count = d.count }) (sym e)
+    ∙ ap₂ (λ gs n. record { findings = gs; count = n }) (told_first fs) (told_count fs)

@@ -51,3 +51,7 @@ turn view f xs i x c d whole before here more after =
     ∙ ap (λ y. with_all c (behind (Index i) (f (view y)) ++ each_from f (i + 1) (map view (drop (i + 1) xs)))) (sym here)
     ∙ with_all-append c (behind (Index i) (f (view x))) (each_from f (i + 1) (map view (drop (i + 1) xs)))
     ∙ ap (λ e. with_all e (each_from f (i + 1) (map view (drop (i + 1) xs)))) after
+
+-- one part after another
+pub then : (fs gs : List Finding) (c c1 c2 : Notes) → with_all c fs ≡ c1 → with_all c1 gs ≡ c2 → with_all c (fs ++ gs) ≡ c2
+then fs gs c c1 c2 first second = with_all-append c fs gs ∙ ap (λ d. with_all d gs) first ∙ second

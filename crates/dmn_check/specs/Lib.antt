@@ -8,3 +8,7 @@ pub mod Told
 pub mod ToldView
 pub mod Refused
 pub mod Pointer
+pub mod NameFaults
+pub mod NameMarks
+pub mod Unknown
+pub mod Large

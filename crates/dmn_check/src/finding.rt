@@ -17,10 +17,18 @@ pub enum TextKind {
 /// What is wrong at a place.
 #[derive(Clone, Copy, Debug, PartialEq, Eq)]
 pub enum Mistake {
+    /// A text in the place of a name is no name.
+    Name,
+    /// A name stands before in its list.
+    Twice,
     /// A FEEL text has no reading of its kind.
     Expression(TextKind),
     /// A decision table is refused.
     Table(TableFault),
+    /// A needed name is neither an input nor a decision.
+    Unknown,
+    /// There are more than 1,000 decisions.
+    Large,
 }
 
 /// A place where something is wrong.

@@ -16,7 +16,7 @@ use std::alloc::{AllocError, Global};
 
 /// Looks at each part of a boxed expression. It goes as deep as that is.
 #[cycle(walk)]
-fn walk_logic<L: Look>(
+pub(crate) fn walk_logic<L: Look>(
     alloc: Global,
     notes: &mut Notes,
     logic: &WrittenLogic,
