@@ -1,4 +1,5 @@
 pub mod Walking
+pub mod Logics
 pub mod Presence
 pub mod ToldLaws
 pub mod UnreadLaws

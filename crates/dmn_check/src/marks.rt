@@ -10,6 +10,7 @@ ghost use Rattle.dmn_check.specs.Notes.{with_all};
 ghost use Rattle.dmn_check.specs.NotesView.{notes_view};
 
 use crate::finding::Mistake;
+use crate::named::Named;
 use crate::notes::Notes;
 use crate::place::{Key, Step};
 use feel_lang::is_name;
@@ -46,20 +47,21 @@ impl NameFault {
     }
 }
 
-/// For each text of a list whether it has the fault. The steps are in proportion to how many there are, times the logarithm of
+/// For each of these whether its name has the fault. The steps are in proportion to how many there are, times the logarithm of
 /// that.
-pub(crate) fn marks_of(
+pub(crate) fn marks_of<T: Named>(
     alloc: Global,
     fault: NameFault,
-    texts: &[&str],
+    items: &[T],
 ) -> Result<Vec<bool>, AllocError>
-    ensures { IfOk result (λ v. v.items ≡ marks fault (map (λ n. n.now) texts.now)) }
+    ensures { IfOk result (λ v. v.items ≡ marks fault (map T.name_of items.now)) }
 {
     let mut seen = BTreeSet::new(alloc);
-    let mut marks = Vec::with_capacity(alloc, texts.len())?;
-    for text in texts {
-        let is_new = seen.insert(*text)?;
-        marks.push(fault.is_in(text, is_new))?;
+    let mut marks = Vec::with_capacity(alloc, items.len())?;
+    for item in items {
+        let name = item.name();
+        let is_new = seen.insert(name)?;
+        marks.push(fault.is_in(name, is_new))?;
     }
     Ok(marks)
 }

@@ -22,6 +22,15 @@ impl Named for String {
     }
 }
 
+/// A name that is borrowed.
+impl<'a> Named for &'a str {
+    ghost name_of = { λ s. s.now };
+
+    fn name(&self) -> &str {
+        *self
+    }
+}
+
 /// An entry of a context.
 impl Named for (String, WrittenLogic) {
     ghost name_of = { λ e. string_bytes e.0 };
@@ -55,22 +64,14 @@ impl Named for WrittenService {
     }
 }
 
-/// The names of these.
-pub(crate) fn names_of<T: Named>(alloc: Global, items: &[T]) -> Result<Vec<&str>, AllocError>
-    ensures { IfOk result (λ v. map (λ n. n.now) v.items ≡ map T.name_of items.now) }
-{
-    let mut names = Vec::with_capacity(alloc, items.len())?;
-    for item in items {
-        names.push(item.name())?;
-    }
-    Ok(names)
-}
-
 /// The names of the inputs and then of the decisions.
 pub(crate) fn names_of_values(alloc: Global, model: &WrittenModel) -> Result<Vec<&str>, AllocError>
     ensures { IfOk result (λ v. map (λ n. n.now) v.items ≡ value_names (model_view model.now)) }
 {
-    let mut names = names_of(alloc, &model.inputs)?;
+    let mut names = Vec::new(alloc);
+    for input in &model.inputs {
+        names.push(input.as_str())?;
+    }
     for decision in &model.decisions {
         names.push(decision.name.as_str())?;
     }

@@ -17,7 +17,7 @@ ghost use Rattle.dmn_check.specs.ToldView.{told_view};
 
 use crate::look::Look;
 use crate::marks::{NameFault, marks_of, note_named, note_texts};
-use crate::named::{Named, names_of, names_of_values};
+use crate::named::{Named, names_of_values};
 use crate::notes::Notes;
 use crate::place::{Key, Step};
 use crate::told::Told;
@@ -35,8 +35,7 @@ fn note_under(
 ) -> Result<(), AllocError>
     ensures { OnOk result (with_all (notes_view notes.old) (under fault key (map string_bytes texts.now)) ≡ notes_view notes.new) }
 {
-    let names = names_of(alloc, texts)?;
-    let marks = marks_of(alloc, fault, &names)?;
+    let marks = marks_of(alloc, fault, texts)?;
     notes.enter(Step::Key(key))?;
     note_texts(notes, fault, &marks)?;
     notes.leave();
@@ -52,8 +51,7 @@ fn note_objects<T: Named>(
 ) -> Result<(), AllocError>
     ensures { OnOk result (with_all (notes_view notes.old) (in_named fault (marks fault (map T.name_of items.now))) ≡ notes_view notes.new) }
 {
-    let names = names_of(alloc, items)?;
-    let marks = marks_of(alloc, fault, &names)?;
+    let marks = marks_of(alloc, fault, items)?;
     note_named(notes, fault, &marks)?;
     Ok(())
 }

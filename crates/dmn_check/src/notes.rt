@@ -13,6 +13,8 @@ const MOST_FINDINGS: usize = 100;
 /// The way from the whole model to where the walk is, and what was found so far.
 #[derive(Drop)]
 pub(crate) struct Notes {
+    /// Where memory is taken from.
+    pub(crate) alloc: Global,
     /// The way.
     pub(crate) path: Vec<Step>,
     /// The first findings.
@@ -27,6 +29,7 @@ impl Notes {
         ensures { notes_view result ≡ empty }
     {
         Notes {
+            alloc,
             path: Vec::new(alloc),
             findings: Vec::new(alloc),
             count: 0,
@@ -48,6 +51,15 @@ impl Notes {
         self.path.pop();
     }
 
+    /// The place where the walk is.
+    fn place(&self) -> Result<Place, AllocError>
+        ensures { IfOk result (λ p. p.steps.items ≡ self.now.path.items) }
+    {
+        let mut steps = Vec::new(self.alloc);
+        steps.extend_from_slice(&self.path)?;
+        Ok(Place { steps })
+    }
+
     /// Keeps a finding, unless there are enough.
     fn keep(&mut self, mistake: Mistake) -> Result<(), AllocError>
         ensures path { OnOk result (self.new.path.items ≡ self.old.path.items) }
@@ -57,11 +69,8 @@ impl Notes {
         if self.findings.len() >= MOST_FINDINGS {
             return Ok(());
         }
-        let steps = self.path.clone()?;
-        self.findings.push(Finding {
-            place: Place { steps },
-            mistake,
-        })?;
+        let place = self.place()?;
+        self.findings.push(Finding { place, mistake })?;
         Ok(())
     }
 

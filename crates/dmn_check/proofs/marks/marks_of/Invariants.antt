@@ -1,5 +1,5 @@
 use Rattle.dmn_check.proofs.Marking.{IsMarked}
 use Rattle.dmn_check.proofs.marks.marks_of.Given as goal
 
-abbrev pub invariant-loop-text : goal.invariant-loop-text
-invariant-loop-text l = IsMarked l.fault l.texts l.text-index l.seen l.marks.items
+abbrev pub invariant-loop-item : goal.invariant-loop-item
+invariant-loop-item g l = IsMarked l.fault g.T.Named.name_of l.items l.item-index l.seen l.marks.items
