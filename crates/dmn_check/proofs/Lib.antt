@@ -1,0 +1,10 @@
+pub mod Walking
+pub mod Logics
+pub mod Presence
+pub mod ToldLaws
+pub mod UnreadLaws
+pub mod RefusedLaws
+pub mod NameLaws
+pub mod Marking
+pub mod UnknownLaws
+pub mod LargeLaws

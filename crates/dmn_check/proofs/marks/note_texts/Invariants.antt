@@ -1,0 +1,12 @@
+use Rattle.std.proofs.Common.{◌≡◌, drop}
+use Rattle.dmn_check.specs.NameFaults.{mistake_of}
+use Rattle.dmn_check.specs.Findings.{here}
+use Rattle.dmn_check.specs.Findings.{each_from}
+use Rattle.dmn_check.specs.Notes.{with_all}
+use Rattle.dmn_check.specs.NotesView.{notes_view}
+use Rattle.dmn_check.proofs.marks.note_texts.Given as goal
+
+abbrev pub invariant-loop-index : goal.invariant-loop-index
+invariant-loop-index l =
+    with_all (notes_view l.initial.notes) (each_from (here (mistake_of l.fault)) 0 l.marks)
+    ≡ with_all (notes_view l.notes) (each_from (here (mistake_of l.fault)) l.index (drop l.index l.marks))

@@ -1,0 +1,18 @@
+use Rattle.std.proofs.Common.{map, nat_lt, sym, ap, ◌∙◌}
+use Rattle.dmn_form.specs.ModelView.{decision_view, model_view}
+use Rattle.dmn_check.specs.Look.{decisions_findings}
+use Rattle.dmn_check.specs.NotesView.{notes_view}
+use Rattle.dmn_check.specs.Told.{Told}
+use Rattle.dmn_check.specs.Unread.{unread_look, unread_texts}
+use Rattle.dmn_check.proofs.Walking.{from_start}
+use Rattle.dmn_check.proofs.UnreadLaws.{unread_exactly}
+use Rattle.dmn_check.proofs.unread.unread_texts.Goals as goal
+
+pub returns-clause-fault : goal.returns-clause-fault
+returns-clause-fault c =
+    let m = model_view c.args.model.now in
+    ap (λ (t : Told). nat_lt 0 t.count)
+      (c.of.ensures (unread_texts m)
+        (from_start (λ xs. decisions_findings unread_look (map decision_view xs)) c.args.model.now.decisions.items c.deref.result.now
+          (notes_view c.new.result) (notes_view c.walk_decisions.new.notes) c.new.ensures c.deref.ensures.value c.in_ok-walk_decisions.ensures))
+    ∙ unread_exactly m

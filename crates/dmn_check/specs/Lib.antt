@@ -1,0 +1,14 @@
+pub mod Findings
+pub mod Notes
+pub mod NotesView
+pub mod Look
+pub mod LookView
+pub mod Unread
+pub mod Told
+pub mod ToldView
+pub mod Refused
+pub mod Pointer
+pub mod NameFaults
+pub mod NameMarks
+pub mod Unknown
+pub mod Large

@@ -1,0 +1,27 @@
+//! Every place where a decision model is wrong.
+#![tactic(auto)]
+
+mod finding;
+mod large;
+mod look;
+mod marks;
+mod named;
+mod names;
+mod notes;
+mod place;
+mod refused;
+#[cfg(test)]
+mod tests;
+mod told;
+mod unknown;
+mod unread;
+mod walk;
+
+pub use finding::{Finding, Mistake, TextKind};
+pub use large::too_large;
+pub use names::{repeated_names, unlawful_names};
+pub use place::{Key, Place, Step};
+pub use refused::refused_tables;
+pub use told::Told;
+pub use unknown::unknown_names;
+pub use unread::unread_texts;

@@ -1,0 +1,168 @@
+//! Mistakes in a model, and their places, worked out by hand.
+
+use crate::told::Told;
+use crate::{
+    refused_tables, repeated_names, too_large, unknown_names, unlawful_names, unread_texts,
+};
+use dmn_form::{WrittenModel, read_form};
+use serde_json::Value;
+use std::alloc::{AllocError, Global};
+use std::test::Fail;
+
+/// A lawful model.
+const LAWFUL: &str = r#"{
+    "inputs": ["age", "city"],
+    "decisions": [
+        {"name": "base", "needs": ["age"], "expr": "age * 2"},
+        {"name": "prize", "needs": ["base", "city"], "expr": {"table": {
+            "hit": "F", "inputs": ["base", "city"],
+            "outputs": [{"name": "amount", "values": ["1", "2"], "default": "2"}, {"name": "why"}],
+            "rules": [
+                {"when": ["< 5", "\"here\""], "then": ["1", "\"young\""]},
+                {"when": ["-", "-"], "then": ["2", "\"old\""]}]}}},
+        {"name": "both", "needs": ["base", "prize"], "expr": {"context": [
+            {"name": "first", "expr": "base + 1"},
+            {"name": "second", "expr": {"list": ["prize", {"context": [{"name": "inner", "expr": "3"}]}]}}],
+            "result": {"list": ["first", "second"]}}}],
+    "services": [
+        {"name": "all", "outputs": ["both"], "encapsulated": ["prize", "base"], "inputDecisions": [], "inputData": ["age", "city"]}]}"#;
+
+/// The model of a text.
+fn model_of(alloc: Global, text: &str) -> Result<WrittenModel, Fail> {
+    let json = Value::from_str(alloc, text)?;
+    Ok(read_form(alloc, &json)?.ok_or("no model")?)
+}
+
+/// The places that are told, one behind the other.
+fn places(alloc: Global, told: &Told) -> Result<String, AllocError> {
+    let mut text = String::new(alloc);
+    for finding in &told.findings {
+        write!(text, "{} ", finding.place.path(alloc)?)?;
+    }
+    Ok(text)
+}
+
+/// A text of the lawful model, a text in its place, and the places where the fault is then.
+struct Row(&'static str, &'static str, &'static str);
+
+const UNREAD: &[Row] = &[
+    Row("age * 2", "age *", "decisions[0].expr "),
+    Row(r#""base", "city"],
+            "outputs""#, r#""base +", "1..2"],
+            "outputs""#, "decisions[1].expr.table.inputs[0] decisions[1].expr.table.inputs[1] "),
+    Row(r#"["1", "2"]"#, r#"["1", "1 + 1", "2", "a"]"#, "decisions[1].expr.table.outputs[0].values[1] decisions[1].expr.table.outputs[0].values[3] "),
+    Row(r#""default": "2""#, r#""default": "two of them""#, "decisions[1].expr.table.outputs[0].default "),
+    Row("< 5", ">= 5 and < 7", "decisions[1].expr.table.rules[0].when[0] "),
+    Row(r#"["-", "-"]"#, r#"["-", "x <"]"#, "decisions[1].expr.table.rules[1].when[1] "),
+    Row(r#"\"old\""#, "old man", "decisions[1].expr.table.rules[1].then[1] "),
+    Row("base + 1", "", "decisions[2].expr.context[0].expr "),
+    Row(r#"["prize","#, r#"["1.5.2","#, "decisions[2].expr.context[1].expr.list[0] "),
+    Row(r#""expr": "3""#, r#""expr": "(3""#, "decisions[2].expr.context[1].expr.list[1].context[0].expr "),
+    Row(r#"["first", "second"]"#, r#"["first", "second", ")"]"#, "decisions[2].expr.result.list[2] "),
+];
+
+const REFUSED: &[Row] = &[
+    Row(r#""F""#, r#""FIRST""#, "decisions[1].expr.table "),
+    Row(r#"{"name": "why"}"#, r#"{"name": "amount"}"#, "decisions[1].expr.table "),
+    Row(r#"["< 5", "\"here\""]"#, r#"["< 5"]"#, "decisions[1].expr.table "),
+    Row(r#""F""#, r#""C+""#, "decisions[1].expr.table "),
+    Row(r#""expr": "3""#, r#""expr": {"table": {"hit": "U", "inputs": [], "outputs": [], "rules": []}}"#,
+        "decisions[2].expr.context[1].expr.list[1].context[0].expr.table "),
+];
+
+const UNLAWFUL: &[Row] = &[
+    Row(r#""inputs": ["age", "city"],
+    "decisions""#, r#""inputs": ["age", "the city"],
+    "decisions""#, "inputs[1] "),
+    Row(r#"{"name": "base""#, r#"{"name": "if""#, "decisions[0].name "),
+    Row(r#"{"name": "all""#, r#"{"name": """#, "services[0].name "),
+    Row(r#"["base", "prize"]"#, r#"["base", "prize", "1st"]"#, "decisions[2].needs[2] "),
+    Row(r#"{"name": "why"}"#, r#"{"name": "why not"}"#, "decisions[1].expr.table.outputs[1].name "),
+    Row(r#"{"name": "second""#, r#"{"name": "2nd""#, "decisions[2].expr.context[1].name "),
+    Row(r#"{"name": "inner""#, r#"{"name": "in""#, "decisions[2].expr.context[1].expr.list[1].context[0].name "),
+    Row(r#"["both"]"#, r#"["both?"]"#, "services[0].outputs[0] "),
+    Row(r#"["prize", "base"]"#, r#"["pr-ize", "b.ase"]"#, "services[0].encapsulated[0] services[0].encapsulated[1] "),
+    Row(r#""inputDecisions": []"#, r#""inputDecisions": ["a", "b c"]"#, "services[0].inputDecisions[1] "),
+    Row(r#""inputData": ["age", "city"]"#, r#""inputData": ["age", "city", "\u00e9"]"#, "services[0].inputData[2] "),
+];
+
+const REPEATED: &[Row] = &[
+    Row(r#""inputs": ["age", "city"],
+    "decisions""#, r#""inputs": ["age", "city", "age"],
+    "decisions""#, "inputs[2] "),
+    Row(r#"{"name": "prize""#, r#"{"name": "age""#, "decisions[1].name "),
+    Row(r#"{"name": "both""#, r#"{"name": "base""#, "decisions[2].name "),
+    Row(r#""services": ["#, r#""services": [
+        {"name": "all", "outputs": [], "encapsulated": [], "inputDecisions": [], "inputData": []},"#, "services[1].name "),
+    Row(r#"["base", "prize"]"#, r#"["base", "prize", "base", "base"]"#, "decisions[2].needs[2] decisions[2].needs[3] "),
+    Row(r#"{"name": "why"}"#, r#"{"name": "amount"}"#, "decisions[1].expr.table.outputs[1].name "),
+    Row(r#"{"name": "second""#, r#"{"name": "first""#, "decisions[2].expr.context[1].name "),
+    Row(r#""inputData": ["age", "city"]"#, r#""inputData": ["city", "city"]"#, "services[0].inputData[1] "),
+];
+
+const UNKNOWN: &[Row] = &[
+    Row(r#""needs": ["age"]"#, r#""needs": ["ages"]"#, "decisions[0].needs[0] "),
+    Row(r#"["base", "prize"]"#, r#"["bass", "prize", "first"]"#, "decisions[2].needs[0] decisions[2].needs[2] "),
+];
+
+#[test]
+fn names_that_are_not_lawful(rt: HostRuntime) -> Result<(), Fail> {
+    for Row(old, new, due) in UNLAWFUL {
+        let text = LAWFUL.replace(rt.alloc(), old, new)?;
+        let told = unlawful_names(rt.alloc(), &model_of(rt.alloc(), text.as_str())?)?;
+        assert_eq!(rt; places(rt.alloc(), &told)?.as_str(), *due, "{new}");
+    }
+    Ok(())
+}
+
+#[test]
+fn names_that_stand_twice(rt: HostRuntime) -> Result<(), Fail> {
+    for Row(old, new, due) in REPEATED {
+        let text = LAWFUL.replace(rt.alloc(), old, new)?;
+        let told = repeated_names(rt.alloc(), &model_of(rt.alloc(), text.as_str())?)?;
+        assert_eq!(rt; places(rt.alloc(), &told)?.as_str(), *due, "{new}");
+    }
+    Ok(())
+}
+
+#[test]
+fn needed_names_that_are_unknown(rt: HostRuntime) -> Result<(), Fail> {
+    for Row(old, new, due) in UNKNOWN {
+        let text = LAWFUL.replace(rt.alloc(), old, new)?;
+        let told = unknown_names(rt.alloc(), &model_of(rt.alloc(), text.as_str())?)?;
+        assert_eq!(rt; places(rt.alloc(), &told)?.as_str(), *due, "{new}");
+    }
+    Ok(())
+}
+
+#[test]
+fn texts_without_a_reading(rt: HostRuntime) -> Result<(), Fail> {
+    for Row(old, new, due) in UNREAD {
+        let text = LAWFUL.replace(rt.alloc(), old, new)?;
+        let told = unread_texts(rt.alloc(), &model_of(rt.alloc(), text.as_str())?)?;
+        assert_eq!(rt; places(rt.alloc(), &told)?.as_str(), *due, "{new}");
+    }
+    Ok(())
+}
+
+#[test]
+fn tables_that_are_refused(rt: HostRuntime) -> Result<(), Fail> {
+    for Row(old, new, due) in REFUSED {
+        let text = LAWFUL.replace(rt.alloc(), old, new)?;
+        let told = refused_tables(rt.alloc(), &model_of(rt.alloc(), text.as_str())?)?;
+        assert_eq!(rt; places(rt.alloc(), &told)?.as_str(), *due, "{new}");
+    }
+    Ok(())
+}
+
+#[test]
+fn a_lawful_model(rt: HostRuntime) -> Result<(), Fail> {
+    let model = model_of(rt.alloc(), LAWFUL)?;
+    assert_eq!(rt; unread_texts(rt.alloc(), &model)?.count, 0);
+    assert_eq!(rt; refused_tables(rt.alloc(), &model)?.count, 0);
+    assert_eq!(rt; unlawful_names(rt.alloc(), &model)?.count, 0);
+    assert_eq!(rt; repeated_names(rt.alloc(), &model)?.count, 0);
+    assert_eq!(rt; unknown_names(rt.alloc(), &model)?.count, 0);
+    assert_eq!(rt; too_large(rt.alloc(), &model)?.count, 0);
+    Ok(())
+}
