@@ -148,7 +148,7 @@ const UNLAWFUL: &[Row] = &[
     ),
     Row(
         r#"{"name": "inner""#,
-        r#"{"name": "in""#,
+        r#"{"name": "then""#,
         "decisions[2].expr.context[1].expr.list[1].context[0].name ",
     ),
     Row(r#"["both"]"#, r#"["both?"]"#, "services[0].outputs[0] "),
