@@ -8,3 +8,4 @@ pub mod NameLaws
 pub mod Marking
 pub mod UnknownLaws
 pub mod LargeLaws
+pub mod TableFaults

@@ -48,7 +48,7 @@ module _ (k : Look) where
       → c1 ≡ into (step.Key key.List) c → with_all c1 (members_findings_view k 0 bs) ≡ c2 → c3 ≡ out c2 → with_all c (logic_findings k (logic_view logic)) ≡ c3
   walked_list logic v bs c c1 c2 c3 is same entered walked left =
       of_logic logic (ListOf v) (behind (step.Key key.List) (members_findings_view k 0 v.items)) c c3 is (at_list v)
-        (through (step.Key key.List) (members_findings_view k 0 v.items) c c1 c2 c3 entered (along (members_findings_view k 0) v.items bs c1 c2 same walked) left)
+      (through (step.Key key.List) (members_findings_view k 0 v.items) c c1 c2 c3 entered (along (members_findings_view k 0) v.items bs c1 c2 same walked) left)
 
   pub walked_context : (logic : WrittenLogic) (v : Vec (String Global × WrittenLogic) Global) (es : List (String Global × WrittenLogic)) (c d : Notes) → logic ≡ Context v → es ≡ v.items
       → with_all c (context_findings_view k es) ≡ d → with_all c (logic_findings k (logic_view logic)) ≡ d
@@ -61,7 +61,7 @@ module _ (k : Look) where
       → with_all c (logic_findings k (logic_view logic)) ≡ c4
   walked_with logic v b es last c c1 c2 c3 c4 is same value first entered walked left =
       of_logic logic (ContextWith v b) (context_findings_view k v.items ++ behind (step.Key key.Result) (logic_findings k (logic_view b.value))) c c4 is (at_context_with v b)
-        (then (context_findings_view k v.items) (behind (step.Key key.Result) (logic_findings k (logic_view b.value))) c c1 c4
-          (along (context_findings_view k) v.items es c c1 same first)
-          (through (step.Key key.Result) (logic_findings k (logic_view b.value)) c1 c2 c3 c4 entered
-            (ap (λ l. with_all c2 (logic_findings k (logic_view l))) (sym value) ∙ walked) left))
+      (then (context_findings_view k v.items) (behind (step.Key key.Result) (logic_findings k (logic_view b.value))) c c1 c4
+      (along (context_findings_view k) v.items es c c1 same first)
+      (through (step.Key key.Result) (logic_findings k (logic_view b.value)) c1 c2 c3 c4 entered
+      (ap (λ l. with_all c2 (logic_findings k (logic_view l))) (sym value) ∙ walked) left))

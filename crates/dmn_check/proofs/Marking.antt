@@ -1,5 +1,5 @@
 -- Texts that are put into a set one after another, each marked by whether it has a fault.
-use Rattle.std.proofs.Common.{◌≡◌, ℕ, ◌+◌, ◌<◌, List, [], ◌∷◌, ◌++◌, map, drop, length, get_or, refl, sym, ap, ap₂, ◌∙◌, Bool, true, false, not, ◌||◌, Bor, cond, is_eq, nat_cmp, append_assoc}
+use Rattle.std.proofs.Common.{◌≡◌, ℕ, suc, ◌+◌, ◌<◌, ◌≤◌, List, [], ◌∷◌, ◌++◌, map, drop, length, length-append, arith, get_or, refl, sym, ap, ap₂, ◌∙◌, Bool, true, false, not, ◌||◌, Bor, cond, is_eq, nat_cmp, append_assoc}
 use Rattle.std.specs.Prelude.{bytes_eq}
 use Rattle.std.specs.List.{list_any}
 use Rattle.std.specs.Cmp.Lexicographic.{slice_cmp}
@@ -47,11 +47,19 @@ pub after_turn : {X : Type 0} (f : NameFault) (name : X → Name) (xs : List X) 
 after_turn f name xs i x key old new bs cs is_new mark (before, seen, so_far) here more same put added marks pushed = (
   key.now ∷ before,
   (λ n. put.0 (borrowed n) ∙ ap (λ b. cond b true (is_seen old n)) (is_eq-slice_cmp key.now n) ∙ chosen (bytes_eq key.now n) (is_seen old n)
-    ∙ ap₂ (λ a b. a || b) (bytes_eq-sym key.now n) (seen n)),
+      ∙ ap₂ (λ a b. a || b) (bytes_eq-sym key.now n) (seen n)),
   so_far ∙ at_drop_more (λ ys. bs ++ marked f before (map name ys)) xs i x more
-  ∙ ap (λ n. bs ++ is_wrong f before n ∷ marked f (n ∷ before) (map name (drop (i + 1) xs))) (ap name (sym here) ∙ sym same)
-  ∙ ap (λ b. bs ++ b ∷ marked f (key.now ∷ before) (map name (drop (i + 1) xs)))
-    (sym (marks ∙ ap (is_in_text f key.now) added ∙ found_in f before key.now (is_seen old key.now) (seen key.now)))
-  ∙ sym (append_assoc bs (mark ∷ []) (marked f (key.now ∷ before) (map name (drop (i + 1) xs))))
-  ∙ ap (λ ds. ds ++ marked f (key.now ∷ before) (map name (drop (i + 1) xs))) (sym pushed),
+      ∙ ap (λ n. bs ++ is_wrong f before n ∷ marked f (n ∷ before) (map name (drop (i + 1) xs))) (ap name (sym here) ∙ sym same)
+      ∙ ap (λ b. bs ++ b ∷ marked f (key.now ∷ before) (map name (drop (i + 1) xs)))
+      (sym (marks ∙ ap (is_in_text f key.now) added ∙ found_in f before key.now (is_seen old key.now) (seen key.now)))
+      ∙ sym (append_assoc bs (mark ∷ []) (marked f (key.now ∷ before) (map name (drop (i + 1) xs))))
+      ∙ ap (λ ds. ds ++ marked f (key.now ∷ before) (map name (drop (i + 1) xs))) (sym pushed),
 )
+
+marked_length : (f : NameFault) (before ns : List Name) → length (marked f before ns) ≡ length ns
+marked_length f before [] = refl
+marked_length f before (n ∷ ns) = ap suc (marked_length f (n ∷ before) ns)
+
+-- the names have as many marks, so the first ones of them have theirs
+pub enough_marks : (f : NameFault) (xs ys : List Name) → length xs ≤ length (marked f [] (xs ++ ys))
+enough_marks f xs ys = omega (arith, marked_length f [] (xs ++ ys), length-append xs ys)

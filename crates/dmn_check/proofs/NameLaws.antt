@@ -64,9 +64,9 @@ repeated_marked : (before ns : List Name) → list_any (λ b. b) (marked Repeate
 repeated_marked before [] = refl
 repeated_marked before (n ∷ ns) =
     ap (λ b. is_among before n || b)
-      (repeated_marked (n ∷ before) ns
-      ∙ ap (λ b. b || have_twice ns) (either_among (is_among (n ∷ before)) (λ x. bytes_eq x n) (is_among before) (λ x. refl) ns)
-      ∙ ap (λ b. (b || list_any (is_among before) ns) || have_twice ns) (same_either_way n ns))
+    (repeated_marked (n ∷ before) ns
+    ∙ ap (λ b. b || have_twice ns) (either_among (is_among (n ∷ before)) (λ x. bytes_eq x n) (is_among before) (λ x. refl) ns)
+    ∙ ap (λ b. (b || list_any (is_among before) ns) || have_twice ns) (same_either_way n ns))
     ∙ turned (is_among before n) (list_any (is_among before) ns) (is_among ns n) (are_distinct ns)
 
 nothing_before : (ns : List Name) → list_any (is_among []) ns ≡ false
@@ -107,49 +107,49 @@ module _ (f : NameFault) where
     any-logic (expression s) = refl
     any-logic (table t) =
         any-inside (step.Key key.Table) (behind (step.Key key.Outputs) (in_named f (marks f (output_names t)))) _
-          (any-inside (step.Key key.Outputs) (in_named f (marks f (output_names t))) _ (any-list (output_names t)))
+        (any-inside (step.Key key.Outputs) (in_named f (marks f (output_names t))) _ (any-list (output_names t)))
         ∙ alone (faulty f (output_names t))
     any-logic (list bs) = any-inside (step.Key key.List) (member_findings (names_look f) 0 bs) _ (any-members 0 bs)
     any-logic (context es) = of_entries (entry_names es) (entry_findings (names_look f) 0 es) (entry_lists es) (any-entries 0 es)
     any-logic (context_with es b) =
         of_both (behind (step.Key key.Context) (in_named f (marks f (entry_names es)) ++ entry_findings (names_look f) 0 es))
-          (behind (step.Key key.Result) (logic_findings (names_look f) b)) (entry_names es ∷ entry_lists es) (lists_in b)
-          (of_entries (entry_names es) (entry_findings (names_look f) 0 es) (entry_lists es) (any-entries 0 es))
-          (any-inside (step.Key key.Result) (logic_findings (names_look f) b) _ (any-logic b))
+        (behind (step.Key key.Result) (logic_findings (names_look f) b)) (entry_names es ∷ entry_lists es) (lists_in b)
+        (of_entries (entry_names es) (entry_findings (names_look f) 0 es) (entry_lists es) (any-entries 0 es))
+        (any-inside (step.Key key.Result) (logic_findings (names_look f) b) _ (any-logic b))
 
     any-members : (i : ℕ) (bs : Members (List ℕ) WrittenTable) → have_any (member_findings (names_look f) i bs) ≡ list_any (faulty f) (member_lists bs)
     any-members i no_members = refl
     any-members i (member b bs) =
         of_both (behind (step.Index i) (logic_findings (names_look f) b)) (member_findings (names_look f) (i + 1) bs) (lists_in b) (member_lists bs)
-          (any-inside (step.Index i) (logic_findings (names_look f) b) _ (any-logic b)) (any-members (i + 1) bs)
+        (any-inside (step.Index i) (logic_findings (names_look f) b) _ (any-logic b)) (any-members (i + 1) bs)
 
     any-entries : (i : ℕ) (es : Entries (List ℕ) WrittenTable) → have_any (entry_findings (names_look f) i es) ≡ list_any (faulty f) (entry_lists es)
     any-entries i no_entries = refl
     any-entries i (entry n b es) =
         of_both (behind (step.Index i) (behind (step.Key key.Expr) (logic_findings (names_look f) b))) (entry_findings (names_look f) (i + 1) es)
-          (lists_in b) (entry_lists es)
-          (any-inside (step.Index i) (behind (step.Key key.Expr) (logic_findings (names_look f) b)) _ (any-inside (step.Key key.Expr) (logic_findings (names_look f) b) _ (any-logic b)))
-          (any-entries (i + 1) es)
+        (lists_in b) (entry_lists es)
+        (any-inside (step.Index i) (behind (step.Key key.Expr) (logic_findings (names_look f) b)) _ (any-inside (step.Key key.Expr) (logic_findings (names_look f) b) _ (any-logic b)))
+        (any-entries (i + 1) es)
 
   any-decision : (d : Written) → have_any (within_decision f d) ≡ list_any (faulty f) (decision_lists d)
   any-decision d =
       any-both (under f key.Needs d.needs) (behind (step.Key key.Expr) (logic_findings (names_look f) d.logic)) _ _
-        (any-under key.Needs d.needs) (any-inside (step.Key key.Expr) (logic_findings (names_look f) d.logic) _ (any-logic d.logic))
+      (any-under key.Needs d.needs) (any-inside (step.Key key.Expr) (logic_findings (names_look f) d.logic) _ (any-logic d.logic))
 
   any-service : (s : Service) → have_any (within_service f s) ≡ list_any (faulty f) (service_lists s)
   any-service s =
       any-both (under f key.Outputs s.outputs) (under f key.Encapsulated s.encapsulated ++ (under f key.InputDecisions s.input_decisions ++ under f key.InputData s.input_data)) _ _
-        (any-under key.Outputs s.outputs)
-        (any-both (under f key.Encapsulated s.encapsulated) (under f key.InputDecisions s.input_decisions ++ under f key.InputData s.input_data) _ _
-          (any-under key.Encapsulated s.encapsulated)
-          (any-both (under f key.InputDecisions s.input_decisions) (under f key.InputData s.input_data) _ _
-            (any-under key.InputDecisions s.input_decisions) (any-under key.InputData s.input_data ∙ alone (faulty f s.input_data))))
+      (any-under key.Outputs s.outputs)
+      (any-both (under f key.Encapsulated s.encapsulated) (under f key.InputDecisions s.input_decisions ++ under f key.InputData s.input_data) _ _
+      (any-under key.Encapsulated s.encapsulated)
+      (any-both (under f key.InputDecisions s.input_decisions) (under f key.InputData s.input_data) _ _
+      (any-under key.InputDecisions s.input_decisions) (any-under key.InputData s.input_data ∙ alone (faulty f s.input_data))))
 
   any-values : (n : ℕ) (bs : List Bool) → have_any (of_values f n bs) ≡ list_any (λ b. b) bs
   any-values n bs =
       any-both (behind (step.Key key.Inputs) (in_texts f (take n bs))) (behind (step.Key key.Decisions) (in_named f (drop n bs))) _ _
-        (any-inside (step.Key key.Inputs) (in_texts f (take n bs)) _ (any-texts (take n bs)))
-        (any-inside (step.Key key.Decisions) (in_named f (drop n bs)) _ (any-named (drop n bs)))
+      (any-inside (step.Key key.Inputs) (in_texts f (take n bs)) _ (any-texts (take n bs)))
+      (any-inside (step.Key key.Decisions) (in_named f (drop n bs)) _ (any-named (drop n bs)))
       ∙ sym (list_any-append (λ b. b) (take n bs) (drop n bs)) ∙ ap (list_any (λ b. b)) (take-append-drop n bs)
 
   any-flat : {X : Type 0} (g : X → List (List Name)) (xs : List X) → list_any (λ x. list_any (faulty f) (g x)) xs ≡ list_any (faulty f) (flat_map g xs)
@@ -159,17 +159,17 @@ module _ (f : NameFault) where
   any-parts : (m : Draft) → have_any (of_parts f m) ≡ list_any (faulty f) (part_lists m)
   any-parts m =
       of_both (behind (step.Key key.Decisions) (each_of (within_decision f) m.decisions)) (behind (step.Key key.Services) (each_of (within_service f) m.services))
-        (flat_map decision_lists m.decisions) (flat_map service_lists m.services)
-        (any-inside (step.Key key.Decisions) (each_of (within_decision f) m.decisions) _
-          (any-each_of (within_decision f) (λ d. list_any (faulty f) (decision_lists d)) any-decision m.decisions ∙ any-flat decision_lists m.decisions))
-        (any-inside (step.Key key.Services) (each_of (within_service f) m.services) _
-          (any-each_of (within_service f) (λ s. list_any (faulty f) (service_lists s)) any-service m.services ∙ any-flat service_lists m.services))
+      (flat_map decision_lists m.decisions) (flat_map service_lists m.services)
+      (any-inside (step.Key key.Decisions) (each_of (within_decision f) m.decisions) _
+      (any-each_of (within_decision f) (λ d. list_any (faulty f) (decision_lists d)) any-decision m.decisions ∙ any-flat decision_lists m.decisions))
+      (any-inside (step.Key key.Services) (each_of (within_service f) m.services) _
+      (any-each_of (within_service f) (λ s. list_any (faulty f) (service_lists s)) any-service m.services ∙ any-flat service_lists m.services))
 
   any-heads : (m : Draft) → have_any (of_heads f m) ≡ (faulty f (value_names m) || faulty f (service_names m))
   any-heads m =
       any-both (of_values f (length m.inputs) (marks f (value_names m))) (behind (step.Key key.Services) (in_named f (marks f (service_names m)))) _ _
-        (any-values (length m.inputs) (marks f (value_names m)) ∙ any-marks f (value_names m))
-        (any-inside (step.Key key.Services) (in_named f (marks f (service_names m))) _ (any-list (service_names m)))
+      (any-values (length m.inputs) (marks f (value_names m)) ∙ any-marks f (value_names m))
+      (any-inside (step.Key key.Services) (in_named f (marks f (service_names m))) _ (any-list (service_names m)))
 
   grouped : (a b c : Bool) → ((a || b) || c) ≡ (a || (b || c))
   grouped true b c = refl

@@ -58,7 +58,6 @@ only_table false = refl
 -- a look at texts and tables
 module _ (k : Look) (T : List ℕ → Bool) (U : WrittenTable → Bool) (texts : (s : List ℕ) → have_any (k.text s) ≡ T s) (tables : (t : WrittenTable) → have_any (k.table t) ≡ U t)
     (entries : (ns : List Name) → have_any (k.entries ns) ≡ false) where
-
   regroup : (p q : List (List ℕ)) (r s : List WrittenTable)
       → ((list_any T p || list_any U r) || (list_any T q || list_any U s)) ≡ (list_any T (p ++ q) || list_any U (r ++ s))
   regroup p q r s = regrouped (list_any T p) (list_any U r) (list_any T q) (list_any U s)
@@ -76,31 +75,31 @@ module _ (k : Look) (T : List ℕ → Bool) (U : WrittenTable → Bool) (texts :
     any-logic (list bs) = any-inside (step.Key key.List) (member_findings k 0 bs) _ (any-members 0 bs)
     any-logic (context es) =
         any-inside (step.Key key.Context) (k.entries (entry_names es) ++ entry_findings k 0 es) _
-          (any-both (k.entries (entry_names es)) (entry_findings k 0 es) false _ (entries (entry_names es)) (any-entries 0 es))
+        (any-both (k.entries (entry_names es)) (entry_findings k 0 es) false _ (entries (entry_names es)) (any-entries 0 es))
     any-logic (context_with es b) =
         both_regrouped (behind (step.Key key.Context) (k.entries (entry_names es) ++ entry_findings k 0 es)) (behind (step.Key key.Result) (logic_findings k b))
-          (entry_texts es) (texts_in b) (entry_tables es) (tables_in b)
-          (any-inside (step.Key key.Context) (k.entries (entry_names es) ++ entry_findings k 0 es) _
-            (any-both (k.entries (entry_names es)) (entry_findings k 0 es) false _ (entries (entry_names es)) (any-entries 0 es)))
-          (any-inside (step.Key key.Result) (logic_findings k b) _ (any-logic b))
+        (entry_texts es) (texts_in b) (entry_tables es) (tables_in b)
+        (any-inside (step.Key key.Context) (k.entries (entry_names es) ++ entry_findings k 0 es) _
+        (any-both (k.entries (entry_names es)) (entry_findings k 0 es) false _ (entries (entry_names es)) (any-entries 0 es)))
+        (any-inside (step.Key key.Result) (logic_findings k b) _ (any-logic b))
 
     any-members : (i : ℕ) (bs : Members (List ℕ) WrittenTable) → have_any (member_findings k i bs) ≡ (list_any T (member_texts bs) || list_any U (member_tables bs))
     any-members i no_members = refl
     any-members i (member b bs) =
         both_regrouped (behind (step.Index i) (logic_findings k b)) (member_findings k (i + 1) bs) (texts_in b) (member_texts bs) (tables_in b) (member_tables bs)
-          (any-inside (step.Index i) (logic_findings k b) _ (any-logic b)) (any-members (i + 1) bs)
+        (any-inside (step.Index i) (logic_findings k b) _ (any-logic b)) (any-members (i + 1) bs)
 
     any-entries : (i : ℕ) (es : Entries (List ℕ) WrittenTable) → have_any (entry_findings k i es) ≡ (list_any T (entry_texts es) || list_any U (entry_tables es))
     any-entries i no_entries = refl
     any-entries i (entry n b es) =
         both_regrouped (behind (step.Index i) (behind (step.Key key.Expr) (logic_findings k b))) (entry_findings k (i + 1) es)
-          (texts_in b) (entry_texts es) (tables_in b) (entry_tables es)
-          (any-inside (step.Index i) (behind (step.Key key.Expr) (logic_findings k b)) _ (any-inside (step.Key key.Expr) (logic_findings k b) _ (any-logic b)))
-          (any-entries (i + 1) es)
+        (texts_in b) (entry_texts es) (tables_in b) (entry_tables es)
+        (any-inside (step.Index i) (behind (step.Key key.Expr) (logic_findings k b)) _ (any-inside (step.Key key.Expr) (logic_findings k b) _ (any-logic b)))
+        (any-entries (i + 1) es)
 
   -- in the logic of some decision
   pub any-decisions : (p : Written → Bool) → ((d : Written) → (list_any T (texts_in d.logic) || list_any U (tables_in d.logic)) ≡ p d)
       → (ds : List Written) → have_any (decisions_findings k ds) ≡ list_any p ds
   any-decisions p h ds =
       any-inside (step.Key key.Decisions) (each_of (decision_findings k) ds) _
-        (any-each_of (decision_findings k) p (λ d. any-inside (step.Key key.Expr) (logic_findings k d.logic) _ (any-logic d.logic) ∙ h d) ds)
+      (any-each_of (decision_findings k) p (λ d. any-inside (step.Key key.Expr) (logic_findings k d.logic) _ (any-logic d.logic) ∙ h d) ds)

@@ -22,7 +22,7 @@ no_text (s ∷ ss) = no_text ss
 any-refused_table : (m : Draft) → have_any (refused_tables m) ≡ has_refused_table m.decisions
 any-refused_table m =
     any-decisions refused_look (λ s. false) is_refused (λ s. refl) (λ t. any-refused (fault_of_table t)) (λ ns. refl)
-      (λ d. list_any is_refused (tables_in d.logic)) (λ d. ap (λ b. b || list_any is_refused (tables_in d.logic)) (no_text (texts_in d.logic))) m.decisions
+    (λ d. list_any is_refused (tables_in d.logic)) (λ d. ap (λ b. b || list_any is_refused (tables_in d.logic)) (no_text (texts_in d.logic))) m.decisions
 
 pub refused_exactly : (m : Draft) → nat_lt 0 (capped (length (refused_tables m))) ≡ has_refused_table m.decisions
 refused_exactly m = some_told (refused_tables m) ∙ any-refused_table m

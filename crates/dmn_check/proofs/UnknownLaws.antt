@@ -33,12 +33,12 @@ no_place (m ∷ ms) n = none_or (bytes_eq n m) (is_among ms n) (place_among ms n
 any-needs : (m : Draft) (d : Written) → have_any (unknown_needs m d) ≡ list_any (λ n. not (is_among (value_names m) n)) d.needs
 any-needs m d =
     any-inside (step.Key key.Needs) (each_of (unknown_name m) d.needs) _
-      (any-each_of (unknown_name m) (λ n. not (is_among (value_names m) n)) (λ n. any-here mistake.Unknown (not (is_among (value_names m) n))) d.needs)
+    (any-each_of (unknown_name m) (λ n. not (is_among (value_names m) n)) (λ n. any-here mistake.Unknown (not (is_among (value_names m) n))) d.needs)
 
 any-unknown : (m : Draft) → have_any (unknown_names m) ≡ has_unknown_name m
 any-unknown m =
     any-inside (step.Key key.Decisions) (each_of (unknown_needs m) m.decisions) _
-      (any-each_of (unknown_needs m) (λ d. list_any (λ n. not (is_among (value_names m) n)) d.needs) (any-needs m) m.decisions)
+    (any-each_of (unknown_needs m) (λ d. list_any (λ n. not (is_among (value_names m) n)) d.needs) (any-needs m) m.decisions)
 
 pub unknown_exactly : (m : Draft) → nat_lt 0 (capped (length (unknown_names m))) ≡ has_unknown_name m
 unknown_exactly m = some_told (unknown_names m) ∙ any-unknown m

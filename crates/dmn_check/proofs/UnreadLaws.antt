@@ -33,27 +33,27 @@ any-default (Some s) = any-inside (step.Key key.Default) (unread Expression s) _
 any-column : (c : WrittenColumn) → have_any (column_texts c) ≡ is_unread_column c
 any-column c =
     any-both (behind (step.Key key.Values) (each_of (unread Literal) c.values)) (default_texts c.fallback) _ _
-      (any-inside (step.Key key.Values) (each_of (unread Literal) c.values) _ (any-texts Literal c.values)) (any-default c.fallback)
+    (any-inside (step.Key key.Values) (each_of (unread Literal) c.values) _ (any-texts Literal c.values)) (any-default c.fallback)
 
 any-rule : (r : WrittenRule) → have_any (rule_texts r) ≡ is_unread_rule r
 any-rule r =
     any-both (behind (step.Key key.When) (each_of (unread UnaryTests) r.tests)) (behind (step.Key key.Then) (each_of (unread Expression) r.gives)) _ _
-      (any-inside (step.Key key.When) (each_of (unread UnaryTests) r.tests) _ (any-texts UnaryTests r.tests))
-      (any-inside (step.Key key.Then) (each_of (unread Expression) r.gives) _ (any-texts Expression r.gives))
+    (any-inside (step.Key key.When) (each_of (unread UnaryTests) r.tests) _ (any-texts UnaryTests r.tests))
+    (any-inside (step.Key key.Then) (each_of (unread Expression) r.gives) _ (any-texts Expression r.gives))
 
 any-table : (t : WrittenTable) → have_any (table_texts t) ≡ is_unread_table t
 any-table t =
     any-both (behind (step.Key key.Inputs) (each_of (unread Expression) t.inputs))
-      (behind (step.Key key.Outputs) (each_of column_texts t.outputs) ++ behind (step.Key key.Rules) (each_of rule_texts t.rules)) _ _
-      (any-inside (step.Key key.Inputs) (each_of (unread Expression) t.inputs) _ (any-texts Expression t.inputs))
-      (any-both (behind (step.Key key.Outputs) (each_of column_texts t.outputs)) (behind (step.Key key.Rules) (each_of rule_texts t.rules)) _ _
-        (any-inside (step.Key key.Outputs) (each_of column_texts t.outputs) _ (any-each_of column_texts is_unread_column any-column t.outputs))
-        (any-inside (step.Key key.Rules) (each_of rule_texts t.rules) _ (any-each_of rule_texts is_unread_rule any-rule t.rules)))
+    (behind (step.Key key.Outputs) (each_of column_texts t.outputs) ++ behind (step.Key key.Rules) (each_of rule_texts t.rules)) _ _
+    (any-inside (step.Key key.Inputs) (each_of (unread Expression) t.inputs) _ (any-texts Expression t.inputs))
+    (any-both (behind (step.Key key.Outputs) (each_of column_texts t.outputs)) (behind (step.Key key.Rules) (each_of rule_texts t.rules)) _ _
+    (any-inside (step.Key key.Outputs) (each_of column_texts t.outputs) _ (any-each_of column_texts is_unread_column any-column t.outputs))
+    (any-inside (step.Key key.Rules) (each_of rule_texts t.rules) _ (any-each_of rule_texts is_unread_rule any-rule t.rules)))
 
 any-unread : (m : Draft) → have_any (unread_texts m) ≡ has_unread_text m.decisions
 any-unread m =
     any-decisions unread_look (λ s. is_unread Expression s) is_unread_table (any-text Expression) any-table (λ ns. refl)
-      (λ d. list_any (λ s. is_unread Expression s) (texts_in d.logic) || list_any is_unread_table (tables_in d.logic)) (λ d. refl) m.decisions
+    (λ d. list_any (λ s. is_unread Expression s) (texts_in d.logic) || list_any is_unread_table (tables_in d.logic)) (λ d. refl) m.decisions
 
 pub unread_exactly : (m : Draft) → nat_lt 0 (capped (length (unread_texts m))) ≡ has_unread_text m.decisions
 unread_exactly m = some_told (unread_texts m) ∙ any-unread m

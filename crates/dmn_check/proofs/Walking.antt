@@ -23,7 +23,7 @@ path_kept c (f ∷ fs) = path_kept (with_one c f) fs
 one_inside : (s : Step) (c : Notes) (f : Finding) → into s (with_one c (moved s f)) ≡ with_one (into s c) f
 one_inside s c f =
     ap (λ (p : Place). record { path = c.path ++ s ∷ []; findings = kept c.findings (record { place = p; mistake = f.mistake }); count = counted c.count })
-      (sym (append_assoc c.path (s ∷ []) f.place))
+    (sym (append_assoc c.path (s ∷ []) f.place))
 
 all_inside : (s : Step) (c : Notes) (fs : List Finding) → with_all c (behind s fs) ≡ at_path c.path (with_all (into s c) fs)
 all_inside s c [] = refl

@@ -190,8 +190,20 @@ fn note_service(
     ensures { OnOk result (with_all (notes_view notes.old) (within_service fault (service_view service.now)) ≡ notes_view notes.new) }
 {
     note_under(alloc, notes, fault, Key::Outputs, &service.outputs)?;
-    note_under(alloc, notes, fault, Key::Encapsulated, &service.encapsulated)?;
-    note_under(alloc, notes, fault, Key::InputDecisions, &service.input_decisions)?;
+    note_under(
+        alloc,
+        notes,
+        fault,
+        Key::Encapsulated,
+        &service.encapsulated,
+    )?;
+    note_under(
+        alloc,
+        notes,
+        fault,
+        Key::InputDecisions,
+        &service.input_decisions,
+    )?;
     note_under(alloc, notes, fault, Key::InputData, &service.input_data)?;
     Ok(())
 }
@@ -222,11 +234,12 @@ fn note_values(
     requires { inputs ≤ length marks.now }
     ensures { OnOk result (with_all (notes_view notes.old) (of_values fault inputs marks.now) ≡ notes_view notes.new) }
 {
+    let (of_inputs, of_decisions) = marks.split_at(inputs);
     notes.enter(Step::Key(Key::Inputs))?;
-    note_texts(notes, fault, &marks[..inputs])?;
+    note_texts(notes, fault, of_inputs)?;
     notes.leave();
     notes.enter(Step::Key(Key::Decisions))?;
-    note_named(notes, fault, &marks[inputs..])?;
+    note_named(notes, fault, of_decisions)?;
     notes.leave();
     Ok(())
 }

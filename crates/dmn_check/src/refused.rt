@@ -78,6 +78,13 @@ fn columns_fit(alloc: Global, table: &WrittenTable) -> Result<bool, AllocError>
     Ok(rules_fit(&table.rules, table.inputs.len(), table.outputs.len()))
 }
 
+/// Whether a hit policy that makes one number, or one that doesn't, may stand over so many outputs.
+fn operator_fits(is_operator: bool, outputs: usize) -> bool
+    ensures { result ≡ not (is_operator && nat_lt 1 outputs) }
+{
+    !is_operator || outputs <= 1
+}
+
 /// The first fault of a table.
 fn fault_of(alloc: Global, table: &WrittenTable) -> Result<Option<TableFault>, AllocError>
     ensures { IfOk result (λ o. o ≡ fault_of_table (table_view table.now)) }
@@ -88,7 +95,7 @@ fn fault_of(alloc: Global, table: &WrittenTable) -> Result<Option<TableFault>, A
     if !columns_fit(alloc, table)? {
         return Ok(Some(TableFault::Columns));
     }
-    if is_operator && table.outputs.len() > 1 {
+    if !operator_fits(is_operator, table.outputs.len()) {
         return Ok(Some(TableFault::Operator));
     }
     Ok(None)

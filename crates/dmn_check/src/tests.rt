@@ -47,62 +47,185 @@ struct Row(&'static str, &'static str, &'static str);
 
 const UNREAD: &[Row] = &[
     Row("age * 2", "age *", "decisions[0].expr "),
-    Row(r#""base", "city"],
-            "outputs""#, r#""base +", "1..2"],
-            "outputs""#, "decisions[1].expr.table.inputs[0] decisions[1].expr.table.inputs[1] "),
-    Row(r#"["1", "2"]"#, r#"["1", "1 + 1", "2", "a"]"#, "decisions[1].expr.table.outputs[0].values[1] decisions[1].expr.table.outputs[0].values[3] "),
-    Row(r#""default": "2""#, r#""default": "two of them""#, "decisions[1].expr.table.outputs[0].default "),
-    Row("< 5", ">= 5 and < 7", "decisions[1].expr.table.rules[0].when[0] "),
-    Row(r#"["-", "-"]"#, r#"["-", "x <"]"#, "decisions[1].expr.table.rules[1].when[1] "),
-    Row(r#"\"old\""#, "old man", "decisions[1].expr.table.rules[1].then[1] "),
+    Row(
+        r#""base", "city"],
+            "outputs""#,
+        r#""base +", "1..2"],
+            "outputs""#,
+        "decisions[1].expr.table.inputs[0] decisions[1].expr.table.inputs[1] ",
+    ),
+    Row(
+        r#"["1", "2"]"#,
+        r#"["1", "1 + 1", "2", "a"]"#,
+        "decisions[1].expr.table.outputs[0].values[1] decisions[1].expr.table.outputs[0].values[3] ",
+    ),
+    Row(
+        r#""default": "2""#,
+        r#""default": "two of them""#,
+        "decisions[1].expr.table.outputs[0].default ",
+    ),
+    Row(
+        "< 5",
+        ">= 5 and < 7",
+        "decisions[1].expr.table.rules[0].when[0] ",
+    ),
+    Row(
+        r#"["-", "-"]"#,
+        r#"["-", "x <"]"#,
+        "decisions[1].expr.table.rules[1].when[1] ",
+    ),
+    Row(
+        r#"\"old\""#,
+        "old man",
+        "decisions[1].expr.table.rules[1].then[1] ",
+    ),
     Row("base + 1", "", "decisions[2].expr.context[0].expr "),
-    Row(r#"["prize","#, r#"["1.5.2","#, "decisions[2].expr.context[1].expr.list[0] "),
-    Row(r#""expr": "3""#, r#""expr": "(3""#, "decisions[2].expr.context[1].expr.list[1].context[0].expr "),
-    Row(r#"["first", "second"]"#, r#"["first", "second", ")"]"#, "decisions[2].expr.result.list[2] "),
+    Row(
+        r#"["prize","#,
+        r#"["1.5.2","#,
+        "decisions[2].expr.context[1].expr.list[0] ",
+    ),
+    Row(
+        r#""expr": "3""#,
+        r#""expr": "(3""#,
+        "decisions[2].expr.context[1].expr.list[1].context[0].expr ",
+    ),
+    Row(
+        r#"["first", "second"]"#,
+        r#"["first", "second", ")"]"#,
+        "decisions[2].expr.result.list[2] ",
+    ),
 ];
 
 const REFUSED: &[Row] = &[
     Row(r#""F""#, r#""FIRST""#, "decisions[1].expr.table "),
-    Row(r#"{"name": "why"}"#, r#"{"name": "amount"}"#, "decisions[1].expr.table "),
-    Row(r#"["< 5", "\"here\""]"#, r#"["< 5"]"#, "decisions[1].expr.table "),
+    Row(
+        r#"{"name": "why"}"#,
+        r#"{"name": "amount"}"#,
+        "decisions[1].expr.table ",
+    ),
+    Row(
+        r#"["< 5", "\"here\""]"#,
+        r#"["< 5"]"#,
+        "decisions[1].expr.table ",
+    ),
     Row(r#""F""#, r#""C+""#, "decisions[1].expr.table "),
-    Row(r#""expr": "3""#, r#""expr": {"table": {"hit": "U", "inputs": [], "outputs": [], "rules": []}}"#,
-        "decisions[2].expr.context[1].expr.list[1].context[0].expr.table "),
+    Row(
+        r#""expr": "3""#,
+        r#""expr": {"table": {"hit": "U", "inputs": [], "outputs": [], "rules": []}}"#,
+        "decisions[2].expr.context[1].expr.list[1].context[0].expr.table ",
+    ),
 ];
 
 const UNLAWFUL: &[Row] = &[
-    Row(r#""inputs": ["age", "city"],
-    "decisions""#, r#""inputs": ["age", "the city"],
-    "decisions""#, "inputs[1] "),
-    Row(r#"{"name": "base""#, r#"{"name": "if""#, "decisions[0].name "),
+    Row(
+        r#""inputs": ["age", "city"],
+    "decisions""#,
+        r#""inputs": ["age", "the city"],
+    "decisions""#,
+        "inputs[1] ",
+    ),
+    Row(
+        r#"{"name": "base""#,
+        r#"{"name": "if""#,
+        "decisions[0].name ",
+    ),
     Row(r#"{"name": "all""#, r#"{"name": """#, "services[0].name "),
-    Row(r#"["base", "prize"]"#, r#"["base", "prize", "1st"]"#, "decisions[2].needs[2] "),
-    Row(r#"{"name": "why"}"#, r#"{"name": "why not"}"#, "decisions[1].expr.table.outputs[1].name "),
-    Row(r#"{"name": "second""#, r#"{"name": "2nd""#, "decisions[2].expr.context[1].name "),
-    Row(r#"{"name": "inner""#, r#"{"name": "in""#, "decisions[2].expr.context[1].expr.list[1].context[0].name "),
+    Row(
+        r#"["base", "prize"]"#,
+        r#"["base", "prize", "1st"]"#,
+        "decisions[2].needs[2] ",
+    ),
+    Row(
+        r#"{"name": "why"}"#,
+        r#"{"name": "why not"}"#,
+        "decisions[1].expr.table.outputs[1].name ",
+    ),
+    Row(
+        r#"{"name": "second""#,
+        r#"{"name": "2nd""#,
+        "decisions[2].expr.context[1].name ",
+    ),
+    Row(
+        r#"{"name": "inner""#,
+        r#"{"name": "then""#,
+        "decisions[2].expr.context[1].expr.list[1].context[0].name ",
+    ),
     Row(r#"["both"]"#, r#"["both?"]"#, "services[0].outputs[0] "),
-    Row(r#"["prize", "base"]"#, r#"["pr-ize", "b.ase"]"#, "services[0].encapsulated[0] services[0].encapsulated[1] "),
-    Row(r#""inputDecisions": []"#, r#""inputDecisions": ["a", "b c"]"#, "services[0].inputDecisions[1] "),
-    Row(r#""inputData": ["age", "city"]"#, r#""inputData": ["age", "city", "\u00e9"]"#, "services[0].inputData[2] "),
+    Row(
+        r#"["prize", "base"]"#,
+        r#"["pr-ize", "b.ase"]"#,
+        "services[0].encapsulated[0] services[0].encapsulated[1] ",
+    ),
+    Row(
+        r#""inputDecisions": []"#,
+        r#""inputDecisions": ["a", "b c"]"#,
+        "services[0].inputDecisions[1] ",
+    ),
+    Row(
+        r#""inputData": ["age", "city"]"#,
+        r#""inputData": ["age", "city", "\u00e9"]"#,
+        "services[0].inputData[2] ",
+    ),
 ];
 
 const REPEATED: &[Row] = &[
-    Row(r#""inputs": ["age", "city"],
-    "decisions""#, r#""inputs": ["age", "city", "age"],
-    "decisions""#, "inputs[2] "),
-    Row(r#"{"name": "prize""#, r#"{"name": "age""#, "decisions[1].name "),
-    Row(r#"{"name": "both""#, r#"{"name": "base""#, "decisions[2].name "),
-    Row(r#""services": ["#, r#""services": [
-        {"name": "all", "outputs": [], "encapsulated": [], "inputDecisions": [], "inputData": []},"#, "services[1].name "),
-    Row(r#"["base", "prize"]"#, r#"["base", "prize", "base", "base"]"#, "decisions[2].needs[2] decisions[2].needs[3] "),
-    Row(r#"{"name": "why"}"#, r#"{"name": "amount"}"#, "decisions[1].expr.table.outputs[1].name "),
-    Row(r#"{"name": "second""#, r#"{"name": "first""#, "decisions[2].expr.context[1].name "),
-    Row(r#""inputData": ["age", "city"]"#, r#""inputData": ["city", "city"]"#, "services[0].inputData[1] "),
+    Row(
+        r#""inputs": ["age", "city"],
+    "decisions""#,
+        r#""inputs": ["age", "city", "age"],
+    "decisions""#,
+        "inputs[2] ",
+    ),
+    Row(
+        r#"{"name": "prize""#,
+        r#"{"name": "age""#,
+        "decisions[1].name ",
+    ),
+    Row(
+        r#"{"name": "both""#,
+        r#"{"name": "base""#,
+        "decisions[2].name ",
+    ),
+    Row(
+        r#""services": ["#,
+        r#""services": [
+        {"name": "all", "outputs": [], "encapsulated": [], "inputDecisions": [], "inputData": []},"#,
+        "services[1].name ",
+    ),
+    Row(
+        r#"["base", "prize"]"#,
+        r#"["base", "prize", "base", "base"]"#,
+        "decisions[2].needs[2] decisions[2].needs[3] ",
+    ),
+    Row(
+        r#"{"name": "why"}"#,
+        r#"{"name": "amount"}"#,
+        "decisions[1].expr.table.outputs[1].name ",
+    ),
+    Row(
+        r#"{"name": "second""#,
+        r#"{"name": "first""#,
+        "decisions[2].expr.context[1].name ",
+    ),
+    Row(
+        r#""inputData": ["age", "city"]"#,
+        r#""inputData": ["city", "city"]"#,
+        "services[0].inputData[1] ",
+    ),
 ];
 
 const UNKNOWN: &[Row] = &[
-    Row(r#""needs": ["age"]"#, r#""needs": ["ages"]"#, "decisions[0].needs[0] "),
-    Row(r#"["base", "prize"]"#, r#"["bass", "prize", "first"]"#, "decisions[2].needs[0] decisions[2].needs[2] "),
+    Row(
+        r#""needs": ["age"]"#,
+        r#""needs": ["ages"]"#,
+        "decisions[0].needs[0] ",
+    ),
+    Row(
+        r#"["base", "prize"]"#,
+        r#"["bass", "prize", "first"]"#,
+        "decisions[2].needs[0] decisions[2].needs[2] ",
+    ),
 ];
 
 #[test]

@@ -65,12 +65,7 @@ fn is_unread(alloc: Global, kind: TextKind, text: &str) -> Result<bool, AllocErr
 }
 
 /// Notes the text that is here, if it has no reading of this kind.
-fn note_text(
-    alloc: Global,
-    notes: &mut Notes,
-    kind: TextKind,
-    text: &str,
-) -> Result<(), AllocError>
+fn note_text(alloc: Global, notes: &mut Notes, kind: TextKind, text: &str) -> Result<(), AllocError>
     ensures { OnOk result (with_all (notes_view notes.old) (unread kind text.now) ≡ notes_view notes.new) }
 {
     if !is_unread(alloc, kind, text)? {
@@ -129,11 +124,7 @@ fn note_default(
     Ok(())
 }
 
-fn note_column(
-    alloc: Global,
-    notes: &mut Notes,
-    column: &WrittenColumn,
-) -> Result<(), AllocError>
+fn note_column(alloc: Global, notes: &mut Notes, column: &WrittenColumn) -> Result<(), AllocError>
     ensures { OnOk result (with_all (notes_view notes.old) (column_texts (column_view column.now)) ≡ notes_view notes.new) }
 {
     note_texts(alloc, notes, Key::Values, TextKind::Literal, &column.values)?;
@@ -179,7 +170,13 @@ fn note_rules(alloc: Global, notes: &mut Notes, rules: &[WrittenRule]) -> Result
 fn note_table(alloc: Global, notes: &mut Notes, table: &WrittenTable) -> Result<(), AllocError>
     ensures { OnOk result (with_all (notes_view notes.old) (table_texts (table_view table.now)) ≡ notes_view notes.new) }
 {
-    note_texts(alloc, notes, Key::Inputs, TextKind::Expression, &table.inputs)?;
+    note_texts(
+        alloc,
+        notes,
+        Key::Inputs,
+        TextKind::Expression,
+        &table.inputs,
+    )?;
     notes.enter(Step::Key(Key::Outputs))?;
     note_columns(alloc, notes, &table.outputs)?;
     notes.leave();

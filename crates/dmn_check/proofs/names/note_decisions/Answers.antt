@@ -7,5 +7,5 @@ use Rattle.dmn_check.proofs.names.note_decisions.Goals as goal
 pub loop-index-preserved : goal.loop-index-preserved
 loop-index-preserved c =
     turn_through decision_view (within_decision c.args.fault) c.args.decisions.now c.loop-index.index c.index-decisions-index.result
-      (notes_view c.loop-index.notes) (notes_view c.enter.new.self) (notes_view c.note_decision.new.notes) (notes_view c.leave.new.self) _
-      c.loop-index.invariant c.index-decisions-index.is c.loop-index-test.true c.in_ok-enter.ensures c.in_ok-note_decision.ensures c.leave.ensures
+    (notes_view c.loop-index.notes) (notes_view c.enter.new.self) (notes_view c.note_decision.new.notes) (notes_view c.leave.new.self) _
+    c.loop-index.invariant c.index-decisions-index.is c.loop-index-test.true c.in_ok-enter.ensures c.in_ok-note_decision.ensures c.leave.ensures

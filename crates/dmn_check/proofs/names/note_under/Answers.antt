@@ -10,8 +10,8 @@ returns c =
     let f = c.args.fault in
     let all = marks f (map string_bytes c.args.texts.now) in
     through (step.Key c.args.key) (in_texts f all)
-      (notes_view c.args.notes.now) (notes_view c.enter.new.self) (notes_view c.note_texts.new.notes) (notes_view c.leave.new.self)
-      c.in_ok-enter.ensures
-      (alike (in_texts f) all c.deref.result.now (notes_view c.enter.new.self) (notes_view c.note_texts.new.notes)
-        (sym (c.deref.ensures.value ∙ c.in_ok-marks.ensures)) c.in_ok-note_texts.ensures)
-      c.leave.ensures
+    (notes_view c.args.notes.now) (notes_view c.enter.new.self) (notes_view c.note_texts.new.notes) (notes_view c.leave.new.self)
+    c.in_ok-enter.ensures
+    (alike (in_texts f) all c.deref.result.now (notes_view c.enter.new.self) (notes_view c.note_texts.new.notes)
+    (sym (c.deref.ensures.value ∙ c.in_ok-marks.ensures)) c.in_ok-note_texts.ensures)
+    c.leave.ensures

@@ -12,7 +12,7 @@ pub returns-clause-fault : goal.returns-clause-fault
 returns-clause-fault c =
     let m = model_view c.args.model.now in
     ap (λ (t : Told). nat_lt 0 t.count)
-      (c.of.ensures (refused_tables m)
-        (from_start (λ xs. decisions_findings refused_look (map decision_view xs)) c.args.model.now.decisions.items c.deref.result.now
-          (notes_view c.new.result) (notes_view c.walk_decisions.new.notes) c.new.ensures c.deref.ensures.value c.in_ok-walk_decisions.ensures))
+    (c.of.ensures (refused_tables m)
+    (from_start (λ xs. decisions_findings refused_look (map decision_view xs)) c.args.model.now.decisions.items c.deref.result.now
+    (notes_view c.new-notes.result) (notes_view c.walk_decisions.new.notes) c.new-notes.ensures c.deref.ensures.value c.in_ok-walk_decisions.ensures))
     ∙ refused_exactly m

@@ -11,7 +11,7 @@ use Rattle.dmn_check.proofs.unread.note_column.Goals as goal
 pub returns : goal.returns
 returns c =
     then (behind (step.Key key.Values) (each_of (unread Literal) (map string_bytes c.args.column.now.values.items))) (default_texts (option_map string_bytes c.args.column.now.fallback))
-      (notes_view c.args.notes.now) (notes_view c.note_texts.new.notes) (notes_view c.note_default.new.notes)
-      (along (λ xs. behind (step.Key key.Values) (each_of (unread Literal) (map string_bytes xs))) c.args.column.now.values.items c.deref.result.now
-        (notes_view c.args.notes.now) (notes_view c.note_texts.new.notes) c.deref.ensures.value c.in_ok-note_texts.ensures)
-      c.in_ok-note_default.ensures
+    (notes_view c.args.notes.now) (notes_view c.note_texts.new.notes) (notes_view c.note_default.new.notes)
+    (along (λ xs. behind (step.Key key.Values) (each_of (unread Literal) (map string_bytes xs))) c.args.column.now.values.items c.deref.result.now
+    (notes_view c.args.notes.now) (notes_view c.note_texts.new.notes) c.deref.ensures.value c.in_ok-note_texts.ensures)
+    c.in_ok-note_default.ensures
