@@ -1,10 +1,13 @@
 -- What the program's status says, and what it tells of it.
-use Rattle.std.specs.Prelude.{◌≡◌, ◌≢◌, ◌⊎◌, ◌<◌, ◌≤◌, ◌+◌, ◌-◌, ◌^◌, ◌++◌, ℕ, List, [], codes, Option, Some, None, Result, Ok, Err, OnOk, IfErr}
-use Rattle.std.specs.Io.KnownBytes.{Appends}
+use Rattle.std.specs.Prelude.{◌≡◌, ◌≢◌, ◌⊎◌, ◌<◌, ◌≤◌, ◌+◌, ◌-◌, ◌^◌, ◌++◌, ℕ, List, [], codes, Option, Some, None, Result, Ok, Err, OnOk, IfOk, IfErr, length}
+use Rattle.std.specs.Io.KnownBytes.{Appends, Consumes, IsAtEnd}
 use Rattle.clap.specs.Kinds.{Kinds, IsAmong}
 use Rattle.clap.specs.declared.error.kind.ErrorKind.{ErrorKind}
 use Rattle.clap.specs.declared.error.kind.ErrorKind.TheVariants as kind
 use Rattle.desk_lines.specs.Fault.{fault_word}
+use Rattle.dmn_plan.specs.declared.fault.ModelFault.{ModelFault}
+use Rattle.desk_checking.specs.Checked.{IsFirstFault}
+use Rattle.desk_checking.specs.Input.{most_bytes}
 use Rattle.clap.specs.Words.{Row}
 use Rattle.desk_serving.specs.Served.{Served, ServedInPart}
 use Rattle.desk_lines.specs.Talk.{EndsAs, Replays}
@@ -39,6 +42,17 @@ abbrev pub end_text : Result (Unit {0}) FrontFault → List ℕ
 end_text (Ok done) = []
 end_text (Err why) = fault_line why
 
+-- 3 where the model that was checked has a fault
+abbrev pub status_of_check : Result (Option ModelFault) FrontFault → ℕ
+status_of_check (Ok None) = 0
+status_of_check (Ok (Some fault)) = 3
+status_of_check (Err why) = 1
+
+-- what is told of how a check ended
+abbrev pub check_end_text : Result (Option ModelFault) FrontFault → List ℕ
+check_end_text (Ok fault) = []
+check_end_text (Err why) = fault_line why
+
 -- a text went to a writer: all of it, or as far as the writer took it before it failed
 module _ {W : Type 0} (contents : W → Option (List ℕ)) (failures : W → ℕ) (old new : W) where
   pub record IsTold (text : List ℕ) : Type 0 where
@@ -72,6 +86,16 @@ module _ {R W : Type 0} (remaining : R → Option (List ℕ)) (failures came : R
   abbrev pub RanAs : Option (List Row) → Result (Unit {0}) FrontFault → Type 0
   RanAs None end = Replayed end
   RanAs (Some rows) end = (options : Options) × AreOptionsOf rows options × ServedBy options.clients end
+
+-- A model was read from a reader and checked: what its first fault is, if it has one, was found of all that the reader gave; or
+-- a fault ended the command.
+module _ {R W : Type 0} (remaining : R → Option (List ℕ)) (failures : R → ℕ) (reader reader' : R) (write_failures : W → ℕ) (writer writer' : W) where
+  pub record Checked (found : Result (Option ModelFault) FrontFault) : Type 0 where
+    pub fault : IfOk found (λ f. (text : List ℕ) × Consumes (remaining reader) (remaining reader') text × IsAtEnd (remaining reader') × IsFirstFault text f)
+    pub long : (found ≡ Err front.Long) → (text : List ℕ) × Consumes (remaining reader) (remaining reader') text × (most_bytes < length text)
+    pub read_only_at_fault : (found ≡ Err front.Read) → failures reader < failures reader'
+    pub write_only_at_fault : (found ≡ Err front.Write) → write_failures writer < write_failures writer'
+    pub ok_without_fault : OnOk found ((failures reader' ≡ failures reader) × (write_failures writer' ≡ write_failures writer))
 
 -- memory was refused, or the status is that of one of these kinds of error
 abbrev pub IsStatusOf : Kinds → ℕ → Type 0

@@ -49,6 +49,15 @@ fn replay<'a>(alloc: Global) -> Command<'a>
         .after_help(help::REPLAY)
 }
 
+/// The command `check`.
+fn check<'a>(alloc: Global) -> Command<'a>
+    ensures { app_of result ≡ new_app (codes "check") }
+{
+    Command::new(alloc, "check")
+        .about(help::CHECK_ABOUT)
+        .after_help(help::CHECK)
+}
+
 /// The command `serve`, with its options.
 fn serve<'a>(alloc: Global) -> Result<Command<'a>, AllocError>
     ensures { IfOk result (λ command. app_of command ≡ serve_app) }
@@ -77,7 +86,9 @@ fn command<'a>(alloc: Global) -> Result<Command<'a>, AllocError>
         .about(help::DESK_ABOUT)
         .after_help(help::DESK)
         .subcommand_required(true);
-    desk.subcommand(replay(alloc))?.subcommand(serve)
+    desk.subcommand(replay(alloc))?
+        .subcommand(serve)?
+        .subcommand(check(alloc))
 }
 
 /// Reads the words of a command line, the program's name first. Words that name no command are refused with the error

@@ -13,6 +13,9 @@ pub const REPLAY_ABOUT: &str =
 pub const SERVE_ABOUT: &str =
     "Answers the lines of many clients side by side, each client's in the order of its lines";
 
+/// What `check` does.
+pub const CHECK_ABOUT: &str = "Says of a model whether it is lawful, and otherwise where it is wrong";
+
 /// Lines, statuses and documents.
 pub const DESK: &str =
     r#"Standard input has one JSON object on each line, and so has standard output.
@@ -24,6 +27,7 @@ Status:
   0  the input was answered to its end; or help or the version was asked for
   1  a fault ended the run, and is told on standard error by one word: read, write, long or memory
   2  the command line is wrong
+  3  the model that was checked has a fault
 
 Documents, in the repository:
   README.md      a first run, and a model of one's own
@@ -69,3 +73,25 @@ The status is 0 at the end of the input, and 1 where a fault ended the run. Stan
 one word: read, write, long (more than 2^40 bytes came) or memory.
 
 docs/LINES.md in the repository has every line and its answers, docs/MODEL.md what M is."#;
+
+/// What `check` reads and says.
+pub const CHECK: &str = r#"Standard input is one model in JSON, of any layout: the model itself, or {"model":M} as in a line of
+serve.
+
+Of a lawful model it tells the inputs, the decisions with their kinds, and the services with their
+parameters. Otherwise it tells the first fault, and for each fault but cycle, service and shape the places
+where the model has it, at most 100 of each:
+
+  expression: a text has no reading
+  expression: 1 place
+    decisions[3].expr.table.rules[8].when[2]: no unary tests: ">= 5 and < 7"
+
+The first decision, rule and entry are number 0.
+
+Example:
+  desk check < examples/loan.json
+
+The status is 0 where the model is lawful, 3 where it has a fault, and 1 where a fault ended the run.
+Standard error then has one word: read, write, long (more than 64 MiB came) or memory.
+
+docs/MODEL.md in the repository says what a model is and what each fault means."#;

@@ -1,17 +1,18 @@
 //! What the program does with its words, as a function of them and of its streams.
-ghost use Rattle.std.specs.Prelude.{◌≡◌, ◌≢◌, ◌⊎◌, ◌<◌, ◌-◌, ◌^◌, ℕ, List, [], None, Result, map, string_bytes};
+ghost use Rattle.std.specs.Prelude.{◌≡◌, ◌≢◌, ◌⊎◌, ◌<◌, ◌-◌, ◌^◌, ℕ, List, [], None, Option, Result, IfSome, map, string_bytes};
 ghost use Rattle.std.specs.IoError.{error_kind};
 ghost use Rattle.clap.specs.Words.{kind_of};
 ghost use Rattle.desk_lines.specs.declared.fault.FrontFault.{FrontFault};
 ghost use Rattle.lanes.specs.Made.{fault_in};
-ghost use Rattle.desk_commands.specs.CommandLine.{IsCommand, kinds_of, serve_rows};
-ghost use Rattle.desk_commands.specs.Status.{RanAs, Replayed, ServedBy, IsTold, IsStatusOf, status_of, status_of_kind, fault_line, no_utf8_line, end_text};
+ghost use Rattle.dmn_plan.specs.declared.fault.ModelFault.{ModelFault};
+ghost use Rattle.desk_commands.specs.CommandLine.{IsCommand, check_rows, kinds_of, serve_rows};
+ghost use Rattle.desk_commands.specs.Status.{Checked, RanAs, Replayed, ServedBy, IsTold, IsStatusOf, status_of, status_of_kind, fault_line, no_utf8_line, end_text, status_of_check, check_end_text};
 
 use crate::command::read_words;
 use crate::options::options_of;
 use clap::Error;
 use clap::error::ErrorKind;
-use desk_front::{FrontFault, Options, Sink, Source, replay, serve, write_all};
+use desk_front::{FrontFault, Options, Sink, Source, check, replay, serve, write_all};
 use lanes::OpenGate;
 use std::alloc::Global;
 use std::io::{self, ErrorKind as IoKind};
@@ -24,6 +25,8 @@ const DONE: u8 = 0;
 const FAULT: u8 = 1;
 /// The status where the words name no command.
 const WRONG_COMMAND: u8 = 2;
+/// The status where the model that was checked has a fault.
+const WRONG_MODEL: u8 = 3;
 
 /// Writes a text as far as the writer takes it.
 fn tell<W: Sink>(text: &str, writer: &mut W)
@@ -97,6 +100,25 @@ fn run_serve<T: Threads + Wait + Sync, R: Source, W: Sink, F: Sink>(
     tell_fault(fault, faults)
 }
 
+/// Checks the model of the reader, and tells the fault that ends it, if one does.
+fn run_check<R: Source, W: Sink, F: Sink>(
+    alloc: Global,
+    reader: &mut R,
+    writer: &mut W,
+    faults: &mut F,
+) -> u8
+    requires read_counts { R.faults reader.old < 2 ^ 64 - 1 }
+    requires write_counts { W.faults writer.old < 2 ^ 64 - 1 }
+    requires fault_counts { F.faults faults.old < 2 ^ 64 - 1 }
+    ensures { (found : Result (Option ModelFault) FrontFault) × Checked R.remaining R.faults reader.old reader.new W.faults writer.old writer.new found × (result ≡ status_of_check found) × IsTold F.contents F.faults faults.old faults.new (check_end_text found) }
+{
+    match check(alloc, reader, writer) {
+        Ok(None) => DONE,
+        Ok(Some(_)) => WRONG_MODEL,
+        Err(fault) => tell_fault(fault, faults),
+    }
+}
+
 /// Tells why the words name no command, or the help or the version that they ask for.
 fn explain<W: Sink, F: Sink>(alloc: Global, error: &Error, writer: &mut W, faults: &mut F) -> u8
     requires write_counts { W.faults writer.old < 2 ^ 64 - 1 }
@@ -126,7 +148,7 @@ fn explain<W: Sink, F: Sink>(alloc: Global, error: &Error, writer: &mut W, fault
 /// Runs the command that the words name, and gives the program's status. The first word is the program's name.
 ///
 /// The status is 0 where the command came to its end or help or the version was asked for, 1 where a fault ended it or no
-/// memory was found for the words, and 2 where they name no command. A fault is told on `faults` by its word, and a wrong
+/// memory was found for the words, 2 where they name no command, and 3 where the model that was checked has a fault. A fault is told on `faults` by its word, and a wrong
 /// command line by the text of `clap`; help and the version go to the writer. A text that can't be written changes no status.
 pub fn run_desk<T: Threads + Wait + Sync, R: Source, W: Sink, F: Sink>(
     alloc: Global,
@@ -139,9 +161,12 @@ pub fn run_desk<T: Threads + Wait + Sync, R: Source, W: Sink, F: Sink>(
     requires read_counts { R.faults reader.old < 2 ^ 64 - 1 }
     requires write_counts { W.faults writer.old < 2 ^ 64 - 1 }
     requires fault_counts { F.faults faults.old < 2 ^ 64 - 1 }
-    ensures taken { IsCommand (map string_bytes words.items) →
+    ensures taken { IsCommand (map string_bytes words.items) → check_rows (map string_bytes words.items) ≡ None →
         ((result ≡ 1) × (reader.new ≡ reader.old) × (writer.new ≡ writer.old) × IsTold F.contents F.faults faults.old faults.new (fault_line FrontFault.Memory))
         ⊎ ((end : Result (Unit {0}) FrontFault) × RanAs R.remaining R.faults R.came reader.old reader.new W.contents W.faults writer.old writer.new (serve_rows (map string_bytes words.items)) end × (result ≡ status_of end) × IsTold F.contents F.faults faults.old faults.new (end_text end)) }
+    ensures checks { IsCommand (map string_bytes words.items) → IfSome (check_rows (map string_bytes words.items)) (λ _.
+        ((result ≡ 1) × (reader.new ≡ reader.old) × (writer.new ≡ writer.old) × IsTold F.contents F.faults faults.old faults.new (fault_line FrontFault.Memory))
+        ⊎ ((found : Result (Option ModelFault) FrontFault) × Checked R.remaining R.faults reader.old reader.new W.faults writer.old writer.new found × (result ≡ status_of_check found) × IsTold F.contents F.faults faults.old faults.new (check_end_text found))) }
     ensures refused { kinds_of (map string_bytes words.items) ≢ [] → IsStatusOf (kinds_of (map string_bytes words.items)) result × (reader.new ≡ reader.old) }
     ensures memory { kinds_of (map string_bytes words.items) ≢ [] → result ≡ 1 → IsTold F.contents F.faults faults.old faults.new (fault_line FrontFault.Memory) }
     ensures wrong { kinds_of (map string_bytes words.items) ≢ [] → result ≡ 2 → (text : List ℕ) × IsTold F.contents F.faults faults.old faults.new text }
@@ -152,7 +177,10 @@ pub fn run_desk<T: Threads + Wait + Sync, R: Source, W: Sink, F: Sink>(
     match read_words(alloc, words.as_slice()) {
         Ok(matches) => match matches.subcommand_matches("serve") {
             Some(found) => run_serve(alloc, rt, options_of(found), reader, writer, faults),
-            None => run_replay(alloc, reader, writer, faults),
+            None => match matches.subcommand_matches("check") {
+                Some(_) => run_check(alloc, reader, writer, faults),
+                None => run_replay(alloc, reader, writer, faults),
+            },
         },
         Err(error) => explain(alloc, &error, writer, faults),
     }
