@@ -4,22 +4,36 @@ use Rattle.std.specs.Prelude.{nat_eq, slice_set, slice_index_or, All}
 use Rattle.std.specs.Bool.{Decides}
 use Rattle.std.proofs.lemmas.Bool.Decides.{Decides-eqb}
 use Rattle.dmn_graph.specs.Reach.{has_same, reached, Leads, directly, through}
-use Rattle.dmn_graph.specs.Needs.{needs_of, count_needing, needs_itself}
+use Rattle.dmn_graph.specs.Needs.{needs_of, count_needing, needs_itself, AreNeedsBelow}
 use Rattle.dmn_graph.specs.Members.{IsIn}
 use Rattle.dmn_graph.proofs.Members.{in_left, in_right, in_either, is_in, among}
 use Rattle.dmn_graph.proofs.Chains.{leads_from_reached, leads_within}
+use Rattle.dmn_graph.proofs.SearchSteps.{needed_below}
+use Rattle.dmn_plan.proofs.ServicesByName.{all_from}
 use Rattle.dmn_graph.proofs.Cycles.{needing, needing_length, needing_covers}
 use Rattle.dmn_check.specs.declared.chase.Chase.{Chase}
 use Rattle.dmn_check.specs.Chase.{is_met, unmet, left, HasMet, IsChase}
 
 -- ---- marks
 
+set_here : (bs : List Bool) (p : ℕ) → p < length bs → get_or (set bs p true) p false ≡ true
+set_here [] p l = absurd (omega arith)
+set_here (b ∷ bs) zero l = refl
+set_here (b ∷ bs) (suc p) l = set_here bs p (omega arith)
+
+set_other : (bs : List Bool) (p q : ℕ) → (q ≡ p → ⊥) → get_or (set bs p true) q false ≡ get_or bs q false
+set_other [] p q h = refl
+set_other (b ∷ bs) zero zero h = absurd (h refl)
+set_other (b ∷ bs) zero (suc q) h = refl
+set_other (b ∷ bs) (suc p) zero h = refl
+set_other (b ∷ bs) (suc p) (suc q) h = set_other bs p q (λ e. h (ap suc e))
+
 mark_set : (bs : List Bool) (p q : ℕ) → p < length bs → get_or (set bs p true) q false ≡ cond (nat_eq q p) true (get_or bs q false)
-mark_set [] p q l = absurd (omega arith)
-mark_set (b ∷ bs) zero zero l = refl
-mark_set (b ∷ bs) zero (suc q) l = refl
-mark_set (b ∷ bs) (suc p) zero l = refl
-mark_set (b ∷ bs) (suc p) (suc q) l = mark_set bs p q (omega arith)
+mark_set bs p q l = go (nat_eq q p) refl
+  where
+    go : (b : Bool) → nat_eq q p ≡ b → get_or (set bs p true) q false ≡ cond b true (get_or bs q false)
+    go true e = ap (λ r. get_or (set bs p true) r false) ((Decides-eqb q p).0 e) ∙ set_here bs p l
+    go false e = set_other bs p q (λ h. let t : nat_eq q p ≡ true = (Decides-eqb q p).1 h in cc)
 
 size_set : (bs : List Bool) (p : ℕ) → length (set bs p true) ≡ length bs
 size_set [] p = refl
@@ -37,6 +51,29 @@ none_met : (n q : ℕ) → get_or (replicate n false) q false ≡ false
 none_met zero q = refl
 none_met (suc n) zero = refl
 none_met (suc n) (suc q) = none_met n q
+
+pub size_none : (n : ℕ) → length (replicate n false) ≡ n
+size_none zero = refl
+size_none (suc n) = ap suc (size_none n)
+
+met_below : (bs : List Bool) (q : ℕ) → get_or bs q false ≡ true → q < length bs
+met_below [] q e = absurd (cc)
+met_below (b ∷ bs) zero e = omega arith
+met_below (b ∷ bs) (suc q) e = let r = met_below bs q e in omega arith
+
+pub nothing_left : (xs : List ℕ) → length xs ≡ 0 → xs ≡ []
+nothing_left [] e = refl
+nothing_left (x ∷ xs) e = absurd (omega arith)
+
+-- what a place needs may be met
+pub may_meet : (needs : List (List ℕ)) (n x : ℕ) (qs : List ℕ) (met : List Bool) → AreNeedsBelow n needs → qs ≡ needs_of needs x → length met ≡ n → All (λ q. q < length met) qs
+may_meet needs n x qs met below same sized =
+    all_from (λ q. q < length met) qs (λ q i. let b = needed_below n needs below x q (subst (λ zs. IsIn q zs) same i) in omega (arith, sized))
+
+-- what waits is a place
+pub waits_below : (needs : List (List ℕ)) (place : ℕ) (w : Chase) (rest : List ℕ) (p : ℕ) → IsChase needs place w → w.waiting.items ≡ rest ++ p ∷ [] → p < length needs
+waits_below needs place w rest p s taken =
+    let b = met_below w.met.items p (s.waiting p (subst (λ qs. IsIn p qs) (sym taken) (in_right p rest (p ∷ []) (inl refl)))) in omega (arith, s.size)
 
 -- ---- meeting places
 
@@ -122,17 +159,17 @@ module _ (needs : List (List ℕ)) (place : ℕ) where
   leads_more a b c (through {b = d} e l) i = through e (leads_more d b c l i)
 
   -- the place's own needs were met
-  pub chase_begun : (old w : Chase) → old.met.items ≡ replicate (length needs) false → old.waiting.items ≡ [] → length (replicate (length needs) false) ≡ length needs
-      → HasMet old (needs_of needs place) w → IsChase needs place w
-  chase_begun old w none empty sized h = record {
-    size = h.size ∙ ap length none ∙ sized;
+  pub chase_begun : (old w : Chase) (n : ℕ) (qs : List ℕ) → n ≡ length needs → old.met.items ≡ replicate n false → old.waiting.items ≡ [] → qs ≡ needs_of needs place
+      → HasMet old qs w → IsChase needs place w
+  chase_begun old w n qs many none empty same met_these = let h : HasMet old (needs_of needs place) w = subst (λ zs. HasMet old zs w) same met_these in record {
+    size = h.size ∙ ap length none ∙ size_none n ∙ many;
     leads = λ q m. elim (h.from q m) [
-      | inl j ↦ absurd (let no : false ≡ true = sym (ap (λ bs. get_or bs q false) none ∙ none_met (length needs) q) ∙ j in cc)
+      | inl j ↦ absurd (let no : false ≡ true = sym (ap (λ bs. get_or bs q false) none ∙ none_met n q) ∙ j in cc)
       | inr j ↦ directly (among nat_eq Decides-eqb q (needs_of needs place) j.0)
     ];
     begun = h.met;
     passed = λ q y m i. elim (h.from q m) [
-      | inl j ↦ absurd (let no : false ≡ true = sym (ap (λ bs. get_or bs q false) none ∙ none_met (length needs) q) ∙ j in cc)
+      | inl j ↦ absurd (let no : false ≡ true = sym (ap (λ bs. get_or bs q false) none ∙ none_met n q) ∙ j in cc)
       | inr j ↦ inl j.1
     ];
     waiting = λ q i. elim (h.within q i) [
@@ -142,9 +179,9 @@ module _ (needs : List (List ℕ)) (place : ℕ) where
   }
 
   -- the needs of a place that waited were met
-  pub chase_on : (before popped after : Chase) (p : ℕ) → IsChase needs place before → popped.met.items ≡ before.met.items → before.waiting.items ≡ popped.waiting.items ++ p ∷ []
-      → HasMet popped (needs_of needs p) after → IsChase needs place after
-  chase_on before popped after p s marks taken h = record {
+  pub chase_on : (before popped after : Chase) (p : ℕ) (qs : List ℕ) → IsChase needs place before → popped.met.items ≡ before.met.items → before.waiting.items ≡ popped.waiting.items ++ p ∷ []
+      → qs ≡ needs_of needs p → HasMet popped qs after → IsChase needs place after
+  chase_on before popped after p qs s marks taken same met_these = let h : HasMet popped (needs_of needs p) after = subst (λ zs. HasMet popped zs after) same met_these in record {
     size = h.size ∙ ap length marks ∙ s.size;
     leads = λ q m. elim (h.from q m) [
       | inl j ↦ s.leads q (old q j)
@@ -186,7 +223,7 @@ module _ (needs : List (List ℕ)) (place : ℕ) where
   chase_ended w s empty steps enough = by_both (is_met w place) (needs_itself steps needs place)
       (λ m. leads_within nat_eq Decides-eqb (needs_of needs) steps (needing needs) (needing_covers needs) (let e = needing_length needs in omega arith) place place (s.leads place m))
       (λ t. closed w (λ q y m i. elim (s.passed q y m i) [ inl j ↦ absurd (subst (λ qs. IsIn q qs) empty j) | inr j ↦ j ]) place place s.begun
-        (leads_from_reached nat_eq Decides-eqb (needs_of needs) steps place place t))
+      (leads_from_reached nat_eq Decides-eqb (needs_of needs) steps place place t))
     where
       by_both : (a b : Bool) → (a ≡ true → b ≡ true) → (b ≡ true → a ≡ true) → a ≡ b
       by_both true b f g = sym (f refl)

@@ -84,10 +84,10 @@ module _ (m : Draft) (needs : List (List ℕ)) (ds : List WrittenDecision) (show
   decision_by_place i d b l e found =
       let steps = length m.decisions in
       let at : place_name m (length m.inputs + i) ≡ (decision_view d).name =
-          get_or-append-add m.inputs (decision_names m) i [] ∙ ap (λ xs. get_or (map (λ y. y.name) xs) i []) (sym shown) ∙ name_at ds i d l e
+      get_or-append-add m.inputs (decision_names m) i [] ∙ ap (λ xs. get_or (map (λ y. y.name) xs) i []) (sym shown) ∙ name_at ds i d l e
       in
       let one : needs_of m.decisions (decision_view d).name ≡ (decision_view d).needs =
-          needs_of_one m.decisions (decision_view d) (later_distinct m.inputs (decision_names m) (distinct_values m distinct)) (subst (λ xs. IsIn (decision_view d) xs) shown (at_in ds i d l e))
+      needs_of_one m.decisions (decision_view d) (later_distinct m.inputs (decision_names m) (distinct_values m distinct)) (subst (λ xs. IsIn (decision_view d) xs) shown (at_in ds i d l e))
       in
       found steps (few_need m needs (distinct_values m distinct) known)
       ∙ sym (by_place steps (length m.inputs + i) (omega (arith, many)))
@@ -97,7 +97,7 @@ module _ (m : Draft) (needs : List (List ℕ)) (ds : List WrittenDecision) (show
 pub any-cycle : (m : Draft) → have_any (cycles m) ≡ has_cycle m
 any-cycle m =
     any-inside (step.Key key.Decisions) (each_of (cycle m) m.decisions) _
-      (any-each_of (cycle m) (needs_itself m) (λ d. any-here mistake.Cycle (needs_itself m d)) m.decisions)
+    (any-each_of (cycle m) (needs_itself m) (λ d. any-here mistake.Cycle (needs_itself m d)) m.decisions)
 
 pub cycle_exactly : (m : Draft) → nat_lt 0 (capped (length (cycles m))) ≡ has_cycle m
 cycle_exactly m = some_told (cycles m) ∙ any-cycle m

@@ -14,7 +14,7 @@ use Rattle.dmn_check.proofs.ToldLaws.{some_told}
 pub any-service : (m : Draft) → have_any (bad_services m) ≡ has_bad_service m
 any-service m =
     any-inside (step.Key key.Services) (each_of (bad_service m) m.services) _
-      (any-each_of (bad_service m) (is_bad_service m) (λ s. any-here mistake.Service (is_bad_service m s)) m.services)
+    (any-each_of (bad_service m) (is_bad_service m) (λ s. any-here mistake.Service (is_bad_service m s)) m.services)
 
 pub service_exactly : (m : Draft) → nat_lt 0 (capped (length (bad_services m))) ≡ has_bad_service m
 service_exactly m = some_told (bad_services m) ∙ any-service m

@@ -51,6 +51,14 @@ impl Chase {
     }
 }
 
+/// What a place needs.
+fn needed_by(needs: &[Vec<usize>], place: usize) -> &[usize]
+    requires { place < length needs.now }
+    ensures { result.now ≡ needs_of (needs_view needs.now) place }
+{
+    needs[place].as_slice()
+}
+
 /// Whether a place needs itself, directly or through others. `needs` has a list for each place, of the places that it needs. It
 /// takes time in the number of places and needs.
 pub(crate) fn needs_itself(
@@ -63,9 +71,9 @@ pub(crate) fn needs_itself(
     ensures { IfOk result (λ b. (steps : ℕ) → count_needing (needs_view needs.now) ≤ steps → b ≡ needs_itself_in steps (needs_view needs.now) place) }
 {
     let mut chase = Chase::new(alloc, needs.len())?;
-    chase.meet_all(needs[place].as_slice())?;
+    chase.meet_all(needed_by(needs, place))?;
     while let Some(next) = chase.waiting.pop() {
-        chase.meet_all(needs[next].as_slice())?;
+        chase.meet_all(needed_by(needs, next))?;
     }
     Ok(chase.met[place])
 }

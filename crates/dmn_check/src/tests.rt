@@ -285,7 +285,11 @@ const CYCLES: &[Row] = &[
         r#""needs": ["age", "both"]"#,
         "decisions[0] decisions[1] decisions[2] ",
     ),
-    Row(r#""needs": ["age"]"#, r#""needs": ["age", "base"]"#, "decisions[0] "),
+    Row(
+        r#""needs": ["age"]"#,
+        r#""needs": ["age", "base"]"#,
+        "decisions[0] ",
+    ),
     Row(
         r#""needs": ["base", "city"]"#,
         r#""needs": ["base", "both"]"#,
@@ -295,10 +299,22 @@ const CYCLES: &[Row] = &[
 
 const SERVICES: &[Row] = &[
     Row(r#""outputs": ["both"]"#, r#""outputs": []"#, "services[0] "),
-    Row(r#""outputs": ["both"]"#, r#""outputs": ["age"]"#, "services[0] "),
+    Row(
+        r#""outputs": ["both"]"#,
+        r#""outputs": ["age"]"#,
+        "services[0] ",
+    ),
     Row(r#"["prize", "base"]"#, r#"["prize"]"#, "services[0] "),
-    Row(r#""inputDecisions": []"#, r#""inputDecisions": ["base"]"#, "services[0] "),
-    Row(r#""inputData": ["age", "city"]"#, r#""inputData": ["age"]"#, "services[0] "),
+    Row(
+        r#""inputDecisions": []"#,
+        r#""inputDecisions": ["base"]"#,
+        "services[0] ",
+    ),
+    Row(
+        r#""inputData": ["age", "city"]"#,
+        r#""inputData": ["age"]"#,
+        "services[0] ",
+    ),
     Row(
         r#""services": ["#,
         r#""services": [
@@ -340,12 +356,19 @@ fn requirements_are_not_looked_into(rt: HostRuntime) -> Result<(), Fail> {
 #[test]
 fn the_first_hundred_are_told(rt: HostRuntime) -> Result<(), Fail> {
     let members = r#""(","#.repeat(rt.alloc(), 150)?;
-    let text = LAWFUL.replace(rt.alloc(), r#"["first","#, format!(in rt.alloc(); "[{members}")?.as_str())?;
+    let text = LAWFUL.replace(
+        rt.alloc(),
+        r#"["first","#,
+        format!(in rt.alloc(); "[{members}")?.as_str(),
+    )?;
     let told = unread_texts(rt.alloc(), &model_of(rt.alloc(), text.as_str())?)?;
     assert_eq!(rt; told.count, 150);
     assert_eq!(rt; told.findings.len(), 100);
     let last = told.findings.last().ok_or("nothing is told")?;
-    assert_eq!(rt; last.place.path(rt.alloc())?.as_str(), "decisions[2].expr.result.list[99]");
+    assert_eq!(rt;
+        last.place.path(rt.alloc())?.as_str(),
+        "decisions[2].expr.result.list[99]"
+    );
     Ok(())
 }
 

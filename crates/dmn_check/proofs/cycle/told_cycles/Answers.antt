@@ -13,6 +13,6 @@ pub returns : goal.returns
 returns c =
     let m = model_view c.args.model.now in
     c.of.ensures (cycles m)
-      (through (step.Key key.Decisions) (each_of (cycle m) m.decisions)
-        empty (notes_view c.enter.new.self) (notes_view c.note_decisions.new.notes) (notes_view c.leave.new.self)
-        (c.in_ok-enter.ensures ∙ ap (into (step.Key key.Decisions)) c.new-notes.ensures) c.in_ok-note_decisions.ensures c.leave.ensures)
+    (through (step.Key key.Decisions) (each_of (cycle m) m.decisions)
+    empty (notes_view c.enter.new.self) (notes_view c.note_decisions.new.notes) (notes_view c.leave.new.self)
+    (c.in_ok-enter.ensures ∙ ap (into (step.Key key.Decisions)) c.new-notes.ensures) c.in_ok-note_decisions.ensures c.leave.ensures)

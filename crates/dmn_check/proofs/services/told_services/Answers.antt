@@ -14,10 +14,10 @@ pub returns : goal.returns
 returns c =
     let m = model_view c.args.model.now in
     c.of.ensures (bad_services m)
-      (through (step.Key key.Services) (each_of (bad_service m) m.services)
-        empty (notes_view c.enter.new.self) (notes_view c.note_services.new.notes) (notes_view c.leave.new.self)
-        (c.in_ok-enter.ensures ∙ ap (into (step.Key key.Services)) c.new-notes.ensures)
-        (ap (λ n. with_all (notes_view c.enter.new.self) (each_of (bad_service n) m.services)) (sym c.requires.placed)
-          ∙ along (λ ss. each_of (bad_service (placed_model c.args.places.now)) (map service_view ss)) c.args.model.now.services.items c.deref.result.now
-            (notes_view c.enter.new.self) (notes_view c.note_services.new.notes) c.deref.ensures.value c.in_ok-note_services.ensures)
-        c.leave.ensures)
+    (through (step.Key key.Services) (each_of (bad_service m) m.services)
+    empty (notes_view c.enter.new.self) (notes_view c.note_services.new.notes) (notes_view c.leave.new.self)
+    (c.in_ok-enter.ensures ∙ ap (into (step.Key key.Services)) c.new-notes.ensures)
+    (ap (λ n. with_all (notes_view c.enter.new.self) (each_of (bad_service n) m.services)) (sym c.requires.placed)
+    ∙ along (λ ss. each_of (bad_service (placed_model c.args.places.now)) (map service_view ss)) c.args.model.now.services.items c.deref.result.now
+    (notes_view c.enter.new.self) (notes_view c.note_services.new.notes) c.deref.ensures.value c.in_ok-note_services.ensures)
+    c.leave.ensures)
