@@ -9,3 +9,9 @@ pub mod Marking
 pub mod UnknownLaws
 pub mod LargeLaws
 pub mod TableFaults
+pub mod Chasing
+pub mod CycleLaws
+pub mod ServiceLaws
+pub mod Pointers
+pub mod GraphLaws
+pub mod FirstFaultLaw

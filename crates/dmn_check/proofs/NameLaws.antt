@@ -180,6 +180,12 @@ module _ (f : NameFault) where
       any-both (of_heads f m) (of_parts f m) _ _ (any-heads m) (any-parts m)
       ∙ grouped (faulty f (value_names m)) (faulty f (service_names m)) (list_any (faulty f) (part_lists m))
 
+pub any-unlawful : (m : Draft) → have_any (unlawful_names m) ≡ has_bad_name m
+any-unlawful m = any-names Unlawful m
+
+pub any-repeated : (m : Draft) → have_any (repeated_names m) ≡ has_name_twice m
+any-repeated m = any-names Repeated m
+
 pub unlawful_exactly : (m : Draft) → nat_lt 0 (capped (length (unlawful_names m))) ≡ has_bad_name m
 unlawful_exactly m = some_told (unlawful_names m) ∙ any-names Unlawful m
 

@@ -19,7 +19,7 @@ no_text : (ss : List (List ℕ)) → list_any (λ s. false) ss ≡ false
 no_text [] = refl
 no_text (s ∷ ss) = no_text ss
 
-any-refused_table : (m : Draft) → have_any (refused_tables m) ≡ has_refused_table m.decisions
+pub any-refused_table : (m : Draft) → have_any (refused_tables m) ≡ has_refused_table m.decisions
 any-refused_table m =
     any-decisions refused_look (λ s. false) is_refused (λ s. refl) (λ t. any-refused (fault_of_table t)) (λ ns. refl)
     (λ d. list_any is_refused (tables_in d.logic)) (λ d. ap (λ b. b || list_any is_refused (tables_in d.logic)) (no_text (texts_in d.logic))) m.decisions

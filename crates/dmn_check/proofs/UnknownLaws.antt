@@ -35,7 +35,7 @@ any-needs m d =
     any-inside (step.Key key.Needs) (each_of (unknown_name m) d.needs) _
     (any-each_of (unknown_name m) (λ n. not (is_among (value_names m) n)) (λ n. any-here mistake.Unknown (not (is_among (value_names m) n))) d.needs)
 
-any-unknown : (m : Draft) → have_any (unknown_names m) ≡ has_unknown_name m
+pub any-unknown : (m : Draft) → have_any (unknown_names m) ≡ has_unknown_name m
 any-unknown m =
     any-inside (step.Key key.Decisions) (each_of (unknown_needs m) m.decisions) _
     (any-each_of (unknown_needs m) (λ d. list_any (λ n. not (is_among (value_names m) n)) d.needs) (any-needs m) m.decisions)

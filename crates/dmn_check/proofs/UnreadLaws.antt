@@ -50,7 +50,7 @@ any-table t =
     (any-inside (step.Key key.Outputs) (each_of column_texts t.outputs) _ (any-each_of column_texts is_unread_column any-column t.outputs))
     (any-inside (step.Key key.Rules) (each_of rule_texts t.rules) _ (any-each_of rule_texts is_unread_rule any-rule t.rules)))
 
-any-unread : (m : Draft) → have_any (unread_texts m) ≡ has_unread_text m.decisions
+pub any-unread : (m : Draft) → have_any (unread_texts m) ≡ has_unread_text m.decisions
 any-unread m =
     any-decisions unread_look (λ s. is_unread Expression s) is_unread_table (any-text Expression) any-table (λ ns. refl)
     (λ d. list_any (λ s. is_unread Expression s) (texts_in d.logic) || list_any is_unread_table (tables_in d.logic)) (λ d. refl) m.decisions

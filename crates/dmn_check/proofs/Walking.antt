@@ -1,5 +1,5 @@
 -- Notes that are taken part by part are the notes of the whole.
-use Rattle.std.proofs.Common.{◌≡◌, ℕ, ◌+◌, ◌-◌, ◌<◌, List, [], ◌∷◌, ◌++◌, map, length, take, drop, get_or, refl, sym, ap, ap₂, ◌∙◌, append_assoc, arith}
+use Rattle.std.proofs.Common.{◌≡◌, ℕ, zero, suc, ◌+◌, ◌-◌, ◌<◌, List, [], ◌∷◌, ◌++◌, map, length, take, drop, get_or, refl, sym, ap, ap₂, ◌∙◌, append_assoc, arith}
 use Rattle.std.proofs.lemmas.List.{at_drop_more}
 use Rattle.std.proofs.lemmas.Grind.{common_steps}
 use Rattle.dmn_check.specs.declared.place.Step.{Step}
@@ -85,3 +85,16 @@ alike f x y c d e walked = ap (λ z. with_all c (f z)) e ∙ walked
 -- a walk that begins with no findings
 pub from_start : {X : Type 0} (f : List X → List Finding) (xs ys : List X) (c d : Notes) → c ≡ empty → ys ≡ xs → with_all c (f ys) ≡ d → with_all empty (f xs) ≡ d
 from_start f xs ys c d begun e walked = ap (λ n. with_all n (f xs)) (sym begun) ∙ along f xs ys c d e walked
+
+element_at : {X : Type 0} (xs : List X) (i : ℕ) → i < length xs → (x : X) × (x ≡ get_or xs i x)
+element_at [] i more = absurd (omega arith)
+element_at (x ∷ xs) zero more = (x, refl)
+element_at (x ∷ xs) (suc i) more = element_at xs i (omega arith)
+
+-- the same, where the element is known by its index alone
+pub turn_at : {X Y : Type 0} (view : X → Y) (f : Y → List Finding) (xs : List X) (i : ℕ) (c c1 c2 c3 whole : Notes)
+    → whole ≡ with_all c (each_from f i (map view (drop i xs))) → i < length xs
+    → c1 ≡ into (Index i) c → ((x : X) → x ≡ get_or xs i x → with_all c1 (f (view x)) ≡ c2) → c3 ≡ out c2 → whole ≡ with_all c3 (each_from f (i + 1) (map view (drop (i + 1) xs)))
+turn_at view f xs i c c1 c2 c3 whole before more entered walked left =
+    let w = element_at xs i more in
+    turn_through view f xs i w.0 c c1 c2 c3 whole before w.1 more entered (walked w.0 w.1) left

@@ -12,3 +12,8 @@ pub mod NameFaults
 pub mod NameMarks
 pub mod Unknown
 pub mod Large
+pub mod Chase
+pub mod Graphs
+pub mod Cycles
+pub mod Services
+pub mod FirstFault

@@ -27,6 +27,10 @@ pub enum Mistake {
     Table(TableFault),
     /// A needed name is neither an input nor a decision.
     Unknown,
+    /// A decision needs itself, directly or through others.
+    Cycle,
+    /// A service doesn't fit the decisions.
+    Service,
     /// There are more than 1,000 decisions.
     Large,
 }

@@ -1,7 +1,10 @@
 //! Every place where a decision model is wrong.
 #![tactic(auto)]
 
+mod chase;
+mod cycle;
 mod finding;
+mod graph;
 mod large;
 mod look;
 mod marks;
@@ -10,6 +13,7 @@ mod names;
 mod notes;
 mod place;
 mod refused;
+mod services;
 #[cfg(test)]
 mod tests;
 mod told;
@@ -17,11 +21,13 @@ mod unknown;
 mod unread;
 mod walk;
 
+pub use cycle::cycles;
 pub use finding::{Finding, Mistake, TextKind};
 pub use large::too_large;
 pub use names::{repeated_names, unlawful_names};
 pub use place::{Key, Place, Step};
 pub use refused::refused_tables;
+pub use services::bad_services;
 pub use told::Told;
 pub use unknown::unknown_names;
 pub use unread::unread_texts;

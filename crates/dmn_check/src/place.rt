@@ -1,6 +1,7 @@
 //! Places in the JSON value of a model.
-ghost use Rattle.std.specs.Prelude.{◌≡◌};
-ghost use Rattle.dmn_check.specs.Pointer.{key_text};
+ghost use Rattle.std.specs.Prelude.{◌≡◌, ◌++◌, OnOk, IfOk, string_bytes};
+ghost use Rattle.std.specs.List.{flat_map};
+ghost use Rattle.dmn_check.specs.Pointer.{key_text, step_pointer, pointer_of, step_path, first_path, path_of};
 
 use std::alloc::{AllocError, Global};
 
@@ -75,30 +76,87 @@ impl Key {
     }
 }
 
+/// Puts a step behind a JSON Pointer. No key of a model has a `~` or a `/`, so none is escaped.
+#[tactic(auto, using(crate::proofs::Pointers::unescaped))]
+fn push_pointer(text: &mut String, step: Step) -> Result<(), AllocError>
+    ensures { OnOk result (string_bytes text.new ≡ string_bytes text.old ++ step_pointer step) }
+{
+    match step {
+        Step::Key(key) => {
+            write!(text, "/{}", key.text())?;
+            Ok(())
+        }
+        Step::Index(index) => {
+            write!(text, "/{index}")?;
+            Ok(())
+        }
+    }
+}
+
+/// Puts a step behind a path.
+fn push_path(text: &mut String, step: Step) -> Result<(), AllocError>
+    ensures { OnOk result (string_bytes text.new ≡ string_bytes text.old ++ step_path step) }
+{
+    match step {
+        Step::Key(key) => {
+            write!(text, ".{}", key.text())?;
+            Ok(())
+        }
+        Step::Index(index) => {
+            write!(text, "[{index}]")?;
+            Ok(())
+        }
+    }
+}
+
+/// Begins a path with its first step.
+fn push_first(text: &mut String, step: Step) -> Result<(), AllocError>
+    ensures { OnOk result (string_bytes text.new ≡ string_bytes text.old ++ first_path step) }
+{
+    match step {
+        Step::Key(key) => {
+            text.push_str(key.text())?;
+            Ok(())
+        }
+        Step::Index(index) => {
+            write!(text, "[{index}]")?;
+            Ok(())
+        }
+    }
+}
+
+/// Puts these steps behind a path.
+fn push_paths(text: &mut String, steps: &[Step]) -> Result<(), AllocError>
+    ensures { OnOk result (string_bytes text.new ≡ string_bytes text.old ++ flat_map step_path steps.now) }
+{
+    for step in steps {
+        push_path(text, *step)?;
+    }
+    Ok(())
+}
+
 impl Place {
-    /// The place as a JSON Pointer (RFC 6901), as `/decisions/3/expr/table/rules/8/when/2`; the whole model is the empty text. No
-    /// key of a model has a `~` or a `/`, so none is escaped.
-    pub fn pointer(&self, alloc: Global) -> Result<String, AllocError> {
+    /// The place as a JSON Pointer (RFC 6901), as `/decisions/3/expr/table/rules/8/when/2`; the whole model is the empty text.
+    pub fn pointer(&self, alloc: Global) -> Result<String, AllocError>
+        ensures { IfOk result (λ s. string_bytes s ≡ pointer_of self.now.steps.items) }
+    {
         let mut text = String::new(alloc);
         for step in &self.steps {
-            match step {
-                Step::Key(key) => write!(text, "/{}", key.text())?,
-                Step::Index(index) => write!(text, "/{index}")?,
-            }
+            push_pointer(&mut text, *step)?;
         }
         Ok(text)
     }
 
     /// The place as people read it, as `decisions[3].expr.table.rules[8].when[2]`; the whole model is the empty text.
-    pub fn path(&self, alloc: Global) -> Result<String, AllocError> {
+    pub fn path(&self, alloc: Global) -> Result<String, AllocError>
+        ensures { IfOk result (λ s. string_bytes s ≡ path_of self.now.steps.items) }
+    {
         let mut text = String::new(alloc);
-        for step in &self.steps {
-            match step {
-                Step::Key(key) if text.is_empty() => text.push_str(key.text())?,
-                Step::Key(key) => write!(text, ".{}", key.text())?,
-                Step::Index(index) => write!(text, "[{index}]")?,
-            }
-        }
+        let Some((first, rest)) = self.steps.split_first() else {
+            return Ok(text);
+        };
+        push_first(&mut text, *first)?;
+        push_paths(&mut text, rest)?;
         Ok(text)
     }
 }

@@ -2,7 +2,8 @@
 
 use crate::told::Told;
 use crate::{
-    refused_tables, repeated_names, too_large, unknown_names, unlawful_names, unread_texts,
+    bad_services, cycles, refused_tables, repeated_names, too_large, unknown_names, unlawful_names,
+    unread_texts,
 };
 use dmn_form::{WrittenModel, read_form};
 use serde_json::Value;
@@ -278,6 +279,99 @@ fn tables_that_are_refused(rt: HostRuntime) -> Result<(), Fail> {
     Ok(())
 }
 
+const CYCLES: &[Row] = &[
+    Row(
+        r#""needs": ["age"]"#,
+        r#""needs": ["age", "both"]"#,
+        "decisions[0] decisions[1] decisions[2] ",
+    ),
+    Row(
+        r#""needs": ["age"]"#,
+        r#""needs": ["age", "base"]"#,
+        "decisions[0] ",
+    ),
+    Row(
+        r#""needs": ["base", "city"]"#,
+        r#""needs": ["base", "both"]"#,
+        "decisions[1] decisions[2] ",
+    ),
+];
+
+const SERVICES: &[Row] = &[
+    Row(r#""outputs": ["both"]"#, r#""outputs": []"#, "services[0] "),
+    Row(
+        r#""outputs": ["both"]"#,
+        r#""outputs": ["age"]"#,
+        "services[0] ",
+    ),
+    Row(r#"["prize", "base"]"#, r#"["prize"]"#, "services[0] "),
+    Row(
+        r#""inputDecisions": []"#,
+        r#""inputDecisions": ["base"]"#,
+        "services[0] ",
+    ),
+    Row(
+        r#""inputData": ["age", "city"]"#,
+        r#""inputData": ["age"]"#,
+        "services[0] ",
+    ),
+    Row(
+        r#""services": ["#,
+        r#""services": [
+        {"name": "first", "outputs": ["base"], "encapsulated": [], "inputDecisions": [], "inputData": ["age"]},
+        {"name": "second", "outputs": ["prize"], "encapsulated": [], "inputDecisions": ["base"], "inputData": []},"#,
+        "services[1] ",
+    ),
+];
+
+#[test]
+fn decisions_that_need_themselves(rt: HostRuntime) -> Result<(), Fail> {
+    for Row(old, new, due) in CYCLES {
+        let text = LAWFUL.replace(rt.alloc(), old, new)?;
+        let told = cycles(rt.alloc(), &model_of(rt.alloc(), text.as_str())?)?.ok_or("none")?;
+        assert_eq!(rt; places(rt.alloc(), &told)?.as_str(), *due, "{new}");
+    }
+    Ok(())
+}
+
+#[test]
+fn services_that_do_not_fit(rt: HostRuntime) -> Result<(), Fail> {
+    for Row(old, new, due) in SERVICES {
+        let text = LAWFUL.replace(rt.alloc(), old, new)?;
+        let told = bad_services(rt.alloc(), &model_of(rt.alloc(), text.as_str())?)?.ok_or("none")?;
+        assert_eq!(rt; places(rt.alloc(), &told)?.as_str(), *due, "{new}");
+    }
+    Ok(())
+}
+
+#[test]
+fn requirements_are_not_looked_into(rt: HostRuntime) -> Result<(), Fail> {
+    let text = LAWFUL.replace(rt.alloc(), r#""needs": ["age"]"#, r#""needs": ["ages"]"#)?;
+    let model = model_of(rt.alloc(), text.as_str())?;
+    assert!(rt; cycles(rt.alloc(), &model)?.is_none());
+    assert!(rt; bad_services(rt.alloc(), &model)?.is_none());
+    Ok(())
+}
+
+#[test]
+fn the_first_hundred_are_told(rt: HostRuntime) -> Result<(), Fail> {
+    let members = r#""(","#.repeat(rt.alloc(), 150)?;
+    let text = LAWFUL.replace(
+        rt.alloc(),
+        r#"["first","#,
+        format!(in rt.alloc(); "[{members}")?.as_str(),
+    )?;
+    let told = unread_texts(rt.alloc(), &model_of(rt.alloc(), text.as_str())?)?;
+    assert_eq!(rt; told.count, 150);
+    assert_eq!(rt; told.findings.len(), 100);
+    let last = told.findings.last().ok_or("nothing is told")?;
+    assert_eq!(rt;
+        last.place.path(rt.alloc())?.as_str(),
+        "decisions[2].expr.result.list[99]"
+    );
+    Ok(())
+}
+
 #[test]
 fn a_lawful_model(rt: HostRuntime) -> Result<(), Fail> {
     let model = model_of(rt.alloc(), LAWFUL)?;
@@ -287,5 +381,17 @@ fn a_lawful_model(rt: HostRuntime) -> Result<(), Fail> {
     assert_eq!(rt; repeated_names(rt.alloc(), &model)?.count, 0);
     assert_eq!(rt; unknown_names(rt.alloc(), &model)?.count, 0);
     assert_eq!(rt; too_large(rt.alloc(), &model)?.count, 0);
+    assert_eq!(rt; cycles(rt.alloc(), &model)?.ok_or("none")?.count, 0);
+    assert_eq!(rt; bad_services(rt.alloc(), &model)?.ok_or("none")?.count, 0);
+    Ok(())
+}
+
+#[test]
+fn places_as_pointers(rt: HostRuntime) -> Result<(), Fail> {
+    let text = LAWFUL.replace(rt.alloc(), "< 5", ">= 5 and < 7")?;
+    let told = unread_texts(rt.alloc(), &model_of(rt.alloc(), text.as_str())?)?;
+    let finding = told.findings.first().ok_or("nothing is told")?;
+    let pointer = finding.place.pointer(rt.alloc())?;
+    assert_eq!(rt; pointer.as_str(), "/decisions/1/expr/table/rules/0/when/0");
     Ok(())
 }
