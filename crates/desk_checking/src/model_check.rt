@@ -12,7 +12,10 @@ use crate::report::{add_told, fault_alone};
 use crate::subject::subject;
 use crate::summary::summary;
 use desk_lines::{FrontFault, Sink, Source, write_all};
-use dmn_check::{refused_tables, repeated_names, too_large, unknown_names, unlawful_names, unread_texts};
+use dmn_check::{
+    Told, bad_services, cycles, refused_tables, repeated_names, too_large, unknown_names,
+    unlawful_names, unread_texts,
+};
 use dmn_form::{WrittenModel, read_form};
 use dmn_plan::{ModelFault, Plan};
 use serde_json::Value;
@@ -23,6 +26,20 @@ use std::alloc::{AllocError, Global};
 struct Checked {
     fault: Option<ModelFault>,
     text: String,
+}
+
+/// Adds what is told of a fault of the requirements, which is not known where a needed name is unknown.
+fn add_if_known(
+    alloc: Global,
+    text: &mut String,
+    json: &Value,
+    fault: ModelFault,
+    told: &Option<Told>,
+) -> Result<(), AllocError> {
+    match told {
+        Some(told) => add_told(alloc, text, json, fault, told),
+        None => Ok(()),
+    }
 }
 
 /// The places of all faults that are told with places, the faults in their order.
@@ -38,6 +55,20 @@ fn places(alloc: Global, json: &Value, model: &WrittenModel) -> Result<String, A
     add_told(alloc, &mut text, json, ModelFault::Table, &tables)?;
     let names = unknown_names(alloc, model)?;
     add_told(alloc, &mut text, json, ModelFault::Unknown, &names)?;
+    add_if_known(
+        alloc,
+        &mut text,
+        json,
+        ModelFault::Cycle,
+        &cycles(alloc, model)?,
+    )?;
+    add_if_known(
+        alloc,
+        &mut text,
+        json,
+        ModelFault::Service,
+        &bad_services(alloc, model)?,
+    )?;
     let large = too_large(alloc, model)?;
     add_told(alloc, &mut text, json, ModelFault::Large, &large)?;
     Ok(text)

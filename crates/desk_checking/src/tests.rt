@@ -40,7 +40,9 @@ fn is_told(
 
 /// A model of two inputs, with these decisions and services.
 fn model(alloc: Global, decisions: &str, services: &str) -> Result<String, Fail> {
-    Ok(format!(in alloc; r#"{{"inputs":["a","b"],"decisions":[{decisions}],"services":[{services}]}}"#)?)
+    Ok(format!(in alloc;
+        r#"{{"inputs":["a","b"],"decisions":[{decisions}],"services":[{services}]}}"#
+    )?)
 }
 
 const LAWFUL: &str = r#"{
@@ -84,14 +86,18 @@ fn what_has_no_form_is_told_alone(rt: HostRuntime) -> Result<(), Fail> {
     assert_eq!(rt; text_of(answer)?.as_str(), "syntax: no JSON text\n");
     let (fault, answer) = said(alloc, br#"{"inputs":[]}"#)?;
     assert_eq!(rt; fault, Some(ModelFault::Shape));
-    assert_eq!(rt; text_of(answer)?.as_str(), "shape: not the form of a model\n");
+    assert_eq!(rt;
+        text_of(answer)?.as_str(),
+        "shape: not the form of a model\n"
+    );
     Ok(())
 }
 
 #[test]
 fn each_text_without_a_reading_is_told(rt: HostRuntime) -> Result<(), Fail> {
     let alloc = rt.alloc();
-    let table = r#"{"name":"d","needs":["a"],"expr":{"table":{"hit":"F","inputs":["a","a +"],"outputs":[{"name":"x","values":["\"u\"","v"],"default":"1 2"}],"rules":[{"when":["1","-"],"then":["1"]},{"when":[">= 5 and < 7","-"],"then":["2"]}]}}}"#;
+    let table =
+        r#"{"name":"d","needs":["a"],"expr":{"table":{"hit":"F","inputs":["a","a +"],"outputs":[{"name":"x","values":["\"u\"","v"],"default":"1 2"}],"rules":[{"when":["1","-"],"then":["1"]},{"when":[">= 5 and < 7","-"],"then":["2"]}]}}}"#;
     let text = model(alloc, table, "")?;
     let told = r#"expression: 4 places
   decisions[0].expr.table.inputs[1]: no expression: "a +"
@@ -105,7 +111,8 @@ fn each_text_without_a_reading_is_told(rt: HostRuntime) -> Result<(), Fail> {
 #[test]
 fn texts_within_boxes_are_told(rt: HostRuntime) -> Result<(), Fail> {
     let alloc = rt.alloc();
-    let boxes = r#"{"name":"d","needs":[],"expr":{"list":["1",{"context":[{"name":"p","expr":"1"},{"name":"q","expr":"("}],"result":"2 +"}]}}"#;
+    let boxes =
+        r#"{"name":"d","needs":[],"expr":{"list":["1",{"context":[{"name":"p","expr":"1"},{"name":"q","expr":"("}],"result":"2 +"}]}}"#;
     let text = model(alloc, boxes, "")?;
     let told = r#"expression: 2 places
   decisions[0].expr.list[1].context[1].expr: no expression: "("
@@ -117,7 +124,8 @@ fn texts_within_boxes_are_told(rt: HostRuntime) -> Result<(), Fail> {
 #[test]
 fn later_faults_are_told_too(rt: HostRuntime) -> Result<(), Fail> {
     let alloc = rt.alloc();
-    let decisions = r#"{"name":"d d","needs":["a","a","c"],"expr":"1 +"},{"name":"e","needs":[],"expr":{"table":{"hit":"X","inputs":[],"outputs":[{"name":"x"}],"rules":[]}}}"#;
+    let decisions =
+        r#"{"name":"d d","needs":["a","a","c"],"expr":"1 +"},{"name":"e","needs":[],"expr":{"table":{"hit":"X","inputs":[],"outputs":[{"name":"x"}],"rules":[]}}}"#;
     let text = model(alloc, decisions, "")?;
     let told = r#"name: 1 place
   decisions[0].name: no name: "d d"

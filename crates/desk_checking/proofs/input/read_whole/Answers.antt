@@ -36,10 +36,10 @@ returns-then-n-eq0-clause-whole g c =
 
 pub returns-then-n-len-clause-long : goal.returns-then-n-len-clause-long
 returns-then-n-len-clause-long g c = λ _. (
-    c.loop-text.text.items ++ take c.in_ok-n.n c.read_piece.new.buffer,
-    Consumes-then _ _ _ _ _ c.loop-text.invariant.taken c.in_ok-n.ensures.bytes,
-    omega (arith, length-append c.loop-text.text.items (take c.in_ok-n.n c.read_piece.new.buffer), length-take {A = ℕ}, c.if-n-len.true, c.len.ensures, c.in_ok-n.ensures.bound, c.loop-text.invariant.within, c.loop-text.text.ok.0),
-  )
+  c.loop-text.text.items ++ take c.in_ok-n.n c.read_piece.new.buffer,
+  Consumes-then _ _ _ _ _ c.loop-text.invariant.taken c.in_ok-n.ensures.bytes,
+  omega (arith, length-append c.loop-text.text.items (take c.in_ok-n.n c.read_piece.new.buffer), length-take {A = ℕ}, c.if-n-len.true, c.len.ensures, c.in_ok-n.ensures.bound, c.loop-text.invariant.within, c.loop-text.text.ok.0),
+)
 
 pub loop-text-preserved : goal.loop-text-preserved
 loop-text-preserved g c =
