@@ -148,6 +148,23 @@ fn serves_its_input(rt: HostRuntime) -> Result<(), Fail> {
 }
 
 #[test]
+fn checks_its_model(rt: HostRuntime) -> Result<(), Fail> {
+    let alloc = rt.alloc();
+    let words = &["desk", "check"];
+    let lawful = b"{\"inputs\":[],\"decisions\":[],\"services\":[]}\n".as_slice();
+    let left = run(&rt, alloc, words, lawful)?;
+    let said = b"lawful\ninputs: \ndecisions:\nservices:\n";
+    assert!(rt; left.is(0, said.as_slice(), b"".as_slice()));
+    let left = run(&rt, alloc, words, b"{\"inputs\":[],\"decisions\":[]}".as_slice())?;
+    let said = b"shape: not the form of a model\n";
+    assert!(rt; left.is(3, said.as_slice(), b"".as_slice()));
+    let left = run(&rt, alloc, words, Broken)?;
+    assert!(rt; left.is(1, b"".as_slice(), b"read\n".as_slice()));
+    assert!(rt; run(&rt, alloc, &["desk", "check", "more"], lawful)?.is_refused());
+    Ok(())
+}
+
+#[test]
 fn a_fault_is_told_by_its_word(rt: HostRuntime) -> Result<(), Fail> {
     let alloc = rt.alloc();
     let left = run(&rt, alloc, &["desk", "replay"], Broken)?;
