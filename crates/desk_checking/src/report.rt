@@ -37,9 +37,6 @@ fn sentence(mistake: Mistake) -> &'static str {
         Mistake::Table(TableFault::Operator) => "C+, C<, C> and C# stand over one output column",
         Mistake::Unknown => "neither an input nor a decision",
         Mistake::Cycle => "needs itself, directly or through others",
-        Mistake::Service => {
-            "no output, a name in the wrong list, or something that it reaches and doesn't list"
-        }
         Mistake::Large => "more than 1,000 decisions",
     }
 }

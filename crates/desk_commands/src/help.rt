@@ -14,7 +14,8 @@ pub const SERVE_ABOUT: &str =
     "Answers the lines of many clients side by side, each client's in the order of its lines";
 
 /// What `check` does.
-pub const CHECK_ABOUT: &str = "Says of a model whether it is lawful, and otherwise where it is wrong";
+pub const CHECK_ABOUT: &str =
+    "Says of a model whether it is lawful, and otherwise where it is wrong";
 
 /// Lines, statuses and documents.
 pub const DESK: &str =
@@ -75,7 +76,8 @@ one word: read, write, long (more than 2^40 bytes came) or memory.
 docs/LINES.md in the repository has every line and its answers, docs/MODEL.md what M is."#;
 
 /// What `check` reads and says.
-pub const CHECK: &str = r#"Standard input is one model in JSON, of any layout: the model itself, or {"model":M} as in a line of
+pub const CHECK: &str =
+    r#"Standard input is one model in JSON, of any layout: the model itself, or {"model":M} as in a line of
 serve.
 
 Of a lawful model it tells the inputs, the decisions with their kinds, and the services with their

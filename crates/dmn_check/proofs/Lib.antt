@@ -11,7 +11,5 @@ pub mod LargeLaws
 pub mod TableFaults
 pub mod Chasing
 pub mod CycleLaws
-pub mod ServiceLaws
 pub mod Pointers
 pub mod GraphLaws
-pub mod FirstFaultLaw

@@ -15,5 +15,3 @@ pub mod Large
 pub mod Chase
 pub mod Graphs
 pub mod Cycles
-pub mod Services
-pub mod FirstFault

@@ -29,8 +29,6 @@ pub enum Mistake {
     Unknown,
     /// A decision needs itself, directly or through others.
     Cycle,
-    /// A service doesn't fit the decisions.
-    Service,
     /// There are more than 1,000 decisions.
     Large,
 }

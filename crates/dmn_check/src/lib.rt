@@ -13,7 +13,6 @@ mod names;
 mod notes;
 mod place;
 mod refused;
-mod services;
 #[cfg(test)]
 mod tests;
 mod told;
@@ -27,7 +26,6 @@ pub use large::too_large;
 pub use names::{repeated_names, unlawful_names};
 pub use place::{Key, Place, Step};
 pub use refused::refused_tables;
-pub use services::bad_services;
 pub use told::Told;
 pub use unknown::unknown_names;
 pub use unread::unread_texts;

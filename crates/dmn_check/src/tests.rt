@@ -2,8 +2,7 @@
 
 use crate::told::Told;
 use crate::{
-    bad_services, cycles, refused_tables, repeated_names, too_large, unknown_names, unlawful_names,
-    unread_texts,
+    cycles, refused_tables, repeated_names, too_large, unknown_names, unlawful_names, unread_texts,
 };
 use dmn_form::{WrittenModel, read_form};
 use serde_json::Value;
@@ -297,33 +296,6 @@ const CYCLES: &[Row] = &[
     ),
 ];
 
-const SERVICES: &[Row] = &[
-    Row(r#""outputs": ["both"]"#, r#""outputs": []"#, "services[0] "),
-    Row(
-        r#""outputs": ["both"]"#,
-        r#""outputs": ["age"]"#,
-        "services[0] ",
-    ),
-    Row(r#"["prize", "base"]"#, r#"["prize"]"#, "services[0] "),
-    Row(
-        r#""inputDecisions": []"#,
-        r#""inputDecisions": ["base"]"#,
-        "services[0] ",
-    ),
-    Row(
-        r#""inputData": ["age", "city"]"#,
-        r#""inputData": ["age"]"#,
-        "services[0] ",
-    ),
-    Row(
-        r#""services": ["#,
-        r#""services": [
-        {"name": "first", "outputs": ["base"], "encapsulated": [], "inputDecisions": [], "inputData": ["age"]},
-        {"name": "second", "outputs": ["prize"], "encapsulated": [], "inputDecisions": ["base"], "inputData": []},"#,
-        "services[1] ",
-    ),
-];
-
 #[test]
 fn decisions_that_need_themselves(rt: HostRuntime) -> Result<(), Fail> {
     for Row(old, new, due) in CYCLES {
@@ -335,21 +307,10 @@ fn decisions_that_need_themselves(rt: HostRuntime) -> Result<(), Fail> {
 }
 
 #[test]
-fn services_that_do_not_fit(rt: HostRuntime) -> Result<(), Fail> {
-    for Row(old, new, due) in SERVICES {
-        let text = LAWFUL.replace(rt.alloc(), old, new)?;
-        let told = bad_services(rt.alloc(), &model_of(rt.alloc(), text.as_str())?)?.ok_or("none")?;
-        assert_eq!(rt; places(rt.alloc(), &told)?.as_str(), *due, "{new}");
-    }
-    Ok(())
-}
-
-#[test]
 fn requirements_are_not_looked_into(rt: HostRuntime) -> Result<(), Fail> {
     let text = LAWFUL.replace(rt.alloc(), r#""needs": ["age"]"#, r#""needs": ["ages"]"#)?;
     let model = model_of(rt.alloc(), text.as_str())?;
     assert!(rt; cycles(rt.alloc(), &model)?.is_none());
-    assert!(rt; bad_services(rt.alloc(), &model)?.is_none());
     Ok(())
 }
 
@@ -382,7 +343,6 @@ fn a_lawful_model(rt: HostRuntime) -> Result<(), Fail> {
     assert_eq!(rt; unknown_names(rt.alloc(), &model)?.count, 0);
     assert_eq!(rt; too_large(rt.alloc(), &model)?.count, 0);
     assert_eq!(rt; cycles(rt.alloc(), &model)?.ok_or("none")?.count, 0);
-    assert_eq!(rt; bad_services(rt.alloc(), &model)?.ok_or("none")?.count, 0);
     Ok(())
 }
 

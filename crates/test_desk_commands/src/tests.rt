@@ -155,7 +155,12 @@ fn checks_its_model(rt: HostRuntime) -> Result<(), Fail> {
     let left = run(&rt, alloc, words, lawful)?;
     let said = b"lawful\ninputs: \ndecisions:\nservices:\n";
     assert!(rt; left.is(0, said.as_slice(), b"".as_slice()));
-    let left = run(&rt, alloc, words, b"{\"inputs\":[],\"decisions\":[]}".as_slice())?;
+    let left = run(
+        &rt,
+        alloc,
+        words,
+        b"{\"inputs\":[],\"decisions\":[]}".as_slice(),
+    )?;
     let said = b"shape: not the form of a model\n";
     assert!(rt; left.is(3, said.as_slice(), b"".as_slice()));
     let left = run(&rt, alloc, words, Broken)?;
