@@ -81,8 +81,8 @@ pub const CHECK: &str =
 serve.
 
 Of a lawful model it tells the inputs, the decisions with their kinds, and the services with their
-parameters. Otherwise it tells the first fault, and for each fault but syntax and shape the places where
-the model has it, at most 100 of each:
+parameters. Otherwise it tells the first fault, and for each fault but syntax, shape and service the
+places where the model has it, at most 100 of each:
 
   expression: a text has no reading
   expression: 1 place
