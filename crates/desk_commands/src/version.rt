@@ -5,5 +5,5 @@
 pub const VERSION: &str = concat!(
     "0.9.0\n",
     "proved with rattle-kit-13f logic dac8208d650f15bf\n",
-    "sources 31527d3b204b774cd6c19ba5dbfcca4018b19227358b10586042d60367acd7f2",
+    "sources 320e9451644846b32164200a3e9d64fa70714613aabedb3a76061683eb1be58a",
 );
