@@ -15,7 +15,7 @@ def read_sources(root: Path) -> Sources:
     code: dict[str, str] = {}
     specs: dict[str, str] = {}
     for crate in sources.crates:
-        for path in sorted((root / "crates" / crate).glob("src/**/*.rt")):
+        for path in sorted(it for it in (root / "crates" / crate).glob("src/**/*.rt") if it.stem != "tests"):
             code[str(path.relative_to(root))] = path.read_text("utf-8")
         for path in sorted((root / "crates" / crate).glob("specs/*.antt")):
             if path.name != "Lib.antt":

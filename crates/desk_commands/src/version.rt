@@ -5,5 +5,5 @@
 pub const VERSION: &str = concat!(
     "0.9.0\n",
     "proved with rattle-kit-13f logic dac8208d650f15bf\n",
-    "sources 320e9451644846b32164200a3e9d64fa70714613aabedb3a76061683eb1be58a",
+    "sources fda09dc0520aa9718512e4c0d17e5b0c2e47fb0df8f4616e0cdda3c509e16c26",
 );
