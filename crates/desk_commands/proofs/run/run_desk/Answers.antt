@@ -1,4 +1,4 @@
-use Rattle.std.proofs.Common.{◌≡◌, ◌≢◌, ◌⊎◌, ℕ, inl, inr, refl, arith, sym}
+use Rattle.std.proofs.Common.{◌≡◌, ◌≢◌, ◌⊎◌, ℕ, Option, Some, None, IfSome, inl, inr, refl, arith, sym}
 use Rattle.clap.specs.Words.{kind_of}
 use Rattle.clap.specs.Kinds.{Kinds, IsAmong}
 use Rattle.clap.specs.declared.error.kind.ErrorKind.{ErrorKind}
@@ -10,9 +10,18 @@ not_zero : (n : ℕ) → n ≡ 1 → n ≢ 0
 not_zero n one none = absurd (omega arith)
 
 pub returns-clause-taken : goal.returns-clause-taken
-returns-clause-taken g c taken =
+returns-clause-taken g c taken none =
     let one : c.explain.result ≡ 1 = c.explain.ensures.starved (c.in-Err.ensures.taken (rw c.as_slice.ensures.value taken)) in
     inl (one, refl {a = c.args.reader.now}, c.explain.ensures.silent (not_zero _ one), c.explain.ensures.memory one)
+
+some_of : {X P : Type 0} (o : Option X) → P → IfSome o (λ _. P)
+some_of None p = tt
+some_of (Some x) p = p
+
+pub returns-clause-checks : goal.returns-clause-checks
+returns-clause-checks g c taken =
+    let one : c.explain.result ≡ 1 = c.explain.ensures.starved (c.in-Err.ensures.taken (rw c.as_slice.ensures.value taken)) in
+    some_of _ (inl (one, refl {a = c.args.reader.now}, c.explain.ensures.silent (not_zero _ one), c.explain.ensures.memory one))
 
 status_among : (kinds : Kinds) (k : ErrorKind) (status : ℕ) → (k ≡ OutOfMemory → status ≡ 1) → (status ≡ 1) ⊎ (status ≡ status_of_kind k)
     → (k ≡ OutOfMemory) ⊎ IsAmong k kinds → IsStatusOf kinds status
