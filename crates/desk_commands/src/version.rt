@@ -5,5 +5,5 @@
 pub const VERSION: &str = concat!(
     "0.9.0\n",
     "proved with rattle-kit-13f logic dac8208d650f15bf\n",
-    "sources fda09dc0520aa9718512e4c0d17e5b0c2e47fb0df8f4616e0cdda3c509e16c26",
+    "sources f9b8705383ca0346cdbe136081fe7e255f42060038811f7bdb04916aa7899dfb",
 );
