@@ -13,8 +13,8 @@ use crate::subject::subject;
 use crate::summary::summary;
 use desk_lines::{FrontFault, Sink, Source, write_all};
 use dmn_check::{
-    Told, cycles, refused_tables, repeated_names, too_large, unknown_names, unlawful_names,
-    unread_texts,
+    Told, bad_services, cycles, refused_tables, repeated_names, too_large, unfit_rules,
+    unknown_names, unlawful_names, unread_texts,
 };
 use dmn_form::{WrittenModel, read_form};
 use dmn_plan::{ModelFault, Plan};
@@ -53,10 +53,14 @@ fn places(alloc: Global, json: &Value, model: &WrittenModel) -> Result<String, A
     add_told(alloc, &mut text, json, ModelFault::Expression, &texts)?;
     let tables = refused_tables(alloc, model)?;
     add_told(alloc, &mut text, json, ModelFault::Table, &tables)?;
+    let rules = unfit_rules(alloc, model)?;
+    add_told(alloc, &mut text, json, ModelFault::Table, &rules)?;
     let names = unknown_names(alloc, model)?;
     add_told(alloc, &mut text, json, ModelFault::Unknown, &names)?;
     let decisions = cycles(alloc, model)?;
     add_if_known(alloc, &mut text, json, ModelFault::Cycle, &decisions)?;
+    let services = bad_services(alloc, model)?;
+    add_if_known(alloc, &mut text, json, ModelFault::Service, &services)?;
     let large = too_large(alloc, model)?;
     add_told(alloc, &mut text, json, ModelFault::Large, &large)?;
     Ok(text)

@@ -1,5 +1,5 @@
 //! What is said of a model that is wrong, for people to read.
-use dmn_check::{Finding, Mistake, Place, Step, TextKind, Told};
+use dmn_check::{Finding, Mistake, Place, ServiceFault, Step, TextKind, Told};
 use dmn_plan::ModelFault;
 use dmn_table::TableFault;
 use serde_json::Value;
@@ -22,6 +22,16 @@ fn word(fault: ModelFault) -> &'static str {
     }
 }
 
+/// Why a service doesn't fit the decisions, in words.
+fn service_sentence(fault: ServiceFault) -> &'static str {
+    match fault {
+        ServiceFault::NoOutput => "no output",
+        ServiceFault::Stranger => "a name that is no decision, or in inputData no input",
+        ServiceFault::Shared => "an input decision that is also an output or encapsulated",
+        ServiceFault::Unlisted => "it reaches a decision or an input that it doesn't list",
+    }
+}
+
 /// What is wrong, in words.
 fn sentence(mistake: Mistake) -> &'static str {
     match mistake {
@@ -34,9 +44,11 @@ fn sentence(mistake: Mistake) -> &'static str {
         Mistake::Table(TableFault::Columns) => {
             "no output column, one name twice, or a rule whose entries are not as many as the columns"
         }
+        Mistake::Rule => "not as many entries as the table has columns",
         Mistake::Table(TableFault::Operator) => "C+, C<, C> and C# stand over one output column",
         Mistake::Unknown => "neither an input nor a decision",
         Mistake::Cycle => "needs itself, directly or through others",
+        Mistake::Service(fault) => service_sentence(fault),
         Mistake::Large => "more than 1,000 decisions",
     }
 }

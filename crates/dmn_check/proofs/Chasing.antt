@@ -1,9 +1,8 @@
 -- A chase along needs meets what its place leads to.
-use Rattle.std.proofs.Common.{◌≡◌, ◌⊎◌, inl, inr, ℕ, zero, suc, ◌+◌, ◌<◌, ◌≤◌, List, [], ◌∷◌, ◌++◌, map, length, length-append, take, drop, get_or, set, replicate, refl, sym, ap, ap₂, subst, ◌∙◌, Bool, true, false, arith, cond}
-use Rattle.std.specs.Prelude.{nat_eq, slice_set, slice_index_or, All}
-use Rattle.std.specs.Bool.{Decides}
+use Rattle.std.proofs.Common.{◌≡◌, ◌⊎◌, inl, inr, ℕ, zero, suc, ◌<◌, ◌≤◌, List, [], ◌∷◌, ◌++◌, length, length-append, get_or, set, replicate, refl, sym, ap, subst, ◌∙◌, Bool, true, false, arith, cond}
+use Rattle.std.specs.Prelude.{nat_eq, All}
 use Rattle.std.proofs.lemmas.Bool.Decides.{Decides-eqb}
-use Rattle.dmn_graph.specs.Reach.{has_same, reached, Leads, directly, through}
+use Rattle.dmn_graph.specs.Reach.{Leads, directly, through}
 use Rattle.dmn_graph.specs.Needs.{needs_of, count_needing, needs_itself, AreNeedsBelow}
 use Rattle.dmn_graph.specs.Members.{IsIn}
 use Rattle.dmn_graph.proofs.Members.{in_left, in_right, in_either, is_in, among}
@@ -12,7 +11,7 @@ use Rattle.dmn_graph.proofs.SearchSteps.{needed_below}
 use Rattle.dmn_plan.proofs.ServicesByName.{all_from}
 use Rattle.dmn_graph.proofs.Cycles.{needing, needing_length, needing_covers}
 use Rattle.dmn_check.specs.declared.chase.Chase.{Chase}
-use Rattle.dmn_check.specs.Chase.{is_met, unmet, left, HasMet, IsChase}
+use Rattle.dmn_check.specs.Chase.{is_met, unmet, HasMet, IsChase}
 
 -- ---- marks
 

@@ -1,5 +1,5 @@
 -- What is needed by places, where that is looked into.
-use Rattle.std.proofs.Common.{◌≡◌, ℕ, List, refl, sym, ap, ap₂, ◌∙◌, Bool, true, false, ◌||◌, Option, None, Some, option_map, is_none, Vec, Global}
+use Rattle.std.proofs.Common.{◌≡◌, ℕ, sym, ap, ap₂, ◌∙◌, Bool, true, false, ◌||◌, Option, None, Some, option_map, is_none, Vec, Global}
 use Rattle.std.specs.Prelude.{IfSome}
 use Rattle.dmn_form.specs.Draft.{Draft}
 use Rattle.dmn_names.specs.Names.{has_name_twice, has_unknown_name}

@@ -1,5 +1,5 @@
 -- What a look finds in boxed expressions as the code has them.
-use Rattle.std.proofs.Common.{◌≡◌, ℕ, ◌+◌, List, [], ◌∷◌, ◌++◌, map, refl, sym, ap, ◌∙◌, String, Vec, Box, Global, string_bytes, rules}
+use Rattle.std.proofs.Common.{◌≡◌, List, ◌++◌, map, sym, ap, ◌∙◌, String, Vec, Box, Global, rules}
 use Rattle.dmn_form.specs.Model.{entries_of}
 use Rattle.dmn_form.specs.FormView.{table_view}
 use Rattle.dmn_form.specs.LogicView.{logic_view, entry_view}
@@ -11,7 +11,7 @@ use Rattle.dmn_names.proofs.Walks.{entry_names_view}
 use Rattle.dmn_check.specs.declared.place.Step.TheVariants as step
 use Rattle.dmn_check.specs.declared.place.Key.TheVariants as key
 use Rattle.dmn_check.specs.Findings.{Finding, behind}
-use Rattle.dmn_check.specs.Look.{Look, logic_findings, member_findings, entry_findings}
+use Rattle.dmn_check.specs.Look.{Look, logic_findings, entry_findings}
 use Rattle.dmn_check.specs.LookView.{members_findings_view, entries_findings_view, context_findings_view}
 use Rattle.dmn_check.specs.Notes.{Notes, into, out, with_all}
 use Rattle.dmn_check.proofs.Walking.{then, through, along}

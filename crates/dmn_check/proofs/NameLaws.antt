@@ -1,5 +1,5 @@
 -- There is a name with a fault exactly where the model has the fault.
-use Rattle.std.proofs.Common.{◌≡◌, ℕ, ◌+◌, List, [], ◌∷◌, ◌++◌, map, length, take, drop, refl, sym, ap, ap₂, ◌∙◌, Bool, true, false, not, ◌&&◌, ◌||◌, nat_lt, take-append-drop}
+use Rattle.std.proofs.Common.{◌≡◌, ℕ, ◌+◌, List, [], ◌∷◌, ◌++◌, length, take, drop, refl, sym, ap, ap₂, ◌∙◌, Bool, true, false, not, ◌&&◌, ◌||◌, nat_lt, take-append-drop}
 use Rattle.std.specs.Prelude.{bytes_eq}
 use Rattle.std.specs.List.{list_any, flat_map}
 use Rattle.std.proofs.lemmas.List.Folds.{list_any-append}
@@ -16,8 +16,8 @@ use Rattle.dmn_check.specs.declared.place.Key.TheVariants as key
 use Rattle.dmn_check.specs.declared.marks.NameFault.{NameFault}
 use Rattle.dmn_check.specs.declared.marks.NameFault.TheVariants.{Unlawful, Repeated}
 use Rattle.dmn_check.specs.Findings.{Finding, behind, here, each_of}
-use Rattle.dmn_check.specs.Look.{Look, logic_findings, member_findings, entry_findings}
-use Rattle.dmn_check.specs.NameFaults.{mistake_of, is_wrong, marked, marks, in_texts, in_named, under, names_look, within_decision, within_service, of_values, of_heads, of_parts, name_faults, unlawful_names, repeated_names}
+use Rattle.dmn_check.specs.Look.{logic_findings, member_findings, entry_findings}
+use Rattle.dmn_check.specs.NameFaults.{mistake_of, marked, marks, in_texts, in_named, under, names_look, within_decision, within_service, of_values, of_heads, of_parts, name_faults, unlawful_names, repeated_names}
 use Rattle.dmn_check.specs.Told.{have_any, capped}
 use Rattle.dmn_check.proofs.Presence.{any-here, any-both, any-inside, any-each_of}
 use Rattle.dmn_check.proofs.ToldLaws.{some_told}

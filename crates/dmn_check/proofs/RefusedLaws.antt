@@ -1,9 +1,9 @@
 -- There is a refused table exactly where the model has the fault.
-use Rattle.std.proofs.Common.{◌≡◌, ℕ, List, [], ◌∷◌, length, refl, ◌∙◌, ap, Bool, true, false, ◌||◌, nat_lt, Option, None, Some}
+use Rattle.std.proofs.Common.{◌≡◌, ℕ, List, [], ◌∷◌, length, refl, ◌∙◌, ap, false, ◌||◌, nat_lt, Option, None, Some}
 use Rattle.std.specs.List.{list_any}
 use Rattle.std.specs.Option.{is_some}
 use Rattle.dmn_table.specs.declared.fault.TableFault.{TableFault}
-use Rattle.dmn_form.specs.Draft.{WrittenTable, Draft}
+use Rattle.dmn_form.specs.Draft.{Draft}
 use Rattle.dmn_logic.specs.Parts.{texts_in, tables_in}
 use Rattle.dmn_logic.specs.Faults.{is_refused, has_refused_table}
 use Rattle.dmn_check.specs.Told.{have_any, capped}
@@ -15,7 +15,7 @@ any-refused : (o : Option TableFault) → have_any (refused o) ≡ is_some o
 any-refused None = refl
 any-refused (Some f) = refl
 
-no_text : (ss : List (List ℕ)) → list_any (λ s. false) ss ≡ false
+pub no_text : (ss : List (List ℕ)) → list_any (λ s. false) ss ≡ false
 no_text [] = refl
 no_text (s ∷ ss) = no_text ss
 

@@ -1,10 +1,9 @@
 -- The fault of a table, by its tests one after another.
 use Rattle.std.proofs.Common.{◌≡◌, ℕ, List, [], ◌∷◌, map, length, refl, sym, ap, ap₂, ◌∙◌, Bool, true, false, not, ◌&&◌, if◌then◌else◌, nat_lt, Option, None, Some, option_map, string_bytes}
 use Rattle.std.proofs.lemmas.List.{length-map}
-use Rattle.dmn_table.specs.Faults.{policy_of, is_operator, columns_fit, operator_fits, fault_under, table_fault}
+use Rattle.dmn_table.specs.Faults.{policy_of, is_operator, columns_fit, fits_columns, operator_fits, fault_under, table_fault}
 use Rattle.dmn_table.specs.declared.hit_policy.HitPolicy.{HitPolicy}
-use Rattle.dmn_table.specs.declared.fault.TableFault.{TableFault}
-use Rattle.dmn_table.specs.declared.fault.TableFault.TheVariants.{Hit, Columns, Operator}
+use Rattle.dmn_table.specs.declared.fault.TableFault.TheVariants.{Columns, Operator}
 use Rattle.dmn_form.specs.Draft as spec
 use Rattle.dmn_form.specs.FormView.{column_view, rule_view, table_view}
 use Rattle.dmn_form.specs.declared.written.WrittenRule.{WrittenRule}
@@ -72,3 +71,8 @@ pub told_none : (t : WrittenTable) (hit : List ℕ) (b fits may : Bool) (n : ℕ
     → fits ≡ columns_fit (length t.inputs.items) (names t) (entries t) → fits ≡ true → n ≡ length t.outputs.items → may ≡ not (b && nat_lt 1 n) → may ≡ true → None ≡ fault_of_table (table_view t)
 told_none t hit b fits may n h e f g k m on =
     under_none (policy_of (string_bytes t.hit)) b (length t.inputs.items) (names t) (entries t) (e ∙ ap (λ s. option_map is_operator (policy_of s)) h) (sym f ∙ g) (as_named t n k b ∙ sym m ∙ on) ∙ fault_view t
+
+-- whether a rule fits, as it is written
+pub fits_as_written : (inputs outputs : ℕ) (r : WrittenRule) → fits_columns inputs outputs (length r.tests.items, length r.gives.items) ≡ fits_columns inputs outputs (shown_count (rule_view r))
+fits_as_written inputs outputs r =
+    ap₂ (λ m n. fits_columns inputs outputs (pair m n)) (sym (length-map r.tests.items string_bytes)) (sym (length-map r.gives.items string_bytes))

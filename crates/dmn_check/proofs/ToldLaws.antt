@@ -1,11 +1,11 @@
 -- What is told of a list of findings, from the notes of them.
-use Rattle.std.proofs.Common.{◌≡◌, ℕ, ◌+◌, ◌-◌, ◌<◌, suc, ◌≤◌, List, [], ◌∷◌, ◌++◌, map, length, take, refl, sym, ap, ap₂, ◌∙◌, Bool, true, false, nat_lt, if◌then◌else◌, append_assoc, append-nil, take_all, zero-add, arith, lit≤}
+use Rattle.std.proofs.Common.{◌≡◌, ℕ, ◌+◌, suc, ◌≤◌, List, [], ◌∷◌, ◌++◌, map, length, take, refl, sym, ap, ap₂, ◌∙◌, Bool, true, false, nat_lt, if◌then◌else◌, append_assoc, append-nil, take_all, zero-add, arith, lit≤}
 use Rattle.std.proofs.lemmas.Grind.{common_steps}
 use Rattle.std.proofs.lemmas.Bool.Decides.{nat_tests}
 use Rattle.std.proofs.lemmas.List.{take-append-le}
-use Rattle.dmn_check.specs.Findings.{Place, Finding}
-use Rattle.dmn_check.specs.Notes.{Notes, empty, from, kept, counted, with_one, with_all, most_findings, most_counted}
-use Rattle.dmn_check.specs.Told.{Told, capped, first_of, have_any}
+use Rattle.dmn_check.specs.Findings.{Finding}
+use Rattle.dmn_check.specs.Notes.{Notes, empty, from, with_one, with_all, most_findings, most_counted}
+use Rattle.dmn_check.specs.Told.{capped, first_of, have_any}
 
 module _ (n : ℕ) where
   kept_by : {X : Type 0} (fs : List X) (f : X) (gs : List X) (b : Bool) → nat_lt (length fs) n ≡ b → take n ((if b then fs ++ f ∷ [] else fs) ++ gs) ≡ take n (fs ++ f ∷ gs)

@@ -11,7 +11,7 @@ use Rattle.dmn_names.specs.Places.{place_among}
 use Rattle.dmn_check.specs.declared.place.Step.TheVariants as step
 use Rattle.dmn_check.specs.declared.place.Key.TheVariants as key
 use Rattle.dmn_check.specs.declared.finding.Mistake.TheVariants as mistake
-use Rattle.dmn_check.specs.Findings.{Finding, behind, each_of}
+use Rattle.dmn_check.specs.Findings.{each_of}
 use Rattle.dmn_check.specs.Told.{have_any, capped}
 use Rattle.dmn_check.specs.Unknown.{unknown_name, unknown_needs, unknown_names}
 use Rattle.dmn_check.proofs.Presence.{any-here, any-inside, any-each_of}

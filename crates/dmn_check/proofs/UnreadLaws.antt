@@ -1,8 +1,7 @@
 -- There is an unread text exactly where the model has the fault.
-use Rattle.std.proofs.Common.{◌≡◌, ℕ, List, [], ◌∷◌, ◌++◌, length, refl, sym, ap, ap₂, ◌∙◌, Bool, true, false, ◌||◌, nat_lt, Option, None, Some, option_to_list}
+use Rattle.std.proofs.Common.{◌≡◌, ℕ, List, ◌++◌, length, refl, ◌∙◌, Bool, true, false, ◌||◌, nat_lt, Option, None, Some, option_to_list}
 use Rattle.std.specs.List.{list_any}
-use Rattle.feel_lang.specs.Readings.{expr_of}
-use Rattle.dmn_form.specs.Draft.{WrittenColumn, WrittenRule, WrittenTable, Written, Draft}
+use Rattle.dmn_form.specs.Draft.{WrittenColumn, WrittenRule, WrittenTable, Draft}
 use Rattle.dmn_logic.specs.Parts.{texts_in, tables_in}
 use Rattle.dmn_logic.specs.Faults.{has_no_expression, is_unread_column, is_unread_rule, is_unread_table, has_unread_text}
 use Rattle.dmn_check.specs.declared.place.Step.TheVariants as step
@@ -10,7 +9,7 @@ use Rattle.dmn_check.specs.declared.place.Key.TheVariants as key
 use Rattle.dmn_check.specs.declared.finding.TextKind.{TextKind}
 use Rattle.dmn_check.specs.declared.finding.TextKind.TheVariants.{Expression, UnaryTests, Literal}
 use Rattle.dmn_check.specs.declared.finding.Mistake.TheVariants as mistake
-use Rattle.dmn_check.specs.Findings.{Finding, behind, each_of}
+use Rattle.dmn_check.specs.Findings.{behind, each_of}
 use Rattle.dmn_check.specs.Told.{have_any, capped}
 use Rattle.dmn_check.specs.Unread.{is_unread, unread, default_texts, column_texts, rule_texts, table_texts, unread_look, unread_texts}
 use Rattle.dmn_check.proofs.Presence.{any-here, any-both, any-inside, any-each_of, any-decisions}

@@ -1,11 +1,11 @@
 -- Notes that are taken part by part are the notes of the whole.
-use Rattle.std.proofs.Common.{◌≡◌, ℕ, zero, suc, ◌+◌, ◌-◌, ◌<◌, List, [], ◌∷◌, ◌++◌, map, length, take, drop, get_or, refl, sym, ap, ap₂, ◌∙◌, append_assoc, arith}
+use Rattle.std.proofs.Common.{◌≡◌, ℕ, zero, suc, ◌+◌, ◌-◌, ◌<◌, List, [], ◌∷◌, ◌++◌, map, length, take, drop, get_or, refl, sym, ap, ◌∙◌, append_assoc, arith}
 use Rattle.std.proofs.lemmas.List.{at_drop_more}
 use Rattle.std.proofs.lemmas.Grind.{common_steps}
 use Rattle.dmn_check.specs.declared.place.Step.{Step}
 use Rattle.dmn_check.specs.declared.place.Step.TheVariants.{Index}
 use Rattle.dmn_check.specs.Findings.{Place, Finding, moved, behind, each_from}
-use Rattle.dmn_check.specs.Notes.{Notes, empty, into, out, from, kept, counted, with_one, with_all}
+use Rattle.dmn_check.specs.Notes.{Notes, empty, into, out, kept, counted, with_one, with_all}
 
 pub with_all-append : (c : Notes) (fs gs : List Finding) → with_all c (fs ++ gs) ≡ with_all (with_all c fs) gs
 with_all-append c [] gs = refl

@@ -1,5 +1,5 @@
 -- Internal, cited by no public contract: what a chase along needs keeps.
-use Rattle.std.specs.Prelude.{◌≡◌, ◌⊎◌, ℕ, suc, ◌+◌, ◌<◌, length, List, [], ◌∷◌, Bool, true, false, slice_index_or}
+use Rattle.std.specs.Prelude.{◌≡◌, ◌⊎◌, ℕ, suc, ◌+◌, length, List, [], ◌∷◌, Bool, true, false, slice_index_or}
 use Rattle.dmn_graph.specs.Reach.{Leads}
 use Rattle.dmn_graph.specs.Needs.{needs_of}
 use Rattle.dmn_graph.specs.Members.{IsIn}

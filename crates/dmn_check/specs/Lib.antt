@@ -15,3 +15,8 @@ pub mod Large
 pub mod Chase
 pub mod Graphs
 pub mod Cycles
+pub mod Services
+pub mod ServicesByPlace
+pub mod FirstFault
+pub mod FaultOf
+pub mod Rules

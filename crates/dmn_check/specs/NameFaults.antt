@@ -1,9 +1,9 @@
 -- The texts in the place of a name that are no names, and the names that stand twice in a list.
-use Rattle.std.specs.Prelude.{ℕ, List, [], ◌∷◌, ◌++◌, map, length, take, drop, Bool, not}
+use Rattle.std.specs.Prelude.{ℕ, List, [], ◌∷◌, ◌++◌, length, take, drop, Bool, not}
 use Rattle.feel_value.specs.Distinct.{is_among}
 use Rattle.feel_lang.specs.Lexical.{is_name}
 use Rattle.dmn_form.specs.Model.{Name, Service}
-use Rattle.dmn_form.specs.Draft.{WrittenTable, Written, Draft}
+use Rattle.dmn_form.specs.Draft.{Written, Draft}
 use Rattle.dmn_names.specs.Parts.{output_names, value_names, service_names}
 use Rattle.dmn_check.specs.declared.place.Step.TheVariants as step
 use Rattle.dmn_check.specs.declared.place.Key.{Key}

@@ -1,5 +1,5 @@
 -- The tables that are refused.
-use Rattle.std.specs.Prelude.{ℕ, List, [], ◌∷◌, map, length, Option, None, Some}
+use Rattle.std.specs.Prelude.{List, [], ◌∷◌, map, length, Option, None, Some}
 use Rattle.dmn_table.specs.Faults.{table_fault}
 use Rattle.dmn_table.specs.declared.fault.TableFault.{TableFault}
 use Rattle.dmn_form.specs.Draft.{WrittenTable, Draft}

@@ -13,6 +13,8 @@ mod names;
 mod notes;
 mod place;
 mod refused;
+mod rules;
+mod services;
 #[cfg(test)]
 mod tests;
 mod told;
@@ -21,11 +23,13 @@ mod unread;
 mod walk;
 
 pub use cycle::cycles;
-pub use finding::{Finding, Mistake, TextKind};
+pub use finding::{Finding, Mistake, ServiceFault, TextKind};
 pub use large::too_large;
 pub use names::{repeated_names, unlawful_names};
 pub use place::{Key, Place, Step};
 pub use refused::refused_tables;
+pub use rules::unfit_rules;
+pub use services::bad_services;
 pub use told::Told;
 pub use unknown::unknown_names;
 pub use unread::unread_texts;

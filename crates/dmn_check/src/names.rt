@@ -289,7 +289,8 @@ fn told_names(alloc: Global, fault: NameFault, model: &WrittenModel) -> Result<T
     Ok(Told::of(notes))
 }
 
-/// The texts in the place of a name that are no names.
+/// The texts in the place of a name that are no names, list by list: the inputs and decisions, the services, and then the lists
+/// within each decision and each service.
 pub fn unlawful_names(alloc: Global, model: &WrittenModel) -> Result<Told, AllocError>
     ensures places { IfOk result (λ t. told_view t ≡ first_of (unlawful_names_in (model_view model.now))) }
     ensures fault { IfOk result (λ t. nat_lt 0 t.count ≡ has_bad_name (model_view model.now)) }
@@ -298,7 +299,8 @@ pub fn unlawful_names(alloc: Global, model: &WrittenModel) -> Result<Told, Alloc
     Ok(told)
 }
 
-/// The names that stand twice where they may stand once: each but the first of its name.
+/// The names that stand twice where they may stand once: each but the first of its name, list by list, in the order of
+/// `unlawful_names`.
 pub fn repeated_names(alloc: Global, model: &WrittenModel) -> Result<Told, AllocError>
     ensures places { IfOk result (λ t. told_view t ≡ first_of (repeated_names_in (model_view model.now))) }
     ensures fault { IfOk result (λ t. nat_lt 0 t.count ≡ has_name_twice (model_view model.now)) }

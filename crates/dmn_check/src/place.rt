@@ -8,25 +8,45 @@ use std::alloc::{AllocError, Global};
 /// A key of the objects that a model is made of.
 #[derive(Clone, Copy, Debug, PartialEq, Eq)]
 pub enum Key {
+    /// `inputs`, of a model or a table.
     Inputs,
+    /// `decisions`, of a model.
     Decisions,
+    /// `services`, of a model.
     Services,
+    /// `name`, of a decision, a service, an entry or an output column.
     Name,
+    /// `needs`, of a decision.
     Needs,
+    /// `expr`, of a decision or an entry.
     Expr,
+    /// `list`, a boxed list.
     List,
+    /// `context`, a boxed context.
     Context,
+    /// `result`, of a boxed context.
     Result,
+    /// `table`, a decision table.
     Table,
+    /// `hit`, of a table.
     Hit,
+    /// `outputs`, of a table or a service.
     Outputs,
+    /// `values`, of an output column.
     Values,
+    /// `default`, of an output column.
     Default,
+    /// `rules`, of a table.
     Rules,
+    /// `when`, of a rule.
     When,
+    /// `then`, of a rule.
     Then,
+    /// `encapsulated`, of a service.
     Encapsulated,
+    /// `inputDecisions`, of a service.
     InputDecisions,
+    /// `inputData`, of a service.
     InputData,
 }
 

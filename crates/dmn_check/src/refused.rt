@@ -48,7 +48,7 @@ fn have_twice(alloc: Global, columns: &[WrittenColumn]) -> Result<bool, AllocErr
 }
 
 /// Whether a rule has an entry for each of these numbers of columns.
-fn rule_fits(rule: &WrittenRule, inputs: usize, outputs: usize) -> bool
+pub(crate) fn rule_fits(rule: &WrittenRule, inputs: usize, outputs: usize) -> bool
     ensures { result ≡ fits_columns inputs outputs (length rule.now.tests.items, length rule.now.gives.items) }
 {
     rule.tests.len() == inputs && rule.gives.len() == outputs

@@ -2,7 +2,8 @@
 
 use crate::told::Told;
 use crate::{
-    cycles, refused_tables, repeated_names, too_large, unknown_names, unlawful_names, unread_texts,
+    bad_services, cycles, refused_tables, repeated_names, too_large, unfit_rules, unknown_names,
+    unlawful_names, unread_texts,
 };
 use dmn_form::{WrittenModel, read_form};
 use serde_json::Value;
@@ -33,87 +34,108 @@ fn model_of(alloc: Global, text: &str) -> Result<WrittenModel, Fail> {
     Ok(read_form(alloc, &json)?.ok_or("no model")?)
 }
 
-/// The places that are told, one behind the other.
+/// The places that are told, each with its mistake.
 fn places(alloc: Global, told: &Told) -> Result<String, AllocError> {
     let mut text = String::new(alloc);
     for finding in &told.findings {
-        write!(text, "{} ", finding.place.path(alloc)?)?;
+        write!(
+            text,
+            "{} {:?} ",
+            finding.place.path(alloc)?,
+            finding.mistake
+        )?;
     }
     Ok(text)
 }
 
-/// A text of the lawful model, a text in its place, and the places where the fault is then.
+/// A text of the lawful model, a text in its place, and the places where the fault is then, with the mistakes.
 struct Row(&'static str, &'static str, &'static str);
 
 const UNREAD: &[Row] = &[
-    Row("age * 2", "age *", "decisions[0].expr "),
+    Row(
+        "age * 2",
+        "age *",
+        "decisions[0].expr Expression(Expression) ",
+    ),
     Row(
         r#""base", "city"],
             "outputs""#,
         r#""base +", "1..2"],
             "outputs""#,
-        "decisions[1].expr.table.inputs[0] decisions[1].expr.table.inputs[1] ",
+        "decisions[1].expr.table.inputs[0] Expression(Expression) decisions[1].expr.table.inputs[1] Expression(Expression) ",
     ),
     Row(
         r#"["1", "2"]"#,
         r#"["1", "1 + 1", "2", "a"]"#,
-        "decisions[1].expr.table.outputs[0].values[1] decisions[1].expr.table.outputs[0].values[3] ",
+        "decisions[1].expr.table.outputs[0].values[1] Expression(Literal) decisions[1].expr.table.outputs[0].values[3] Expression(Literal) ",
     ),
     Row(
         r#""default": "2""#,
         r#""default": "two of them""#,
-        "decisions[1].expr.table.outputs[0].default ",
+        "decisions[1].expr.table.outputs[0].default Expression(Expression) ",
     ),
     Row(
         "< 5",
         ">= 5 and < 7",
-        "decisions[1].expr.table.rules[0].when[0] ",
+        "decisions[1].expr.table.rules[0].when[0] Expression(UnaryTests) ",
     ),
     Row(
         r#"["-", "-"]"#,
         r#"["-", "x <"]"#,
-        "decisions[1].expr.table.rules[1].when[1] ",
+        "decisions[1].expr.table.rules[1].when[1] Expression(UnaryTests) ",
     ),
     Row(
         r#"\"old\""#,
         "old man",
-        "decisions[1].expr.table.rules[1].then[1] ",
+        "decisions[1].expr.table.rules[1].then[1] Expression(Expression) ",
     ),
-    Row("base + 1", "", "decisions[2].expr.context[0].expr "),
+    Row(
+        "base + 1",
+        "",
+        "decisions[2].expr.context[0].expr Expression(Expression) ",
+    ),
     Row(
         r#"["prize","#,
         r#"["1.5.2","#,
-        "decisions[2].expr.context[1].expr.list[0] ",
+        "decisions[2].expr.context[1].expr.list[0] Expression(Expression) ",
     ),
     Row(
         r#""expr": "3""#,
         r#""expr": "(3""#,
-        "decisions[2].expr.context[1].expr.list[1].context[0].expr ",
+        "decisions[2].expr.context[1].expr.list[1].context[0].expr Expression(Expression) ",
     ),
     Row(
         r#"["first", "second"]"#,
         r#"["first", "second", ")"]"#,
-        "decisions[2].expr.result.list[2] ",
+        "decisions[2].expr.result.list[2] Expression(Expression) ",
     ),
 ];
 
 const REFUSED: &[Row] = &[
-    Row(r#""F""#, r#""FIRST""#, "decisions[1].expr.table "),
+    Row(
+        r#""F""#,
+        r#""FIRST""#,
+        "decisions[1].expr.table Table(Hit) ",
+    ),
     Row(
         r#"{"name": "why"}"#,
         r#"{"name": "amount"}"#,
-        "decisions[1].expr.table ",
+        "decisions[1].expr.table Table(Columns) ",
     ),
     Row(
         r#"["< 5", "\"here\""]"#,
         r#"["< 5"]"#,
-        "decisions[1].expr.table ",
+        "decisions[1].expr.table Table(Columns) ",
     ),
-    Row(r#""F""#, r#""C+""#, "decisions[1].expr.table "),
+    Row(
+        r#""F""#,
+        r#""C+""#,
+        "decisions[1].expr.table Table(Operator) ",
+    ),
     Row(
         r#""expr": "3""#,
         r#""expr": {"table": {"hit": "U", "inputs": [], "outputs": [], "rules": []}}"#,
-        "decisions[2].expr.context[1].expr.list[1].context[0].expr.table ",
+        "decisions[2].expr.context[1].expr.list[1].context[0].expr.table Table(Columns) ",
     ),
 ];
 
@@ -123,49 +145,57 @@ const UNLAWFUL: &[Row] = &[
     "decisions""#,
         r#""inputs": ["age", "the city"],
     "decisions""#,
-        "inputs[1] ",
+        "inputs[1] Name ",
     ),
     Row(
         r#"{"name": "base""#,
         r#"{"name": "if""#,
-        "decisions[0].name ",
+        "decisions[0].name Name ",
     ),
-    Row(r#"{"name": "all""#, r#"{"name": """#, "services[0].name "),
+    Row(
+        r#"{"name": "all""#,
+        r#"{"name": """#,
+        "services[0].name Name ",
+    ),
     Row(
         r#"["base", "prize"]"#,
         r#"["base", "prize", "1st"]"#,
-        "decisions[2].needs[2] ",
+        "decisions[2].needs[2] Name ",
     ),
     Row(
         r#"{"name": "why"}"#,
         r#"{"name": "why not"}"#,
-        "decisions[1].expr.table.outputs[1].name ",
+        "decisions[1].expr.table.outputs[1].name Name ",
     ),
     Row(
         r#"{"name": "second""#,
         r#"{"name": "2nd""#,
-        "decisions[2].expr.context[1].name ",
+        "decisions[2].expr.context[1].name Name ",
     ),
     Row(
         r#"{"name": "inner""#,
         r#"{"name": "then""#,
-        "decisions[2].expr.context[1].expr.list[1].context[0].name ",
+        "decisions[2].expr.context[1].expr.list[1].context[0].name Name ",
     ),
-    Row(r#"["both"]"#, r#"["both?"]"#, "services[0].outputs[0] "),
+    Row(
+        r#"["both"]"#,
+        r#"["both?"]"#,
+        "services[0].outputs[0] Name ",
+    ),
     Row(
         r#"["prize", "base"]"#,
         r#"["pr-ize", "b.ase"]"#,
-        "services[0].encapsulated[0] services[0].encapsulated[1] ",
+        "services[0].encapsulated[0] Name services[0].encapsulated[1] Name ",
     ),
     Row(
         r#""inputDecisions": []"#,
         r#""inputDecisions": ["a", "b c"]"#,
-        "services[0].inputDecisions[1] ",
+        "services[0].inputDecisions[1] Name ",
     ),
     Row(
         r#""inputData": ["age", "city"]"#,
         r#""inputData": ["age", "city", "\u00e9"]"#,
-        "services[0].inputData[2] ",
+        "services[0].inputData[2] Name ",
     ),
 ];
 
@@ -175,43 +205,43 @@ const REPEATED: &[Row] = &[
     "decisions""#,
         r#""inputs": ["age", "city", "age"],
     "decisions""#,
-        "inputs[2] ",
+        "inputs[2] Twice ",
     ),
     Row(
         r#"{"name": "prize""#,
         r#"{"name": "age""#,
-        "decisions[1].name ",
+        "decisions[1].name Twice ",
     ),
     Row(
         r#"{"name": "both""#,
         r#"{"name": "base""#,
-        "decisions[2].name ",
+        "decisions[2].name Twice ",
     ),
     Row(
         r#""services": ["#,
         r#""services": [
         {"name": "all", "outputs": [], "encapsulated": [], "inputDecisions": [], "inputData": []},"#,
-        "services[1].name ",
+        "services[1].name Twice ",
     ),
     Row(
         r#"["base", "prize"]"#,
         r#"["base", "prize", "base", "base"]"#,
-        "decisions[2].needs[2] decisions[2].needs[3] ",
+        "decisions[2].needs[2] Twice decisions[2].needs[3] Twice ",
     ),
     Row(
         r#"{"name": "why"}"#,
         r#"{"name": "amount"}"#,
-        "decisions[1].expr.table.outputs[1].name ",
+        "decisions[1].expr.table.outputs[1].name Twice ",
     ),
     Row(
         r#"{"name": "second""#,
         r#"{"name": "first""#,
-        "decisions[2].expr.context[1].name ",
+        "decisions[2].expr.context[1].name Twice ",
     ),
     Row(
         r#""inputData": ["age", "city"]"#,
         r#""inputData": ["city", "city"]"#,
-        "services[0].inputData[1] ",
+        "services[0].inputData[1] Twice ",
     ),
 ];
 
@@ -219,14 +249,37 @@ const UNKNOWN: &[Row] = &[
     Row(
         r#""needs": ["age"]"#,
         r#""needs": ["ages"]"#,
-        "decisions[0].needs[0] ",
+        "decisions[0].needs[0] Unknown ",
     ),
     Row(
         r#"["base", "prize"]"#,
         r#"["bass", "prize", "first"]"#,
-        "decisions[2].needs[0] decisions[2].needs[2] ",
+        "decisions[2].needs[0] Unknown decisions[2].needs[2] Unknown ",
     ),
 ];
+
+const UNFIT: &[Row] = &[
+    Row(
+        r#"["< 5", "\"here\""]"#,
+        r#"["< 5"]"#,
+        "decisions[1].expr.table.rules[0] Rule ",
+    ),
+    Row(
+        r#"["2", "\"old\""]"#,
+        r#"["2", "\"old\"", "3"]"#,
+        "decisions[1].expr.table.rules[1] Rule ",
+    ),
+];
+
+#[test]
+fn rules_that_do_not_fit(rt: HostRuntime) -> Result<(), Fail> {
+    for Row(old, new, due) in UNFIT {
+        let text = LAWFUL.replace(rt.alloc(), old, new)?;
+        let told = unfit_rules(rt.alloc(), &model_of(rt.alloc(), text.as_str())?)?;
+        assert_eq!(rt; places(rt.alloc(), &told)?.as_str(), *due, "{new}");
+    }
+    Ok(())
+}
 
 #[test]
 fn names_that_are_not_lawful(rt: HostRuntime) -> Result<(), Fail> {
@@ -282,17 +335,52 @@ const CYCLES: &[Row] = &[
     Row(
         r#""needs": ["age"]"#,
         r#""needs": ["age", "both"]"#,
-        "decisions[0] decisions[1] decisions[2] ",
+        "decisions[0] Cycle decisions[1] Cycle decisions[2] Cycle ",
     ),
     Row(
         r#""needs": ["age"]"#,
         r#""needs": ["age", "base"]"#,
-        "decisions[0] ",
+        "decisions[0] Cycle ",
     ),
     Row(
         r#""needs": ["base", "city"]"#,
         r#""needs": ["base", "both"]"#,
-        "decisions[1] decisions[2] ",
+        "decisions[1] Cycle decisions[2] Cycle ",
+    ),
+];
+
+const SERVICES: &[Row] = &[
+    Row(
+        r#""outputs": ["both"]"#,
+        r#""outputs": []"#,
+        "services[0] Service(NoOutput) ",
+    ),
+    Row(
+        r#""outputs": ["both"]"#,
+        r#""outputs": ["age"]"#,
+        "services[0] Service(Stranger) ",
+    ),
+    Row(
+        r#"["prize", "base"]"#,
+        r#"["prize"]"#,
+        "services[0] Service(Unlisted) ",
+    ),
+    Row(
+        r#""inputDecisions": []"#,
+        r#""inputDecisions": ["base"]"#,
+        "services[0] Service(Shared) ",
+    ),
+    Row(
+        r#""inputData": ["age", "city"]"#,
+        r#""inputData": ["age"]"#,
+        "services[0] Service(Unlisted) ",
+    ),
+    Row(
+        r#""services": ["#,
+        r#""services": [
+        {"name": "first", "outputs": ["base"], "encapsulated": [], "inputDecisions": [], "inputData": ["age"]},
+        {"name": "second", "outputs": ["prize"], "encapsulated": [], "inputDecisions": ["base"], "inputData": []},"#,
+        "services[1] Service(Unlisted) ",
     ),
 ];
 
@@ -307,10 +395,21 @@ fn decisions_that_need_themselves(rt: HostRuntime) -> Result<(), Fail> {
 }
 
 #[test]
+fn services_that_do_not_fit(rt: HostRuntime) -> Result<(), Fail> {
+    for Row(old, new, due) in SERVICES {
+        let text = LAWFUL.replace(rt.alloc(), old, new)?;
+        let told = bad_services(rt.alloc(), &model_of(rt.alloc(), text.as_str())?)?.ok_or("none")?;
+        assert_eq!(rt; places(rt.alloc(), &told)?.as_str(), *due, "{new}");
+    }
+    Ok(())
+}
+
+#[test]
 fn requirements_are_not_looked_into(rt: HostRuntime) -> Result<(), Fail> {
     let text = LAWFUL.replace(rt.alloc(), r#""needs": ["age"]"#, r#""needs": ["ages"]"#)?;
     let model = model_of(rt.alloc(), text.as_str())?;
     assert!(rt; cycles(rt.alloc(), &model)?.is_none());
+    assert!(rt; bad_services(rt.alloc(), &model)?.is_none());
     Ok(())
 }
 
@@ -342,7 +441,9 @@ fn a_lawful_model(rt: HostRuntime) -> Result<(), Fail> {
     assert_eq!(rt; repeated_names(rt.alloc(), &model)?.count, 0);
     assert_eq!(rt; unknown_names(rt.alloc(), &model)?.count, 0);
     assert_eq!(rt; too_large(rt.alloc(), &model)?.count, 0);
+    assert_eq!(rt; unfit_rules(rt.alloc(), &model)?.count, 0);
     assert_eq!(rt; cycles(rt.alloc(), &model)?.ok_or("none")?.count, 0);
+    assert_eq!(rt; bad_services(rt.alloc(), &model)?.ok_or("none")?.count, 0);
     Ok(())
 }
 

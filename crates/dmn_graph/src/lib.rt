@@ -11,4 +11,4 @@ mod walk;
 pub use needs::are_needs_below;
 pub use order::order_of;
 pub use rank::{ranks_of, reached_order};
-pub use walk::set_of;
+pub use walk::{reach, set_of};

@@ -113,7 +113,7 @@ pub fn set_of(alloc: Global, places: &[usize]) -> Result<BTreeSet<usize>, AllocE
 /// `through` nor in `given`. What is given is reached and not gone through. `needs` has a list for each place, of the places that it
 /// needs. It takes memory in the lengths of the lists, and time in these and in what the places of `through` need, times the logarithm
 /// of the lengths, however large the graph is.
-pub(crate) fn reach(
+pub fn reach(
     alloc: Global,
     needs: &[Vec<usize>],
     starts: &[usize],

@@ -1,4 +1,4 @@
-use Rattle.std.proofs.Common.{◌≡◌, ◌<◌, ℕ, length, map, refl, sym, ap, ◌∙◌, arith, false}
+use Rattle.std.proofs.Common.{length, refl, sym, ap, ◌∙◌, arith, false}
 use Rattle.std.proofs.lemmas.List.{length-map, get_or_read}
 use Rattle.dmn_graph.specs.Needs.{needs_view}
 use Rattle.dmn_check.proofs.Chasing.{may_meet, waits_below, chase_begun, chase_on, chase_ended, nothing_left, size_none}

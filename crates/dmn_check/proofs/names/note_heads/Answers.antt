@@ -1,4 +1,4 @@
-use Rattle.std.proofs.Common.{◌≡◌, map, length, string_bytes, sym, ap, ap₂, ◌∙◌, arith, Bor}
+use Rattle.std.proofs.Common.{◌≡◌, map, length, string_bytes, sym, ap, ap₂, ◌∙◌, arith}
 use Rattle.std.proofs.lemmas.List.{length-map}
 use Rattle.dmn_form.specs.ModelView.{model_view}
 use Rattle.dmn_form.specs.declared.written.WrittenService.{WrittenService}

@@ -3,11 +3,10 @@ use Rattle.dmn_form.specs.ModelView.{decision_view, model_view}
 use Rattle.dmn_names.specs.PlacedModel.{placed_model}
 use Rattle.dmn_check.specs.declared.place.Step.TheVariants as step
 use Rattle.dmn_check.specs.declared.place.Key.TheVariants as key
-use Rattle.dmn_check.specs.Findings.{behind, each_of}
+use Rattle.dmn_check.specs.Findings.{each_of}
 use Rattle.dmn_check.specs.Notes.{empty, into, with_all}
 use Rattle.dmn_check.specs.NotesView.{notes_view}
-use Rattle.dmn_check.specs.Told.{Told, first_of}
-use Rattle.dmn_check.specs.ToldView.{told_view}
+use Rattle.dmn_check.specs.Told.{Told}
 use Rattle.dmn_check.specs.Unknown.{unknown_needs, unknown_names}
 use Rattle.dmn_check.proofs.Walking.{through, along}
 use Rattle.dmn_check.proofs.UnknownLaws.{unknown_exactly}

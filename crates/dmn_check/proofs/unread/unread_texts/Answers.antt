@@ -1,4 +1,4 @@
-use Rattle.std.proofs.Common.{map, nat_lt, sym, ap, ◌∙◌}
+use Rattle.std.proofs.Common.{map, nat_lt, ap, ◌∙◌}
 use Rattle.dmn_form.specs.ModelView.{decision_view, model_view}
 use Rattle.dmn_check.specs.Look.{decisions_findings}
 use Rattle.dmn_check.specs.NotesView.{notes_view}

@@ -1,0 +1,18 @@
+use Rattle.std.proofs.Common.{map, nat_lt, sym, ap, ◌∙◌}
+use Rattle.dmn_form.specs.ModelView.{decision_view, model_view}
+use Rattle.dmn_check.specs.Look.{decisions_findings}
+use Rattle.dmn_check.specs.NotesView.{notes_view}
+use Rattle.dmn_check.specs.Rules.{rules_look, unfit_rules}
+use Rattle.dmn_check.specs.Told.{Told}
+use Rattle.dmn_check.proofs.RuleLaws.{unfit_is_refused}
+use Rattle.dmn_check.proofs.Walking.{from_start}
+use Rattle.dmn_check.proofs.rules.unfit_rules.Goals as goal
+
+pub returns-clause-fault : goal.returns-clause-fault
+returns-clause-fault c = λ e.
+    let m = model_view c.args.model.now in
+    unfit_is_refused m
+    (sym (ap (λ (t : Told). nat_lt 0 t.count)
+    (c.of.ensures (unfit_rules m)
+    (from_start (λ xs. decisions_findings rules_look (map decision_view xs)) c.args.model.now.decisions.items c.deref.result.now
+    (notes_view c.new-notes.result) (notes_view c.walk_decisions.new.notes) c.new-notes.ensures c.deref.ensures.value c.in_ok-walk_decisions.ensures))) ∙ e)
