@@ -11,5 +11,6 @@ mod size;
 
 pub use distinct::has_name_twice;
 pub use lawful::has_bad_name;
+pub use named::Named;
 pub use places::{Places, ServicePlaces};
 pub use size::is_large;

@@ -4,7 +4,7 @@ ghost use Rattle.std.specs.Prelude.{◌≡◌, ℕ, List, string_bytes};
 use dmn_form::{WrittenColumn, WrittenDecision, WrittenLogic, WrittenService};
 
 /// What has a name.
-pub(crate) trait Named {
+pub trait Named {
     ghost name_of: { Self → List ℕ };
 
     fn name(&self) -> &str

@@ -8,15 +8,54 @@ use Rattle.feel_value.specs.declared.feel.Outcome.{Outcome}
 use Rattle.feel_lang.specs.Expr.{Expr}
 use Rattle.dmn_table.specs.Table.{Table}
 use Rattle.dmn_form.specs.Model.{Name, Service, Model}
+use Rattle.dmn_plan.specs.Course.{HasReach}
 use Rattle.dmn_plan.specs.Indexed.{IsPlanAt, IsIndexed}
 use Rattle.dmn_plan.specs.ReadModel.{read_text}
 use Rattle.dmn_plan.specs.Request.{Request, request_result, outcome_under, service_in, service_named}
 use Rattle.dmn_plan.specs.declared.fault.ModelFault.{ModelFault}
 use Rattle.dmn_service.specs.Decision.{parameters_of}
 use Rattle.dmn_service.specs.Places.{name_at}
-use Rattle.dmn_service.specs.Plan.{HasPlacesWithin, IsServiceOutcome}
+use Rattle.dmn_service.specs.Plan.{HasPlacesWithin, IsPlanOf, IsServiceOutcome}
 use Rattle.dmn_service.specs.declared.plan.Item.{Item}
 use Rattle.dmn_service.specs.declared.plan.ServicePlan.{ServicePlan}
+
+-- the service that is asked, its plan, and what that is
+pub record Takes (r : Result (Model Expr Table) ModelFault) (items : List Item) (n : Name) (count : ℕ) (p : ServicePlan) : Type 0 where
+  pub model : Model Expr Table
+  pub read : r ≡ Ok model
+  pub service : Service
+  pub named : service_named model.services n ≡ Some service
+  pub within : HasPlacesWithin items p
+  pub plan : IsPlanOf model service items p
+  pub reach : HasReach items p
+  pub counted : count ≡ length p.parameters.items
+
+takes_at : (m : Model Expr Table) (items : List Item) (n : Name) (so : Option Service) (o : Option ServicePlan) (count : ℕ) → service_named m.services n ≡ so → IsPlanAt m items so o
+    → option_map (λ s. length (parameters_of s)) so ≡ Some count → (p : ServicePlan) × (o ≡ Some p) × Takes (Ok m) items n count p
+takes_at m items n None o count is h e = cc
+takes_at m items n (Some s) None count is h e = absurd h
+takes_at m items n (Some s) (Some p) count is h e =
+    let many : length (parameters_of s) ≡ count = cc in (
+      p,
+      refl,
+      record {
+        model = m;
+        read = refl;
+        service = s;
+        named = is;
+        within = h.1;
+        plan = h.2;
+        reach = h.3;
+        counted = sym many ∙ ap length h.2.parameters ∙ length-map p.parameters.items (name_at items);
+      },
+    )
+
+-- the plan under the name of a service that takes so many values, with what it is a plan of
+pub taken : (r : Result (Model Expr Table) ModelFault) (items : List Item) (found : BTreeMap (String Global) ServicePlan) (n : Name) (count : ℕ)
+    → IsIndexed r items found → option_map (λ s. length (parameters_of s)) (service_in r n) ≡ Some count
+    → (p : ServicePlan) × (get_by_text found n ≡ Some p) × Takes r items n count p
+taken (Ok m) items found n count h e = takes_at m items n (service_named m.services n) (get_by_text found n) count refl (h n) e
+taken (Err f) items found n count h e = absurd h
 
 -- a plan whose outcome, for so many values, is that of the service
 pub record Answers (r : Result (Model Expr Table) ModelFault) (items : List Item) (o : Option Service) (count : ℕ) (p : ServicePlan) : Type 0 where

@@ -16,6 +16,7 @@ use Rattle.dmn_names.specs.Names.{has_bad_name, has_name_twice, has_unknown_name
 use Rattle.feel_value.specs.Distinct.{are_distinct}
 use Rattle.dmn_names.specs.Parts.{value_names}
 use Rattle.dmn_names.specs.Places.{value_place, needed_places, needs_by_place}
+use Rattle.dmn_graph.specs.Within.{IsReachOf}
 use Rattle.dmn_graph.specs.Needs.{AreNeedsBelow}
 use Rattle.dmn_names.specs.Size.{is_large}
 use Rattle.dmn_names.proofs.NamesBack.{distinct_values}
@@ -112,7 +113,7 @@ module _ (m : Draft) (needs : List (List ℕ)) (logics : List Read) (items : Lis
   plans_of_routes model [] (p ∷ ps) once many decisions below r = r
   plans_of_routes model (s ∷ ss) [] once many decisions below r = r
   plans_of_routes model (s ∷ ss) (p ∷ ps) once many decisions below r = (
-    (r.0.name, within s p below r.0, plan_of_route model s p once many decisions r.0),
+    (r.0.name, within s p below r.0, plan_of_route model s p once many decisions r.0, subst (λ ns. IsReachOf p.parameters.items ns p.outputs.items p.order.items) (sym are.needed) r.0.reach),
     plans_of_routes model ss ps once many decisions below r.1,
   )
 

@@ -11,7 +11,7 @@ use Rattle.dmn_form.specs.ModelView.{model_view, service_view}
 use Rattle.dmn_form.specs.declared.written.WrittenModel.{WrittenModel}
 use Rattle.dmn_form.specs.declared.written.WrittenService.{WrittenService}
 use Rattle.dmn_graph.specs.Members.{IsIn}
-use Rattle.dmn_graph.specs.Within.{needs_within, reached_within, reaches_only}
+use Rattle.dmn_graph.specs.Within.{needs_within, reached_within, reaches_only, IsReachOf}
 use Rattle.dmn_graph.proofs.Members.{in_left, in_either, is_in, among, among_not, not_in, distinct_length}
 use Rattle.dmn_graph.proofs.Reaching.{reached_from}
 use Rattle.dmn_graph.proofs.Renaming.{among_named}
@@ -138,6 +138,8 @@ module _ (m : Draft) (s : Service) (needs : List (List ℕ)) (p : PlacedService)
     behind = subst (λ xs. IsInOrder nat_eq (place_need needs) xs plan.order.items) (sym made.parameters) made.behind;
     outputs = sym (back m s needs p distinct known placed places).outputs ∙ ap (map (place_name m)) (sym made.outputs);
     ends = subst (λ xs. Each (IsAmong plan.order.items) xs) (sym made.outputs) (each_from (IsAmong plan.order.items) p.outputs output_ordered);
+    reach = subst (λ xs. IsReachOf xs needs plan.outputs.items plan.order.items) (sym made.parameters)
+        (subst (λ xs. IsReachOf (parameter_places p) needs xs plan.order.items) (sym made.outputs) made.which);
   }
 
 -- a plan by places is a route, where there is one

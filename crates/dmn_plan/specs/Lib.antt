@@ -2,6 +2,7 @@ pub mod Faults
 pub mod ReadModel
 pub mod Request
 pub mod Due
+pub mod Course
 pub mod Plans
 pub mod ServicesByPlace
 pub mod Items

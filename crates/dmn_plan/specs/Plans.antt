@@ -13,8 +13,10 @@ use Rattle.dmn_service.specs.Decision.{parameters_of}
 use Rattle.dmn_service.specs.Places.{named_places}
 use Rattle.dmn_service.specs.Plan.{HasPlacesWithin, IsPlanOf, IsAmong, IsNotAmong}
 use Rattle.dmn_graph.specs.Reach.{Each, IsInOrder}
+use Rattle.dmn_graph.specs.Within.{IsReachOf}
 use Rattle.dmn_service.specs.declared.plan.Item.{Item}
 use Rattle.dmn_service.specs.declared.plan.ServicePlan.{ServicePlan}
+use Rattle.dmn_plan.specs.Course.{HasReach}
 use Rattle.dmn_plan.specs.Items.{have_named, have_needs}
 use Rattle.dmn_plan.specs.declared.fault.ModelFault.{ModelFault}
 
@@ -64,6 +66,7 @@ pub record IsRouteOf (m : Draft) (needs : List (List ℕ)) (s : Service) (plan :
   pub behind : IsInOrder nat_eq (place_need needs) plan.parameters.items plan.order.items
   pub outputs : s.outputs ≡ map (place_name m) plan.outputs.items
   pub ends : Each (IsAmong plan.order.items) plan.outputs.items
+  pub reach : IsReachOf plan.parameters.items needs plan.outputs.items plan.order.items
 
 abbrev pub AreRoutesOf : Draft → List (List ℕ) → List Service → List ServicePlan → Type 0
 AreRoutesOf m needs [] [] = ⊤
@@ -75,7 +78,7 @@ AreRoutesOf m needs (s ∷ ss) [] = ⊥
 
 -- the plan is one of the service in this model
 abbrev pub IsPlanFor : Model Expr Table → List Item → Service → ServicePlan → Type 0
-IsPlanFor m items s p = (string_bytes p.name ≡ s.name) × HasPlacesWithin items p × IsPlanOf m s items p
+IsPlanFor m items s p = (string_bytes p.name ≡ s.name) × HasPlacesWithin items p × IsPlanOf m s items p × HasReach items p
 
 -- each service has its plan, in their order
 abbrev pub ArePlansFor : Model Expr Table → List Item → List Service → List ServicePlan → Type 0

@@ -2,6 +2,7 @@
 //! one after another.
 #![tactic(auto)]
 
+mod course;
 mod fault;
 mod index;
 mod items;
@@ -13,6 +14,7 @@ mod services;
 mod task;
 mod values;
 
+pub use course::Course;
 pub use fault::{ModelFault, TaskFault};
 pub use plan::Plan;
 pub use task::Task;

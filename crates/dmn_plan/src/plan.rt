@@ -4,12 +4,13 @@ ghost use Rattle.serde_json.specs.Read.{read};
 ghost use Rattle.serde_json.specs.View.{view};
 ghost use Rattle.dmn_plan.specs.Due.{IsReadDue};
 
+use crate::course::Course;
 use crate::fault::{ModelFault, TaskFault};
 use crate::index::plans_by_name;
 use crate::planning::plan_of;
 use crate::values::values_at;
 use dmn_form::read_form;
-use dmn_service::{Item, ServicePlan, service_outcome};
+use dmn_service::{Item, ServicePlan, service_evaluation, service_outcome};
 use feel_value::{Feel, Outcome};
 use std::alloc::{AllocError, Global};
 use std::collections::BTreeMap;
@@ -44,7 +45,8 @@ impl Plan {
     ghost use Rattle.dmn_plan.specs.Due.{IsDue, IsReadDue, IsTaskDue};
     ghost use Rattle.dmn_plan.specs.ReadModel.{read_model, read_text};
     ghost use Rattle.dmn_plan.specs.Request.{TakesValues, request_of, request_result};
-    ghost use Rattle.std.specs.Prelude.{length, Ok};
+    ghost use Rattle.std.specs.Prelude.{length, Ok, IfSome, is_some};
+    ghost use Rattle.dmn_plan.specs.Course.{IsCourseOf};
 
     /// The plan of a model in JSON, or its first fault: Shape, Name, Twice, Expression, Table, Unknown, Cycle, Service, Large, in
     /// this order. Its text is the compact text of the value, with the keys of each object in the order of their bytes.
@@ -97,6 +99,29 @@ impl Plan {
         };
         let outcome = service_outcome(alloc, &self.items, plan, values)?;
         Ok(outcome)
+    }
+
+    /// How the service of this name is answered, for these values of its parameters.
+    pub(crate) fn course<'a>(
+        &'a self,
+        alloc: Global,
+        service: &str,
+        values: &[Feel],
+    ) -> Result<Option<Course<'a>>, AllocError>
+        requires { TakesValues self.now service.now (length values.now) }
+        ensures there { IfOk result (λ c. is_some c ≡ true) }
+        ensures course { IfOk result (λ c. IfSome c (IsCourseOf (record { text = self.now; service = service.now; values = values.now }))) }
+    {
+        let Some(plan) = self.services.get(service) else {
+            return Ok(None);
+        };
+        let evaluation = service_evaluation(alloc, &self.items, plan, values)?;
+        Ok(Some(Course {
+            items: &self.items,
+            service: plan,
+            outcomes: evaluation.outcomes,
+            result: evaluation.result,
+        }))
     }
 
     /// The values that the service of this name takes, out of JSON: first Service, then Value. A parameter whose name is missing

@@ -2,6 +2,7 @@
 ghost use Rattle.std.specs.Prelude.{◌≡◌, IfOk, IfErr};
 ghost use Rattle.std.specs.Arc.{arc_value};
 
+use crate::course::Course;
 use crate::fault::TaskFault;
 use crate::plan::Plan;
 use crate::same::same_values;
@@ -36,8 +37,9 @@ impl Model for Task {
 }
 
 impl Task {
-    ghost use Rattle.std.specs.Prelude.{◌≡◌, Ok, IfOk, IfErr};
+    ghost use Rattle.std.specs.Prelude.{◌≡◌, Ok, IfOk, IfErr, IfSome, is_some, true};
     ghost use Rattle.std.specs.Arc.{arc_value};
+    ghost use Rattle.dmn_plan.specs.Course.{IsCourseOf};
     ghost use Rattle.serde_json.specs.View.{view};
     ghost use Rattle.dmn_plan.specs.Due.{IsTaskDue};
     ghost use Rattle.dmn_plan.specs.Request.{request_of};
@@ -60,6 +62,17 @@ impl Task {
             service,
             values,
         })
+    }
+
+    /// How the request is answered, with the outcome of each decision on the way. There is always one.
+    pub fn course<'a>(&'a self, alloc: Global) -> Result<Option<Course<'a>>, AllocError>
+        ensures there { IfOk result (λ c. is_some c ≡ true) }
+        ensures course { IfOk result (λ c. IfSome c (IsCourseOf self.now)) }
+    {
+        let course = self
+            .plan
+            .course(alloc, self.service.as_str(), &self.values)?;
+        Ok(course)
     }
 }
 

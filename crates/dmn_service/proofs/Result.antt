@@ -8,6 +8,7 @@ use Rattle.feel_value.specs.declared.feel.Outcome.{Outcome}
 use Rattle.feel_value.specs.declared.feel.Outcome.TheVariants.{Is}
 use Rattle.feel_lang.specs.Expr.{Expr}
 use Rattle.feel_lang.specs.Meaning.{Bindings}
+use Rattle.feel_lang.specs.Needed.{found_at}
 use Rattle.feel_value.specs.Found.{value_of, ◌>>=◌, each, outcome_from}
 use Rattle.feel_value.specs.Distinct.{are_distinct}
 use Rattle.dmn_table.specs.Hits.{one_or_context}
@@ -16,7 +17,8 @@ use Rattle.dmn_form.specs.Model.{Name, Boxed, Service, Model}
 use Rattle.dmn_logic.specs.Boxed.{boxed}
 use Rattle.dmn_service.specs.Decision.{parameters_of, Given, given_value, given_or, decision_named, decided_if, bindings_to, stands_for, outcome_within, outcome_of, outputs_result, service_result}
 use Rattle.dmn_service.specs.Places.{names_of, name_at, needs_at}
-use Rattle.dmn_service.specs.Run.{logic_at, Found, nothing_found, kept_at, needed_at, outcome_at, filled_by, given_at, outputs_at}
+use Rattle.dmn_service.specs.Outcomes.{HaveOutcomes}
+use Rattle.dmn_service.specs.Run.{logic_at, Found, values_in, nothing_found, kept_at, needed_at, outcome_at, filled_by, given_at, outputs_at}
 use Rattle.dmn_service.specs.Plan.{HasPlacesWithin, IsAmong, IsNotAmong, IsPlanOf, ObeysRecursion}
 use Rattle.dmn_graph.specs.Reach.{Each, IsInOrder}
 use Rattle.dmn_service.specs.declared.plan.Item.{Item}
@@ -142,12 +144,13 @@ module _ (m : Model Expr Table) (given : Given) (items : List Item) (fits : (q :
     settled_parameters ps vs (kept_at found p (Is v)) (omega (arith, same)) own.1,
   )
 
-  -- settled outputs are those of the recursion
-  outputs_same : (r n : ℕ) (found : Found) (qs : List ℕ) → r ≤ n → Each (Settled r found) qs → each found qs ≡ each (λ k. value_of (stage n k)) (map (name_at items) qs)
-  outputs_same r n found [] le h = refl
-  outputs_same r n found (q ∷ qs) le h =
-      ap (λ (o : Option Datum). o >>= λ y. each found qs >>= λ ys. Some (y ∷ ys)) (sym (h.0 n le))
-      ∙ ap (λ (r : Option (List Datum)). value_of (stage n (name_at items q)) >>= λ y. r >>= λ ys. Some (y ∷ ys)) (outputs_same r n found qs le h.1)
+-- outputs that have the outcomes of their names are those of the recursion
+outputs_same : (items : List Item) (outcome : Name → Outcome) (found : Found) (qs : List ℕ) → Each (λ q. value_of (outcome (name_at items q)) ≡ found q) qs
+    → each found qs ≡ each (λ k. value_of (outcome k)) (map (name_at items) qs)
+outputs_same items outcome found [] h = refl
+outputs_same items outcome found (q ∷ qs) h =
+    ap (λ (o : Option Datum). o >>= λ y. each found qs >>= λ ys. Some (y ∷ ys)) (sym h.0)
+    ∙ ap (λ (r : Option (List Datum)). value_of (outcome (name_at items q)) >>= λ y. r >>= λ ys. Some (y ∷ ys)) (outputs_same items outcome found qs h.1)
 
 free_of : (items : List Item) → are_distinct (names_of items) ≡ true → (ps : List ℕ) (vs : List Datum) (qs : List ℕ) → Each (λ p. p < length items) ps → Each (λ q. q < length items) qs
     → Each (IsNotAmong ps) qs → Each (λ q. given_value (zip (map (name_at items) ps) vs) (name_at items q) ≡ None) qs
@@ -157,15 +160,16 @@ free_of items distinct ps vs (q ∷ qs) inside within apart = (
   free_of items distinct ps vs qs inside within.1 apart.1,
 )
 
--- What a run finds for the outputs, from the values of the parameters, is what the recursion has at each late stage.
-found_is_late : (late_stage : ℕ) (m : Model Expr Table) (s : Service) (items : List Item) (plan : ServicePlan) (values : List Datum) → IsPlanOf m s items plan → HasPlacesWithin items plan
+-- What a run finds at the places of the order and of the parameters, from the values of these, is what the recursion has for their
+-- names at each late stage.
+found_late : (late_stage : ℕ) (m : Model Expr Table) (s : Service) (items : List Item) (plan : ServicePlan) (values : List Datum) → IsPlanOf m s items plan → HasPlacesWithin items plan
     → length values ≡ length plan.parameters.items → suc (length m.decisions) ≤ late_stage → (stage : ℕ → Name → Outcome) → ((n : ℕ) (name : Name) → stage (suc n) name ≡ stands_for m (zip (parameters_of s) values) (stage n) name)
-    → outputs_at (name_at items) (filled_by items plan.order.items (given_at plan.parameters.items values nothing_found)) plan.outputs.items ≡ outputs_result s (stage late_stage)
-found_is_late late_stage m s items plan values h inside same enough stage step =
+    → Each (λ q. value_of (stage late_stage (name_at items q)) ≡ filled_by items plan.order.items (given_at plan.parameters.items values nothing_found) q) plan.order.items
+    × Each (λ q. value_of (stage late_stage (name_at items q)) ≡ filled_by items plan.order.items (given_at plan.parameters.items values nothing_found) q) plan.parameters.items
+found_late late_stage m s items plan values h inside same enough stage step =
     let given : Given = zip (parameters_of s) values in
     let ps = plan.parameters.items in
     let order = plan.order.items in
-    let outs = plan.outputs.items in
     let start : Found = given_at ps values nothing_found in
     let found : Found = filled_by items order start in
     let own : Each (λ e. given_value (zip (parameters_of s) values) e.0 ≡ Some e.1) (zip (map (name_at items) ps) values) =
@@ -177,10 +181,23 @@ found_is_late late_stage m s items plan values h inside same enough stage step =
     let turns = both (λ q. q < length items) (λ q. given_value (zip (parameters_of s) values) (name_at items q) ≡ None) order within free in
     let fit = fits m items h.names h.decisions in
     let settled = settled_along m given items fit stage step order ps 1 start turns (settled_parameters m given items fit stage step ps values nothing_found same own) h.behind in
-    let late = 1 + length order in
-    let ends = each_all (IsAmong order) (Settled m given items fit stage step late found) (λ q a. each_at (Settled m given items fit stage step late found) order q settled.0 a) outs h.ends in
     let few : 1 + length order ≤ late_stage = (let e = h.short in omega (arith, enough)) in
-    ap (outcome_from (one_or_context (map (name_at items) outs))) (outputs_same m given items fit stage step late late_stage found outs few ends)
+    let at_last = λ (qs : List ℕ). each_all (Settled m given items fit stage step (1 + length order) found) (λ q. value_of (stage late_stage (name_at items q)) ≡ found q)
+    (λ q settled. settled late_stage few) qs in
+    (at_last order settled.0, at_last ps settled.1)
+
+-- What it finds for the outputs is what the recursion has at each late stage.
+found_is_late : (late_stage : ℕ) (m : Model Expr Table) (s : Service) (items : List Item) (plan : ServicePlan) (values : List Datum) → IsPlanOf m s items plan → HasPlacesWithin items plan
+    → length values ≡ length plan.parameters.items → suc (length m.decisions) ≤ late_stage → (stage : ℕ → Name → Outcome) → ((n : ℕ) (name : Name) → stage (suc n) name ≡ stands_for m (zip (parameters_of s) values) (stage n) name)
+    → outputs_at (name_at items) (filled_by items plan.order.items (given_at plan.parameters.items values nothing_found)) plan.outputs.items ≡ outputs_result s (stage late_stage)
+found_is_late late_stage m s items plan values h inside same enough stage step =
+    let order = plan.order.items in
+    let outs = plan.outputs.items in
+    let found : Found = filled_by items order (given_at plan.parameters.items values nothing_found) in
+    let late = found_late late_stage m s items plan values h inside same enough stage step in
+    let ends = each_all (IsAmong order) (λ q. value_of (stage late_stage (name_at items q)) ≡ found q)
+    (λ q a. each_at (λ p. value_of (stage late_stage (name_at items p)) ≡ found p) order q late.0 a) outs h.ends in
+    ap (outcome_from (one_or_context (map (name_at items) outs))) (outputs_same items (stage late_stage) found outs ends)
     ∙ ap (λ ns. outcome_from (one_or_context ns) (each (λ n. value_of (stage late_stage n)) ns)) (sym h.outputs)
 
 -- So it is what the recursion gives in as many steps as there are decisions, and one, or in more.
@@ -204,3 +221,18 @@ pub found_obeys : (m : Model Expr Table) (s : Service) (items : List Item) (plan
     → outputs_at (name_at items) (filled_by items plan.order.items (given_at plan.parameters.items values nothing_found)) plan.outputs.items ≡ outputs_result s outcome
 found_obeys m s items plan values h inside same outcome obeys =
     found_is_late (suc (length m.decisions)) m s items plan values h inside same (omega arith) (λ n. outcome) (λ n name. obeys name)
+
+-- What a run finds at the places of the parameters and of the order has the outcomes of their names.
+pub found_stands : (m : Model Expr Table) (s : Service) (items : List Item) (plan : ServicePlan) (values : List Datum) (outcomes : List Outcome) → IsPlanOf m s items plan → HasPlacesWithin items plan
+    → length values ≡ length plan.parameters.items → values_in outcomes ≡ filled_by items plan.order.items (given_at plan.parameters.items values nothing_found)
+    → HaveOutcomes (outcome_of m (zip (parameters_of s) values)) items outcomes plan.parameters.items
+    × HaveOutcomes (outcome_of m (zip (parameters_of s) values)) items outcomes plan.order.items
+unfolding outcome_of outcome_within
+found_stands m s items plan values outcomes h inside same found =
+    let given : Given = zip (parameters_of s) values in
+    let whole : Found = filled_by items plan.order.items (given_at plan.parameters.items values nothing_found) in
+    let steps : ℕ = suc (length m.decisions) in
+    let late = found_late steps m s items plan values h inside same (omega arith) (λ n. outcome_within n m given) (λ n name. refl) in
+    let stands = λ (qs : List ℕ). each_all (λ q. value_of (outcome_within steps m given (name_at items q)) ≡ whole q)
+    (λ q. found_at outcomes q ≡ value_of (outcome_within steps m given (name_at items q))) (λ q e. ap (λ (f : Found). f q) found ∙ sym e) qs in
+    (stands plan.parameters.items late.1, stands plan.order.items late.0)

@@ -1,4 +1,5 @@
 pub mod Decision
 pub mod Places
 pub mod Plan
+pub mod Outcomes
 pub mod Run

@@ -7,4 +7,4 @@ mod plan;
 mod service;
 
 pub use plan::{Item, ServicePlan};
-pub use service::service_outcome;
+pub use service::{Evaluation, service_evaluation, service_outcome};

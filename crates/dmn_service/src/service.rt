@@ -3,6 +3,7 @@ ghost use Rattle.std.specs.Prelude.{◌≡◌, ◌<◌, IfOk, OnOk, length, opti
 ghost use Rattle.std.specs.List.{All};
 ghost use Rattle.dmn_logic.specs.LogicView.{logic_view};
 ghost use Rattle.dmn_service.specs.Places.{name_at, named_places};
+ghost use Rattle.dmn_service.specs.Outcomes.{AreOutcomesOf};
 ghost use Rattle.dmn_service.specs.Run.{values_in, nothing_found, outcome_under, filled_by, given_at};
 ghost use Rattle.dmn_service.specs.Plan.{HasPlacesWithin, IsServiceOutcome, IsOutcomeWithin, IsRecursionOutcome};
 
@@ -13,6 +14,16 @@ use dmn_logic::evaluate;
 use feel_lang::Env;
 use feel_value::{Feel, Outcome};
 use std::alloc::{AllocError, Global};
+
+/// What a request to a decision service comes to: the result, and the outcome at each place on the way to it.
+#[derive(Drop)]
+pub struct Evaluation {
+    /// An outcome for each item, at its place. Only those of the parameters and of the plan's order say something: what was not
+    /// asked for has none.
+    pub outcomes: Vec<Outcome>,
+    /// The result of the service.
+    pub result: Outcome,
+}
 
 /// The outcome of a decision service, for these values of its parameters in their order.
 ///
@@ -31,11 +42,46 @@ pub fn service_outcome(
     ensures steps { IfOk result (IsOutcomeWithin items.now service.now values.now) }
     ensures recursion { IfOk result (IsRecursionOutcome items.now service.now values.now) }
 {
+    let found = found_along(alloc, items, service, values)?;
+    let outcome = output_outcome(alloc, items, &service.outputs, &found)?;
+    Ok(outcome)
+}
+
+/// The same with the outcome of each decision on the way.
+pub fn service_evaluation(
+    alloc: Global,
+    items: &[Item],
+    service: &ServicePlan,
+    values: &[Feel],
+) -> Result<Evaluation, AllocError>
+    requires places { HasPlacesWithin items.now service.now }
+    requires values { length values.now ≡ length service.now.parameters.items }
+    ensures outcomes { IfOk result (λ e. AreOutcomesOf items.now service.now values.now e.outcomes.items) }
+    ensures result { IfOk result (λ e. IsServiceOutcome items.now service.now values.now e.result) }
+{
+    let found = found_along(alloc, items, service, values)?;
+    let outcome = output_outcome(alloc, items, &service.outputs, &found)?;
+    Ok(Evaluation {
+        outcomes: found,
+        result: outcome,
+    })
+}
+
+/// What is found at each place: the value given for a parameter, and the outcome of each decision of the plan's order.
+fn found_along(
+    alloc: Global,
+    items: &[Item],
+    service: &ServicePlan,
+    values: &[Feel],
+) -> Result<Vec<Outcome>, AllocError>
+    requires places { HasPlacesWithin items.now service.now }
+    requires values { length values.now ≡ length service.now.parameters.items }
+    ensures { IfOk result (λ found. values_in found.items ≡ filled_by items.now service.now.order.items (given_at service.now.parameters.items values.now nothing_found)) }
+{
     let mut found = nothing(alloc, items.len())?;
     give(&service.parameters, values, &mut found)?;
     fill(alloc, items, &service.order, &mut found)?;
-    let outcome = output_outcome(alloc, items, &service.outputs, &found)?;
-    Ok(outcome)
+    Ok(found)
 }
 
 /// Keeps at each parameter a copy of the value given for it.

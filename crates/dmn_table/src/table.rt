@@ -94,6 +94,9 @@ impl Model for Table {
 }
 
 impl Table {
+    ghost use Rattle.std.specs.Prelude.{map};
+    ghost use Rattle.dmn_table.specs.Parts.{column_view, rule_view};
+
     /// The table, or its first fault: of the text of the hit policy, of the columns, of an operator over several outputs. It
     /// takes no memory; the names of the output columns are compared each with each.
     pub fn new(
@@ -143,6 +146,27 @@ impl Table {
             entries_keep_limits,
             classes: None,
         })
+    }
+
+    /// Its input expressions, one for each input column.
+    pub fn inputs(&self) -> &[Expr]
+        ensures { result.now ≡ self.now.inputs }
+    {
+        &self.inputs
+    }
+
+    /// Its output columns.
+    pub fn outputs(&self) -> &[Output]
+        ensures { map column_view result.now ≡ self.now.outputs }
+    {
+        &self.outputs
+    }
+
+    /// Its rules, in their order.
+    pub fn rules(&self) -> &[Rule]
+        ensures { map rule_view result.now ≡ self.now.rules }
+    {
+        &self.rules
     }
 
     /// The same table with the classes of its columns, by which a decision finds the rules that hit without asking each, where it

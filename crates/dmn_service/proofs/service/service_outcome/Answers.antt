@@ -8,20 +8,15 @@ pub returns : goal.returns
 returns c =
     let items = c.args.items.now in
     let service = c.args.service.now in
+    let values = c.args.values.now in
     let name = name_at items in
-    let order = service.order.items in
-    let outputs = service.outputs.items in
     let found =
     c.in_ok-outcome.ensures
-    ∙ ap (λ f. outputs_at name (values_in f) c.deref-3.result.now) c.deref-4.ensures.value
-    ∙ ap (λ qs. outputs_at name (values_in c.fill.new.found.items) qs) c.deref-3.ensures.value
-    ∙ ap (λ f. outputs_at name f outputs) c.in_ok-fill.ensures
-    ∙ ap (λ qs. outputs_at name (filled_by items qs (values_in c.give.new.found.items)) outputs) c.deref-2.ensures.value
-    ∙ ap (λ f. outputs_at name (filled_by items order f) outputs) c.in_ok-give.ensures.given
-    ∙ ap (λ f. outputs_at name (filled_by items order (given_at c.deref.result.now c.args.values.now f)) outputs) c.in_ok-found.ensures.nothing
-    ∙ ap (λ ps. outputs_at name (filled_by items order (given_at ps c.args.values.now nothing_found)) outputs) c.deref.ensures.value in
+    ∙ ap (λ f. outputs_at name (values_in f) c.deref.result.now) c.deref-2.ensures.value
+    ∙ ap (λ qs. outputs_at name (values_in c.in_ok-found.found.items) qs) c.deref.ensures.value
+    ∙ ap (λ f. outputs_at name f service.outputs.items) c.in_ok-found.ensures in
     record {
-      result = λ m s plan. found ∙ found_is_result m s items service c.args.values.now plan c.requires.places c.requires.values;
-      steps = λ m s plan steps enough. found ∙ found_within steps m s items service c.args.values.now plan c.requires.places c.requires.values enough;
-      recursion = λ m s plan outcome obeys. found ∙ found_obeys m s items service c.args.values.now plan c.requires.places c.requires.values outcome obeys;
+      result = λ m s plan. found ∙ found_is_result m s items service values plan c.requires.places c.requires.values;
+      steps = λ m s plan steps enough. found ∙ found_within steps m s items service values plan c.requires.places c.requires.values enough;
+      recursion = λ m s plan outcome obeys. found ∙ found_obeys m s items service values plan c.requires.places c.requires.values outcome obeys;
     }
