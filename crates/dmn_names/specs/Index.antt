@@ -1,4 +1,4 @@
--- Internal but for `names_in`: names in a list, with their order.
+-- Internal, cited by no public contract: names in a list, with their order.
 use Rattle.std.specs.Prelude.{ℕ, List, map, Bool, IsTrue, Option, None, Some}
 use Rattle.std.specs.Borrow.{Bor}
 use Rattle.feel_lang.specs.NameOrder.{IsInOrder}
