@@ -22,6 +22,7 @@ fn add_text(alloc: Global, text: &str, line: &mut Vec<u8>) -> Result<(), AllocEr
 }
 
 /// Adds `{"client":name,"line":k`.
+#[tactic(auto, using(crate::proofs::Telling::pieces_4))]
 fn add_begin(
     alloc: Global,
     name: &str,
@@ -37,6 +38,7 @@ fn add_begin(
 }
 
 /// Adds `{"client":name,"line":k,"service":s,"decisions":`.
+#[tactic(auto, using(crate::proofs::Telling::pieces_4))]
 fn add_head(
     alloc: Global,
     name: &str,
@@ -53,6 +55,7 @@ fn add_head(
 }
 
 /// Adds `,"result":V}`, or `,"fault":"limit"}` where a limit was broken, with the newline.
+#[tactic(auto, using(crate::proofs::Telling::pieces_3))]
 fn add_tail(alloc: Global, outcome: &Outcome, line: &mut Vec<u8>) -> Result<(), AllocError>
     ensures { OnOk result (line.new.items ≡ line.old.items ++ tail_of outcome.now) }
 {
@@ -86,6 +89,7 @@ pub fn add_explanation(
 }
 
 /// Adds `{"client":name,"line":k,"skipped":word}`, with the newline.
+#[tactic(auto, using(crate::proofs::Telling::skipped_line))]
 pub fn add_skipped(
     alloc: Global,
     name: &str,
