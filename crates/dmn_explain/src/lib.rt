@@ -7,6 +7,8 @@ mod key;
 mod named;
 mod output;
 mod table;
+#[cfg(test)]
+mod tests;
 mod value;
 
 pub use decisions::add_decisions;
