@@ -89,7 +89,6 @@ pub fn add_explanation(
 }
 
 /// Adds `{"client":name,"line":k,"skipped":word}`, with the newline.
-#[tactic(auto, using(crate::proofs::Telling::skipped_line))]
 pub fn add_skipped(
     alloc: Global,
     name: &str,
@@ -102,5 +101,6 @@ pub fn add_skipped(
     add_begin(alloc, name, number, text)?;
     text.extend_from_slice(b",\"skipped\":")?;
     add_text(alloc, word, text)?;
-    text.extend_from_slice(b"}\n")
+    text.extend_from_slice(b"}\n")?;
+    Ok(())
 }

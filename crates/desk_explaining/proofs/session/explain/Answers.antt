@@ -1,6 +1,6 @@
 use Rattle.std.proofs.Common.{refl}
 use Rattle.desk_lines.proofs.Talking.{on_err, on_ok, replays_weaker, ends_weaker}
-use Rattle.desk_explaining.proofs.Answering.{at_start}
+use Rattle.desk_explaining.proofs.Answered.{at_start}
 use Rattle.desk_explaining.proofs.session.explain.Goals as goal
 
 pub answer_lines-requires-clause-starts : goal.answer_lines-requires-clause-starts

@@ -1,5 +1,5 @@
 use Rattle.std.proofs.lemmas.Result.{on_ok_weaker}
-use Rattle.desk_explaining.proofs.Answering.{hears_close, hears_model, hears_request, hears_resize}
+use Rattle.desk_explaining.proofs.Answered.{hears_close, hears_model, hears_request, hears_resize}
 use Rattle.desk_explaining.proofs.desk.Desk.answer_asked.Goals as goal
 
 pub returns-in-Model : goal.returns-in-Model
@@ -12,4 +12,4 @@ pub returns-in-Close : goal.returns-in-Close
 returns-in-Close c = rw c.in-Close.is (on_ok_weaker c.add_skipped.result (λ h. hears_close c.args.self.now c.args.number _ _ _ h) c.add_skipped.ensures)
 
 pub returns-in-Resize : goal.returns-in-Resize
-returns-in-Resize c = rw c.in-Resize.is (on_ok_weaker c.add_skipped-in-Resize.result (λ h. hears_resize c.args.self.now c.args.number _ _ _ _ h) c.add_skipped-in-Resize.ensures)
+returns-in-Resize c = rw c.in-Resize.is (on_ok_weaker c.add_skipped-in-Resize.result (λ h. hears_resize c.args.self.now c.args.number _ c.in-Resize.field-1 _ _ h) c.add_skipped-in-Resize.ensures)

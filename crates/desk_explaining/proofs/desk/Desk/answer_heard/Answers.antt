@@ -3,7 +3,7 @@ use Rattle.std.proofs.lemmas.Result.{on_ok_weaker}
 use Rattle.serde_json.specs.Written.{compact_text}
 use Rattle.desk_lines.specs.Lines.{ended}
 use Rattle.desk_reports.specs.Shown.{refusal}
-use Rattle.desk_explaining.proofs.Answering.{heard_blank, heard_long, heard_said, heard_shape, heard_syntax}
+use Rattle.desk_explaining.proofs.Answered.{heard_blank, heard_long, heard_said, heard_shape, heard_syntax}
 use Rattle.desk_explaining.proofs.desk.Desk.answer_heard.Goals as goal
 
 pub returns-in-Some : goal.returns-in-Some
@@ -35,8 +35,8 @@ returns-in-Other c =
     (is ∙ ap (λ w. c.args.text.now.items ++ ended (compact_text (refusal c.args.number w))) c.word-in-Other.ensures))
     c.refused_line-in-Other.ensures
 
-pub returns : goal.returns
-returns c =
+pub returns-in-Object : goal.returns-in-Object
+returns-in-Object c =
     on_ok_weaker c.refused_line-in-Object.result
     (λ is it e. let h = rw c.in-Object.is at e in let none = rw (c.in-Object.is, c.in_default.is) at c.asked_by.ensures in
     heard_shape c.args.self.now c.args.number it _ _ (h.0, h.1, h.2, (_, h.3, λ line lawful same. none line (same, lawful)))

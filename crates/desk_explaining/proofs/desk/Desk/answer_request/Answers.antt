@@ -9,7 +9,7 @@ use Rattle.desk_reports.specs.Shown.{named_refusal}
 use Rattle.desk_reports.specs.Words.{line_word}
 use Rattle.desk_serving.proofs.Asking.{due_task}
 use Rattle.desk_explaining.specs.Desk.{model_of}
-use Rattle.desk_explaining.proofs.Answering.{replies_fault, replies_no_model, replies_task}
+use Rattle.desk_explaining.proofs.Answered.{replies_fault, replies_no_model, replies_task}
 use Rattle.desk_explaining.proofs.desk.Desk.answer_request.Goals as goal
 
 pub returns-in_default : goal.returns-in_default

@@ -1,7 +1,7 @@
 use Rattle.desk_lines.proofs.CatchingUp.{answers_at_once, says_nothing, says_weaker}
 use Rattle.desk_explaining.specs.Desk.{After}
 use Rattle.desk_explaining.specs.Explained.{Script}
-use Rattle.desk_explaining.proofs.Answering.{after_line}
+use Rattle.desk_explaining.proofs.Answered.{after_line}
 use Rattle.desk_explaining.proofs.session.SessionClerk.answer.Goals as goal
 
 pub returns-in_err-text-clause-memory : goal.returns-in_err-text-clause-memory

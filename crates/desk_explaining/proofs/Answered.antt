@@ -8,13 +8,14 @@ use Rattle.desk_lines.specs.Lines.{ended}
 use Rattle.desk_reports.specs.Reading.{Reading, Blank, Long, Syntax, Shape, Says}
 use Rattle.desk_reports.specs.Shown.{refusal, named_refusal}
 use Rattle.desk_reports.specs.Words.{line_refusal, line_word}
+use Rattle.dmn_plan.specs.ReadModel.{read_model}
 use Rattle.dmn_plan.specs.Request as plan
 use Rattle.dmn_plan.specs.Request.{request_of}
 use Rattle.dmn_plan.specs.declared.fault.TaskFault.{TaskFault}
 use Rattle.desk_serving.specs.Asked.{Asked, Model, Request, Close, Resize, Reads}
 use Rattle.desk_serving.specs.AskedView.{asked_view}
 use Rattle.desk_serving.specs.Heard.{Asks, IsHeardAs}
-use Rattle.desk_serving.specs.Served.{AreRead, in_force, model_after, number_after}
+use Rattle.desk_serving.specs.Served.{AreRead, in_force, model_after, model_answer, number_after}
 use Rattle.desk_serving.specs.declared.hearing.Heard.{Heard}
 use Rattle.desk_serving.specs.declared.hearing.Heard.TheVariants as heard
 use Rattle.desk_serving.specs.declared.line.Asked as asking
@@ -30,7 +31,7 @@ hears_one old new k reading answer text text' is adds model =
     (compact_text answer ∷ [], is, adds ∙ ap (λ l. text ++ l) (sym (append-nil (ended (compact_text answer)))), model)
 
 pub hears_model : (old new : Desk) (k : ℕ) (json : Data) (text text' : List ℕ) → Loads old k json text text' new → Hears old k (Says (Model json)) text text' new
-hears_model old new k json text text' loads = hears_one old new k (Says (Model json)) _ text text' (_, refl, refl) loads.says loads.model
+hears_model old new k json text text' loads = hears_one old new k (Says (Model json)) (model_answer k (read_model json)) text text' (model_answer k (read_model json), refl, refl) loads.says loads.model
 
 pub hears_request : (desk : Desk) (k : ℕ) (name service : List ℕ) (inputs : Data) (text text' : List ℕ) → Replies desk name k service inputs text text'
     → Hears desk k (Says (Request name service inputs)) text text' desk
@@ -38,25 +39,26 @@ hears_request desk k name service inputs text text' replies =
     hears_one desk desk k (Says (Request name service inputs)) replies.0 text text' (replies.0, replies.1, refl) replies.2 refl
 
 pub hears_close : (desk : Desk) (k : ℕ) (name text text' : List ℕ) → Adds text (skipped name k (codes "close")) text' → Hears desk k (Says (Close name)) text text' desk
-hears_close desk k name text text' adds = hears_one desk desk k (Says (Close name)) _ text text' (_, refl, refl) adds refl
+hears_close desk k name text text' adds = hears_one desk desk k (Says (Close name)) (skipped name k (codes "close")) text text' (skipped name k (codes "close"), refl, refl) adds refl
 
 pub hears_resize : (desk : Desk) (k : ℕ) (name : List ℕ) (capacity : ℕ) (text text' : List ℕ) → Adds text (skipped name k (codes "resize")) text'
     → Hears desk k (Says (Resize name capacity)) text text' desk
-hears_resize desk k name capacity text text' adds = hears_one desk desk k (Says (Resize name capacity)) _ text text' (_, refl, refl) adds refl
+hears_resize desk k name capacity text text' adds =
+    hears_one desk desk k (Says (Resize name capacity)) (skipped name k (codes "resize")) text text' (skipped name k (codes "resize"), refl, refl) adds refl
 
 -- ---- lines by their bytes
 
 pub heard_long : (desk : Desk) (k : ℕ) (it text text' : List ℕ) → Reads it Long → Adds text (refusal k (codes "long")) text' → HearsText desk k it text text' desk
-heard_long desk k it text text' reads adds = (Long, reads, hears_one desk desk k Long _ text text' refl adds refl)
+heard_long desk k it text text' reads adds = (Long, reads, hears_one desk desk k Long (refusal k (codes "long")) text text' refl adds refl)
 
 pub heard_blank : (desk : Desk) (k : ℕ) (it text : List ℕ) → Reads it Blank → HearsText desk k it text text desk
 heard_blank desk k it text reads = (Blank, reads, ([], refl, sym (append-nil text), refl))
 
 pub heard_syntax : (desk : Desk) (k : ℕ) (it text text' : List ℕ) → Reads it Syntax → Adds text (refusal k (codes "syntax")) text' → HearsText desk k it text text' desk
-heard_syntax desk k it text text' reads adds = (Syntax, reads, hears_one desk desk k Syntax _ text text' refl adds refl)
+heard_syntax desk k it text text' reads adds = (Syntax, reads, hears_one desk desk k Syntax (refusal k (codes "syntax")) text text' refl adds refl)
 
 pub heard_shape : (desk : Desk) (k : ℕ) (it text text' : List ℕ) → Reads it Shape → Adds text (refusal k (codes "shape")) text' → HearsText desk k it text text' desk
-heard_shape desk k it text text' reads adds = (Shape, reads, hears_one desk desk k Shape _ text text' refl adds refl)
+heard_shape desk k it text text' reads adds = (Shape, reads, hears_one desk desk k Shape (refusal k (codes "shape")) text text' refl adds refl)
 
 -- a line that asks something
 pub heard_said : (old new : Desk) (k : ℕ) (heard : Heard) (line : asking.Asked) (it text text' : List ℕ) → IsHeardAs it heard → Asks heard (Some line)
