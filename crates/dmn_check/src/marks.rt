@@ -10,9 +10,9 @@ ghost use Rattle.dmn_check.specs.Notes.{with_all};
 ghost use Rattle.dmn_check.specs.NotesView.{notes_view};
 
 use crate::finding::Mistake;
-use crate::named::Named;
 use crate::notes::Notes;
 use crate::place::{Key, Step};
+use dmn_names::Named;
 use feel_lang::is_name;
 use std::alloc::{AllocError, Global};
 use std::collections::BTreeSet;

@@ -1,68 +1,10 @@
-//! What has a name, and the names of several of these.
-ghost use Rattle.std.specs.Prelude.{◌≡◌, ℕ, List, IfOk, map, string_bytes};
+//! The names of what a model has values for.
+ghost use Rattle.std.specs.Prelude.{◌≡◌, IfOk, map};
 ghost use Rattle.dmn_form.specs.ModelView.{model_view};
 ghost use Rattle.dmn_names.specs.Parts.{value_names};
 
-use dmn_form::{WrittenColumn, WrittenDecision, WrittenLogic, WrittenModel, WrittenService};
+use dmn_form::WrittenModel;
 use std::alloc::{AllocError, Global};
-
-/// What has a name.
-pub(crate) trait Named {
-    ghost name_of: { Self → List ℕ };
-
-    fn name(&self) -> &str
-        ensures { result.now ≡ name_of self.now };
-}
-
-impl Named for String {
-    ghost name_of = { string_bytes };
-
-    fn name(&self) -> &str {
-        self.as_str()
-    }
-}
-
-/// A name that is borrowed.
-impl<'a> Named for &'a str {
-    ghost name_of = { λ s. s.now };
-
-    fn name(&self) -> &str {
-        *self
-    }
-}
-
-/// An entry of a context.
-impl Named for (String, WrittenLogic) {
-    ghost name_of = { λ e. string_bytes e.0 };
-
-    fn name(&self) -> &str {
-        self.0.as_str()
-    }
-}
-
-impl Named for WrittenColumn {
-    ghost name_of = { λ c. string_bytes c.name };
-
-    fn name(&self) -> &str {
-        self.name.as_str()
-    }
-}
-
-impl Named for WrittenDecision {
-    ghost name_of = { λ d. string_bytes d.name };
-
-    fn name(&self) -> &str {
-        self.name.as_str()
-    }
-}
-
-impl Named for WrittenService {
-    ghost name_of = { λ s. string_bytes s.name };
-
-    fn name(&self) -> &str {
-        self.name.as_str()
-    }
-}
 
 /// The names of the inputs and then of the decisions.
 pub(crate) fn names_of_values(alloc: Global, model: &WrittenModel) -> Result<Vec<&str>, AllocError>

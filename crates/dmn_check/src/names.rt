@@ -17,12 +17,13 @@ ghost use Rattle.dmn_check.specs.ToldView.{told_view};
 
 use crate::look::Look;
 use crate::marks::{NameFault, marks_of, note_named, note_texts};
-use crate::named::{Named, names_of_values};
+use crate::named::names_of_values;
 use crate::notes::Notes;
 use crate::place::{Key, Step};
 use crate::told::Told;
 use crate::walk::walk_logic;
 use dmn_form::{WrittenDecision, WrittenLogic, WrittenModel, WrittenService, WrittenTable};
+use dmn_names::Named;
 use std::alloc::{AllocError, Global};
 
 /// Notes the names with the fault in the array of texts under a key.
