@@ -1,5 +1,5 @@
 -- How the answer to a request came about, in JSON: the value of each decision on the way, and how its logic came to it.
-use Rattle.std.specs.Prelude.{ℕ, suc, List, [], ◌∷◌, ◌++◌, Bool, true, false, ◌&&◌, not, codes, map, string_bytes, Option, None, Some, option_map}
+use Rattle.std.specs.Prelude.{ℕ, ◌+◌, List, [], ◌∷◌, ◌++◌, Bool, true, false, ◌&&◌, not, codes, map, string_bytes, Option, None, Some, option_map}
 use Rattle.std.specs.List.{list_all, slice_get}
 use Rattle.std.specs.Option.{is_none}
 use Rattle.serde_json.specs.Data.{Data, boolean, number, unsigned, string, array, object, Items, no_items, item, Members, no_members, member}
@@ -39,7 +39,7 @@ items_from f (Some x) = f x
 -- rules with their numbers, from this one on
 abbrev pub numbered : ℕ → List Rule → List (ℕ × Rule)
 numbered n [] = []
-numbered n (r ∷ rs) = (n, r) ∷ numbered (suc n) rs
+numbered n (r ∷ rs) = (n, r) ∷ numbered (n + 1) rs
 
 -- The rules that hit for these values of the input expressions, with their numbers, which count from 1 on; None where an input
 -- entry breaks a limit.
@@ -79,6 +79,14 @@ table_told t m = members_from (inputs_and_hits t m) (values_of m t.inputs)
 
 -- ---- boxed expressions
 
+-- a value, and how it came
+abbrev pub told_as : Option Datum → Members → Data
+told_as value ms = object (valued (codes "value") value ms)
+
+-- the same under a name
+abbrev pub named_as : Name → Option Datum → Members → Data
+named_as n value ms = object (member (codes "name") (string n) (valued (codes "value") value ms))
+
 -- How a boxed expression came to its outcome, as members of an object: nothing for an expression; for a table what it found; for
 -- a list its members and for a context its entries, and then its result, each with its own value and how that came. None stand
 -- behind the first that breaks a limit.
@@ -90,26 +98,18 @@ abbrev mutual
   how (form.context es) m = member (codes "entries") (array (entries_told es m)) no_members
   how (form.context_with es b) m =
       member (codes "entries") (array (entries_told es m))
-      (members_from (λ ds. member (codes "result") (told b (m ++ ds)) no_members) (entry_values es m))
-
-  -- its value, and how that came
-  pub told : Boxed Expr Table → Bindings → Data
-  told b m = object (valued (codes "value") (value_of (boxed b m)) (how b m))
+      (members_from (λ ds. member (codes "result") (told_as (value_of (boxed b (m ++ ds))) (how b (m ++ ds))) no_members) (entry_values es m))
 
   -- the members of a list
   pub members_told : form.Members Expr Table → Bindings → Items
   members_told form.no_members m = no_items
-  members_told (form.member b bs) m = item (told b m) (items_from (λ d. members_told bs m) (value_of (boxed b m)))
+  members_told (form.member b bs) m = item (told_as (value_of (boxed b m)) (how b m)) (items_from (λ d. members_told bs m) (value_of (boxed b m)))
 
   -- the entries of a context, each with the earlier ones bound behind the outer names
   pub entries_told : form.Entries Expr Table → Bindings → Items
   entries_told form.no_entries m = no_items
   entries_told (form.entry n b es) m =
-      item (entry_told n b m) (items_from (λ d. entries_told es (m ++ (n, d) ∷ [])) (value_of (boxed b m)))
-
-  -- an entry with its name
-  pub entry_told : Name → Boxed Expr Table → Bindings → Data
-  entry_told n b m = object (member (codes "name") (string n) (valued (codes "value") (value_of (boxed b m)) (how b m)))
+      item (named_as n (value_of (boxed b m)) (how b m)) (items_from (λ d. entries_told es (m ++ (n, d) ∷ [])) (value_of (boxed b m)))
 
 -- ---- decisions
 
@@ -119,9 +119,7 @@ how_under m b = members_from (how b) m
 
 -- a decision, where names have these outcomes
 abbrev pub decision_told : (Name → Outcome) → Decision Expr Table → Data
-decision_told outcome d =
-    object (member (codes "name") (string d.name)
-    (valued (codes "value") (value_of (outcome d.name)) (how_under (bindings_to outcome d.needs) d.logic)))
+decision_told outcome d = named_as d.name (value_of (outcome d.name)) (how_under (bindings_to outcome d.needs) d.logic)
 
 -- a decision whose value was given
 abbrev pub given_told : (Name → Outcome) → Decision Expr Table → Data

@@ -10,12 +10,11 @@ use Rattle.dmn_table.specs.Table.{Table}
 use Rattle.dmn_form.specs.Model.{Boxed}
 use Rattle.dmn_logic.specs.LogicView.{logic_view}
 use Rattle.dmn_service.specs.declared.plan.Item.{Item}
-use Rattle.dmn_explain.specs.Explanation.{valued, how_under, item_if}
+use Rattle.dmn_explain.specs.Explanation.{valued, named_as, how_under, item_if}
 
 -- what is said of an item with this logic at this place, from the outcomes at the places
 abbrev pub decided_here : List Outcome → Item → ℕ → Boxed Expr Table → Data
-decided_here found x q b =
-    object (member (codes "name") (string (string_bytes x.name)) (valued (codes "value") (found_at found q) (how_under (bindings_from found x.named) b)))
+decided_here found x q b = named_as (string_bytes x.name) (found_at found q) (how_under (bindings_from found x.named) b)
 
 abbrev pub given_here : List Outcome → Item → ℕ → Data
 given_here found x q = object (member (codes "name") (string (string_bytes x.name)) (valued (codes "given") (found_at found q) no_members))

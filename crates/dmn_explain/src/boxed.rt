@@ -4,11 +4,13 @@
 ghost use Rattle.std.specs.Prelude.{◌≡◌, ◌++◌, Some, None, OnOk, IfOk, true, if◌then◌else◌, take, length, string_bytes};
 ghost use Rattle.serde_json.specs.Data.{array};
 ghost use Rattle.serde_json.specs.Written.{compact_text, members_text};
+ghost use Rattle.feel_value.specs.Found.{value_of};
 ghost use Rattle.dmn_form.specs.Model.{list, context, context_with};
 ghost use Rattle.dmn_logic.specs.Boxed.{boxed, entry_values as entry_values_of};
 ghost use Rattle.dmn_logic.specs.Bound.{bound_behind};
 ghost use Rattle.dmn_logic.specs.LogicView.{logic_view, members_view, entries_view};
-ghost use Rattle.dmn_explain.specs.Explanation.{how, told, entry_told, members_told, entries_told};
+ghost use Rattle.dmn_explain.specs.Text.{entries_text};
+ghost use Rattle.dmn_explain.specs.Explanation.{how, told_as, named_as, members_told, entries_told};
 
 use crate::key::{Key, add_comma, add_key};
 use crate::named::add_name;
@@ -57,7 +59,7 @@ fn add_told(
     env: &mut Env,
     text: &mut Vec<u8>,
 ) -> Result<Outcome, AllocError>
-    ensures text { OnOk result (text.new.items ≡ text.old.items ++ compact_text (told (logic_view logic.now) env.old)) }
+    ensures text { OnOk result (text.new.items ≡ text.old.items ++ compact_text (told_as (value_of (boxed (logic_view logic.now) env.old)) (how (logic_view logic.now) env.old))) }
     ensures value { IfOk result (λ o. o ≡ boxed (logic_view logic.now) env.old) }
     ensures same { env.new ≡ env.old }
 {
@@ -208,7 +210,7 @@ fn add_entry(
     env: &mut Env,
     text: &mut Vec<u8>,
 ) -> Result<Outcome, AllocError>
-    ensures text { OnOk result (text.new.items ≡ text.old.items ++ compact_text (entry_told name.now (logic_view logic.now) env.old)) }
+    ensures text { OnOk result (text.new.items ≡ text.old.items ++ compact_text (named_as name.now (value_of (boxed (logic_view logic.now) env.old)) (how (logic_view logic.now) env.old))) }
     ensures value { IfOk result (λ o. o ≡ boxed (logic_view logic.now) env.old) }
     ensures same { env.new ≡ env.old }
 {

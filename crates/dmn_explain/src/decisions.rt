@@ -97,13 +97,13 @@ fn add_all_decided(
     items: &[Item],
     places: &[usize],
     found: &[Outcome],
-    later: bool,
+    some_before: bool,
     text: &mut Vec<u8>,
 ) -> Result<(), AllocError>
     requires { All (λ q. q < length items.now) places.now }
-    ensures { OnOk result (text.new.items ≡ text.old.items ++ items_text later (decided_by_place found.now items.now places.now)) }
+    ensures { OnOk result (text.new.items ≡ text.old.items ++ items_text some_before (decided_by_place found.now items.now places.now)) }
 {
-    let mut later = later;
+    let mut later = some_before;
     for place in places {
         let item = &items[*place];
         let Some(logic) = &item.logic else {

@@ -1,5 +1,5 @@
 //! The outputs of the rules of a table.
-ghost use Rattle.std.specs.Prelude.{◌≡◌, IfOk, not, map, option_map, string_bytes};
+ghost use Rattle.std.specs.Prelude.{◌≡◌, IfOk, map, option_map, string_bytes};
 ghost use Rattle.std.specs.List.{zip, list_all};
 ghost use Rattle.std.specs.Option.{is_none};
 ghost use Rattle.feel_value.specs.Datum.{context, entries_of};
@@ -92,9 +92,14 @@ fn context_of(alloc: Global, outputs: &[Output], values: Vec<Feel>) -> Result<Ou
     Outcome::context(alloc, entries)
 }
 
-/// Whether some column has a default.
-pub(crate) fn has_default(outputs: &[Output]) -> bool
-    ensures { result ≡ not (list_all (λ c. is_none c.fallback) (map column_view outputs.now)) }
+/// Whether no column has a default.
+pub(crate) fn has_no_default(outputs: &[Output]) -> bool
+    ensures { result ≡ list_all (λ c. is_none c.fallback) (map column_view outputs.now) }
 {
-    outputs.iter().any(|output| output.fallback.is_some())
+    for output in outputs {
+        if output.fallback.is_some() {
+            return false;
+        }
+    }
+    true
 }

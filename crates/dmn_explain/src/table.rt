@@ -10,7 +10,7 @@ ghost use Rattle.dmn_explain.specs.Explanation.{hit_told, hits_told, hits_and_de
 ghost use Rattle.dmn_explain.specs.Numbered.{hit_view, hits_from};
 
 use crate::key::{Key, add_comma, add_key};
-use crate::output::{has_default, output_of, values_of};
+use crate::output::{has_no_default, output_of, values_of};
 use crate::value::{add_valued, add_value};
 use dmn_table::{Output, Rule, Table};
 use feel_lang::{Env, Held, holds};
@@ -63,10 +63,11 @@ fn hits_of<'a>(
         let Some(is_hit) = does_hit(alloc, rule, values, env)? else {
             return Ok(None);
         };
-        if is_hit {
-            let number = i + 1;
-            hits.push(Hit { number, rule })?;
+        if !is_hit {
+            continue;
         }
+        let number = i + 1;
+        hits.push(Hit { number, rule })?;
     }
     Ok(Some(hits))
 }
@@ -130,7 +131,7 @@ fn add_hits(
 fn are_default(outputs: &[Output], hits: &[Hit<'_>]) -> bool
     ensures { result ≡ takes_defaults (map column_view outputs.now) (map hit_view hits.now) }
 {
-    hits.is_empty() && has_default(outputs)
+    hits.is_empty() && !has_no_default(outputs)
 }
 
 /// Adds a boolean.
