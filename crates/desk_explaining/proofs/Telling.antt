@@ -81,5 +81,5 @@ explains name k service q course text headed listed text' c head list tail =
       explanation name k service decisions (request_result q),
       (decisions, record { course = course; is = c; told = refl }, refl),
       tail ∙ ap (λ o. listed ++ tail_of o) c.result ∙ ap (λ l. l ++ tail_of (request_result q)) (list ∙ ap (λ l. l ++ compact_text (array decisions)) head)
-      ∙ explained_line text name k service decisions (request_result q),
+          ∙ explained_line text name k service decisions (request_result q),
     )

@@ -1,5 +1,5 @@
 -- Internal: no public contract cites these words. The line that explains an answer, up to its decisions and from there on.
-use Rattle.std.specs.Prelude.{ℕ, List, [], ◌∷◌, ◌++◌, codes, decimal}
+use Rattle.std.specs.Prelude.{ℕ, List, ◌++◌, codes, decimal}
 use Rattle.json.specs.Print.{quoted}
 use Rattle.serde_json.specs.Written.{compact_text}
 use Rattle.feel_value.specs.Json.{json_of}

@@ -23,12 +23,7 @@ fn add_text(alloc: Global, text: &str, line: &mut Vec<u8>) -> Result<(), AllocEr
 
 /// Adds `{"client":name,"line":k`.
 #[tactic(auto, using(crate::proofs::Telling::pieces_4))]
-fn add_begin(
-    alloc: Global,
-    name: &str,
-    number: u64,
-    line: &mut Vec<u8>,
-) -> Result<(), AllocError>
+fn add_begin(alloc: Global, name: &str, number: u64, line: &mut Vec<u8>) -> Result<(), AllocError>
     ensures { OnOk result (line.new.items ≡ line.old.items ++ begin_of name.now number) }
 {
     line.extend_from_slice(b"{\"client\":")?;

@@ -24,20 +24,23 @@ fn are_answered(rt: &impl Abort, alloc: Global, lines: &str, wanted: &str) -> Re
 }
 
 /// Two decisions, of which the second needs the first, and a service of both.
-const MODEL: &str = r#"{"model":{"inputs":["a"],"decisions":[{"name":"twice","needs":["a"],"expr":"a * 2"},{"name":"sum","needs":["a","twice"],"expr":"a + twice"}],"services":[{"name":"total","outputs":["sum"],"encapsulated":["twice"],"inputDecisions":[],"inputData":["a"]},{"name":"rest","outputs":["sum"],"encapsulated":[],"inputDecisions":["twice"],"inputData":["a"]}]}}
+const MODEL: &str =
+    r#"{"model":{"inputs":["a"],"decisions":[{"name":"twice","needs":["a"],"expr":"a * 2"},{"name":"sum","needs":["a","twice"],"expr":"a + twice"}],"services":[{"name":"total","outputs":["sum"],"encapsulated":["twice"],"inputDecisions":[],"inputData":["a"]},{"name":"rest","outputs":["sum"],"encapsulated":[],"inputDecisions":["twice"],"inputData":["a"]}]}}
 "#;
 
 #[test]
 fn a_session_is_answered_line_by_line(rt: HostRuntime) -> Result<(), Fail> {
     let alloc = rt.alloc();
-    let lines = format!(in alloc; r#"{{"client":"ann","service":"total","inputs":{{}}}}
+    let lines = format!(in alloc;
+        r#"{{"client":"ann","service":"total","inputs":{{}}}}
 {MODEL}
 {{"client":"ann","service":"total","inputs":{{"a":4}}}}
 {{"client":"bob","service":"rest","inputs":{{"a":4,"twice":5}}}}
 {{"client":"ann","close":true}}
 {{"capacity":3,"resize":"bob"}}
 {{"client":"ann","service":"total","inputs":{{"a":9223372036854775807}}}}
-"#)?;
+"#
+    )?;
     let wanted = r#"{"client":"ann","line":1,"refused":"model"}
 {"line":2,"model":true}
 {"client":"ann","line":4,"service":"total","decisions":[{"name":"twice","value":8},{"name":"sum","value":12}],"result":12}
@@ -52,12 +55,14 @@ fn a_session_is_answered_line_by_line(rt: HostRuntime) -> Result<(), Fail> {
 #[test]
 fn other_lines_are_refused(rt: HostRuntime) -> Result<(), Fail> {
     let alloc = rt.alloc();
-    let lines = format!(in alloc; r#"{MODEL}{{"model":{{}}}}
+    let lines = format!(in alloc;
+        r#"{MODEL}{{"model":{{}}}}
 {{"model":
 {{"open":"ann","capacity":2}}
 {{"client":"ann","service":"none","inputs":{{}}}}
 {{"client":"ann","service":"total","inputs":{{"a":1.5}}}}
-{{"client":"a \"b\"","service":"total","inputs":{{"a":1}}}}"#)?;
+{{"client":"a \"b\"","service":"total","inputs":{{"a":1}}}}"#
+    )?;
     let wanted = r#"{"line":1,"model":true}
 {"fault":"shape","line":2,"refused":"model"}
 {"line":3,"refused":"syntax"}
