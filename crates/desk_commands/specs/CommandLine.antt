@@ -24,12 +24,12 @@ abbrev pub serve_app : App
 serve_app = with_rule (with_rule (with_rule (new_app (codes "serve")) (number_option (codes "clients") (codes "8") 64))
     (number_option (codes "workers") (codes "4") 8)) (number_option (codes "capacity") (codes "64") 4096)
 
--- `desk replay`, `desk serve` and `desk check`: one of the subcommands has to be named, and `--version` tells the version
+-- `desk replay`, `desk serve`, `desk check` and `desk explain`: one of the subcommands has to be named, and `--version` tells the version
 abbrev pub desk_command : App
-desk_command = with_subcommand (with_subcommand (with_subcommand (record {
+desk_command = with_subcommand (with_subcommand (with_subcommand (with_subcommand (record {
   top = record (new_app (codes "desk")).top { has_version = true; subcommand_required = true };
   subs = [];
-}) (new_app (codes "replay")).top) serve_app.top) (new_app (codes "check")).top
+}) (new_app (codes "replay")).top) serve_app.top) (new_app (codes "check")).top) (new_app (codes "explain")).top
 
 -- `clap` takes these words
 abbrev pub IsCommand : List Text → Type 0
@@ -49,6 +49,10 @@ serve_rows words = option_and_then (rows_under (codes "serve")) (subcommand_of d
 -- what the words say of `check`, where they name it: it has no options
 abbrev pub check_rows : List Text → Option (List Row)
 check_rows words = option_and_then (rows_under (codes "check")) (subcommand_of desk_command words)
+
+-- what the words say of `explain`, where they name it: it has no options
+abbrev pub explain_rows : List Text → Option (List Row)
+explain_rows words = option_and_then (rows_under (codes "explain")) (subcommand_of desk_command words)
 
 -- a number from 1 to `top`: the one that the text says, where it says one of these; `clap` takes no other text
 pub record IsNumberOf (top : ℕ) (text : Option Text) (number : ℕ) : Type 0 where

@@ -12,6 +12,7 @@ use Rattle.clap.specs.Words.{Row}
 use Rattle.desk_serving.specs.Served.{Served, ServedInPart}
 use Rattle.desk_lines.specs.Talk.{EndsAs, Replays}
 use Rattle.desk_replaying.specs.Script.{Script}
+use Rattle.desk_explaining.specs.Explained as explained
 use Rattle.desk_lines.specs.Lines.{ended, max_input}
 use Rattle.desk_lines.specs.declared.fault.FrontFault.{FrontFault}
 use Rattle.desk_lines.specs.declared.fault.FrontFault.TheVariants as front
@@ -78,11 +79,14 @@ module _ {R W : Type 0} (remaining : R → Option (List ℕ)) (failures came : R
   abbrev pub Replayed : Result (Unit {0}) FrontFault → Type 0
   Replayed end = Ran Script Script end
 
+  abbrev pub Explained : Result (Unit {0}) FrontFault → Type 0
+  Explained end = Ran explained.Script explained.Script end
+
   -- with so many lanes
   abbrev pub ServedBy : ℕ → Result (Unit {0}) FrontFault → Type 0
   ServedBy lanes end = Ran (Served lanes) (ServedInPart lanes) end
 
-  -- `serve` where the words name it, with as many lanes as they say, and `replay` where they don't
+  -- `serve` where the words name it, with as many lanes as they say, and `replay` where they name none of the others
   abbrev pub RanAs : Option (List Row) → Result (Unit {0}) FrontFault → Type 0
   RanAs None end = Replayed end
   RanAs (Some rows) end = (options : Options) × AreOptionsOf rows options × ServedBy options.clients end

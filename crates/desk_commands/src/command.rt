@@ -58,6 +58,15 @@ fn check<'a>(alloc: Global) -> Command<'a>
         .after_help(help::CHECK)
 }
 
+/// The command `explain`.
+fn explain<'a>(alloc: Global) -> Command<'a>
+    ensures { app_of result ≡ new_app (codes "explain") }
+{
+    Command::new(alloc, "explain")
+        .about(help::EXPLAIN_ABOUT)
+        .after_help(help::EXPLAIN)
+}
+
 /// The command `serve`, with its options.
 fn serve<'a>(alloc: Global) -> Result<Command<'a>, AllocError>
     ensures { IfOk result (λ command. app_of command ≡ serve_app) }
@@ -88,7 +97,8 @@ fn command<'a>(alloc: Global) -> Result<Command<'a>, AllocError>
         .subcommand_required(true);
     desk.subcommand(replay(alloc))?
         .subcommand(serve)?
-        .subcommand(check(alloc))
+        .subcommand(check(alloc))?
+        .subcommand(explain(alloc))
 }
 
 /// Reads the words of a command line, the program's name first. Words that name no command are refused with the error

@@ -17,6 +17,10 @@ pub const SERVE_ABOUT: &str =
 pub const CHECK_ABOUT: &str =
     "Says of a model whether it is lawful, and otherwise where it is wrong";
 
+/// What `explain` does.
+pub const EXPLAIN_ABOUT: &str =
+    "Answers the lines of serve one after another, and tells how each result came about";
+
 /// Lines, statuses and documents.
 pub const DESK: &str =
     r#"Standard input has one JSON object on each line, and so has standard output.
@@ -97,3 +101,24 @@ The status is 0 where the model is lawful, 3 where it has a fault, and 1 where a
 Standard error then has one word: read, write, long (more than 64 MiB came) or memory.
 
 docs/MODEL.md in the repository says what a model is and what each fault means."#;
+
+/// The lines of `explain`.
+pub const EXPLAIN: &str = r#"Each line is one JSON object, as those of serve:
+  {"model":M}                                      a model, in force from the next line on
+  {"client":"ann","service":"s","inputs":{"a":4}}  a request
+
+A request is answered by its result, behind what each decision on the way came to: its value, and of a
+table the values of its inputs and the rules that hit, of a list its members, of a context its entries.
+
+  {"client":"ann","line":2,"service":"s","decisions":[{"name":"d","value":5}],"result":5}
+
+Lines that close or resize a client are skipped, with a note. Clients have no mailboxes here: there are
+no tickets, and no client has too many requests.
+
+Example:
+  desk explain < examples/clients.jsonl
+
+The status is 0 at the end of the input, and 1 where a fault ended the run. Standard error then has
+one word: read, write, long (more than 2^40 bytes came) or memory.
+
+docs/LINES.md in the repository has every line and its answers, docs/MODEL.md what M is."#;

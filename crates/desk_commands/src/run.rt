@@ -5,14 +5,14 @@ ghost use Rattle.clap.specs.Words.{kind_of};
 ghost use Rattle.desk_lines.specs.declared.fault.FrontFault.{FrontFault};
 ghost use Rattle.lanes.specs.Made.{fault_in};
 ghost use Rattle.dmn_plan.specs.declared.fault.ModelFault.{ModelFault};
-ghost use Rattle.desk_commands.specs.CommandLine.{IsCommand, check_rows, kinds_of, serve_rows};
-ghost use Rattle.desk_commands.specs.Status.{Checked, RanAs, Replayed, ServedBy, IsTold, IsStatusOf, status_of, status_of_kind, fault_line, no_utf8_line, end_text, status_of_check, check_end_text};
+ghost use Rattle.desk_commands.specs.CommandLine.{IsCommand, check_rows, explain_rows, kinds_of, serve_rows};
+ghost use Rattle.desk_commands.specs.Status.{Checked, Explained, RanAs, Replayed, ServedBy, IsTold, IsStatusOf, status_of, status_of_kind, fault_line, no_utf8_line, end_text, status_of_check, check_end_text};
 
 use crate::command::read_words;
 use crate::options::options_of;
 use clap::Error;
 use clap::error::ErrorKind;
-use desk_front::{FrontFault, Options, Sink, Source, check, replay, serve, write_all};
+use desk_front::{FrontFault, Options, Sink, Source, check, explain, replay, serve, write_all};
 use lanes::OpenGate;
 use std::alloc::Global;
 use std::io::{self, ErrorKind as IoKind};
@@ -79,6 +79,24 @@ fn run_replay<R: Source, W: Sink, F: Sink>(
     }
 }
 
+/// Explains the answers to the lines of the reader, and tells the fault that ends it, if one does.
+fn run_explain<R: Source, W: Sink, F: Sink>(
+    alloc: Global,
+    reader: &mut R,
+    writer: &mut W,
+    faults: &mut F,
+) -> u8
+    requires read_counts { R.faults reader.old < 2 ^ 64 - 1 }
+    requires write_counts { W.faults writer.old < 2 ^ 64 - 1 }
+    requires fault_counts { F.faults faults.old < 2 ^ 64 - 1 }
+    ensures { (end : Result (Unit {0}) FrontFault) × Explained R.remaining R.faults R.came reader.old reader.new W.contents W.faults writer.old writer.new end × (result ≡ status_of end) × IsTold F.contents F.faults faults.old faults.new (end_text end) }
+{
+    match explain(alloc, reader, writer) {
+        Ok(()) => DONE,
+        Err(fault) => tell_fault(fault, faults),
+    }
+}
+
 /// Serves the lines of the reader, and tells the fault that ends it, if one does.
 fn run_serve<T: Threads + Wait + Sync, R: Source, W: Sink, F: Sink>(
     alloc: Global,
@@ -120,7 +138,12 @@ fn run_check<R: Source, W: Sink, F: Sink>(
 }
 
 /// Tells why the words name no command, or the help or the version that they ask for.
-fn explain<W: Sink, F: Sink>(alloc: Global, error: &Error, writer: &mut W, faults: &mut F) -> u8
+fn tell_of_command<W: Sink, F: Sink>(
+    alloc: Global,
+    error: &Error,
+    writer: &mut W,
+    faults: &mut F,
+) -> u8
     requires write_counts { W.faults writer.old < 2 ^ 64 - 1 }
     requires fault_counts { F.faults faults.old < 2 ^ 64 - 1 }
     ensures status { (result ≡ 1) ⊎ (result ≡ status_of_kind (kind_of error.now)) }
@@ -161,12 +184,15 @@ pub fn run_desk<T: Threads + Wait + Sync, R: Source, W: Sink, F: Sink>(
     requires read_counts { R.faults reader.old < 2 ^ 64 - 1 }
     requires write_counts { W.faults writer.old < 2 ^ 64 - 1 }
     requires fault_counts { F.faults faults.old < 2 ^ 64 - 1 }
-    ensures taken { IsCommand (map string_bytes words.items) → check_rows (map string_bytes words.items) ≡ None →
+    ensures taken { IsCommand (map string_bytes words.items) → check_rows (map string_bytes words.items) ≡ None → explain_rows (map string_bytes words.items) ≡ None →
         ((result ≡ 1) × (reader.new ≡ reader.old) × (writer.new ≡ writer.old) × IsTold F.contents F.faults faults.old faults.new (fault_line FrontFault.Memory))
         ⊎ ((end : Result (Unit {0}) FrontFault) × RanAs R.remaining R.faults R.came reader.old reader.new W.contents W.faults writer.old writer.new (serve_rows (map string_bytes words.items)) end × (result ≡ status_of end) × IsTold F.contents F.faults faults.old faults.new (end_text end)) }
     ensures checks { IsCommand (map string_bytes words.items) → IfSome (check_rows (map string_bytes words.items)) (λ _.
         ((result ≡ 1) × (reader.new ≡ reader.old) × (writer.new ≡ writer.old) × IsTold F.contents F.faults faults.old faults.new (fault_line FrontFault.Memory))
         ⊎ ((found : Result (Option ModelFault) FrontFault) × Checked R.remaining R.faults reader.old reader.new W.faults writer.old writer.new found × (result ≡ status_of_check found) × IsTold F.contents F.faults faults.old faults.new (check_end_text found))) }
+    ensures explains { IsCommand (map string_bytes words.items) → IfSome (explain_rows (map string_bytes words.items)) (λ _.
+        ((result ≡ 1) × (reader.new ≡ reader.old) × (writer.new ≡ writer.old) × IsTold F.contents F.faults faults.old faults.new (fault_line FrontFault.Memory))
+        ⊎ ((end : Result (Unit {0}) FrontFault) × Explained R.remaining R.faults R.came reader.old reader.new W.contents W.faults writer.old writer.new end × (result ≡ status_of end) × IsTold F.contents F.faults faults.old faults.new (end_text end))) }
     ensures refused { kinds_of (map string_bytes words.items) ≢ [] → IsStatusOf (kinds_of (map string_bytes words.items)) result × (reader.new ≡ reader.old) }
     ensures memory { kinds_of (map string_bytes words.items) ≢ [] → result ≡ 1 → IsTold F.contents F.faults faults.old faults.new (fault_line FrontFault.Memory) }
     ensures wrong { kinds_of (map string_bytes words.items) ≢ [] → result ≡ 2 → (text : List ℕ) × IsTold F.contents F.faults faults.old faults.new text }
@@ -179,9 +205,12 @@ pub fn run_desk<T: Threads + Wait + Sync, R: Source, W: Sink, F: Sink>(
             Some(found) => run_serve(alloc, rt, options_of(found), reader, writer, faults),
             None => match matches.subcommand_matches("check") {
                 Some(_) => run_check(alloc, reader, writer, faults),
-                None => run_replay(alloc, reader, writer, faults),
+                None => match matches.subcommand_matches("explain") {
+                    Some(_) => run_explain(alloc, reader, writer, faults),
+                    None => run_replay(alloc, reader, writer, faults),
+                },
             },
         },
-        Err(error) => explain(alloc, &error, writer, faults),
+        Err(error) => tell_of_command(alloc, &error, writer, faults),
     }
 }

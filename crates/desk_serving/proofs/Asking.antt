@@ -24,7 +24,8 @@ use Rattle.desk_reports.specs.Shown.{refusal, named_refusal, loaded, faulty}
 use Rattle.desk_serving.specs.Served.{Entry, AreRead, ServedInPart, close_answer, newer_model, model_answer, number_after, of_name, task_answer, texts_of}
 use Rattle.desk_serving.specs.Said.{close_said, resize_said}
 use Rattle.desk_serving.specs.AskedView.{asked_view}
-use Rattle.desk_serving.specs.Hearing.{Asks, IsHeardAs, IsTaskOf}
+use Rattle.desk_serving.specs.Heard.{Asks, IsHeardAs}
+use Rattle.desk_serving.specs.Tasks.{IsTaskOf}
 use Rattle.desk_serving.specs.Serving.{After, HasRoom, Hears, HearsText, StandsAs, model_of}
 use Rattle.desk_serving.specs.declared.hearing.Heard.{Heard}
 use Rattle.desk_serving.specs.declared.hearing.Heard.TheVariants as heard

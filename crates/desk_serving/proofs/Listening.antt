@@ -9,7 +9,7 @@ use Rattle.desk_reports.specs.Reading.{is_blank}
 use Rattle.desk_serving.specs.Asked as asked
 use Rattle.desk_serving.specs.Asked.{IsAsked, Reads}
 use Rattle.desk_serving.specs.AskedView.{asked_view}
-use Rattle.desk_serving.specs.Hearing.{Asks}
+use Rattle.desk_serving.specs.Heard.{Asks}
 use Rattle.desk_serving.specs.declared.hearing.Heard.TheVariants.{Object}
 use Rattle.desk_serving.specs.declared.line.Asked.{Asked}
 use Rattle.desk_lines.proofs.Keeping.{kept_by, lost_by, le_true, le_false}

@@ -1,4 +1,4 @@
--- Internal: the line of `serve` that the code holds.
+-- The line of `serve` that the code holds.
 use Rattle.serde_json.specs.View.{view}
 use Rattle.desk_serving.specs.Asked as asked
 use Rattle.desk_serving.specs.declared.line.Asked.{Asked}

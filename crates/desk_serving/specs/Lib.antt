@@ -1,6 +1,7 @@
 pub mod Asked
 pub mod AskedView
-pub mod Hearing
+pub mod Heard
+pub mod Tasks
 pub mod Served
 pub mod Said
 pub mod Owed

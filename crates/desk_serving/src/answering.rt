@@ -6,7 +6,8 @@ ghost use Rattle.desk_serving.specs.Asked.{Model, Request, Close, Resize};
 ghost use Rattle.desk_serving.specs.AskedView.{asked_view};
 ghost use Rattle.desk_serving.specs.LanesView.{links_in};
 ghost use Rattle.desk_reports.specs.Reading.{Says};
-ghost use Rattle.desk_serving.specs.Hearing.{Asks, IsHeardAs, IsTaskFor, IsTaskOf};
+ghost use Rattle.desk_serving.specs.Heard.{Asks, IsHeardAs};
+ghost use Rattle.desk_serving.specs.Tasks.{IsTaskFor, IsTaskOf};
 ghost use Rattle.desk_serving.specs.Serving.{HasRoom, Hears, HearsText, model_of};
 
 use crate::hearing::{Heard, asked_by, hear, takes_long};

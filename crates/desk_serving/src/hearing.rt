@@ -1,7 +1,7 @@
 //! A line as it is heard, before anything is done for it.
 ghost use Rattle.std.specs.Prelude.{◌≡◌, ℕ, List, IfOk};
 ghost use Rattle.desk_lines.specs.Lines.{kept_line};
-ghost use Rattle.desk_serving.specs.Hearing.{Asks, IsHeardAs};
+ghost use Rattle.desk_serving.specs.Heard.{Asks, IsHeardAs};
 
 use crate::line::{Asked, asked_in};
 use desk_lines::LineText;

@@ -14,4 +14,6 @@ mod serving;
 mod waiting;
 
 pub use front::serve;
+pub use hearing::{Heard, asked_by, hear};
+pub use line::Asked;
 pub use options::Options;

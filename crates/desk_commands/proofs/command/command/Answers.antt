@@ -13,8 +13,12 @@ returns c =
     } = search rules in
     let replays = c.in_ok-subcommand.ensures.shape (has_no_global _ _ _ _ (ap (λ (a : App). a.top.is_plain) c.replay.ensures)) in
     let serves = c.in_ok-subcommand-2.ensures.shape (has_no_global _ _ _ _ (ap (λ (a : App). a.top.is_plain) c.in_ok-serve.ensures)) in
-    IfOk-weaker c.subcommand-3.result _ _ (λ r adds.
-    adds.shape (has_no_global _ _ _ _ (ap (λ (a : App). a.top.is_plain) c.check.ensures))
+    let checks = c.in_ok-subcommand-3.ensures.shape (has_no_global _ _ _ _ (ap (λ (a : App). a.top.is_plain) c.check.ensures)) in
+    IfOk-weaker c.subcommand-4.result _ _ (λ r adds.
+    adds.shape (has_no_global _ _ _ _ (ap (λ (a : App). a.top.is_plain) c.explain.ensures))
+    ∙ ap₂ (λ (a b : App). with_subcommand a b.top)
+    (checks
     ∙ ap₂ (λ (a b : App). with_subcommand a b.top)
     (serves ∙ ap₂ (λ (a b : App). with_subcommand a b.top) (replays ∙ ap₂ (λ (a b : App). with_subcommand a b.top) desk c.replay.ensures) c.in_ok-serve.ensures)
-    c.check.ensures) c.subcommand-3.ensures
+    c.check.ensures)
+    c.explain.ensures) c.subcommand-4.ensures

@@ -10,9 +10,9 @@ not_zero : (n : ℕ) → n ≡ 1 → n ≢ 0
 not_zero n one none = absurd (omega arith)
 
 pub returns-clause-taken : goal.returns-clause-taken
-returns-clause-taken g c taken none =
-    let one : c.explain.result ≡ 1 = c.explain.ensures.starved (c.in-Err.ensures.taken (rw c.as_slice.ensures.value taken)) in
-    inl (one, refl {a = c.args.reader.now}, c.explain.ensures.silent (not_zero _ one), c.explain.ensures.memory one)
+returns-clause-taken g c taken none other =
+    let one : c.tell_of_command.result ≡ 1 = c.tell_of_command.ensures.starved (c.in-Err.ensures.taken (rw c.as_slice.ensures.value taken)) in
+    inl (one, refl {a = c.args.reader.now}, c.tell_of_command.ensures.silent (not_zero _ one), c.tell_of_command.ensures.memory one)
 
 some_of : {X P : Type 0} (o : Option X) → P → IfSome o (λ _. P)
 some_of None p = tt
@@ -20,8 +20,13 @@ some_of (Some x) p = p
 
 pub returns-clause-checks : goal.returns-clause-checks
 returns-clause-checks g c taken =
-    let one : c.explain.result ≡ 1 = c.explain.ensures.starved (c.in-Err.ensures.taken (rw c.as_slice.ensures.value taken)) in
-    some_of _ (inl (one, refl {a = c.args.reader.now}, c.explain.ensures.silent (not_zero _ one), c.explain.ensures.memory one))
+    let one : c.tell_of_command.result ≡ 1 = c.tell_of_command.ensures.starved (c.in-Err.ensures.taken (rw c.as_slice.ensures.value taken)) in
+    some_of _ (inl (one, refl {a = c.args.reader.now}, c.tell_of_command.ensures.silent (not_zero _ one), c.tell_of_command.ensures.memory one))
+
+pub returns-clause-explains : goal.returns-clause-explains
+returns-clause-explains g c taken =
+    let one : c.tell_of_command.result ≡ 1 = c.tell_of_command.ensures.starved (c.in-Err.ensures.taken (rw c.as_slice.ensures.value taken)) in
+    some_of _ (inl (one, refl {a = c.args.reader.now}, c.tell_of_command.ensures.silent (not_zero _ one), c.tell_of_command.ensures.memory one))
 
 status_among : (kinds : Kinds) (k : ErrorKind) (status : ℕ) → (k ≡ OutOfMemory → status ≡ 1) → (status ≡ 1) ⊎ (status ≡ status_of_kind k)
     → (k ≡ OutOfMemory) ⊎ IsAmong k kinds → IsStatusOf kinds status
@@ -31,4 +36,4 @@ status_among kinds k status starved (inr is) (inr among) = inr (k, among, is)
 
 pub returns-clause-refused : goal.returns-clause-refused
 returns-clause-refused g c wrong =
-    (rw (sym c.as_slice.ensures.value) (status_among _ (kind_of c.in-Err.error) c.explain.result c.explain.ensures.starved c.explain.ensures.status c.in-Err.ensures.refused), refl)
+    (rw (sym c.as_slice.ensures.value) (status_among _ (kind_of c.in-Err.error) c.tell_of_command.result c.tell_of_command.ensures.starved c.tell_of_command.ensures.status c.in-Err.ensures.refused), refl)

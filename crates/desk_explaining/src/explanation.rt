@@ -1,0 +1,101 @@
+//! The line that explains an answer, and the note on a line that is skipped.
+ghost use Rattle.std.specs.Prelude.{◌≡◌, ◌++◌, OnOk, Ok};
+ghost use Rattle.json.specs.Print.{quoted};
+ghost use Rattle.serde_json.specs.Data.{Data};
+ghost use Rattle.desk_explaining.specs.Desk.{Adds};
+ghost use Rattle.desk_explaining.specs.Explained.{IsTaskAnswer, skipped};
+ghost use Rattle.desk_explaining.specs.Line.{begin_of, head_of, tail_of};
+
+use dmn_explain::{add_decisions, add_value};
+use dmn_plan::Task;
+use feel_value::Outcome;
+use itoa::Buffer;
+use serde_json::Value;
+use std::alloc::{AllocError, Global};
+
+/// Adds a text in quotes.
+fn add_text(alloc: Global, text: &str, line: &mut Vec<u8>) -> Result<(), AllocError>
+    ensures { OnOk result (line.new.items ≡ line.old.items ++ quoted text.now) }
+{
+    let text = Value::try_from_str(alloc, text)?.to_string(alloc)?;
+    line.extend_from_slice(text.as_bytes())
+}
+
+/// Adds `{"client":name,"line":k`.
+#[tactic(auto, using(crate::proofs::Telling::pieces_4))]
+fn add_begin(alloc: Global, name: &str, number: u64, line: &mut Vec<u8>) -> Result<(), AllocError>
+    ensures { OnOk result (line.new.items ≡ line.old.items ++ begin_of name.now number) }
+{
+    line.extend_from_slice(b"{\"client\":")?;
+    add_text(alloc, name, line)?;
+    line.extend_from_slice(b",\"line\":")?;
+    line.extend_from_slice(Buffer::new().format(number).as_bytes())
+}
+
+/// Adds `{"client":name,"line":k,"service":s,"decisions":`.
+#[tactic(auto, using(crate::proofs::Telling::pieces_4))]
+fn add_head(
+    alloc: Global,
+    name: &str,
+    number: u64,
+    service: &str,
+    line: &mut Vec<u8>,
+) -> Result<(), AllocError>
+    ensures { OnOk result (line.new.items ≡ line.old.items ++ head_of name.now number service.now) }
+{
+    add_begin(alloc, name, number, line)?;
+    line.extend_from_slice(b",\"service\":")?;
+    add_text(alloc, service, line)?;
+    line.extend_from_slice(b",\"decisions\":")
+}
+
+/// Adds `,"result":V}`, or `,"fault":"limit"}` where a limit was broken, with the newline.
+#[tactic(auto, using(crate::proofs::Telling::pieces_3))]
+fn add_tail(alloc: Global, outcome: &Outcome, line: &mut Vec<u8>) -> Result<(), AllocError>
+    ensures { OnOk result (line.new.items ≡ line.old.items ++ tail_of outcome.now) }
+{
+    match outcome {
+        Outcome::Is(value) => {
+            line.extend_from_slice(b",\"result\":")?;
+            add_value(alloc, value, line)?;
+            line.extend_from_slice(b"}\n")
+        }
+        Outcome::Limit => line.extend_from_slice(b",\"fault\":\"limit\"}\n"),
+    }
+}
+
+/// Adds the line that explains the answer to a client's request to a service.
+pub fn add_explanation(
+    alloc: Global,
+    name: &str,
+    number: u64,
+    service: &str,
+    task: &Task,
+    text: &mut Vec<u8>,
+) -> Result<(), AllocError>
+    ensures { OnOk result ((answer : Data) × IsTaskAnswer name.now number service.now (Ok task.now) answer × Adds text.old.items answer text.new.items) }
+{
+    let Some(course) = task.course(alloc)? else {
+        unreachable!();
+    };
+    add_head(alloc, name, number, service, text)?;
+    add_decisions(alloc, &course, text)?;
+    add_tail(alloc, &course.result, text)
+}
+
+/// Adds `{"client":name,"line":k,"skipped":word}`, with the newline.
+pub fn add_skipped(
+    alloc: Global,
+    name: &str,
+    number: u64,
+    word: &str,
+    text: &mut Vec<u8>,
+) -> Result<(), AllocError>
+    ensures { OnOk result (Adds text.old.items (skipped name.now number word.now) text.new.items) }
+{
+    add_begin(alloc, name, number, text)?;
+    text.extend_from_slice(b",\"skipped\":")?;
+    add_text(alloc, word, text)?;
+    text.extend_from_slice(b"}\n")?;
+    Ok(())
+}

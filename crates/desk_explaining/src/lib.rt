@@ -1,0 +1,11 @@
+//! `explain`: the lines of `serve`, answered one after another, each request with what every decision on the way came to.
+#![tactic(auto)]
+
+mod answering;
+mod desk;
+mod explanation;
+mod session;
+#[cfg(test)]
+mod tests;
+
+pub use session::explain;

@@ -1,0 +1,6 @@
+pub mod Floats
+pub mod Quoting
+pub mod Pieces
+pub mod Rows
+pub mod Telling
+pub mod Placing

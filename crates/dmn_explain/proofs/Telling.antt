@@ -1,0 +1,74 @@
+-- The members of a list and the entries of a context, as they are told one after another.
+use Rattle.std.proofs.Common.{◌≡◌, ℕ, ◌+◌, ◌<◌, ◌≤◌, Bool, true, List, [], ◌∷◌, ◌++◌, length, get_or, drop, sym, ap, ◌∙◌, Option, None, Some, string_bytes}
+use Rattle.std.proofs.lemmas.List.{at_drop_more, drop_all}
+use Rattle.serde_json.specs.Data.{Data, Items, no_items, item}
+use Rattle.serde_json.specs.Written.{comma_if, compact_text, items_text}
+use Rattle.feel_value.specs.Datum.{Datum}
+use Rattle.feel_value.specs.Found.{value_of}
+use Rattle.feel_value.specs.declared.feel.Outcome.{Outcome}
+use Rattle.feel_value.specs.declared.feel.Outcome.TheVariants.{Is, Limit}
+use Rattle.feel_lang.specs.Meaning.{Bindings}
+use Rattle.dmn_form.specs.Model.{member, entry}
+use Rattle.dmn_logic.specs.Boxed.{boxed, entry_values}
+use Rattle.dmn_logic.specs.Bound.{bound_behind}
+use Rattle.dmn_logic.specs.LogicView.{logic_view, members_view, entries_view}
+use Rattle.dmn_logic.specs.declared.logic.Logic.{Logic}
+use Rattle.dmn_logic.proofs.Boxes.{Named, entries_step}
+use Rattle.dmn_explain.specs.Explanation.{items_from, told_as, named_as, how, members_told, entries_told}
+use Rattle.dmn_explain.proofs.Pieces.{row_more, row_ended}
+
+-- a member as it is told
+abbrev pub member_told : Logic → Bindings → Data
+member_told x m = told_as (value_of (boxed (logic_view x) m)) (how (logic_view x) m)
+
+abbrev pub entry_told : Named → Bindings → Data
+entry_told x m = named_as (string_bytes x.0) (value_of (boxed (logic_view x.1) m)) (how (logic_view x.1) m)
+
+members_from : (m : Bindings) (xs : List Logic) (i : ℕ) (x : Logic) (o : Outcome) → x ≡ get_or xs i x → i < length xs → o ≡ boxed (logic_view x) m
+    → members_told (members_view (drop i xs)) m ≡ item (member_told x m) (items_from (λ (d : Datum). members_told (members_view (drop (i + 1) xs)) m) (value_of o))
+members_from m xs i x o e h b =
+    at_drop_more (λ (ys : List Logic). members_told (members_view ys) m) xs i x h
+    ∙ ap (λ (y : Logic). members_told (member (logic_view y) (members_view (drop (i + 1) xs))) m) (sym e)
+    ∙ ap (λ p. item (member_told x m) (items_from (λ (d : Datum). members_told (members_view (drop (i + 1) xs)) m) (value_of p))) (sym b)
+
+entries_from : (m : Bindings) (xs : List Named) (i : ℕ) (x : Named) (o : Outcome) → x ≡ get_or xs i x → i < length xs → o ≡ boxed (logic_view x.1) m
+    → entries_told (entries_view (drop i xs)) m
+    ≡ item (entry_told x m) (items_from (λ (d : Datum). entries_told (entries_view (drop (i + 1) xs)) (m ++ (string_bytes x.0, d) ∷ [])) (value_of o))
+entries_from m xs i x o e h b =
+    at_drop_more (λ (ys : List Named). entries_told (entries_view ys) m) xs i x h
+    ∙ ap (λ (y : Named). entries_told (entry (string_bytes y.0) (logic_view y.1) (entries_view (drop (i + 1) xs))) m) (sym e)
+    ∙ ap (λ p. item (entry_told x m) (items_from (λ (d : Datum). entries_told (entries_view (drop (i + 1) xs)) (m ++ (string_bytes x.0, d) ∷ [])) (value_of p))) (sym b)
+
+module _ (whole t t1 t2 : List ℕ) (later : Bool) (m : Bindings) (i : ℕ) (comma : t1 ≡ t ++ comma_if later) where
+  module _ (xs : List Logic) (x : Logic) (before : t ++ items_text later (members_told (members_view (drop i xs)) m) ≡ whole) (here : x ≡ get_or xs i x) (more : i < length xs)
+      (added : t2 ≡ t1 ++ compact_text (member_told x m)) where
+    -- one member more, and then the rest
+    pub member_more : (d : Datum) → Is d ≡ boxed (logic_view x) m → t2 ++ items_text true (members_told (members_view (drop (i + 1) xs)) m) ≡ whole
+    member_more d b = row_more whole t t1 t2 later _ _ _ before (members_from m xs i x (Is d) here more b) comma added
+
+    -- a member that breaks a limit is the last
+    pub member_last : (t3 : List ℕ) → Limit ≡ boxed (logic_view x) m → t3 ≡ t2 ++ 93 ∷ [] → t3 ≡ whole
+    member_last t3 b end = end ∙ row_more whole t t1 t2 later _ _ _ before (members_from m xs i x Limit here more b) comma added
+
+  module _ (xs : List Named) (x : Named) (before : t ++ items_text later (entries_told (entries_view (drop i xs)) m) ≡ whole) (here : x ≡ get_or xs i x) (more : i < length xs)
+      (added : t2 ≡ t1 ++ compact_text (entry_told x m)) where
+    pub entry_more : (d : Datum) → Is d ≡ boxed (logic_view x.1) m → t2 ++ items_text true (entries_told (entries_view (drop (i + 1) xs)) (m ++ (string_bytes x.0, d) ∷ [])) ≡ whole
+    entry_more d b = row_more whole t t1 t2 later _ _ _ before (entries_from m xs i x (Is d) here more b) comma added
+
+    pub entry_last : (t3 : List ℕ) → Limit ≡ boxed (logic_view x.1) m → t3 ≡ t2 ++ 93 ∷ [] → t3 ≡ whole
+    entry_last t3 b end = end ∙ row_more whole t t1 t2 later _ _ _ before (entries_from m xs i x Limit here more b) comma added
+
+pub members_ended : (whole t t1 : List ℕ) (later : Bool) (m : Bindings) (xs : List Logic) (i : ℕ) → t ++ items_text later (members_told (members_view (drop i xs)) m) ≡ whole
+    → length xs ≤ i → t1 ≡ t ++ 93 ∷ [] → t1 ≡ whole
+members_ended whole t t1 later m xs i before end added =
+    row_ended whole t t1 later _ before (ap (λ (ys : List Logic). members_told (members_view ys) m) (drop_all i xs end)) added
+
+pub entries_ended : (whole t t1 : List ℕ) (later : Bool) (m : Bindings) (xs : List Named) (i : ℕ) → t ++ items_text later (entries_told (entries_view (drop i xs)) m) ≡ whole
+    → length xs ≤ i → t1 ≡ t ++ 93 ∷ [] → t1 ≡ whole
+entries_ended whole t t1 later m xs i before end added =
+    row_ended whole t t1 later _ before (ap (λ (ys : List Named). entries_told (entries_view ys) m) (drop_all i xs end)) added
+
+-- no more is bound where an entry breaks a limit
+pub none_bound : (outer m : Bindings) (xs : List Named) (i : ℕ) (x : Named) (whole : Option Bindings) → whole ≡ bound_behind m (entry_values (entries_view (drop i xs)) m)
+    → x ≡ get_or xs i x → i < length xs → Limit ≡ boxed (logic_view x.1) m → whole ≡ None
+none_bound outer m xs i x whole before here more b = before ∙ ap (bound_behind m) (entries_step m xs i x Limit here more b)

@@ -1,0 +1,4 @@
+pub mod Explanation
+pub mod Text
+pub mod Numbered
+pub mod Placed

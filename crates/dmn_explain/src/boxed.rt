@@ -1,0 +1,222 @@
+//! How boxed expressions came to their outcomes.
+//!
+//! Each part is evaluated again where it is told, so a part that lies in others is evaluated once for each of these.
+ghost use Rattle.std.specs.Prelude.{◌≡◌, ◌++◌, Some, None, OnOk, IfOk, true, if◌then◌else◌, take, length, string_bytes};
+ghost use Rattle.serde_json.specs.Data.{array};
+ghost use Rattle.serde_json.specs.Written.{compact_text, members_text};
+ghost use Rattle.feel_value.specs.Found.{value_of};
+ghost use Rattle.dmn_form.specs.Model.{list, context, context_with};
+ghost use Rattle.dmn_logic.specs.Boxed.{boxed, entry_values as entry_values_of};
+ghost use Rattle.dmn_logic.specs.Bound.{bound_behind};
+ghost use Rattle.dmn_logic.specs.LogicView.{logic_view, members_view, entries_view};
+ghost use Rattle.dmn_explain.specs.Text.{entries_text};
+ghost use Rattle.dmn_explain.specs.Explanation.{how, told_as, named_as, members_told, entries_told};
+
+use crate::key::{Key, add_comma, add_key};
+use crate::named::add_name;
+use crate::table::add_table;
+use crate::value::add_valued;
+use dmn_logic::{Logic, evaluate};
+use feel_lang::Env;
+use feel_value::Outcome;
+use std::alloc::{AllocError, Global};
+
+/// Adds how a boxed expression comes to its outcome, as the last members of an object, with its end.
+///
+/// The environment is the same afterwards, also where memory is refused. It goes as deep as the expression is.
+#[cycle(add_how)]
+pub(crate) fn add_how(
+    alloc: Global,
+    logic: &Logic,
+    env: &mut Env,
+    text: &mut Vec<u8>,
+) -> Result<(), AllocError>
+    ensures text { OnOk result (text.new.items ≡ text.old.items ++ members_text true (how (logic_view logic.now) env.old)) }
+    ensures same { env.new ≡ env.old }
+{
+    match logic {
+        Logic::Expression(_) => {
+            text.push(b'}')?;
+            Ok(())
+        }
+        Logic::Table(table) => {
+            add_key(true, Key::Table, text)?;
+            add_table(alloc, table, env, text)?;
+            text.push(b'}')?;
+            Ok(())
+        }
+        Logic::List(members) => add_list(alloc, members, env, text),
+        Logic::Context(entries) => add_context(alloc, entries, env, text),
+        Logic::ContextWith(entries, last) => add_context_with(alloc, entries, last, env, text),
+    }
+}
+
+/// Adds a boxed expression's value, and how it comes to that, as an object; and gives its outcome.
+#[cycle(add_how)]
+fn add_told(
+    alloc: Global,
+    logic: &Logic,
+    env: &mut Env,
+    text: &mut Vec<u8>,
+) -> Result<Outcome, AllocError>
+    ensures text { OnOk result (text.new.items ≡ text.old.items ++ compact_text (told_as (value_of (boxed (logic_view logic.now) env.old)) (how (logic_view logic.now) env.old))) }
+    ensures value { IfOk result (λ o. o ≡ boxed (logic_view logic.now) env.old) }
+    ensures same { env.new ≡ env.old }
+{
+    let outcome = evaluate(alloc, logic, env)?;
+    text.push(b'{')?;
+    add_valued(alloc, false, Key::Value, outcome.value(), text)?;
+    add_how(alloc, logic, env, text)?;
+    Ok(outcome)
+}
+
+/// Adds the members of a list as the last member of an object, with its end.
+#[cycle(add_how)]
+fn add_list(
+    alloc: Global,
+    members: &[Logic],
+    env: &mut Env,
+    text: &mut Vec<u8>,
+) -> Result<(), AllocError>
+    ensures text { OnOk result (text.new.items ≡ text.old.items ++ members_text true (how (list (members_view members.now)) env.old)) }
+    ensures same { env.new ≡ env.old }
+{
+    add_key(true, Key::Members, text)?;
+    add_members(alloc, members, env, text)?;
+    text.push(b'}')?;
+    Ok(())
+}
+
+/// Adds the members of a list, up to the first that breaks a limit.
+#[cycle(add_how)]
+fn add_members(
+    alloc: Global,
+    members: &[Logic],
+    env: &mut Env,
+    text: &mut Vec<u8>,
+) -> Result<(), AllocError>
+    ensures text { OnOk result (text.new.items ≡ text.old.items ++ compact_text (array (members_told (members_view members.now) env.old))) }
+    ensures same { env.new ≡ env.old }
+{
+    let mut later = false;
+    text.push(b'[')?;
+    for member in members {
+        add_comma(later, text)?;
+        let Outcome::Is(_) = add_told(alloc, member, env, text)? else {
+            text.push(b']')?;
+            return Ok(());
+        };
+        later = true;
+    }
+    text.push(b']')?;
+    Ok(())
+}
+
+/// Adds the entries of a context as the last member of an object, with its end.
+#[cycle(add_how)]
+fn add_context(
+    alloc: Global,
+    entries: &[(String, Logic)],
+    env: &mut Env,
+    text: &mut Vec<u8>,
+) -> Result<(), AllocError>
+    ensures text { OnOk result (text.new.items ≡ text.old.items ++ members_text true (how (context (entries_view entries.now)) env.old)) }
+    ensures same { env.new ≡ env.old }
+{
+    let outer = env.len();
+    let all = add_entries(alloc, entries, env, text);
+    env.cut(outer);
+    let _ = all?;
+    text.push(b'}')?;
+    Ok(())
+}
+
+/// Adds the entries of a context and its result as the last members of an object, with its end.
+#[cycle(add_how)]
+fn add_context_with(
+    alloc: Global,
+    entries: &[(String, Logic)],
+    last: &Logic,
+    env: &mut Env,
+    text: &mut Vec<u8>,
+) -> Result<(), AllocError>
+    ensures text { OnOk result (text.new.items ≡ text.old.items ++ members_text true (how (context_with (entries_view entries.now) (logic_view last.now)) env.old)) }
+    ensures same { env.new ≡ env.old }
+{
+    let outer = env.len();
+    let added = add_entries_and_result(alloc, entries, last, env, text);
+    env.cut(outer);
+    added
+}
+
+/// The same, whose entries stay bound behind the outer names.
+#[cycle(add_how)]
+fn add_entries_and_result(
+    alloc: Global,
+    entries: &[(String, Logic)],
+    last: &Logic,
+    env: &mut Env,
+    text: &mut Vec<u8>,
+) -> Result<(), AllocError>
+    ensures text { OnOk result (text.new.items ≡ text.old.items ++ members_text true (how (context_with (entries_view entries.now) (logic_view last.now)) env.old)) }
+    ensures outer { take (length env.old) env.new ≡ env.old }
+{
+    let all = add_entries(alloc, entries, env, text)?;
+    if !all {
+        text.push(b'}')?;
+        return Ok(());
+    }
+    add_key(true, Key::Result, text)?;
+    add_told(alloc, last, env, text)?;
+    text.push(b'}')?;
+    Ok(())
+}
+
+/// Adds the member of a context's entries, up to the first that breaks a limit; false where one does. The entries stay bound
+/// behind the outer names.
+#[cycle(add_how)]
+fn add_entries(
+    alloc: Global,
+    entries: &[(String, Logic)],
+    env: &mut Env,
+    text: &mut Vec<u8>,
+) -> Result<bool, AllocError>
+    ensures text { OnOk result (text.new.items ≡ text.old.items ++ entries_text (entries_told (entries_view entries.now) env.old)) }
+    ensures bound { IfOk result (λ all. bound_behind env.old (entry_values_of (entries_view entries.now) env.old) ≡ (if all then Some env.new else None)) }
+    ensures outer { take (length env.old) env.new ≡ env.old }
+{
+    add_key(true, Key::Entries, text)?;
+    text.push(b'[')?;
+    let mut later = false;
+    for (name, logic) in entries {
+        add_comma(later, text)?;
+        let Outcome::Is(value) = add_entry(alloc, name.as_str(), logic, env, text)? else {
+            text.push(b']')?;
+            return Ok(false);
+        };
+        env.bind(name.as_str(), value)?;
+        later = true;
+    }
+    text.push(b']')?;
+    Ok(true)
+}
+
+/// Adds an entry of a context with its name, its value and how it comes to that; and gives its outcome.
+#[cycle(add_how)]
+fn add_entry(
+    alloc: Global,
+    name: &str,
+    logic: &Logic,
+    env: &mut Env,
+    text: &mut Vec<u8>,
+) -> Result<Outcome, AllocError>
+    ensures text { OnOk result (text.new.items ≡ text.old.items ++ compact_text (named_as name.now (value_of (boxed (logic_view logic.now) env.old)) (how (logic_view logic.now) env.old))) }
+    ensures value { IfOk result (λ o. o ≡ boxed (logic_view logic.now) env.old) }
+    ensures same { env.new ≡ env.old }
+{
+    let outcome = evaluate(alloc, logic, env)?;
+    add_name(alloc, name, text)?;
+    add_valued(alloc, true, Key::Value, outcome.value(), text)?;
+    add_how(alloc, logic, env, text)?;
+    Ok(outcome)
+}

@@ -1,0 +1,188 @@
+//! What a decision table found.
+ghost use Rattle.std.specs.Prelude.{◌≡◌, ◌++◌, OnOk, IfOk, map, option_map, true};
+ghost use Rattle.serde_json.specs.Data.{array, boolean, object};
+ghost use Rattle.serde_json.specs.Written.{compact_text, members_text};
+ghost use Rattle.feel_value.specs.Datum.{list, items_of};
+ghost use Rattle.feel_value.specs.Json.{json_of};
+ghost use Rattle.dmn_table.specs.Hits.{does_hit as does_hit_of};
+ghost use Rattle.dmn_table.specs.Parts.{column_view, rule_view};
+ghost use Rattle.dmn_explain.specs.Explanation.{hit_told, hits_told, hits_and_defaults, table_told, takes_defaults};
+ghost use Rattle.dmn_explain.specs.Numbered.{hit_view, hits_from};
+
+use crate::key::{Key, add_comma, add_key};
+use crate::output::{has_no_default, output_of, values_of};
+use crate::value::{add_valued, add_value};
+use dmn_table::{Output, Rule, Table};
+use feel_lang::{Env, Held, holds};
+use feel_value::Feel;
+use itoa::Buffer;
+use std::alloc::{AllocError, Global};
+
+/// A rule that hits, with its number, which counts from 1 on.
+#[derive(Clone, Copy)]
+pub(crate) struct Hit<'a> {
+    number: usize,
+    rule: &'a Rule,
+}
+
+/// Whether the rule hits, for these values of the input expressions; None where an entry breaks a limit. All entries are
+/// evaluated but those after a miss that are known to break no limit, since these change nothing.
+fn does_hit(
+    alloc: Global,
+    rule: &Rule,
+    values: &[Feel],
+    env: &Env,
+) -> Result<Option<bool>, AllocError>
+    ensures { IfOk result (λ hit. hit ≡ does_hit_of env.now values.now (rule_view rule.now)) }
+{
+    let mut hit = true;
+    for (tests, value) in rule.tests.iter().zip(values) {
+        if !hit && tests.keep_limits() {
+            continue;
+        }
+        match holds(alloc, tests, value, env)? {
+            Held::Yes => {}
+            Held::No => hit = false,
+            Held::Limit => return Ok(None),
+        }
+    }
+    Ok(Some(hit))
+}
+
+/// The rules that hit, in their order and with their numbers; None where an entry breaks a limit. Each rule is asked.
+fn hits_of<'a>(
+    alloc: Global,
+    rules: &'a [Rule],
+    values: &[Feel],
+    env: &Env,
+) -> Result<Option<Vec<Hit<'a>>>, AllocError>
+    ensures { IfOk result (λ found. option_map (λ v. map hit_view v.items) found ≡ hits_from 1 env.now values.now (map rule_view rules.now)) }
+{
+    let mut hits = Vec::new(alloc);
+    for (i, rule) in rules.iter().enumerate() {
+        let Some(is_hit) = does_hit(alloc, rule, values, env)? else {
+            return Ok(None);
+        };
+        if !is_hit {
+            continue;
+        }
+        let number = i + 1;
+        hits.push(Hit { number, rule })?;
+    }
+    Ok(Some(hits))
+}
+
+/// Adds the list of these values.
+fn add_values(alloc: Global, values: &[Feel], text: &mut Vec<u8>) -> Result<(), AllocError>
+    ensures { OnOk result (text.new.items ≡ text.old.items ++ compact_text (json_of (list (items_of values.now)))) }
+{
+    let mut later = false;
+    text.push(b'[')?;
+    for value in values {
+        add_comma(later, text)?;
+        add_value(alloc, value, text)?;
+        later = true;
+    }
+    text.push(b']')?;
+    Ok(())
+}
+
+/// Adds a rule that hit, with its output.
+fn add_hit(
+    alloc: Global,
+    hit: &Hit<'_>,
+    outputs: &[Output],
+    env: &Env,
+    text: &mut Vec<u8>,
+) -> Result<(), AllocError>
+    ensures { OnOk result (text.new.items ≡ text.old.items ++ compact_text (hit_told (map column_view outputs.now) env.now (hit_view hit.now))) }
+{
+    let output = output_of(alloc, hit.rule, outputs, env)?;
+    text.push(b'{')?;
+    add_key(false, Key::Rule, text)?;
+    text.extend_from_slice(Buffer::new().format(hit.number).as_bytes())?;
+    add_valued(alloc, true, Key::Value, output.value(), text)?;
+    text.push(b'}')?;
+    Ok(())
+}
+
+/// Adds the list of these rules that hit.
+fn add_hits(
+    alloc: Global,
+    hits: &[Hit<'_>],
+    outputs: &[Output],
+    env: &Env,
+    text: &mut Vec<u8>,
+) -> Result<(), AllocError>
+    ensures { OnOk result (text.new.items ≡ text.old.items ++ compact_text (array (hits_told (map column_view outputs.now) env.now (map hit_view hits.now)))) }
+{
+    let mut later = false;
+    text.push(b'[')?;
+    for hit in hits {
+        add_comma(later, text)?;
+        add_hit(alloc, hit, outputs, env, text)?;
+        later = true;
+    }
+    text.push(b']')?;
+    Ok(())
+}
+
+/// Whether the defaults stand in for these hits.
+fn are_default(outputs: &[Output], hits: &[Hit<'_>]) -> bool
+    ensures { result ≡ takes_defaults (map column_view outputs.now) (map hit_view hits.now) }
+{
+    hits.is_empty() && !has_no_default(outputs)
+}
+
+/// Adds a boolean.
+fn add_bool(truth: bool, text: &mut Vec<u8>) -> Result<(), AllocError>
+    ensures { OnOk result (text.new.items ≡ text.old.items ++ compact_text (boolean truth)) }
+{
+    if truth {
+        text.extend_from_slice(b"true")
+    } else {
+        text.extend_from_slice(b"false")
+    }
+}
+
+/// Adds the rules that hit, and whether the defaults stand in for them, as the last members of an object, with its end.
+fn add_hits_and_defaults(
+    alloc: Global,
+    hits: &[Hit<'_>],
+    outputs: &[Output],
+    env: &Env,
+    text: &mut Vec<u8>,
+) -> Result<(), AllocError>
+    ensures { OnOk result (text.new.items ≡ text.old.items ++ members_text true (hits_and_defaults (map column_view outputs.now) env.now (map hit_view hits.now))) }
+{
+    add_key(true, Key::Hits, text)?;
+    add_hits(alloc, hits, outputs, env, text)?;
+    add_key(true, Key::Defaults, text)?;
+    add_bool(are_default(outputs, hits), text)?;
+    text.push(b'}')?;
+    Ok(())
+}
+
+/// Adds what a table found: its input values, the rules that hit with their outputs, and whether the defaults stand in for them.
+/// It ends before the first of these that breaks a limit.
+pub(crate) fn add_table(
+    alloc: Global,
+    table: &Table,
+    env: &Env,
+    text: &mut Vec<u8>,
+) -> Result<(), AllocError>
+    ensures { OnOk result (text.new.items ≡ text.old.items ++ compact_text (object (table_told table.now env.now))) }
+{
+    text.push(b'{')?;
+    let Some(values) = values_of(alloc, table.inputs(), env)? else {
+        text.push(b'}')?;
+        return Ok(());
+    };
+    add_key(false, Key::Inputs, text)?;
+    add_values(alloc, &values, text)?;
+    let Some(hits) = hits_of(alloc, table.rules(), &values, env)? else {
+        text.push(b'}')?;
+        return Ok(());
+    };
+    add_hits_and_defaults(alloc, &hits, table.outputs(), env, text)
+}
