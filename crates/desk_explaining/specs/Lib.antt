@@ -1,3 +1,4 @@
 pub mod Explained
 pub mod Desk
 pub mod Line
+pub mod Printed

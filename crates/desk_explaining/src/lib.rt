@@ -4,8 +4,10 @@
 mod answering;
 mod desk;
 mod explanation;
+mod printing;
 mod session;
 #[cfg(test)]
 mod tests;
 
+pub use printing::explain_in_text;
 pub use session::explain;
