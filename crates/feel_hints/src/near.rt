@@ -1,5 +1,8 @@
 //! Names that are nearly alike.
 
+/// The fewest letters of a name that another one may be near to: too many of the shorter ones are.
+const FEWEST_LETTERS: usize = 3;
+
 /// How many bytes the two have in common at their starts.
 fn common_length(first: &[u8], second: &[u8]) -> usize {
     for (index, (one, other)) in first.iter().zip(second.iter()).enumerate() {
@@ -23,10 +26,11 @@ fn is_swapped(first: &[u8], second: &[u8]) -> bool {
     second.first() == Some(two) && second.get(1) == Some(one) && from(first, 2) == from(second, 2)
 }
 
-/// Whether two names differ by one letter: one more, one less, another one, or two neighbours swapped.
+/// Whether two names differ by one letter: one more, one less, another one, or two neighbours swapped. Names of one or two letters
+/// alone are never near.
 pub fn is_near(name: &str, other: &str) -> bool {
     let (first, second) = (name.as_bytes(), other.as_bytes());
-    if first.len().abs_diff(second.len()) > 1 {
+    if first.len().abs_diff(second.len()) > 1 || first.len().max(second.len()) < FEWEST_LETTERS {
         return false;
     }
     let common = common_length(first, second);

@@ -1,6 +1,6 @@
 //! The parts of a text before and behind a stop.
 
-use crate::scan::{is_digit, is_word_byte};
+use crate::scan::{character_length, is_digit, is_word_byte};
 use std::str;
 
 /// The bytes before a stop, and those from it on.
@@ -119,6 +119,15 @@ impl<'a> Parts<'a> {
 /// These bytes as a text; an empty text where they are none.
 fn text(bytes: &[u8]) -> &str {
     str::from_utf8(bytes).unwrap_or("")
+}
+
+/// The word at the start, or the first character where there is none.
+pub(crate) fn first_part(bytes: &[u8]) -> &str {
+    let word = word_of(bytes);
+    if !word.is_empty() {
+        return word;
+    }
+    text(bytes.get(..character_length(bytes)).unwrap_or(bytes))
 }
 
 /// The word at the start.

@@ -55,6 +55,14 @@ fn inner_length(bytes: &[u8]) -> usize {
     bytes.len()
 }
 
+/// How many bytes the first character has; 0 where there is none.
+pub(crate) fn character_length(bytes: &[u8]) -> usize {
+    match bytes.split_first() {
+        Some((_, behind)) => inner_length(behind).saturating_add(1),
+        None => 0,
+    }
+}
+
 /// The token that digits are.
 fn number(digits: &[u8]) -> Token {
     let Ok(text) = str::from_utf8(digits) else {

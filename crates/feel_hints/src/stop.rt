@@ -2,6 +2,7 @@
 
 use crate::due::{Due, listed};
 use crate::halt::{Halt, expression, literal};
+use crate::parts::first_part;
 use crate::scan::tokens;
 use crate::tests_halt::tests;
 use crate::token::{Placed, Token};
@@ -90,6 +91,12 @@ impl Stop {
             }
         }
         count
+    }
+
+    /// What stands where the reading stops: a word or a character; empty at the end.
+    pub fn found<'a>(&self, text: &'a str) -> &'a str {
+        let rest = text.as_bytes().get(self.at..).unwrap_or(&[]);
+        first_part(rest)
     }
 
     /// What could have stood there, in words.

@@ -27,7 +27,7 @@ fn add_all<'a>(set: &mut BTreeSet<&'a str>, names: &'a [String]) -> Result<(), A
 /// Adds those of the names that are not in a set.
 fn add_missing<'a>(
     found: &mut Vec<&'a str>,
-    set: &BTreeSet<&str>,
+    set: &BTreeSet<&'a str>,
     names: &'a [String],
 ) -> Result<(), AllocError> {
     for name in names {
@@ -51,10 +51,10 @@ fn decision_names<'a>(
 }
 
 /// The names of a service that are no decisions, or under `inputData` no inputs.
-pub fn stranger_hint(
+pub fn stranger_hint<'a>(
     alloc: Global,
-    model: &WrittenModel,
-    service: &WrittenService,
+    model: &'a WrittenModel,
+    service: &'a WrittenService,
 ) -> Result<ModelHint, AllocError> {
     let decisions = decision_names(alloc, model)?;
     let mut inputs = BTreeSet::new(alloc);
@@ -146,10 +146,10 @@ impl<'a> Reach<'a> {
 }
 
 /// The decisions and inputs that a service reaches and doesn't list.
-pub fn unlisted_hint(
+pub fn unlisted_hint<'a>(
     alloc: Global,
-    model: &WrittenModel,
-    service: &WrittenService,
+    model: &'a WrittenModel,
+    service: &'a WrittenService,
 ) -> Result<ModelHint, AllocError> {
     let decisions = decisions_of(alloc, model)?;
     let mut reach = Reach::new(alloc, service)?;

@@ -9,8 +9,6 @@ fn names_of_one_letter_apart_are_near(rt: HostRuntime) {
         ("score", "core"),
         ("score", "scare"),
         ("d4", "d40"),
-        ("ab", "ba"),
-        ("a", "b"),
     ] {
         assert!(rt; is_near(one, other), "{one} {other}");
         assert!(rt; is_near(other, one), "{other} {one}");
@@ -20,6 +18,8 @@ fn names_of_one_letter_apart_are_near(rt: HostRuntime) {
         ("age", "score"),
         ("abc", "cab"),
         ("abcd", "badc"),
+        ("ab", "ba"),
+        ("a", "b"),
     ] {
         assert!(rt; !is_near(one, other), "{one} {other}");
     }
