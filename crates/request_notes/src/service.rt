@@ -50,20 +50,35 @@ fn is_within(number: f64) -> bool {
     number < PAST_RANGE && number > -PAST_RANGE
 }
 
-/// Whether a number with a point or an exponent stands in JSON: in the value itself, or in its parts down to a depth.
-fn has_float(json: &Value, depth: usize) -> bool {
-    if depth == 0 {
-        return false;
-    }
+/// Whether a number with a point or an exponent stands in JSON: in the value itself, or in its parts.
+#[cycle(floats)]
+fn has_float(json: &Value) -> bool {
     match json {
-        Value::Array(members) => members.iter().any(|member| has_float(member, depth - 1)),
-        Value::Object(entries) => entries.values().any(|entry| has_float(entry, depth - 1)),
+        Value::Array(members) => member_has_float(members),
+        Value::Object(entries) => entry_has_float(entries),
         _ => is_float(json),
     }
 }
 
-/// How deep JSON is that was read from a text.
-const MOST_DEPTH: usize = 128;
+#[cycle(floats)]
+fn member_has_float(members: &[Value]) -> bool {
+    for member in members {
+        if has_float(member) {
+            return true;
+        }
+    }
+    false
+}
+
+#[cycle(floats)]
+fn entry_has_float(entries: &Map<String, Value>) -> bool {
+    for (_, entry) in entries.iter() {
+        if has_float(entry) {
+            return true;
+        }
+    }
+    false
+}
 
 /// Why JSON is no value; None where it is one.
 fn reason_of(alloc: Global, json: &Value) -> Result<Option<ValueReason>, AllocError> {
@@ -71,7 +86,7 @@ fn reason_of(alloc: Global, json: &Value) -> Result<Option<ValueReason>, AllocEr
         Ok(_) => Ok(None),
         Err(ValueFault::Memory) => Err(AllocError),
         Err(ValueFault::Size) => Ok(Some(ValueReason::Size)),
-        Err(ValueFault::Number) if has_float(json, MOST_DEPTH) => Ok(Some(ValueReason::Decimal)),
+        Err(ValueFault::Number) if has_float(json) => Ok(Some(ValueReason::Decimal)),
         Err(ValueFault::Number) => Ok(Some(ValueReason::Range)),
     }
 }

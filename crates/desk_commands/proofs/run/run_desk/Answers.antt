@@ -14,14 +14,14 @@ returns-clause-taken g c taken none =
     let one : c.explain.result ≡ 1 = c.explain.ensures.starved (c.in-Err.ensures.taken (rw c.as_slice.ensures.value taken)) in
     inl (one, refl {a = c.args.reader.now}, c.explain.ensures.silent (not_zero _ one), c.explain.ensures.memory one)
 
-some_of : {X P : Type 0} (o : Option X) → P → IfSome o (λ _. P)
+some_of : {X : Type 0} {P : X → Type 0} (o : Option X) → ((x : X) → P x) → IfSome o P
 some_of None p = tt
-some_of (Some x) p = p
+some_of (Some x) p = p x
 
 pub returns-clause-checks : goal.returns-clause-checks
 returns-clause-checks g c taken =
     let one : c.explain.result ≡ 1 = c.explain.ensures.starved (c.in-Err.ensures.taken (rw c.as_slice.ensures.value taken)) in
-    some_of _ (inl (one, refl {a = c.args.reader.now}, c.explain.ensures.silent (not_zero _ one), c.explain.ensures.memory one))
+    some_of _ (λ rows. inl (one, refl {a = c.args.reader.now}, c.explain.ensures.silent (not_zero _ one), c.explain.ensures.memory one))
 
 status_among : (kinds : Kinds) (k : ErrorKind) (status : ℕ) → (k ≡ OutOfMemory → status ≡ 1) → (status ≡ 1) ⊎ (status ≡ status_of_kind k)
     → (k ≡ OutOfMemory) ⊎ IsAmong k kinds → IsStatusOf kinds status
