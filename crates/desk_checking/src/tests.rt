@@ -19,6 +19,12 @@ const JSON: CheckOptions = CheckOptions {
     requests: false,
 };
 
+/// As lines of JSON, of a model and requests.
+const JSON_REQUESTS: CheckOptions = CheckOptions {
+    json: true,
+    requests: true,
+};
+
 /// For people, of a model and requests.
 const REQUESTS: CheckOptions = CheckOptions {
     json: false,
@@ -276,4 +282,16 @@ line 4: what stands under a is no value: a number in it has a point or an expone
     let fault = Some(ModelFault::Syntax);
     let due = "syntax: no JSON text\n  line 1, column 1\n";
     is_said(&rt, alloc, REQUESTS, "{\n}", fault, due)
+}
+
+#[test]
+fn notes_stand_on_lines_of_json(rt: HostRuntime) -> Result<(), Fail> {
+    let alloc = rt.alloc();
+    let model = model(alloc, "", "")?;
+    let text = format!(in alloc; "{model}\n{{\"service\":\"sum\",\"inputs\":{{}}}}\nx")?;
+    let due = r#"{"lawful":true,"inputs":["a","b"],"decisions":[],"services":[]}
+{"line":2,"note":"service","name":"sum","said":"\"sum\" is no service"}
+{"line":3,"note":"syntax","said":"no JSON text"}
+"#;
+    is_said(&rt, alloc, JSON_REQUESTS, text.as_str(), None, due)
 }
