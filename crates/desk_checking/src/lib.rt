@@ -1,12 +1,22 @@
 //! `desk check`: reads one model, and says whether it is lawful, or each place where it is wrong.
 #![tactic(auto)]
 
+mod cut;
+mod faults;
+mod helping;
 mod input;
 mod model_check;
+mod options;
+mod place_words;
+mod quoted;
 mod report;
+mod requests;
+mod sentence;
 mod subject;
 mod summary;
 #[cfg(test)]
 mod tests;
+mod told;
 
 pub use model_check::check;
+pub use options::CheckOptions;

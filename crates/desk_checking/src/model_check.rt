@@ -1,135 +1,186 @@
 //! Checks one model.
 ghost use Rattle.std.specs.Prelude.{◌≡◌, ◌≢◌, ◌<◌, ◌-◌, ◌^◌, ℕ, List, length, None, Some, Err, OnOk, IfOk, IfErr};
-ghost use Rattle.std.specs.Io.KnownBytes.{Consumes, IsAtEnd};
+ghost use Rattle.std.specs.Io.KnownBytes.{Appends, Consumes, IsAtEnd};
 ghost use Rattle.serde_json.specs.Read.{read};
 ghost use Rattle.serde_json.specs.View.{view};
 ghost use Rattle.dmn_plan.specs.ReadModel.{read_model};
 ghost use Rattle.desk_checking.specs.Checked.{IsFirstFault, fault_in};
-ghost use Rattle.desk_checking.specs.Input.{most_bytes};
+ghost use Rattle.desk_checking.specs.Input.{model_text, most_bytes};
+ghost use Rattle.desk_checking.specs.Told.{Begins};
 
+use crate::cut::model_and_rest;
+use crate::faults::tell_faults;
+use crate::helping::Subject;
 use crate::input::read_whole;
-use crate::report::{add_told, fault_alone};
+use crate::options::CheckOptions;
+use crate::quoted::Members;
+use crate::report::Report;
+use crate::requests::request_notes;
 use crate::subject::subject;
-use crate::summary::summary;
+use crate::summary::{json_summary, summary};
+use crate::told::told_of;
 use desk_lines::{FrontFault, Sink, Source, write_all};
-use dmn_check::{
-    Told, bad_services, cycles, refused_tables, repeated_names, too_large, unfit_rules,
-    unknown_names, unlawful_names, unread_texts,
-};
 use dmn_form::{WrittenModel, read_form};
 use dmn_plan::{ModelFault, Plan};
-use serde_json::Value;
+use serde_json::{Error, Value};
 use std::alloc::{AllocError, Global};
 
-/// What a model was found to be, and what is said of it.
+/// What a model was found to be, and what is told of it behind how that begins.
 #[derive(Drop)]
 struct Checked {
     fault: Option<ModelFault>,
-    text: String,
+    rest: String,
 }
 
-/// Adds what is told of a fault of the requirements, which is not known where a needed name is unknown.
-fn add_if_known(
+/// What is told of a model with this fault, behind its word.
+fn said_of_fault(
     alloc: Global,
-    text: &mut String,
+    is_json: bool,
     json: &Value,
     fault: ModelFault,
-    told: &Option<Told>,
-) -> Result<(), AllocError> {
-    match told {
-        Some(told) => add_told(alloc, text, json, fault, told),
-        None => Ok(()),
-    }
-}
-
-/// The places of all faults that are told with places, the faults in their order.
-fn places(alloc: Global, json: &Value, model: &WrittenModel) -> Result<String, AllocError> {
-    let mut text = String::new(alloc);
-    let names = unlawful_names(alloc, model)?;
-    add_told(alloc, &mut text, json, ModelFault::Name, &names)?;
-    let names = repeated_names(alloc, model)?;
-    add_told(alloc, &mut text, json, ModelFault::Twice, &names)?;
-    let texts = unread_texts(alloc, model)?;
-    add_told(alloc, &mut text, json, ModelFault::Expression, &texts)?;
-    let tables = refused_tables(alloc, model)?;
-    add_told(alloc, &mut text, json, ModelFault::Table, &tables)?;
-    let rules = unfit_rules(alloc, model)?;
-    add_told(alloc, &mut text, json, ModelFault::Table, &rules)?;
-    let names = unknown_names(alloc, model)?;
-    add_told(alloc, &mut text, json, ModelFault::Unknown, &names)?;
-    let decisions = cycles(alloc, model)?;
-    add_if_known(alloc, &mut text, json, ModelFault::Cycle, &decisions)?;
-    let services = bad_services(alloc, model)?;
-    add_if_known(alloc, &mut text, json, ModelFault::Service, &services)?;
-    let large = too_large(alloc, model)?;
-    add_told(alloc, &mut text, json, ModelFault::Large, &large)?;
-    Ok(text)
-}
-
-/// What is said of a model with this fault.
-fn said_of_fault(alloc: Global, json: &Value, fault: ModelFault) -> Result<String, AllocError> {
-    let mut text = fault_alone(alloc, fault)?;
+) -> Result<String, AllocError> {
+    let mut report = Report::new(alloc, is_json);
+    report.begin(fault)?;
     let Some(model) = read_form(alloc, json)? else {
-        return Ok(text);
+        return Ok(report.text);
     };
-    let places = places(alloc, json, &model)?;
-    text.push_str(&places)?;
+    let subject = Subject {
+        json,
+        model: &model,
+    };
+    tell_faults(alloc, &mut report, subject)?;
+    Ok(report.text)
+}
+
+/// What is told of a lawful model by its parts, and of the lines of requests behind it.
+fn said_of_model(
+    alloc: Global,
+    is_json: bool,
+    model: &WrittenModel,
+    lines: &[u8],
+) -> Result<String, AllocError> {
+    let mut text = if is_json {
+        json_summary(alloc, model)?
+    } else {
+        summary(alloc, model)?
+    };
+    let notes = request_notes(alloc, is_json, model, lines)?;
+    text.push_str(&notes)?;
     Ok(text)
 }
 
-/// What is said of a lawful model.
-fn said_of_lawful(alloc: Global, json: &Value) -> Result<String, AllocError> {
+/// What is told of a lawful model, behind that it is lawful.
+fn said_of_lawful(
+    alloc: Global,
+    is_json: bool,
+    json: &Value,
+    lines: &[u8],
+) -> Result<String, AllocError> {
     match read_form(alloc, json)? {
-        Some(model) => summary(alloc, &model),
+        Some(model) => said_of_model(alloc, is_json, &model, lines),
         None => Ok(String::new(alloc)),
     }
 }
 
-/// What the model of a JSON value is.
-fn check_json(alloc: Global, json: &Value) -> Result<Checked, AllocError>
+/// What is told of a text that is no JSON, behind the fault's word: the line and the column at which it stops.
+fn said_of_syntax(alloc: Global, is_json: bool, error: &Error) -> Result<String, AllocError> {
+    let mut report = Report::new(alloc, is_json);
+    report.begin(ModelFault::Syntax)?;
+    let (line, column) = (error.line(), error.column());
+    if line == 0 {
+        return Ok(report.text);
+    }
+    if !is_json {
+        write!(report.text, "  line {line}, column {column}\n")?;
+        return Ok(report.text);
+    }
+    let mut members = Members::new(alloc);
+    members.add_text("fault", "syntax")?;
+    members.add_number("line", line)?;
+    members.add_number("column", column)?;
+    let line = members.into_line()?;
+    report.text.push_str(&line)?;
+    Ok(report.text)
+}
+
+/// What the model of a JSON value is, with these lines of requests behind it.
+fn check_json(
+    alloc: Global,
+    is_json: bool,
+    json: &Value,
+    lines: &[u8],
+) -> Result<Checked, AllocError>
     ensures { IfOk result (λ c. c.fault ≡ fault_in (read_model (view json.now))) }
 {
     match Plan::of(alloc, json) {
         Ok(_) => Ok(Checked {
             fault: None,
-            text: said_of_lawful(alloc, json)?,
+            rest: said_of_lawful(alloc, is_json, json, lines)?,
         }),
         Err(ModelFault::Memory) => Err(AllocError),
         Err(fault) => Ok(Checked {
             fault: Some(fault),
-            text: said_of_fault(alloc, json, fault)?,
+            rest: said_of_fault(alloc, is_json, json, fault)?,
         }),
     }
 }
 
-/// What the model in a text is.
+/// What the model in a text is, with these lines of requests behind it.
 #[tactic(auto, using(crate::proofs::FirstFaults::first_of_value, crate::proofs::FirstFaults::none_of_text))]
-fn check_text(alloc: Global, text: &[u8]) -> Result<Checked, AllocError>
+fn check_text(
+    alloc: Global,
+    is_json: bool,
+    text: &[u8],
+    lines: &[u8],
+) -> Result<Checked, AllocError>
     ensures { IfOk result (λ c. IsFirstFault text.now c.fault) }
 {
     match Value::from_slice(alloc, text) {
-        Ok(json) => check_json(alloc, subject(&json)),
+        Ok(json) => check_json(alloc, is_json, subject(&json), lines),
         Err(error) if error.is_memory() => Err(AllocError),
-        Err(_) => Ok(Checked {
+        Err(error) => Ok(Checked {
             fault: Some(ModelFault::Syntax),
-            text: fault_alone(alloc, ModelFault::Syntax)?,
+            rest: said_of_syntax(alloc, is_json, &error)?,
         }),
     }
 }
 
-/// Reads one model from the reader to its end, as JSON of any layout: what stands under the key `model`, or the whole. Writes what it is: where
-/// it is lawful its inputs, decisions and services, and otherwise its first fault, and the places of each fault that is told with
-/// places, at most 100 of each. The result is the first fault; None where the model is lawful.
+/// Writes what is told of a model.
+fn write_told<W: Sink>(
+    alloc: Global,
+    is_json: bool,
+    checked: &Checked,
+    writer: &mut W,
+) -> Result<(), FrontFault>
+    requires counts { W.faults writer.old < 2 ^ 64 - 1 }
+    ensures told { OnOk result ((told : List ℕ) × Appends (W.contents writer.old) (W.contents writer.new) told × Begins is_json checked.now.fault told) }
+    ensures only { IfErr result (λ e. (e ≢ FrontFault.Long) × (e ≢ FrontFault.Read)) }
+    ensures fault { (result ≡ Err FrontFault.Write) → W.faults writer.old < W.faults writer.new }
+    ensures counts { OnOk result (W.faults writer.new ≡ W.faults writer.old) }
+{
+    let told = told_of(alloc, is_json, checked.fault, &checked.rest)?;
+    write_all(writer, told.as_bytes())
+}
+
+/// Reads from the reader to its end, and checks the model that stands there as JSON: all of it, of any layout, or its first line
+/// where the options say that lines of requests stand behind it. The model is what stands under the key `model`, or the whole.
 ///
-/// The faults are those of `replay`, but that `Long` comes once more than 64 MiB came.
+/// Writes what the model is, as lines of JSON where the options say so. What is written begins with the word of its first fault, or
+/// with that it is lawful. Behind a fault come the places of each fault that is told with places, at most 100 of each; behind
+/// that it is lawful its inputs, decisions and services, and what is odd in the lines of requests.
+///
+/// The result is the first fault; None where the model is lawful. The faults of the run are those of `replay`, but that `Long`
+/// comes once more than 64 MiB came.
 pub fn check<R: Source, W: Sink>(
     alloc: Global,
+    options: CheckOptions,
     reader: &mut R,
     writer: &mut W,
 ) -> Result<Option<ModelFault>, FrontFault>
     requires read_counts { R.faults reader.old < 2 ^ 64 - 1 }
     requires write_counts { W.faults writer.old < 2 ^ 64 - 1 }
-    ensures fault { IfOk result (λ f. (text : List ℕ) × Consumes (R.remaining reader.old) (R.remaining reader.new) text × IsAtEnd (R.remaining reader.new) × IsFirstFault text f) }
+    ensures fault { IfOk result (λ f. (text : List ℕ) × Consumes (R.remaining reader.old) (R.remaining reader.new) text × IsAtEnd (R.remaining reader.new) × IsFirstFault (model_text options text) f) }
+    ensures told { IfOk result (λ f. (told : List ℕ) × Appends (W.contents writer.old) (W.contents writer.new) told × Begins options.json f told) }
     ensures long { (result ≡ Err FrontFault.Long) → (text : List ℕ) × Consumes (R.remaining reader.old) (R.remaining reader.new) text × (most_bytes < length text) }
     ensures read_only_at_fault { (result ≡ Err FrontFault.Read) → R.faults reader.old < R.faults reader.new }
     ensures write_only_at_fault { (result ≡ Err FrontFault.Write) → W.faults writer.old < W.faults writer.new }
@@ -137,7 +188,8 @@ pub fn check<R: Source, W: Sink>(
     ensures writes { OnOk result (W.faults writer.new ≡ W.faults writer.old) }
 {
     let text = read_whole(alloc, reader)?;
-    let checked = check_text(alloc, &text)?;
-    write_all(writer, checked.text.as_bytes())?;
+    let (model, lines) = model_and_rest(options, &text);
+    let checked = check_text(alloc, options.json, model, lines)?;
+    write_told(alloc, options.json, &checked, writer)?;
     Ok(checked.fault)
 }

@@ -1,119 +1,193 @@
-//! What is said of a model that is wrong, for people to read.
-use dmn_check::{Finding, Mistake, Place, ServiceFault, Step, TextKind, Told};
+//! What is said of a model that is wrong, for people to read and as lines of JSON.
+
+use crate::helping::{Help, Subject, help_of, text_at};
+use crate::place_words::{names_text, place_words};
+use crate::quoted::{Members, quoted};
+use crate::sentence::sentence;
+use desk_reports::model_word;
+use dmn_check::{Finding, Told};
 use dmn_plan::ModelFault;
-use dmn_table::TableFault;
-use serde_json::Value;
+use feel_hints::Stop;
 use std::alloc::{AllocError, Global};
 
-/// The word of a fault, as the lines of `desk serve` have it.
-fn word(fault: ModelFault) -> &'static str {
-    match fault {
-        ModelFault::Syntax => "syntax",
-        ModelFault::Shape => "shape",
-        ModelFault::Name => "name",
-        ModelFault::Twice => "twice",
-        ModelFault::Expression => "expression",
-        ModelFault::Table => "table",
-        ModelFault::Unknown => "unknown",
-        ModelFault::Cycle => "cycle",
-        ModelFault::Service => "service",
-        ModelFault::Large => "large",
-        ModelFault::Memory => "memory",
-    }
+/// What is told of a model, as far as it was told.
+#[derive(Drop)]
+pub(crate) struct Report {
+    alloc: Global,
+    /// Whether it is lines of JSON.
+    is_json: bool,
+    /// What was told.
+    pub text: String,
 }
 
-/// Why a service doesn't fit the decisions, in words.
-fn service_sentence(fault: ServiceFault) -> &'static str {
-    match fault {
-        ServiceFault::NoOutput => "no output",
-        ServiceFault::Stranger => "a name that is no decision, or in inputData no input",
-        ServiceFault::Shared => "an input decision that is also an output or encapsulated",
-        ServiceFault::Unlisted => "it reaches a decision or an input that it doesn't list",
+/// Adds where a text's reading stops, and what is due there.
+fn add_stop(alloc: Global, text: &mut String, feel: &str, stop: &Stop) -> Result<(), AllocError> {
+    if stop.is_too_deep() {
+        text.push_str("    it is over 64 levels deep\n")?;
+        return Ok(());
     }
+    let found = stop.found(feel);
+    if found.is_empty() {
+        text.push_str("    stops at the end: ")?;
+    } else {
+        let found = quoted(alloc, found)?;
+        let character = stop.character(feel);
+        write!(text, "    stops at {found} (character {character}): ")?;
+    }
+    let due = stop.due_text(alloc)?;
+    write!(text, "{due} is due\n")?;
+    Ok(())
 }
 
-/// What is wrong, in words.
-fn sentence(mistake: Mistake) -> &'static str {
-    match mistake {
-        Mistake::Name => "no name",
-        Mistake::Twice => "a name that stands before in its list",
-        Mistake::Expression(TextKind::Expression) => "no expression",
-        Mistake::Expression(TextKind::UnaryTests) => "no unary tests",
-        Mistake::Expression(TextKind::Literal) => "no literal",
-        Mistake::Table(TableFault::Hit) => "the hit policy is none",
-        Mistake::Table(TableFault::Columns) => {
-            "no output column, one name twice, or a rule whose entries are not as many as the columns"
-        }
-        Mistake::Rule => "not as many entries as the table has columns",
-        Mistake::Table(TableFault::Operator) => "C+, C<, C> and C# stand over one output column",
-        Mistake::Unknown => "neither an input nor a decision",
-        Mistake::Cycle => "needs itself, directly or through others",
-        Mistake::Service(fault) => service_sentence(fault),
-        Mistake::Large => "more than 1,000 decisions",
+/// Adds lines about what helps.
+fn add_help(alloc: Global, text: &mut String, feel: &str, help: &Help) -> Result<(), AllocError> {
+    if let Some(stop) = &help.stop {
+        add_stop(alloc, text, feel, stop)?;
     }
+    if let Some(hint) = &help.hint {
+        write!(text, "    {hint}\n")?;
+    }
+    Ok(())
 }
 
-/// The part of a JSON value that a place leads to.
-fn part_at<'a>(json: &'a Value, place: &Place) -> Option<&'a Value> {
-    let mut part = json;
-    for step in &place.steps {
-        part = match step {
-            Step::Key(key) => part.get(key.text())?,
-            Step::Index(index) => part.get(*index)?,
-        };
-    }
-    Some(part)
-}
-
-/// Adds a line about a finding: where it is, what it is, and the text that stands there.
-fn add_finding(
+/// Adds lines about a finding: where it is, what it is, the text that stands there, and what helps.
+fn add_text(
     alloc: Global,
     text: &mut String,
-    json: &Value,
+    subject: Subject<'_>,
     finding: &Finding,
 ) -> Result<(), AllocError> {
     text.push_str("  ")?;
-    let path = finding.place.path(alloc)?;
-    if !path.is_empty() {
-        text.push_str(&path)?;
-        text.push_str(": ")?;
+    let words = place_words(alloc, subject.json, &finding.place)?;
+    if !words.is_empty() {
+        write!(text, "{words}: ")?;
     }
     text.push_str(sentence(finding.mistake))?;
-    if let Some(Value::String(part)) = part_at(json, &finding.place) {
-        text.push_str(": ")?;
-        let shown = Value::String(String::from_str(alloc, part.as_str())?).to_string(alloc)?;
-        text.push_str(&shown)?;
+    let feel = text_at(subject.json, &finding.place);
+    if !names_text(&finding.place)
+        && let Some(feel) = feel
+    {
+        let shown = quoted(alloc, feel)?;
+        write!(text, ": {shown}")?;
     }
     text.push_str("\n")?;
-    Ok(())
+    let help = help_of(alloc, subject, finding)?;
+    add_help(alloc, text, feel.unwrap_or(""), &help)
 }
 
-/// Adds what is told of a fault: its word with how many places have it, and a line for each of the first 100.
-pub(crate) fn add_told(
+/// The line of JSON about a finding.
+fn json_line(
     alloc: Global,
-    text: &mut String,
-    json: &Value,
+    subject: Subject<'_>,
     fault: ModelFault,
-    told: &Told,
-) -> Result<(), AllocError> {
-    if told.count == 0 {
-        return Ok(());
+    finding: &Finding,
+) -> Result<String, AllocError> {
+    let help = help_of(alloc, subject, finding)?;
+    let pointer = finding.place.pointer(alloc)?;
+    let words = place_words(alloc, subject.json, &finding.place)?;
+    let mut members = Members::new(alloc);
+    members.add_text("fault", model_word(fault))?;
+    members.add_text("pointer", &pointer)?;
+    members.add_text("place", &words)?;
+    members.add_text("said", sentence(finding.mistake))?;
+    members.add_some("text", text_at(subject.json, &finding.place))?;
+    if let Some(stop) = &help.stop {
+        members.add_number("stop", stop.at)?;
+        members.add_text("due", &stop.due_text(alloc)?)?;
     }
-    let places = if told.count == 1 { "place" } else { "places" };
-    write!(text, "{}: {} {places}\n", word(fault), told.count)?;
-    for finding in &told.findings {
-        add_finding(alloc, text, json, finding)?;
-    }
-    let more = told.count - told.findings.len().min(told.count);
-    if more > 0 {
-        write!(text, "  and {more} more\n")?;
-    }
-    Ok(())
+    members.add_some("hint", help.hint.as_ref().map(|hint| hint.as_str()))?;
+    members.into_line()
 }
 
-/// What is said of a fault of which no place is told.
-pub(crate) fn fault_alone(alloc: Global, fault: ModelFault) -> Result<String, AllocError> {
-    let mut text = String::new(alloc);
-    write!(text, "{}: {fault}\n", word(fault))?;
-    Ok(text)
+impl Report {
+    /// Before anything is told.
+    pub(crate) fn new(alloc: Global, is_json: bool) -> Report {
+        Report {
+            alloc,
+            is_json,
+            text: String::new(alloc),
+        }
+    }
+
+    /// Tells the first fault, behind its word.
+    pub(crate) fn begin(&mut self, fault: ModelFault) -> Result<(), AllocError> {
+        if !self.is_json {
+            write!(self.text, "{fault}")?;
+        }
+        self.text.push_str("\n")?;
+        Ok(())
+    }
+
+    /// Tells a finding.
+    fn tell(
+        &mut self,
+        subject: Subject<'_>,
+        fault: ModelFault,
+        finding: &Finding,
+    ) -> Result<(), AllocError> {
+        if !self.is_json {
+            return add_text(self.alloc, &mut self.text, subject, finding);
+        }
+        let line = json_line(self.alloc, subject, fault, finding)?;
+        self.text.push_str(&line)?;
+        Ok(())
+    }
+
+    /// Tells how many places have a fault, for people.
+    fn tell_count(&mut self, fault: ModelFault, count: usize) -> Result<(), AllocError> {
+        if self.is_json {
+            return Ok(());
+        }
+        let places = if count == 1 { "place" } else { "places" };
+        let word = model_word(fault);
+        write!(self.text, "{word}: {count} {places}\n")?;
+        Ok(())
+    }
+
+    /// Tells how many places of a fault are not told.
+    fn tell_more(&mut self, fault: ModelFault, more: usize) -> Result<(), AllocError> {
+        if more == 0 {
+            return Ok(());
+        }
+        if !self.is_json {
+            write!(self.text, "  and {more} more\n")?;
+            return Ok(());
+        }
+        let mut members = Members::new(self.alloc);
+        members.add_text("fault", model_word(fault))?;
+        members.add_number("more", more)?;
+        let line = members.into_line()?;
+        self.text.push_str(&line)?;
+        Ok(())
+    }
+
+    /// Tells a fault: how many places have it, and the first 100.
+    pub(crate) fn tell_all(
+        &mut self,
+        subject: Subject<'_>,
+        fault: ModelFault,
+        told: &Told,
+    ) -> Result<(), AllocError> {
+        if told.count == 0 {
+            return Ok(());
+        }
+        self.tell_count(fault, told.count)?;
+        for finding in &told.findings {
+            self.tell(subject, fault, finding)?;
+        }
+        self.tell_more(fault, told.count.saturating_sub(told.findings.len()))
+    }
+
+    /// Tells a fault of the requirements, which is not known where a needed name is unknown.
+    pub(crate) fn tell_known(
+        &mut self,
+        subject: Subject<'_>,
+        fault: ModelFault,
+        told: &Option<Told>,
+    ) -> Result<(), AllocError> {
+        match told {
+            Some(told) => self.tell_all(subject, fault, told),
+            None => Ok(()),
+        }
+    }
 }

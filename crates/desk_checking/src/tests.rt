@@ -1,16 +1,45 @@
 //! What is said of models.
 use crate::model_check::check;
+use crate::options::CheckOptions;
 use desk_lines::{Counted, FrontFault};
 use dmn_plan::ModelFault;
 use std::alloc::Global;
 use std::process::Abort;
 use std::test::Fail;
 
+/// For people, of a model alone.
+const PLAIN: CheckOptions = CheckOptions {
+    json: false,
+    requests: false,
+};
+
+/// As lines of JSON, of a model alone.
+const JSON: CheckOptions = CheckOptions {
+    json: true,
+    requests: false,
+};
+
+/// As lines of JSON, of a model and requests.
+const JSON_REQUESTS: CheckOptions = CheckOptions {
+    json: true,
+    requests: true,
+};
+
+/// For people, of a model and requests.
+const REQUESTS: CheckOptions = CheckOptions {
+    json: false,
+    requests: true,
+};
+
 /// What is said of the model in a text, and its first fault.
-fn said(alloc: Global, text: &[u8]) -> Result<(Option<ModelFault>, Vec<u8>), FrontFault> {
+fn said(
+    alloc: Global,
+    options: CheckOptions,
+    text: &[u8],
+) -> Result<(Option<ModelFault>, Vec<u8>), FrontFault> {
     let mut reader = Counted::new(text);
     let mut writer = Counted::new(Vec::new(alloc));
-    let fault = check(alloc, &mut reader, &mut writer)?;
+    let fault = check(alloc, options, &mut reader, &mut writer)?;
     Ok((fault, writer.inner))
 }
 
@@ -22,6 +51,21 @@ fn text_of(answer: Vec<u8>) -> Result<String, Fail> {
     }
 }
 
+/// Whether this is said of an input, and this its first fault.
+fn is_said(
+    rt: &impl Abort,
+    alloc: Global,
+    options: CheckOptions,
+    text: &str,
+    fault: Option<ModelFault>,
+    due: &str,
+) -> Result<(), Fail> {
+    let (first, answer) = said(alloc, options, text.as_bytes())?;
+    assert_eq!(rt; first, fault, "{text}");
+    assert_eq!(rt; text_of(answer)?.as_str(), due, "{text}");
+    Ok(())
+}
+
 /// Whether this is said of a model, behind the line of its first fault.
 fn is_told(
     rt: &impl Abort,
@@ -30,7 +74,7 @@ fn is_told(
     fault: ModelFault,
     told: &str,
 ) -> Result<(), Fail> {
-    let (first, answer) = said(alloc, text.as_bytes())?;
+    let (first, answer) = said(alloc, PLAIN, text.as_bytes())?;
     assert_eq!(rt; first, Some(fault), "{text}");
     let answer = text_of(answer)?;
     let (_, places) = answer.split_once('\n').ok_or("no line")?;
@@ -65,47 +109,65 @@ services:
   limit_of(age, score)
 ";
 
+const JSON_SUMMARY: &str =
+    "{\"lawful\":true,\"inputs\":[\"age\",\"score\"],\"decisions\":[{\"name\":\"risk\",\"kind\":\"table\"},{\"name\":\"limit\",\"kind\":\"expression\"}],\"services\":[{\"name\":\"limit_of\",\"parameters\":[\"age\",\"score\"]}]}\n";
+
 #[test]
 fn a_lawful_model_is_told_in_short(rt: HostRuntime) -> Result<(), Fail> {
     let alloc = rt.alloc();
-    let (fault, answer) = said(alloc, LAWFUL.as_bytes())?;
-    assert_eq!(rt; fault, None);
-    assert_eq!(rt; text_of(answer)?.as_str(), SUMMARY);
+    is_said(&rt, alloc, PLAIN, LAWFUL, None, SUMMARY)?;
     let line = format!(in alloc; r#"{{"model":{LAWFUL}}}"#)?;
-    let (fault, answer) = said(alloc, line.as_bytes())?;
-    assert_eq!(rt; fault, None);
-    assert_eq!(rt; text_of(answer)?.as_str(), SUMMARY);
-    Ok(())
+    is_said(&rt, alloc, PLAIN, line.as_str(), None, SUMMARY)?;
+    is_said(&rt, alloc, JSON, LAWFUL, None, JSON_SUMMARY)
 }
 
 #[test]
 fn what_has_no_form_is_told_alone(rt: HostRuntime) -> Result<(), Fail> {
     let alloc = rt.alloc();
-    let (fault, answer) = said(alloc, b"{")?;
-    assert_eq!(rt; fault, Some(ModelFault::Syntax));
-    assert_eq!(rt; text_of(answer)?.as_str(), "syntax: no JSON text\n");
-    let (fault, answer) = said(alloc, br#"{"inputs":[]}"#)?;
-    assert_eq!(rt; fault, Some(ModelFault::Shape));
-    assert_eq!(rt;
-        text_of(answer)?.as_str(),
-        "shape: not the form of a model\n"
-    );
-    Ok(())
+    let fault = Some(ModelFault::Syntax);
+    let due = "syntax: no JSON text\n  line 2, column 2\n";
+    is_said(&rt, alloc, PLAIN, "{\n}}", fault, due)?;
+    let due = "{\"fault\":\"syntax\"}\n{\"fault\":\"syntax\",\"line\":2,\"column\":1}\n";
+    is_said(&rt, alloc, JSON, "{\n]", fault, due)?;
+    let fault = Some(ModelFault::Shape);
+    let due = "shape: not the form of a model\n";
+    is_said(&rt, alloc, PLAIN, r#"{"inputs":[]}"#, fault, due)
 }
+
+const TABLE: &str =
+    r#"{"name":"d","needs":["a"],"expr":{"table":{"hit":"F","inputs":["a","a +"],"outputs":[{"name":"x","values":["\"u\"","v"],"default":"1 2"}],"rules":[{"when":["1","-"],"then":["1"]},{"when":[">= 5 and < 7","-"],"then":["2"]}]}}}"#;
 
 #[test]
 fn each_text_without_a_reading_is_told(rt: HostRuntime) -> Result<(), Fail> {
     let alloc = rt.alloc();
-    let table =
-        r#"{"name":"d","needs":["a"],"expr":{"table":{"hit":"F","inputs":["a","a +"],"outputs":[{"name":"x","values":["\"u\"","v"],"default":"1 2"}],"rules":[{"when":["1","-"],"then":["1"]},{"when":[">= 5 and < 7","-"],"then":["2"]}]}}}"#;
-    let text = model(alloc, table, "")?;
+    let text = model(alloc, TABLE, "")?;
     let told = r#"expression: 4 places
-  decisions[0].expr.table.inputs[1]: no expression: "a +"
-  decisions[0].expr.table.outputs[0].values[1]: no literal: "v"
-  decisions[0].expr.table.outputs[0].default: no expression: "1 2"
-  decisions[0].expr.table.rules[1].when[0]: no unary tests: ">= 5 and < 7"
+  decisions[0] "d", input 2 "a +": no expression
+    stops at the end: a value is due
+  decisions[0] "d", output 1 "x", value 2: no literal: "v"
+    stops at "v" (character 1): a literal is due
+    a text stands in quotes: "v"
+  decisions[0] "d", output 1 "x", default: no expression: "1 2"
+    stops at "2" (character 3): the end is due
+  decisions[0] "d", rule 2, input 1 "a": no unary tests: ">= 5 and < 7"
+    stops at "and" (character 6): "," or the end is due
+    write [5..7)
 "#;
     is_told(&rt, alloc, text.as_str(), ModelFault::Expression, told)
+}
+
+#[test]
+fn places_stand_on_lines_of_json(rt: HostRuntime) -> Result<(), Fail> {
+    let alloc = rt.alloc();
+    let text = model(alloc, TABLE, "")?;
+    let told = r#"{"fault":"expression"}
+{"fault":"expression","pointer":"/decisions/0/expr/table/inputs/1","place":"decisions[0] \"d\", input 2 \"a +\"","said":"no expression","text":"a +","stop":3,"due":"a value"}
+{"fault":"expression","pointer":"/decisions/0/expr/table/outputs/0/values/1","place":"decisions[0] \"d\", output 1 \"x\", value 2","said":"no literal","text":"v","stop":0,"due":"a literal","hint":"a text stands in quotes: \"v\""}
+{"fault":"expression","pointer":"/decisions/0/expr/table/outputs/0/default","place":"decisions[0] \"d\", output 1 \"x\", default","said":"no expression","text":"1 2","stop":2,"due":"the end"}
+{"fault":"expression","pointer":"/decisions/0/expr/table/rules/1/when/0","place":"decisions[0] \"d\", rule 2, input 1 \"a\"","said":"no unary tests","text":">= 5 and < 7","stop":5,"due":"\",\" or the end","hint":"write [5..7)"}
+"#;
+    let fault = Some(ModelFault::Expression);
+    is_said(&rt, alloc, JSON, text.as_str(), fault, told)
 }
 
 #[test]
@@ -115,8 +177,10 @@ fn texts_within_boxes_are_told(rt: HostRuntime) -> Result<(), Fail> {
         r#"{"name":"d","needs":[],"expr":{"list":["1",{"context":[{"name":"p","expr":"1"},{"name":"q","expr":"("}],"result":"2 +"}]}}"#;
     let text = model(alloc, boxes, "")?;
     let told = r#"expression: 2 places
-  decisions[0].expr.list[1].context[1].expr: no expression: "("
-  decisions[0].expr.list[1].result: no expression: "2 +"
+  decisions[0] "d", member 2, entry "q": no expression: "("
+    stops at the end: a value is due
+  decisions[0] "d", member 2, result: no expression: "2 +"
+    stops at the end: a value is due
 "#;
     is_told(&rt, alloc, text.as_str(), ModelFault::Expression, told)
 }
@@ -128,17 +192,44 @@ fn later_faults_are_told_too(rt: HostRuntime) -> Result<(), Fail> {
         r#"{"name":"d d","needs":["a","a","c"],"expr":"1 +"},{"name":"e","needs":[],"expr":{"table":{"hit":"X","inputs":[],"outputs":[{"name":"x"}],"rules":[]}}}"#;
     let text = model(alloc, decisions, "")?;
     let told = r#"name: 1 place
-  decisions[0].name: no name: "d d"
+  decisions[0] "d d": no name
+    a name has letters, digits and _ alone: d_d
 twice: 1 place
-  decisions[0].needs[1]: a name that stands before in its list: "a"
+  decisions[0] "d d", need 2 "a": a name that stands before in its list
 expression: 1 place
-  decisions[0].expr: no expression: "1 +"
+  decisions[0] "d d": no expression: "1 +"
+    stops at the end: a value is due
 table: 1 place
-  decisions[1].expr.table: the hit policy is none
+  decisions[1] "e", table: the hit policy is none
 unknown: 1 place
-  decisions[0].needs[2]: neither an input nor a decision: "c"
+  decisions[0] "d d", need 3 "c": neither an input nor a decision
 "#;
     is_told(&rt, alloc, text.as_str(), ModelFault::Name, told)
+}
+
+#[test]
+fn rings_rules_and_services_are_told(rt: HostRuntime) -> Result<(), Fail> {
+    let alloc = rt.alloc();
+    let decisions =
+        r#"{"name":"d","needs":["e"],"expr":"1"},{"name":"e","needs":["a","d"],"expr":{"table":{"hit":"U","inputs":["a"],"outputs":[{"name":"x"}],"rules":[{"when":["-","-"],"then":["1"]}]}}}"#;
+    let services =
+        r#"{"name":"s","outputs":["d"],"encapsulated":[],"inputDecisions":[],"inputData":[]}"#;
+    let text = model(alloc, decisions, services)?;
+    let told = r#"table: 1 place
+  decisions[1] "e", table: no output column, one name twice, or a rule whose entries are not as many as the columns
+table: 1 place
+  decisions[1] "e", rule 1: not as many entries as the table has columns
+    it has 2 input entries for 1 columns, and 1 output entries for 1
+cycle: 2 places
+  decisions[0] "d": needs itself, directly or through others
+    each needs the next: d, e, d
+  decisions[1] "e": needs itself, directly or through others
+    each needs the next: e, d, e
+service: 1 place
+  services[0] "s": it reaches a decision or an input that it doesn't list
+    reached, and not listed: e, a
+"#;
+    is_told(&rt, alloc, text.as_str(), ModelFault::Table, told)
 }
 
 #[test]
@@ -153,10 +244,54 @@ fn many_places_are_counted(rt: HostRuntime) -> Result<(), Fail> {
     }
     let list = format!(in alloc; r#"{{"name":"d","needs":[],"expr":{{"list":[{members}]}}}}"#)?;
     let text = model(alloc, list.as_str(), "")?;
-    let (fault, answer) = said(alloc, text.as_bytes())?;
+    let (fault, answer) = said(alloc, PLAIN, text.as_bytes())?;
     assert_eq!(rt; fault, Some(ModelFault::Expression));
     let answer = text_of(answer)?;
     assert!(rt; answer.as_str().ends_with("\n  and 50 more\n"));
-    assert_eq!(rt; answer.as_str().lines().count(), 103);
+    assert_eq!(rt; answer.as_str().lines().count(), 203);
+    let (_, answer) = said(alloc, JSON, text.as_bytes())?;
+    let answer = text_of(answer)?;
+    assert!(rt;
+        answer
+            .as_str()
+            .ends_with("\n{\"fault\":\"expression\",\"more\":50}\n")
+    );
     Ok(())
+}
+
+#[test]
+fn requests_behind_a_model_have_notes(rt: HostRuntime) -> Result<(), Fail> {
+    let alloc = rt.alloc();
+    let decision = r#"{"name":"d","needs":["a"],"expr":"a"}"#;
+    let service =
+        r#"{"name":"s","outputs":["d"],"encapsulated":[],"inputDecisions":[],"inputData":["a"]}"#;
+    let model = model(alloc, decision, service)?;
+    let text = format!(in alloc;
+        "{model}\n{{\"client\":\"c\",\"service\":\"s\",\"inputs\":{{\"a\":1}}}}\n\n{{\"client\":\"c\",\"service\":\"s\",\"inputs\":{{\"x\":1,\"a\":1.5}}}}\n"
+    )?;
+    let due = "lawful
+inputs: a, b
+decisions:
+  d: expression
+services:
+  s(a)
+line 4: \"x\" is no parameter of s
+line 4: what stands under a is no value: a number in it has a point or an exponent, and numbers are whole
+";
+    is_said(&rt, alloc, REQUESTS, text.as_str(), None, due)?;
+    let fault = Some(ModelFault::Syntax);
+    let due = "syntax: no JSON text\n  line 1, column 1\n";
+    is_said(&rt, alloc, REQUESTS, "{\n}", fault, due)
+}
+
+#[test]
+fn notes_stand_on_lines_of_json(rt: HostRuntime) -> Result<(), Fail> {
+    let alloc = rt.alloc();
+    let model = model(alloc, "", "")?;
+    let text = format!(in alloc; "{model}\n{{\"service\":\"sum\",\"inputs\":{{}}}}\nx")?;
+    let due = r#"{"lawful":true,"inputs":["a","b"],"decisions":[],"services":[]}
+{"line":2,"note":"service","name":"sum","said":"\"sum\" is no service"}
+{"line":3,"note":"syntax","said":"no JSON text"}
+"#;
+    is_said(&rt, alloc, JSON_REQUESTS, text.as_str(), None, due)
 }

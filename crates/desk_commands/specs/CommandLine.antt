@@ -1,13 +1,14 @@
 -- The command line of the program.
-use Rattle.std.specs.Prelude.{◌≡◌, ◌≤◌, ℕ, List, [], ◌∷◌, Option, Some, None, IfSome, codes, option_and_then, true, if◌then◌else◌}
+use Rattle.std.specs.Prelude.{◌≡◌, ◌≤◌, ℕ, List, [], ◌∷◌, Option, Some, None, IfSome, Bool, codes, option_and_then, true, false, if◌then◌else◌}
 use Rattle.std.specs.Str.{bytes_eq}
 use Rattle.clap.specs.Words.{App, Row, Rule, Text, IsUnsignedIn, first_of, new_app, new_rule, subcommand_of, takes, with_rule, with_subcommand}
 use Rattle.clap.specs.Faults.{fault_of}
 use Rattle.clap.specs.Kinds.{Kinds}
-use Rattle.clap.specs.declared.builder.action.ArgAction.TheVariants.{Set}
+use Rattle.clap.specs.declared.builder.action.ArgAction.TheVariants.{Set, SetTrue}
 use Rattle.clap.specs.declared.builder.value_parser.ValueParser.TheVariants.{Unsigned}
 use Rattle.std.specs.Str.Parse.{digits_value, without_leading_plus}
 use Rattle.desk_serving.specs.declared.options.Options.{Options}
+use Rattle.desk_checking.specs.declared.options.CheckOptions.{CheckOptions}
 
 -- an option that is a number from 1 to `most`, and `usual` where it is left out
 abbrev pub number_option : Text → Text → ℕ → Rule
@@ -19,6 +20,21 @@ number_option name usual most = record (new_rule name) {
   parser = Some (Unsigned 1 most);
 }
 
+-- an option that is given or left out
+abbrev pub flag : Text → Rule
+flag name = record (new_rule name) {
+  long = Some name;
+  action = Some SetTrue;
+}
+
+-- `check [--json] [--requests]`
+abbrev pub check_app : App
+check_app = with_rule (with_rule (new_app (codes "check")) (flag (codes "json"))) (flag (codes "requests"))
+
+-- `explain [--text]`
+abbrev pub explain_app : App
+explain_app = with_rule (new_app (codes "explain")) (flag (codes "text"))
+
 -- `serve [--clients N] [--workers N] [--capacity N]`
 abbrev pub serve_app : App
 serve_app = with_rule (with_rule (with_rule (new_app (codes "serve")) (number_option (codes "clients") (codes "8") 64))
@@ -29,7 +45,7 @@ abbrev pub desk_command : App
 desk_command = with_subcommand (with_subcommand (with_subcommand (with_subcommand (record {
   top = record (new_app (codes "desk")).top { has_version = true; subcommand_required = true };
   subs = [];
-}) (new_app (codes "replay")).top) serve_app.top) (new_app (codes "check")).top) (new_app (codes "explain")).top
+}) (new_app (codes "replay")).top) serve_app.top) check_app.top) explain_app.top
 
 -- `clap` takes these words
 abbrev pub IsCommand : List Text → Type 0
@@ -46,11 +62,11 @@ rows_under name found = if bytes_eq found.0 name then Some found.1 else None
 abbrev pub serve_rows : List Text → Option (List Row)
 serve_rows words = option_and_then (rows_under (codes "serve")) (subcommand_of desk_command words)
 
--- what the words say of `check`, where they name it: it has no options
+-- what the words say of the options of `check`, where they name it
 abbrev pub check_rows : List Text → Option (List Row)
 check_rows words = option_and_then (rows_under (codes "check")) (subcommand_of desk_command words)
 
--- what the words say of `explain`, where they name it: it has no options
+-- what the words say of the option of `explain`, where they name it
 abbrev pub explain_rows : List Text → Option (List Row)
 explain_rows words = option_and_then (rows_under (codes "explain")) (subcommand_of desk_command words)
 
@@ -65,3 +81,13 @@ pub record AreOptionsOf (rows : List Row) (options : Options) : Type 0 where
   pub clients : IsNumberOf 64 (first_of (codes "clients") rows) options.clients
   pub workers : IsNumberOf 8 (first_of (codes "workers") rows) options.workers
   pub capacity : IsNumberOf 4096 (first_of (codes "capacity") rows) options.capacity
+
+-- whether an option that is given or left out is given: `clap` says so by the text `true`
+abbrev pub is_true : Option Text → Bool
+is_true None = false
+is_true (Some text) = bytes_eq text (codes "true")
+
+-- the options of `check` as the words give them
+pub record AreCheckOptionsOf (rows : List Row) (options : CheckOptions) : Type 0 where
+  pub json : options.json ≡ is_true (first_of (codes "json") rows)
+  pub requests : options.requests ≡ is_true (first_of (codes "requests") rows)

@@ -1,5 +1,5 @@
 -- What the program's status says, and what it tells of it.
-use Rattle.std.specs.Prelude.{◌≡◌, ◌≢◌, ◌⊎◌, ◌<◌, ◌≤◌, ◌+◌, ◌-◌, ◌^◌, ◌++◌, ℕ, List, [], codes, Option, Some, None, Result, Ok, Err, OnOk, IfOk, IfErr, length}
+use Rattle.std.specs.Prelude.{◌≡◌, ◌≢◌, ◌⊎◌, ◌<◌, ◌≤◌, ◌+◌, ◌-◌, ◌^◌, ◌++◌, ℕ, List, [], codes, Bool, true, false, Option, Some, None, Result, Ok, Err, OnOk, IfOk, IfErr, length}
 use Rattle.std.specs.Io.KnownBytes.{Appends, Consumes, IsAtEnd}
 use Rattle.clap.specs.Kinds.{Kinds, IsAmong}
 use Rattle.clap.specs.declared.error.kind.ErrorKind.{ErrorKind}
@@ -7,12 +7,15 @@ use Rattle.clap.specs.declared.error.kind.ErrorKind.TheVariants as kind
 use Rattle.desk_lines.specs.Fault.{fault_word}
 use Rattle.dmn_plan.specs.declared.fault.ModelFault.{ModelFault}
 use Rattle.desk_checking.specs.Checked.{IsFirstFault}
-use Rattle.desk_checking.specs.Input.{most_bytes}
+use Rattle.desk_checking.specs.Input.{model_text, most_bytes}
+use Rattle.desk_checking.specs.Told.{Begins}
+use Rattle.desk_checking.specs.declared.options.CheckOptions.{CheckOptions}
 use Rattle.clap.specs.Words.{Row}
 use Rattle.desk_serving.specs.Served.{Served, ServedInPart}
 use Rattle.desk_lines.specs.Talk.{EndsAs, Replays}
 use Rattle.desk_replaying.specs.Script.{Script}
 use Rattle.desk_explaining.specs.Explained as explained
+use Rattle.desk_explaining.specs.Printed.{AnyLines}
 use Rattle.desk_lines.specs.Lines.{ended, max_input}
 use Rattle.desk_lines.specs.declared.fault.FrontFault.{FrontFault}
 use Rattle.desk_lines.specs.declared.fault.FrontFault.TheVariants as front
@@ -79,8 +82,10 @@ module _ {R W : Type 0} (remaining : R → Option (List ℕ)) (failures came : R
   abbrev pub Replayed : Result (Unit {0}) FrontFault → Type 0
   Replayed end = Ran Script Script end
 
-  abbrev pub Explained : Result (Unit {0}) FrontFault → Type 0
-  Explained end = Ran explained.Script explained.Script end
+  -- in texts for people, of which nothing is said, or in lines
+  abbrev pub Explained : Bool → Result (Unit {0}) FrontFault → Type 0
+  Explained true end = Ran AnyLines AnyLines end
+  Explained false end = Ran explained.Script explained.Script end
 
   -- with so many lanes
   abbrev pub ServedBy : ℕ → Result (Unit {0}) FrontFault → Type 0
@@ -91,11 +96,12 @@ module _ {R W : Type 0} (remaining : R → Option (List ℕ)) (failures came : R
   RanAs None end = Replayed end
   RanAs (Some rows) end = (options : Options) × AreOptionsOf rows options × ServedBy options.clients end
 
--- A model was read from a reader and checked: what its first fault is, if it has one, was found of all that the reader gave; or
--- a fault ended the command.
-module _ {R W : Type 0} (remaining : R → Option (List ℕ)) (failures : R → ℕ) (reader reader' : R) (write_failures : W → ℕ) (writer writer' : W) where
-  pub record Checked (found : Result (Option ModelFault) FrontFault) : Type 0 where
-    pub fault : IfOk found (λ f. (text : List ℕ) × Consumes (remaining reader) (remaining reader') text × IsAtEnd (remaining reader') × IsFirstFault text f)
+-- A model was read from a reader and checked: what its first fault is, if it has one, was found of all that the reader gave, or of the
+-- first line, and is told first; or a fault ended the command.
+module _ {R W : Type 0} (remaining : R → Option (List ℕ)) (failures : R → ℕ) (reader reader' : R) (contents : W → Option (List ℕ)) (write_failures : W → ℕ) (writer writer' : W) where
+  pub record Checked (options : CheckOptions) (found : Result (Option ModelFault) FrontFault) : Type 0 where
+    pub fault : IfOk found (λ f. (text : List ℕ) × Consumes (remaining reader) (remaining reader') text × IsAtEnd (remaining reader') × IsFirstFault (model_text options text) f)
+    pub told : IfOk found (λ f. (told : List ℕ) × Appends (contents writer) (contents writer') told × Begins options.json f told)
     pub long : (found ≡ Err front.Long) → (text : List ℕ) × Consumes (remaining reader) (remaining reader') text × (most_bytes < length text)
     pub read_only_at_fault : (found ≡ Err front.Read) → failures reader < failures reader'
     pub write_only_at_fault : (found ≡ Err front.Write) → write_failures writer < write_failures writer'

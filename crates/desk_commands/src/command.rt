@@ -2,7 +2,7 @@
 ghost use Rattle.std.specs.Prelude.{◌≡◌, IfOk, IfErr, Some, codes, false, map, string_bytes};
 ghost use Rattle.clap.specs.Words.{app_of, kind_of, new_app, rule_of, subcommand_of, subcommand_rows_of, with_rule};
 ghost use Rattle.clap.specs.Kinds.{FailsBy};
-ghost use Rattle.desk_commands.specs.CommandLine.{desk_command, number_option, serve_app, IsCommand, kinds_of};
+ghost use Rattle.desk_commands.specs.CommandLine.{check_app, explain_app, desk_command, flag, number_option, serve_app, IsCommand, kinds_of};
 
 use crate::help;
 use crate::version::VERSION;
@@ -32,6 +32,18 @@ fn number_option<'a>(
         .help(help)
 }
 
+/// An option that is given or left out.
+fn flag<'a>(alloc: Global, name: &'a str, help: &'a str) -> Arg<'a>
+    ensures rule { rule_of result ≡ flag name.entry.now }
+    ensures local { result.global ≡ false }
+    ensures help { result.help ≡ Some help.entry }
+{
+    Arg::new(alloc, name)
+        .long(name)
+        .action(ArgAction::SetTrue)
+        .help(help)
+}
+
 /// Adds an option that is no global one.
 fn with_option<'a>(command: Command<'a>, option: Arg<'a>) -> Result<Command<'a>, AllocError>
     requires { option.global ≡ false }
@@ -49,22 +61,28 @@ fn replay<'a>(alloc: Global) -> Command<'a>
         .after_help(help::REPLAY)
 }
 
-/// The command `check`.
-fn check<'a>(alloc: Global) -> Command<'a>
-    ensures { app_of result ≡ new_app (codes "check") }
+/// The command `check`, with its options.
+fn check<'a>(alloc: Global) -> Result<Command<'a>, AllocError>
+    ensures { IfOk result (λ command. app_of command ≡ check_app) }
 {
-    Command::new(alloc, "check")
+    let json = "What is told is lines of JSON";
+    let requests = "Behind the model, which is line 1, stand lines of requests";
+    let check = Command::new(alloc, "check")
         .about(help::CHECK_ABOUT)
-        .after_help(help::CHECK)
+        .after_help(help::CHECK);
+    let check = with_option(check, flag(alloc, "json", json))?;
+    with_option(check, flag(alloc, "requests", requests))
 }
 
-/// The command `explain`.
-fn explain<'a>(alloc: Global) -> Command<'a>
-    ensures { app_of result ≡ new_app (codes "explain") }
+/// The command `explain`, with its option.
+fn explain<'a>(alloc: Global) -> Result<Command<'a>, AllocError>
+    ensures { IfOk result (λ command. app_of command ≡ explain_app) }
 {
-    Command::new(alloc, "explain")
+    let text = "What is told is text for people to read";
+    let explain = Command::new(alloc, "explain")
         .about(help::EXPLAIN_ABOUT)
-        .after_help(help::EXPLAIN)
+        .after_help(help::EXPLAIN);
+    with_option(explain, flag(alloc, "text", text))
 }
 
 /// The command `serve`, with its options.
@@ -90,6 +108,8 @@ fn command<'a>(alloc: Global) -> Result<Command<'a>, AllocError>
     ensures { IfOk result (λ command. app_of command ≡ desk_command) }
 {
     let serve = serve(alloc)?;
+    let check = check(alloc)?;
+    let explain = explain(alloc)?;
     let desk = Command::new(alloc, "desk")
         .version(VERSION)
         .about(help::DESK_ABOUT)
@@ -97,8 +117,8 @@ fn command<'a>(alloc: Global) -> Result<Command<'a>, AllocError>
         .subcommand_required(true);
     desk.subcommand(replay(alloc))?
         .subcommand(serve)?
-        .subcommand(check(alloc))?
-        .subcommand(explain(alloc))
+        .subcommand(check)?
+        .subcommand(explain)
 }
 
 /// Reads the words of a command line, the program's name first. Words that name no command are refused with the error

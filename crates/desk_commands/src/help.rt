@@ -82,25 +82,34 @@ docs/LINES.md in the repository has every line and its answers, docs/MODEL.md wh
 /// What `check` reads and says.
 pub const CHECK: &str =
     r#"Standard input is one model in JSON, of any layout: the model itself, or {"model":M} as in a line of
-serve.
+serve. With --requests it is the first line, and behind it stand lines of requests as in serve.
 
 Of a lawful model it tells the inputs, the decisions with their kinds, and the services with their
-parameters. Otherwise it tells the first fault, and for each fault but syntax, shape and service the
-places where the model has it, at most 100 of each:
+parameters, and then what is odd in the requests: a name that is no parameter, a parameter that is
+missing, an unknown service, and what is no value. Otherwise it tells the first fault, and for each
+fault the places where the model has it, at most 100 of each. Of a text it tells where its reading
+stops and what could stand there, and what to write in its place, where that is known:
 
   expression: a text has no reading
   expression: 1 place
-    decisions[3].expr.table.rules[8].when[2]: no unary tests: ">= 5 and < 7"
+    decisions[3] "discount", rule 9, input 3 "age": no unary tests: ">= 5 and < 7"
+      stops at "and" (character 6): "," or the end is due
+      write [5..7)
 
-The first decision, rule and entry are number 0.
+Decisions, services and the model's inputs have their index in brackets: the first is number 0, as in
+JSON. Rules, inputs and outputs of a table, members, values and needs are numbered from 1.
 
-Example:
+Examples:
   desk check < examples/loan.json
+  desk check --json < examples/loan.json
+  desk check --requests < examples/clients.jsonl
 
-The status is 0 where the model is lawful, 3 where it has a fault, and 1 where a fault ended the run.
-Standard error then has one word: read, write, long (more than 64 MiB came) or memory.
+The status is 0 where the model is lawful, whatever the requests are, 3 where it has a fault, and 1
+where a fault ended the run. Standard error then has one word: read, write, long (more than 64 MiB
+came) or memory.
 
-docs/MODEL.md in the repository says what a model is and what each fault means."#;
+docs/MODEL.md in the repository says what a model is and what each fault means, docs/LINES.md what
+the lines of --json are."#;
 
 /// The lines of `explain`.
 pub const EXPLAIN: &str = r#"Each line is one JSON object, as those of serve:
@@ -115,8 +124,9 @@ table the values of its inputs and the rules that hit, of a list its members, of
 Lines that close or resize a client are skipped, with a note. Clients have no mailboxes here: there are
 no tickets, and no client has too many requests.
 
-Example:
+Examples:
   desk explain < examples/clients.jsonl
+  desk explain --text < examples/explain/loan.jsonl
 
 The status is 0 at the end of the input, and 1 where a fault ended the run. Standard error then has
 one word: read, write, long (more than 2^40 bytes came) or memory.

@@ -1,10 +1,10 @@
-//! The options of `serve`, as the words of the command line give them.
-ghost use Rattle.std.specs.Prelude.{◌≤◌};
+//! The options of `serve`, `check` and `explain`, as the words of the command line give them.
+ghost use Rattle.std.specs.Prelude.{◌≡◌, ◌≤◌, codes};
 ghost use Rattle.clap.specs.Words.{first_of, found_of, rows_of};
-ghost use Rattle.desk_commands.specs.CommandLine.{AreOptionsOf, IsNumberOf};
+ghost use Rattle.desk_commands.specs.CommandLine.{AreCheckOptionsOf, AreOptionsOf, IsNumberOf, is_true};
 
 use clap::ArgMatches;
-use desk_front::Options;
+use desk_front::{CheckOptions, Options};
 
 /// The number that an option has. `clap` has refused all texts but those of the numbers from 1 to the most.
 fn number_of(matches: &ArgMatches<'_>, name: &str, most: u32) -> u32
@@ -29,4 +29,31 @@ pub fn options_of(matches: &ArgMatches<'_>) -> Options
         workers: number_of(matches, "workers", 8),
         capacity: number_of(matches, "capacity", 4096),
     }
+}
+
+/// Whether an option that is given or left out is given.
+fn is_given(matches: &ArgMatches<'_>, name: &str) -> bool
+    ensures { result ≡ is_true (first_of name.now (rows_of (found_of matches.now))) }
+{
+    let Some(text) = matches.get_str(name) else {
+        return false;
+    };
+    text == "true"
+}
+
+/// The options of `check`.
+pub fn check_options_of(matches: &ArgMatches<'_>) -> CheckOptions
+    ensures { AreCheckOptionsOf (rows_of (found_of matches.now)) result }
+{
+    CheckOptions {
+        json: is_given(matches, "json"),
+        requests: is_given(matches, "requests"),
+    }
+}
+
+/// Whether `explain` tells texts for people.
+pub fn is_text(matches: &ArgMatches<'_>) -> bool
+    ensures { result ≡ is_true (first_of (codes "text") (rows_of (found_of matches.now))) }
+{
+    is_given(matches, "text")
 }

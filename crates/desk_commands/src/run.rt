@@ -1,18 +1,22 @@
 //! What the program does with its words, as a function of them and of its streams.
-ghost use Rattle.std.specs.Prelude.{◌≡◌, ◌≢◌, ◌⊎◌, ◌<◌, ◌-◌, ◌^◌, ℕ, List, [], None, Option, Result, IfSome, map, string_bytes};
+ghost use Rattle.std.specs.Prelude.{◌≡◌, ◌≢◌, ◌⊎◌, ◌<◌, ◌-◌, ◌^◌, ℕ, List, [], None, Option, Result, IfSome, map, string_bytes, codes, true};
 ghost use Rattle.std.specs.IoError.{error_kind};
-ghost use Rattle.clap.specs.Words.{kind_of};
+ghost use Rattle.clap.specs.Words.{first_of, kind_of};
 ghost use Rattle.desk_lines.specs.declared.fault.FrontFault.{FrontFault};
+ghost use Rattle.desk_checking.specs.declared.options.CheckOptions.{CheckOptions};
 ghost use Rattle.lanes.specs.Made.{fault_in};
 ghost use Rattle.dmn_plan.specs.declared.fault.ModelFault.{ModelFault};
-ghost use Rattle.desk_commands.specs.CommandLine.{IsCommand, check_rows, explain_rows, kinds_of, serve_rows};
+ghost use Rattle.desk_commands.specs.CommandLine.{AreCheckOptionsOf, IsCommand, check_rows, explain_rows, is_true, kinds_of, serve_rows};
 ghost use Rattle.desk_commands.specs.Status.{Checked, Explained, RanAs, Replayed, ServedBy, IsTold, IsStatusOf, status_of, status_of_kind, fault_line, no_utf8_line, end_text, status_of_check, check_end_text};
 
 use crate::command::read_words;
-use crate::options::options_of;
+use crate::options::{check_options_of, is_text, options_of};
 use clap::Error;
 use clap::error::ErrorKind;
-use desk_front::{FrontFault, Options, Sink, Source, check, explain, replay, serve, write_all};
+use desk_front::{
+    CheckOptions, FrontFault, Options, Sink, Source, check, explain, explain_in_text, replay,
+    serve, write_all,
+};
 use lanes::OpenGate;
 use std::alloc::Global;
 use std::io::{self, ErrorKind as IoKind};
@@ -79,8 +83,8 @@ fn run_replay<R: Source, W: Sink, F: Sink>(
     }
 }
 
-/// Explains the answers to the lines of the reader, and tells the fault that ends it, if one does.
-fn run_explain<R: Source, W: Sink, F: Sink>(
+/// Explains the answers to the lines of the reader in texts for people, and tells the fault that ends it, if one does.
+fn run_explain_in_text<R: Source, W: Sink, F: Sink>(
     alloc: Global,
     reader: &mut R,
     writer: &mut W,
@@ -89,8 +93,30 @@ fn run_explain<R: Source, W: Sink, F: Sink>(
     requires read_counts { R.faults reader.old < 2 ^ 64 - 1 }
     requires write_counts { W.faults writer.old < 2 ^ 64 - 1 }
     requires fault_counts { F.faults faults.old < 2 ^ 64 - 1 }
-    ensures { (end : Result (Unit {0}) FrontFault) × Explained R.remaining R.faults R.came reader.old reader.new W.contents W.faults writer.old writer.new end × (result ≡ status_of end) × IsTold F.contents F.faults faults.old faults.new (end_text end) }
+    ensures { (end : Result (Unit {0}) FrontFault) × Explained R.remaining R.faults R.came reader.old reader.new W.contents W.faults writer.old writer.new true end × (result ≡ status_of end) × IsTold F.contents F.faults faults.old faults.new (end_text end) }
 {
+    match explain_in_text(alloc, reader, writer) {
+        Ok(()) => DONE,
+        Err(fault) => tell_fault(fault, faults),
+    }
+}
+
+/// Explains the answers to the lines of the reader, and tells the fault that ends it, if one does.
+fn run_explain<R: Source, W: Sink, F: Sink>(
+    alloc: Global,
+    in_text: bool,
+    reader: &mut R,
+    writer: &mut W,
+    faults: &mut F,
+) -> u8
+    requires read_counts { R.faults reader.old < 2 ^ 64 - 1 }
+    requires write_counts { W.faults writer.old < 2 ^ 64 - 1 }
+    requires fault_counts { F.faults faults.old < 2 ^ 64 - 1 }
+    ensures { (end : Result (Unit {0}) FrontFault) × Explained R.remaining R.faults R.came reader.old reader.new W.contents W.faults writer.old writer.new in_text end × (result ≡ status_of end) × IsTold F.contents F.faults faults.old faults.new (end_text end) }
+{
+    if in_text {
+        return run_explain_in_text(alloc, reader, writer, faults);
+    }
     match explain(alloc, reader, writer) {
         Ok(()) => DONE,
         Err(fault) => tell_fault(fault, faults),
@@ -121,6 +147,7 @@ fn run_serve<T: Threads + Wait + Sync, R: Source, W: Sink, F: Sink>(
 /// Checks the model of the reader, and tells the fault that ends it, if one does.
 fn run_check<R: Source, W: Sink, F: Sink>(
     alloc: Global,
+    options: CheckOptions,
     reader: &mut R,
     writer: &mut W,
     faults: &mut F,
@@ -128,9 +155,9 @@ fn run_check<R: Source, W: Sink, F: Sink>(
     requires read_counts { R.faults reader.old < 2 ^ 64 - 1 }
     requires write_counts { W.faults writer.old < 2 ^ 64 - 1 }
     requires fault_counts { F.faults faults.old < 2 ^ 64 - 1 }
-    ensures { (found : Result (Option ModelFault) FrontFault) × Checked R.remaining R.faults reader.old reader.new W.faults writer.old writer.new found × (result ≡ status_of_check found) × IsTold F.contents F.faults faults.old faults.new (check_end_text found) }
+    ensures { (found : Result (Option ModelFault) FrontFault) × Checked R.remaining R.faults reader.old reader.new W.contents W.faults writer.old writer.new options found × (result ≡ status_of_check found) × IsTold F.contents F.faults faults.old faults.new (check_end_text found) }
 {
-    match check(alloc, reader, writer) {
+    match check(alloc, options, reader, writer) {
         Ok(None) => DONE,
         Ok(Some(_)) => WRONG_MODEL,
         Err(fault) => tell_fault(fault, faults),
@@ -187,12 +214,12 @@ pub fn run_desk<T: Threads + Wait + Sync, R: Source, W: Sink, F: Sink>(
     ensures taken { IsCommand (map string_bytes words.items) → check_rows (map string_bytes words.items) ≡ None → explain_rows (map string_bytes words.items) ≡ None →
         ((result ≡ 1) × (reader.new ≡ reader.old) × (writer.new ≡ writer.old) × IsTold F.contents F.faults faults.old faults.new (fault_line FrontFault.Memory))
         ⊎ ((end : Result (Unit {0}) FrontFault) × RanAs R.remaining R.faults R.came reader.old reader.new W.contents W.faults writer.old writer.new (serve_rows (map string_bytes words.items)) end × (result ≡ status_of end) × IsTold F.contents F.faults faults.old faults.new (end_text end)) }
-    ensures checks { IsCommand (map string_bytes words.items) → IfSome (check_rows (map string_bytes words.items)) (λ _.
+    ensures checks { IsCommand (map string_bytes words.items) → IfSome (check_rows (map string_bytes words.items)) (λ rows.
         ((result ≡ 1) × (reader.new ≡ reader.old) × (writer.new ≡ writer.old) × IsTold F.contents F.faults faults.old faults.new (fault_line FrontFault.Memory))
-        ⊎ ((found : Result (Option ModelFault) FrontFault) × Checked R.remaining R.faults reader.old reader.new W.faults writer.old writer.new found × (result ≡ status_of_check found) × IsTold F.contents F.faults faults.old faults.new (check_end_text found))) }
-    ensures explains { IsCommand (map string_bytes words.items) → IfSome (explain_rows (map string_bytes words.items)) (λ _.
+        ⊎ ((options : CheckOptions) × (found : Result (Option ModelFault) FrontFault) × AreCheckOptionsOf rows options × Checked R.remaining R.faults reader.old reader.new W.contents W.faults writer.old writer.new options found × (result ≡ status_of_check found) × IsTold F.contents F.faults faults.old faults.new (check_end_text found))) }
+    ensures explains { IsCommand (map string_bytes words.items) → IfSome (explain_rows (map string_bytes words.items)) (λ rows.
         ((result ≡ 1) × (reader.new ≡ reader.old) × (writer.new ≡ writer.old) × IsTold F.contents F.faults faults.old faults.new (fault_line FrontFault.Memory))
-        ⊎ ((end : Result (Unit {0}) FrontFault) × Explained R.remaining R.faults R.came reader.old reader.new W.contents W.faults writer.old writer.new end × (result ≡ status_of end) × IsTold F.contents F.faults faults.old faults.new (end_text end))) }
+        ⊎ ((end : Result (Unit {0}) FrontFault) × Explained R.remaining R.faults R.came reader.old reader.new W.contents W.faults writer.old writer.new (is_true (first_of (codes "text") rows)) end × (result ≡ status_of end) × IsTold F.contents F.faults faults.old faults.new (end_text end))) }
     ensures refused { kinds_of (map string_bytes words.items) ≢ [] → IsStatusOf (kinds_of (map string_bytes words.items)) result × (reader.new ≡ reader.old) }
     ensures memory { kinds_of (map string_bytes words.items) ≢ [] → result ≡ 1 → IsTold F.contents F.faults faults.old faults.new (fault_line FrontFault.Memory) }
     ensures wrong { kinds_of (map string_bytes words.items) ≢ [] → result ≡ 2 → (text : List ℕ) × IsTold F.contents F.faults faults.old faults.new text }
@@ -204,9 +231,9 @@ pub fn run_desk<T: Threads + Wait + Sync, R: Source, W: Sink, F: Sink>(
         Ok(matches) => match matches.subcommand_matches("serve") {
             Some(found) => run_serve(alloc, rt, options_of(found), reader, writer, faults),
             None => match matches.subcommand_matches("check") {
-                Some(_) => run_check(alloc, reader, writer, faults),
+                Some(found) => { run_check(alloc, check_options_of(found), reader, writer, faults) }
                 None => match matches.subcommand_matches("explain") {
-                    Some(_) => run_explain(alloc, reader, writer, faults),
+                    Some(found) => run_explain(alloc, is_text(found), reader, writer, faults),
                     None => run_replay(alloc, reader, writer, faults),
                 },
             },

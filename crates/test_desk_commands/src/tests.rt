@@ -170,6 +170,32 @@ fn checks_its_model(rt: HostRuntime) -> Result<(), Fail> {
 }
 
 #[test]
+fn checks_as_its_options_say(rt: HostRuntime) -> Result<(), Fail> {
+    let alloc = rt.alloc();
+    let lines =
+        b"{\"inputs\":[],\"decisions\":[],\"services\":[]}\n{\"service\":\"s\",\"inputs\":{}}\n".as_slice();
+    let left = run(&rt, alloc, &["desk", "check"], lines)?;
+    assert!(rt; left.status == 3 && left.shows("syntax: no JSON text\n"));
+    let left = run(&rt, alloc, &["desk", "check", "--requests"], lines)?;
+    let said = b"lawful\ninputs: \ndecisions:\nservices:\nline 2: \"s\" is no service\n";
+    assert!(rt; left.is(0, said.as_slice(), b"".as_slice()));
+    let left = run(
+        &rt,
+        alloc,
+        &["desk", "check", "--json", "--requests"],
+        lines,
+    )?;
+    let said =
+        b"{\"lawful\":true,\"inputs\":[],\"decisions\":[],\"services\":[]}\n{\"line\":2,\"note\":\"service\",\"name\":\"s\",\"said\":\"\\\"s\\\" is no service\"}\n";
+    assert!(rt; left.is(0, said.as_slice(), b"".as_slice()));
+    let left = run(&rt, alloc, &["desk", "check", "--json"], lines)?;
+    let said = b"{\"fault\":\"syntax\"}\n{\"fault\":\"syntax\",\"line\":2,\"column\":1}\n";
+    assert!(rt; left.is(3, said.as_slice(), b"".as_slice()));
+    assert!(rt; run(&rt, alloc, &["desk", "check", "--json=1"], lines)?.is_refused());
+    Ok(())
+}
+
+#[test]
 fn a_fault_is_told_by_its_word(rt: HostRuntime) -> Result<(), Fail> {
     let alloc = rt.alloc();
     let left = run(&rt, alloc, &["desk", "replay"], Broken)?;

@@ -14,19 +14,19 @@ returns-clause-taken g c taken none other =
     let one : c.tell_of_command.result ≡ 1 = c.tell_of_command.ensures.starved (c.in-Err.ensures.taken (rw c.as_slice.ensures.value taken)) in
     inl (one, refl {a = c.args.reader.now}, c.tell_of_command.ensures.silent (not_zero _ one), c.tell_of_command.ensures.memory one)
 
-some_of : {X P : Type 0} (o : Option X) → P → IfSome o (λ _. P)
+some_of : {X : Type 0} {P : X → Type 0} (o : Option X) → ((x : X) → P x) → IfSome o P
 some_of None p = tt
-some_of (Some x) p = p
+some_of (Some x) p = p x
 
 pub returns-clause-checks : goal.returns-clause-checks
 returns-clause-checks g c taken =
     let one : c.tell_of_command.result ≡ 1 = c.tell_of_command.ensures.starved (c.in-Err.ensures.taken (rw c.as_slice.ensures.value taken)) in
-    some_of _ (inl (one, refl {a = c.args.reader.now}, c.tell_of_command.ensures.silent (not_zero _ one), c.tell_of_command.ensures.memory one))
+    some_of _ (λ rows. inl (one, refl {a = c.args.reader.now}, c.tell_of_command.ensures.silent (not_zero _ one), c.tell_of_command.ensures.memory one))
 
 pub returns-clause-explains : goal.returns-clause-explains
 returns-clause-explains g c taken =
     let one : c.tell_of_command.result ≡ 1 = c.tell_of_command.ensures.starved (c.in-Err.ensures.taken (rw c.as_slice.ensures.value taken)) in
-    some_of _ (inl (one, refl {a = c.args.reader.now}, c.tell_of_command.ensures.silent (not_zero _ one), c.tell_of_command.ensures.memory one))
+    some_of _ (λ rows. inl (one, refl {a = c.args.reader.now}, c.tell_of_command.ensures.silent (not_zero _ one), c.tell_of_command.ensures.memory one))
 
 status_among : (kinds : Kinds) (k : ErrorKind) (status : ℕ) → (k ≡ OutOfMemory → status ≡ 1) → (status ≡ 1) ⊎ (status ≡ status_of_kind k)
     → (k ≡ OutOfMemory) ⊎ IsAmong k kinds → IsStatusOf kinds status

@@ -1,0 +1,16 @@
+-- What is written of a model begins with.
+use Rattle.std.specs.Prelude.{◌≡◌, ◌++◌, ℕ, List, Bool, true, false, Option, Some, None, codes}
+use Rattle.dmn_plan.specs.declared.fault.ModelFault.{ModelFault}
+use Rattle.desk_reports.specs.Words.{fault_name}
+use Rattle.desk_checking.specs.declared.options.CheckOptions.{CheckOptions}
+
+-- how what is told of a model begins, by whether it is JSON: with the word of its fault, or with that it is lawful
+abbrev pub head : Bool → Option ModelFault → List ℕ
+head true (Some fault) = codes "{\"fault\":\"" ++ fault_name fault ++ codes "\"}"
+head false (Some fault) = fault_name fault ++ codes ": "
+head true None = codes "{\"lawful\":true,"
+head false None = codes "lawful"
+
+-- what is told begins so
+abbrev pub Begins : Bool → Option ModelFault → List ℕ → Type 0
+Begins is_json fault told = (rest : List ℕ) × (told ≡ head is_json fault ++ rest)

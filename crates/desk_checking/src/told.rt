@@ -1,0 +1,57 @@
+//! What is told of a model: how it begins, and the rest.
+ghost use Rattle.std.specs.Prelude.{◌≡◌, ◌++◌, Some, None, OnOk, IfOk, string_bytes};
+ghost use Rattle.desk_checking.specs.Told.{head};
+
+use desk_reports::model_word;
+use dmn_plan::ModelFault;
+use std::alloc::{AllocError, Global};
+
+/// How what is told of a model with a fault begins.
+fn fault_head(alloc: Global, is_json: bool, fault: ModelFault) -> Result<String, AllocError>
+    ensures { IfOk result (λ s. string_bytes s ≡ head is_json (Some fault)) }
+{
+    let mut text = String::new(alloc);
+    if is_json {
+        text.push_str("{\"fault\":\"")?;
+        text.push_str(model_word(fault))?;
+        text.push_str("\"}")?;
+        return Ok(text);
+    }
+    text.push_str(model_word(fault))?;
+    text.push_str(": ")?;
+    Ok(text)
+}
+
+/// How what is told of a lawful model begins.
+fn lawful_head(alloc: Global, is_json: bool) -> Result<String, AllocError>
+    ensures { IfOk result (λ s. string_bytes s ≡ head is_json None) }
+{
+    if is_json {
+        return String::from_str(alloc, "{\"lawful\":true,");
+    }
+    String::from_str(alloc, "lawful")
+}
+
+/// How what is told of a model begins.
+fn head_of(alloc: Global, is_json: bool, fault: Option<ModelFault>) -> Result<String, AllocError>
+    ensures { IfOk result (λ s. string_bytes s ≡ head is_json fault) }
+{
+    match fault {
+        Some(fault) => fault_head(alloc, is_json, fault),
+        None => lawful_head(alloc, is_json),
+    }
+}
+
+/// How what is told of a model begins, and this behind it.
+pub(crate) fn told_of(
+    alloc: Global,
+    is_json: bool,
+    fault: Option<ModelFault>,
+    rest: &str,
+) -> Result<String, AllocError>
+    ensures { IfOk result (λ s. string_bytes s ≡ head is_json fault ++ rest.now) }
+{
+    let mut text = head_of(alloc, is_json, fault)?;
+    text.push_str(rest)?;
+    Ok(text)
+}
