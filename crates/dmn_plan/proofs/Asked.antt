@@ -2,6 +2,7 @@
 use Rattle.std.proofs.Common.{◌≡◌, ℕ, List, length, Option, Some, None, option_map, refl, sym, ap, ◌∙◌, String, Global}
 use Rattle.std.specs.Prelude.{Result, Ok, Err}
 use Rattle.std.specs.BTreeMap.{BTreeMap, get_by_text}
+use Rattle.std.specs.List.{zip}
 use Rattle.std.proofs.lemmas.List.{length-map}
 use Rattle.feel_value.specs.Datum.{Datum}
 use Rattle.feel_value.specs.declared.feel.Outcome.{Outcome}
@@ -13,7 +14,7 @@ use Rattle.dmn_plan.specs.Indexed.{IsPlanAt, IsIndexed}
 use Rattle.dmn_plan.specs.ReadModel.{read_text}
 use Rattle.dmn_plan.specs.Request.{Request, request_result, outcome_under, service_in, service_named}
 use Rattle.dmn_plan.specs.declared.fault.ModelFault.{ModelFault}
-use Rattle.dmn_service.specs.Decision.{parameters_of}
+use Rattle.dmn_service.specs.Decision.{parameters_of, service_result}
 use Rattle.dmn_service.specs.Places.{name_at}
 use Rattle.dmn_service.specs.Plan.{HasPlacesWithin, IsPlanOf, IsServiceOutcome}
 use Rattle.dmn_service.specs.declared.plan.Item.{Item}
@@ -88,3 +89,10 @@ asked (Err f) items found n count h e = absurd h
 pub result_of : (q : Request) → request_result q ≡ outcome_under (read_text q.text) (service_in (read_text q.text) q.service) q.values
 unfolding request_result
 result_of q = refl
+
+-- the result of a request to a service of a model
+pub result_at : (text : List ℕ) (n : Name) (values : List Datum) (m : Model Expr Table) (s : Service) → read_text text ≡ Ok m → service_named m.services n ≡ Some s
+    → request_result (record { text = text; service = n; values = values }) ≡ service_result m s (zip (parameters_of s) values)
+result_at text n values m s read named =
+    result_of (record { text = text; service = n; values = values })
+    ∙ ap (λ (r : Result (Model Expr Table) ModelFault). outcome_under r (service_in r n) values) read ∙ ap (λ (o : Option Service). outcome_under (Ok m) o values) named
