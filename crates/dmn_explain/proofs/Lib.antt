@@ -3,4 +3,3 @@ pub mod Quoting
 pub mod Pieces
 pub mod Rows
 pub mod Telling
-pub mod Placing

@@ -9,7 +9,7 @@ use Rattle.dmn_table.specs.Parts.{rule_view}
 use Rattle.dmn_table.specs.Table.{Rule}
 use Rattle.dmn_table.specs.declared.table.Rule as code
 use Rattle.dmn_table.proofs.Each.{after}
-use Rattle.dmn_explain.specs.Explanation.{numbered}
+use Rattle.dmn_explain.specs.How.{numbered}
 use Rattle.dmn_explain.specs.Numbered.{hits_from}
 
 abbrev Hits : Type 0

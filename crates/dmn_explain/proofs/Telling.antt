@@ -14,7 +14,7 @@ use Rattle.dmn_logic.specs.Bound.{bound_behind}
 use Rattle.dmn_logic.specs.LogicView.{logic_view, members_view, entries_view}
 use Rattle.dmn_logic.specs.declared.logic.Logic.{Logic}
 use Rattle.dmn_logic.proofs.Boxes.{Named, entries_step}
-use Rattle.dmn_explain.specs.Explanation.{items_from, told_as, named_as, how, members_told, entries_told}
+use Rattle.dmn_explain.specs.How.{items_from, told_as, named_as, how, members_told, entries_told}
 use Rattle.dmn_explain.proofs.Pieces.{row_more, row_ended}
 
 -- a member as it is told

@@ -1,4 +1,3 @@
-pub mod Explanation
+pub mod How
 pub mod Text
 pub mod Numbered
-pub mod Placed

@@ -7,7 +7,7 @@ use Rattle.dmn_table.specs.Hits.{does_hit, kept}
 use Rattle.dmn_table.specs.Parts.{rule_view}
 use Rattle.dmn_table.specs.Table.{Rule}
 use Rattle.dmn_explain.specs.declared.table.Hit.{Hit}
-use Rattle.dmn_explain.specs.Explanation.{numbered}
+use Rattle.dmn_explain.specs.How.{numbered}
 
 abbrev pub hit_view : Hit → ℕ × Rule
 hit_view h = (h.number, rule_view h.rule.now)

@@ -10,7 +10,7 @@ ghost use Rattle.dmn_logic.specs.Boxed.{boxed, entry_values as entry_values_of};
 ghost use Rattle.dmn_logic.specs.Bound.{bound_behind};
 ghost use Rattle.dmn_logic.specs.LogicView.{logic_view, members_view, entries_view};
 ghost use Rattle.dmn_explain.specs.Text.{entries_text};
-ghost use Rattle.dmn_explain.specs.Explanation.{how, told_as, named_as, members_told, entries_told};
+ghost use Rattle.dmn_explain.specs.How.{how, told_as, named_as, members_told, entries_told};
 
 use crate::key::{Key, add_comma, add_key};
 use crate::named::add_name;

@@ -6,7 +6,7 @@ ghost use Rattle.feel_value.specs.Datum.{list, items_of};
 ghost use Rattle.feel_value.specs.Json.{json_of};
 ghost use Rattle.dmn_table.specs.Hits.{does_hit as does_hit_of};
 ghost use Rattle.dmn_table.specs.Parts.{column_view, rule_view};
-ghost use Rattle.dmn_explain.specs.Explanation.{hit_told, hits_told, hits_and_defaults, table_told, takes_defaults};
+ghost use Rattle.dmn_explain.specs.How.{hit_told, hits_told, hits_and_defaults, table_told, takes_defaults};
 ghost use Rattle.dmn_explain.specs.Numbered.{hit_view, hits_from};
 
 use crate::key::{Key, add_comma, add_key};

@@ -4,7 +4,7 @@ use Rattle.serde_json.specs.Written.{compact_text, items_text}
 use Rattle.dmn_logic.specs.Boxed.{entry_values}
 use Rattle.dmn_logic.specs.Bound.{bound_behind}
 use Rattle.dmn_logic.specs.LogicView.{members_view, entries_view}
-use Rattle.dmn_explain.specs.Explanation.{members_told, entries_told}
+use Rattle.dmn_explain.specs.How.{members_told, entries_told}
 use Rattle.dmn_explain.specs.Text.{entries_text}
 use Rattle.dmn_explain.proofs.boxed.+add_how.Given as goal
 

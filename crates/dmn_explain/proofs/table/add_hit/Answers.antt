@@ -4,7 +4,7 @@ use Rattle.serde_json.specs.Data.{number, unsigned, member, no_members}
 use Rattle.feel_value.specs.Datum.{Datum}
 use Rattle.feel_value.specs.Found.{value_of}
 use Rattle.dmn_table.specs.Parts.{column_view}
-use Rattle.dmn_explain.specs.Explanation.{valued, output_value}
+use Rattle.dmn_explain.specs.How.{valued, output_value}
 use Rattle.dmn_explain.specs.Numbered.{hit_view}
 use Rattle.dmn_explain.specs.Text.{valued_text}
 use Rattle.dmn_explain.proofs.Pieces.{member_added_by, valued_ended_by, object_begun}

@@ -2,7 +2,7 @@ use Rattle.std.proofs.Common.{◌≡◌, ◌++◌, drop, map}
 use Rattle.serde_json.specs.Data.{array}
 use Rattle.serde_json.specs.Written.{compact_text, items_text}
 use Rattle.dmn_table.specs.Parts.{column_view}
-use Rattle.dmn_explain.specs.Explanation.{hits_told}
+use Rattle.dmn_explain.specs.How.{hits_told}
 use Rattle.dmn_explain.specs.Numbered.{hit_view}
 use Rattle.dmn_explain.proofs.table.add_hits.Given as goal
 

@@ -1,6 +1,6 @@
--- How the answer to a request came about, in JSON: the value of each decision on the way, and how its logic came to it.
-use Rattle.std.specs.Prelude.{ℕ, ◌+◌, List, [], ◌∷◌, ◌++◌, Bool, true, false, ◌&&◌, not, codes, map, string_bytes, Option, None, Some, option_map}
-use Rattle.std.specs.List.{list_all, slice_get}
+-- How tables and boxed expressions come to their outcomes, in JSON.
+use Rattle.std.specs.Prelude.{ℕ, ◌+◌, List, [], ◌∷◌, ◌++◌, Bool, true, false, ◌&&◌, not, codes, Option, None, Some}
+use Rattle.std.specs.List.{list_all}
 use Rattle.std.specs.Option.{is_none}
 use Rattle.serde_json.specs.Data.{Data, boolean, number, unsigned, string, array, object, Items, no_items, item, Members, no_members, member}
 use Rattle.feel_value.specs.Datum as datum
@@ -13,12 +13,8 @@ use Rattle.feel_lang.specs.Meaning.{Bindings}
 use Rattle.dmn_table.specs.Table.{Column, Rule, Table}
 use Rattle.dmn_table.specs.Hits.{values_of, does_hit, kept, output_of}
 use Rattle.dmn_form.specs.Model as form
-use Rattle.dmn_form.specs.Model.{Name, Boxed, Decision}
+use Rattle.dmn_form.specs.Model.{Name, Boxed}
 use Rattle.dmn_logic.specs.Boxed.{boxed, entry_values}
-use Rattle.dmn_service.specs.Decision.{bindings_to}
-use Rattle.dmn_service.specs.Plan.{decision_of}
-use Rattle.dmn_service.specs.declared.plan.Item.{Item}
-use Rattle.dmn_service.specs.declared.plan.ServicePlan.{ServicePlan}
 
 -- a value under this key, or that a limit was broken; then the rest
 abbrev pub valued : List ℕ → Option Datum → Members → Members
@@ -110,37 +106,3 @@ abbrev mutual
   entries_told form.no_entries m = no_items
   entries_told (form.entry n b es) m =
       item (named_as n (value_of (boxed b m)) (how b m)) (items_from (λ d. entries_told es (m ++ (n, d) ∷ [])) (value_of (boxed b m)))
-
--- ---- decisions
-
--- nothing where a decision needs what broke a limit
-abbrev pub how_under : Option Bindings → Boxed Expr Table → Members
-how_under m b = members_from (how b) m
-
--- a decision, where names have these outcomes
-abbrev pub decision_told : (Name → Outcome) → Decision Expr Table → Data
-decision_told outcome d = named_as d.name (value_of (outcome d.name)) (how_under (bindings_to outcome d.needs) d.logic)
-
--- a decision whose value was given
-abbrev pub given_told : (Name → Outcome) → Decision Expr Table → Data
-given_told outcome d = object (member (codes "name") (string d.name) (valued (codes "given") (value_of (outcome d.name)) no_members))
-
--- the decision at a place; None where an input stands there, or nothing
-abbrev pub decision_at : List Item → ℕ → Option (Decision Expr Table)
-decision_at items q = slice_get items q >>= decision_of items
-
--- the thing in front, where there is one
-abbrev pub item_if : Option Data → Items → Items
-item_if None rest = rest
-item_if (Some d) rest = item d rest
-
--- of each place the decision, as it is told; then the rest
-abbrev pub places_told : (Decision Expr Table → Data) → List Item → List ℕ → Items → Items
-places_told tell items [] rest = rest
-places_told tell items (q ∷ qs) rest = item_if (option_map tell (decision_at items q)) (places_told tell items qs rest)
-
--- The input decisions, whose values are given, and then each decision of the plan's order: each once, behind those that it needs.
-abbrev pub decisions_told : (Name → Outcome) → List Item → ServicePlan → Items
-decisions_told outcome items plan =
-    places_told (given_told outcome) items plan.parameters.items
-    (places_told (decision_told outcome) items plan.order.items no_items)

@@ -1,0 +1,99 @@
+use Rattle.std.proofs.Common.{◌≡◌, ap, sym, ◌∙◌, subst, ◌++◌, ◌+◌, [], ◌∷◌, List, ℕ, true, false, drop, Option, Some, None, Bool, string_bytes, if◌then◌else◌}
+use Rattle.std.specs.Prelude.{codes}
+use Rattle.serde_json.specs.Data.{array, object, member, no_members}
+use Rattle.serde_json.specs.Written.{comma_if, compact_text, items_text, members_text}
+use Rattle.feel_value.specs.Datum.{Datum}
+use Rattle.feel_value.specs.Found.{value_of}
+use Rattle.feel_value.specs.declared.feel.Outcome.TheVariants.{Is, Limit}
+use Rattle.feel_lang.specs.Meaning.{Bindings}
+use Rattle.dmn_form.specs.Model.{context}
+use Rattle.dmn_logic.specs.Boxed.{boxed}
+use Rattle.dmn_logic.specs.LogicView.{logic_view, members_view, entries_view}
+use Rattle.dmn_logic.proofs.Boxes.{logic_view-Context, logic_view-ContextWith, bind_turn}
+use Rattle.dmn_explain.specs.How.{how, table_told, members_told, entries_told, told_as, named_as}
+use Rattle.dmn_explain.specs.Text.{valued_text, entries_text}
+use Rattle.dmn_explain.proofs.Pieces.{member_ended_by, told_added_by, named_added_by, entries_added_by}
+use Rattle.dmn_explain.proofs.Telling.{member_told, entry_told, member_more, member_last, members_ended, entry_more, entry_last, entries_ended, none_bound}
+use Rattle.dmn_explain.proofs.boxed.+add_how.Goals as goal
+
+pub add_told-returns-clause-text : goal.add_told-returns-clause-text
+add_told-returns-clause-text t c =
+    let b = logic_view c.args.logic.now in
+    let m = c.args.env.now in
+    let t1 = c.push.new.self.items in
+    let t2 = c.add_valued.new.text.items in
+    let t3 = c.add_how.new.text.items in
+    let o : Option Datum = value_of (boxed b m) in
+    told_added_by c.args.text.now.items t1 t2 t3 o (how b m) c.in_ok-push.ensures.items
+    (c.in_ok-add_valued.ensures ∙ ap (λ (p : Option Datum). t1 ++ valued_text false (codes "value") p) (c.value.ensures ∙ ap value_of c.in_ok-outcome.ensures.value))
+    (c.in_ok-add_how.ensures.text ∙ ap (λ (e : Bindings). t2 ++ members_text true (how b e)) c.in_ok-outcome.ensures.same)
+
+pub add_entry-returns-clause-text : goal.add_entry-returns-clause-text
+add_entry-returns-clause-text t c =
+    let b = logic_view c.args.logic.now in
+    let m = c.args.env.now in
+    let t1 = c.add_name.new.text.items in
+    let t2 = c.add_valued.new.text.items in
+    let t3 = c.add_how.new.text.items in
+    let o : Option Datum = value_of (boxed b m) in
+    named_added_by c.args.text.now.items t1 t2 t3 c.args.name.now (codes "value") o (how b m) c.in_ok-add_name.ensures
+    (c.in_ok-add_valued.ensures ∙ ap (λ (p : Option Datum). t1 ++ valued_text true (codes "value") p) (c.value.ensures ∙ ap value_of c.in_ok-outcome.ensures.value))
+    (c.in_ok-add_how.ensures.text ∙ ap (λ (e : Bindings). t2 ++ members_text true (how b e)) c.in_ok-outcome.ensures.same)
+
+pub add_list-returns-clause-text : goal.add_list-returns-clause-text
+add_list-returns-clause-text t c =
+    member_ended_by c.args.text.now.items c.add_key.new.text.items c.add_members.new.text.items c.push.new.self.items true (codes "members")
+    (array (members_told (members_view c.args.members.now) c.args.env.now)) c.in_ok-add_key.ensures c.in_ok-add_members.ensures.text c.in_ok-push.ensures.items
+
+pub add_members-loop-member-preserved : goal.add_members-loop-member-preserved
+add_members-loop-member-preserved t c =
+    let m = c.args.env.now in
+    let x = c.member-item.result in
+    let t1 = c.add_comma.new.text.items in
+    let t2 = c.add_told.new.text.items in
+    let same = c.loop-member.invariant.same in record {
+      same = c.in_ok-add_told.ensures.same ∙ same;
+      text = member_more (c.args.text.now.items ++ compact_text (array (members_told (members_view c.args.members.now) m))) c.loop-member.text.items t1 t2 c.loop-member.later m c.loop-member.member-index
+          c.in_ok-add_comma.ensures c.args.members.now x c.loop-member.invariant.text c.member-item.is c.loop-member-test.true
+          (c.in_ok-add_told.ensures.text ∙ ap (λ (e : Bindings). t1 ++ compact_text (member_told x e)) same)
+          c.in-Is.field-0 (sym c.in-Is.is ∙ c.in_ok-add_told.ensures.value ∙ ap (boxed (logic_view x)) same);
+    }
+
+pub add_members-returns-in_default-clause-text : goal.add_members-returns-in_default-clause-text
+add_members-returns-in_default-clause-text t c =
+    let m = c.args.env.now in
+    let x = c.member-item.result in
+    let t1 = c.add_comma.new.text.items in
+    let t2 = c.add_told.new.text.items in
+    let same = c.loop-member.invariant.same in
+    member_last (c.args.text.now.items ++ compact_text (array (members_told (members_view c.args.members.now) m))) c.loop-member.text.items t1 t2 c.loop-member.later m c.loop-member.member-index
+    c.in_ok-add_comma.ensures c.args.members.now x c.loop-member.invariant.text c.member-item.is c.loop-member-test.true
+    (c.in_ok-add_told.ensures.text ∙ ap (λ (e : Bindings). t1 ++ compact_text (member_told x e)) same)
+    c.push-in_default.new.self.items (sym c.in_default.is ∙ c.in_ok-add_told.ensures.value ∙ ap (boxed (logic_view x)) same) c.in_ok-push-in_default.ensures.items
+
+pub add_members-returns-clause-text : goal.add_members-returns-clause-text
+add_members-returns-clause-text t c =
+    members_ended (c.args.text.now.items ++ compact_text (array (members_told (members_view c.args.members.now) c.args.env.now))) c.loop-member.text.items c.push-2.new.self.items c.loop-member.later
+    c.args.env.now c.args.members.now c.loop-member.member-index c.loop-member.invariant.text c.loop-member-test.false c.in_ok-push-2.ensures.items
+
+pub add_entries-loop-name-preserved : goal.add_entries-loop-name-preserved
+add_entries-loop-name-preserved t c =
+    let m = c.loop-name.env in
+    let x = c.loop-name-item.result in
+    let i = c.loop-name.name-index in
+    let entries = c.args.entries.now in
+    let d : Datum = c.in-Is.value in
+    let t1 = c.add_comma.new.text.items in
+    let t2 = c.add_entry.new.text.items in
+    let outcome = sym c.in-Is.is ∙ c.in_ok-add_entry.ensures.value in
+    let named = c.as_str-2.ensures.value in
+    let next : c.bind.new.self ≡ m ++ (string_bytes x.0, d) ∷ [] =
+    c.in_ok-bind.ensures ∙ ap (λ (e : Bindings). e ++ (c.as_str-2.result.now, d) ∷ []) c.in_ok-add_entry.ensures.same ∙ ap (λ (n : List ℕ). m ++ (n, d) ∷ []) named in record {
+      bound = bind_turn _ c.args.env.now m c.add_entry.new.env c.bind.new.self entries i x c.as_str-2.result.now d
+          c.loop-name.invariant.bound c.loop-name-item.is c.loop-name-test.true outcome c.in_ok-add_entry.ensures.same c.in_ok-bind.ensures named;
+      text = ap (λ (e : Bindings). t2 ++ items_text true (entries_told (entries_view (drop (i + 1) entries)) e)) next
+          ∙ entry_more (c.args.text.now.items ++ entries_text (entries_told (entries_view entries) c.args.env.now)) c.loop-name.text.items t1 t2 c.loop-name.later m i
+          c.in_ok-add_comma.ensures entries x c.loop-name.invariant.text c.loop-name-item.is c.loop-name-test.true
+          (c.in_ok-add_entry.ensures.text ∙ ap (λ (n : List ℕ). t1 ++ compact_text (named_as n (value_of (boxed (logic_view x.1) m)) (how (logic_view x.1) m))) c.as_str.ensures.value)
+          d outcome;
+    }
