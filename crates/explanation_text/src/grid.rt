@@ -63,12 +63,7 @@ fn add_blanks(text: &mut String, count: usize) -> Result<(), AllocError> {
 }
 
 /// Adds the head of a row and its cells, each in its column, and no blanks behind the last.
-fn add_row(
-    text: &mut String,
-    row: &Row,
-    head: usize,
-    widths: &[usize],
-) -> Result<(), AllocError> {
+fn add_row(text: &mut String, row: &Row, head: usize, widths: &[usize]) -> Result<(), AllocError> {
     text.push_str(row.head.as_str())?;
     let mut blanks = head.saturating_sub(width(row.head.as_str()));
     for (cell, full) in row.cells.iter().zip(widths) {
