@@ -3,3 +3,4 @@ pub mod Quoting
 pub mod Pieces
 pub mod Rows
 pub mod Telling
+pub mod Placing

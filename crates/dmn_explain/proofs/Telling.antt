@@ -1,21 +1,27 @@
 -- The members of a list and the entries of a context, as they are told one after another.
-use Rattle.std.proofs.Common.{◌≡◌, ℕ, ◌+◌, ◌<◌, ◌≤◌, Bool, true, List, [], ◌∷◌, ◌++◌, length, get_or, drop, sym, ap, ◌∙◌, Option, None, Some, string_bytes}
+use Rattle.std.proofs.Common.{◌≡◌, ℕ, ◌+◌, ◌<◌, ◌≤◌, Bool, true, false, List, refl, Vec, Box, Global, if◌then◌else◌, [], ◌∷◌, ◌++◌, length, get_or, drop, sym, ap, ◌∙◌, Option, None, Some, string_bytes}
 use Rattle.std.proofs.lemmas.List.{at_drop_more, drop_all}
-use Rattle.serde_json.specs.Data.{Data, Items, no_items, item}
-use Rattle.serde_json.specs.Written.{comma_if, compact_text, items_text}
+use Rattle.std.specs.Prelude.{codes}
+use Rattle.std.proofs.lemmas.Option.{same_Some}
+use Rattle.serde_json.specs.Data.{Data, Items, no_items, item, Members, no_members}
+use Rattle.serde_json.specs.Data.{member as member_of}
+use Rattle.serde_json.specs.Written.{comma_if, compact_text, items_text, members_text}
 use Rattle.feel_value.specs.Datum.{Datum}
 use Rattle.feel_value.specs.Found.{value_of}
 use Rattle.feel_value.specs.declared.feel.Outcome.{Outcome}
 use Rattle.feel_value.specs.declared.feel.Outcome.TheVariants.{Is, Limit}
+use Rattle.feel_lang.specs.Expr.{Expr}
 use Rattle.feel_lang.specs.Meaning.{Bindings}
-use Rattle.dmn_form.specs.Model.{member, entry}
+use Rattle.dmn_table.specs.Table.{Table}
+use Rattle.dmn_form.specs.Model.{Boxed, member, entry, context_with}
 use Rattle.dmn_logic.specs.Boxed.{boxed, entry_values}
 use Rattle.dmn_logic.specs.Bound.{bound_behind}
 use Rattle.dmn_logic.specs.LogicView.{logic_view, members_view, entries_view}
-use Rattle.dmn_logic.specs.declared.logic.Logic.{Logic}
-use Rattle.dmn_logic.proofs.Boxes.{Named, entries_step}
-use Rattle.dmn_explain.specs.How.{items_from, told_as, named_as, how, members_told, entries_told}
-use Rattle.dmn_explain.proofs.Pieces.{row_more, row_ended}
+use Rattle.dmn_logic.specs.declared.logic.Logic.{Logic, ContextWith}
+use Rattle.dmn_logic.proofs.Boxes.{Named, entries_step, logic_view-ContextWith}
+use Rattle.dmn_explain.specs.How.{items_from, members_from, told_as, named_as, how, members_told, entries_told}
+use Rattle.dmn_explain.specs.Text.{entries_text, result_text}
+use Rattle.dmn_explain.proofs.Pieces.{row_more, row_ended, entries_added_by}
 
 -- a member as it is told
 abbrev pub member_told : Logic → Bindings → Data
@@ -24,9 +30,9 @@ member_told x m = told_as (value_of (boxed (logic_view x) m)) (how (logic_view x
 abbrev pub entry_told : Named → Bindings → Data
 entry_told x m = named_as (string_bytes x.0) (value_of (boxed (logic_view x.1) m)) (how (logic_view x.1) m)
 
-members_from : (m : Bindings) (xs : List Logic) (i : ℕ) (x : Logic) (o : Outcome) → x ≡ get_or xs i x → i < length xs → o ≡ boxed (logic_view x) m
+members_here : (m : Bindings) (xs : List Logic) (i : ℕ) (x : Logic) (o : Outcome) → x ≡ get_or xs i x → i < length xs → o ≡ boxed (logic_view x) m
     → members_told (members_view (drop i xs)) m ≡ item (member_told x m) (items_from (λ (d : Datum). members_told (members_view (drop (i + 1) xs)) m) (value_of o))
-members_from m xs i x o e h b =
+members_here m xs i x o e h b =
     at_drop_more (λ (ys : List Logic). members_told (members_view ys) m) xs i x h
     ∙ ap (λ (y : Logic). members_told (member (logic_view y) (members_view (drop (i + 1) xs))) m) (sym e)
     ∙ ap (λ p. item (member_told x m) (items_from (λ (d : Datum). members_told (members_view (drop (i + 1) xs)) m) (value_of p))) (sym b)
@@ -44,11 +50,11 @@ module _ (whole t t1 t2 : List ℕ) (later : Bool) (m : Bindings) (i : ℕ) (com
       (added : t2 ≡ t1 ++ compact_text (member_told x m)) where
     -- one member more, and then the rest
     pub member_more : (d : Datum) → Is d ≡ boxed (logic_view x) m → t2 ++ items_text true (members_told (members_view (drop (i + 1) xs)) m) ≡ whole
-    member_more d b = row_more whole t t1 t2 later _ _ _ before (members_from m xs i x (Is d) here more b) comma added
+    member_more d b = row_more whole t t1 t2 later _ _ _ before (members_here m xs i x (Is d) here more b) comma added
 
     -- a member that breaks a limit is the last
     pub member_last : (t3 : List ℕ) → Limit ≡ boxed (logic_view x) m → t3 ≡ t2 ++ 93 ∷ [] → t3 ≡ whole
-    member_last t3 b end = end ∙ row_more whole t t1 t2 later _ _ _ before (members_from m xs i x Limit here more b) comma added
+    member_last t3 b end = end ∙ row_more whole t t1 t2 later _ _ _ before (members_here m xs i x Limit here more b) comma added
 
   module _ (xs : List Named) (x : Named) (before : t ++ items_text later (entries_told (entries_view (drop i xs)) m) ≡ whole) (here : x ≡ get_or xs i x) (more : i < length xs)
       (added : t2 ≡ t1 ++ compact_text (entry_told x m)) where
@@ -72,3 +78,25 @@ entries_ended whole t t1 later m xs i before end added =
 pub none_bound : (outer m : Bindings) (xs : List Named) (i : ℕ) (x : Named) (whole : Option Bindings) → whole ≡ bound_behind m (entry_values (entries_view (drop i xs)) m)
     → x ≡ get_or xs i x → i < length xs → Limit ≡ boxed (logic_view x.1) m → whole ≡ None
 none_bound outer m xs i x whole before here more b = before ∙ ap (bound_behind m) (entries_step m xs i x Limit here more b)
+
+-- ---- a context with a result
+
+abbrev result_told : Boxed Expr Table → Bindings → Option Bindings → Members
+result_told b m o = members_from (λ ds. member_of (codes "result") (told_as (value_of (boxed b (m ++ ds))) (how b (m ++ ds))) no_members) o
+
+behind_entries : (all : Bool) (b : Boxed Expr Table) (m after : Bindings) (o : Option Bindings) → bound_behind m o ≡ (if all then Some after else None) → members_text true (result_told b m o) ≡ result_text all b after
+behind_entries true b m after None e = cc
+behind_entries true b m after (Some ds) e =
+    ap (λ (n : Bindings). members_text true (member_of (codes "result") (told_as (value_of (boxed b n)) (how b n)) no_members)) (same_Some (m ++ ds) after e)
+behind_entries false b m after None e = refl
+behind_entries false b m after (Some ds) e = cc
+
+-- what is written for a context with a result, whose entries stand in v
+pub context_with_added : (t t1 t2 : List ℕ) (all : Bool) (logic : Logic) (v : Vec Named Global) (es : List Named) (b : Box Logic Global) (m after : Bindings) → logic ≡ ContextWith v b → es ≡ v.items
+    → t1 ≡ t ++ entries_text (entries_told (entries_view es) m) → bound_behind m (entry_values (entries_view es) m) ≡ (if all then Some after else None)
+    → t2 ≡ t1 ++ result_text all (logic_view b.value) after → t2 ≡ t ++ members_text true (how (logic_view logic) m)
+context_with_added t t1 t2 all logic v es b m after is same entries bound rest =
+    entries_added_by t t1 t2 (entries_told (entries_view es) m) (result_told (logic_view b.value) m (entry_values (entries_view es) m)) entries
+    (rest ∙ ap (λ s. t1 ++ s) (sym (behind_entries all (logic_view b.value) m after (entry_values (entries_view es) m) bound)))
+    ∙ ap (λ (xs : List Named). t ++ members_text true (how (context_with (entries_view xs) (logic_view b.value)) m)) same
+    ∙ ap (λ l. t ++ members_text true (how l m)) (sym (ap logic_view is ∙ logic_view-ContextWith v b))

@@ -1,3 +1,5 @@
 pub mod How
+pub mod Explanation
 pub mod Text
 pub mod Numbered
+pub mod Placed

@@ -1,10 +1,17 @@
 -- Internal: no public contract cites these words. The text of an explanation, piece by piece.
 use Rattle.std.specs.Prelude.{ℕ, List, [], ◌∷◌, ◌++◌, Bool, true, false, codes, Option, None, Some}
 use Rattle.json.specs.Print.{quoted}
-use Rattle.serde_json.specs.Data.{array, Items}
-use Rattle.serde_json.specs.Written.{comma_if, compact_text}
+use Rattle.serde_json.specs.Data.{array, Items, member, no_members}
+use Rattle.serde_json.specs.Written.{comma_if, compact_text, members_text}
 use Rattle.feel_value.specs.Datum.{Datum}
 use Rattle.feel_value.specs.Json.{json_of}
+use Rattle.feel_value.specs.Found.{value_of}
+use Rattle.feel_lang.specs.Expr.{Expr}
+use Rattle.feel_lang.specs.Meaning.{Bindings}
+use Rattle.dmn_table.specs.Table.{Table}
+use Rattle.dmn_form.specs.Model.{Boxed}
+use Rattle.dmn_logic.specs.Boxed.{boxed}
+use Rattle.dmn_explain.specs.How.{how, told_as}
 use Rattle.dmn_explain.specs.declared.key.Key.{Key}
 use Rattle.dmn_explain.specs.declared.key.Key.TheVariants as key
 
@@ -38,3 +45,8 @@ name_text n = 123 ∷ (key_text false (codes "name") ++ quoted n)
 -- the member of a context's entries
 abbrev pub entries_text : Items → List ℕ
 entries_text es = key_text true (codes "entries") ++ compact_text (array es)
+
+-- what ends the object of a context behind its entries: its result, where all of them have values
+abbrev pub result_text : Bool → Boxed Expr Table → Bindings → List ℕ
+result_text true b m = members_text true (member (codes "result") (told_as (value_of (boxed b m)) (how b m)) no_members)
+result_text false b m = 125 ∷ []

@@ -5,11 +5,11 @@ ghost use Rattle.std.specs.Prelude.{◌≡◌, ◌++◌, Some, None, OnOk, IfOk,
 ghost use Rattle.serde_json.specs.Data.{array};
 ghost use Rattle.serde_json.specs.Written.{compact_text, members_text};
 ghost use Rattle.feel_value.specs.Found.{value_of};
-ghost use Rattle.dmn_form.specs.Model.{list, context, context_with};
+ghost use Rattle.dmn_form.specs.Model.{list, context};
 ghost use Rattle.dmn_logic.specs.Boxed.{boxed, entry_values as entry_values_of};
 ghost use Rattle.dmn_logic.specs.Bound.{bound_behind};
 ghost use Rattle.dmn_logic.specs.LogicView.{logic_view, members_view, entries_view};
-ghost use Rattle.dmn_explain.specs.Text.{entries_text};
+ghost use Rattle.dmn_explain.specs.Text.{entries_text, result_text};
 ghost use Rattle.dmn_explain.specs.How.{how, told_as, named_as, members_told, entries_told};
 
 use crate::key::{Key, add_comma, add_key};
@@ -47,7 +47,15 @@ pub(crate) fn add_how(
         }
         Logic::List(members) => add_list(alloc, members, env, text),
         Logic::Context(entries) => add_context(alloc, entries, env, text),
-        Logic::ContextWith(entries, last) => add_context_with(alloc, entries, last, env, text),
+        Logic::ContextWith(entries, last) => {
+            let outer = env.len();
+            let added = match add_entries(alloc, entries, env, text) {
+                Ok(all) => add_result(alloc, all, last, env, text),
+                Err(error) => Err(error),
+            };
+            env.cut(outer);
+            added
+        }
     }
 }
 
@@ -131,37 +139,18 @@ fn add_context(
     Ok(())
 }
 
-/// Adds the entries of a context and its result as the last members of an object, with its end.
+/// Ends the object of a context behind its entries: with its result, where all of them have values.
 #[cycle(add_how)]
-fn add_context_with(
+fn add_result(
     alloc: Global,
-    entries: &[(String, Logic)],
+    all: bool,
     last: &Logic,
     env: &mut Env,
     text: &mut Vec<u8>,
 ) -> Result<(), AllocError>
-    ensures text { OnOk result (text.new.items ≡ text.old.items ++ members_text true (how (context_with (entries_view entries.now) (logic_view last.now)) env.old)) }
+    ensures text { OnOk result (text.new.items ≡ text.old.items ++ result_text all (logic_view last.now) env.old) }
     ensures same { env.new ≡ env.old }
 {
-    let outer = env.len();
-    let added = add_entries_and_result(alloc, entries, last, env, text);
-    env.cut(outer);
-    added
-}
-
-/// The same, whose entries stay bound behind the outer names.
-#[cycle(add_how)]
-fn add_entries_and_result(
-    alloc: Global,
-    entries: &[(String, Logic)],
-    last: &Logic,
-    env: &mut Env,
-    text: &mut Vec<u8>,
-) -> Result<(), AllocError>
-    ensures text { OnOk result (text.new.items ≡ text.old.items ++ members_text true (how (context_with (entries_view entries.now) (logic_view last.now)) env.old)) }
-    ensures outer { take (length env.old) env.new ≡ env.old }
-{
-    let all = add_entries(alloc, entries, env, text)?;
     if !all {
         text.push(b'}')?;
         return Ok(());

@@ -2,12 +2,14 @@
 #![tactic(auto)]
 
 mod boxed;
-
+mod decisions;
 mod key;
 mod named;
 mod output;
 mod table;
+#[cfg(test)]
+mod tests;
 mod value;
 
-
+pub use decisions::add_decisions;
 pub use value::add_value;

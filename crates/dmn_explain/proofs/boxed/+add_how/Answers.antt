@@ -1,4 +1,4 @@
-use Rattle.std.proofs.Common.{◌≡◌, ap, sym, ◌∙◌, subst, ◌++◌, ◌+◌, [], ◌∷◌, List, ℕ, true, false, drop, Option, Some, None, Bool, string_bytes, if◌then◌else◌}
+use Rattle.std.proofs.Common.{◌≡◌, ap, sym, ◌∙◌, subst, ◌++◌, ◌+◌, [], ◌∷◌, List, ℕ, true, false, drop, Option, Some, None, Bool, string_bytes, if◌then◌else◌, OnOk, refl, Vec, Global}
 use Rattle.std.specs.Prelude.{codes}
 use Rattle.serde_json.specs.Data.{array, object, member, no_members}
 use Rattle.serde_json.specs.Written.{comma_if, compact_text, items_text, members_text}
@@ -6,15 +6,16 @@ use Rattle.feel_value.specs.Datum.{Datum}
 use Rattle.feel_value.specs.Found.{value_of}
 use Rattle.feel_value.specs.declared.feel.Outcome.TheVariants.{Is, Limit}
 use Rattle.feel_lang.specs.Meaning.{Bindings}
-use Rattle.dmn_form.specs.Model.{context}
+use Rattle.dmn_form.specs.Model.{context, context_with}
 use Rattle.dmn_logic.specs.Boxed.{boxed}
 use Rattle.dmn_logic.specs.LogicView.{logic_view, members_view, entries_view}
-use Rattle.dmn_logic.proofs.Boxes.{logic_view-Context, logic_view-ContextWith, bind_turn}
+use Rattle.dmn_logic.proofs.Boxes.{Named, logic_view-Context, logic_view-ContextWith, bind_turn}
 use Rattle.dmn_explain.specs.How.{how, table_told, members_told, entries_told, told_as, named_as}
-use Rattle.dmn_explain.specs.Text.{valued_text, entries_text}
+use Rattle.dmn_explain.specs.Text.{valued_text, entries_text, result_text}
 use Rattle.dmn_explain.proofs.Pieces.{member_ended_by, told_added_by, named_added_by, entries_added_by}
-use Rattle.dmn_explain.proofs.Telling.{member_told, entry_told, member_more, member_last, members_ended, entry_more, entry_last, entries_ended, none_bound}
+use Rattle.dmn_explain.proofs.Telling.{context_with_added, member_told, entry_told, member_more, member_last, members_ended, entry_more, entry_last, entries_ended, none_bound}
 use Rattle.dmn_explain.proofs.boxed.+add_how.Goals as goal
+use Rattle.dmn_explain.proofs.boxed.+add_how.Goals.{add_how-in-Ok, add_how-in-Err}
 
 pub add_told-returns-clause-text : goal.add_told-returns-clause-text
 add_told-returns-clause-text t c =
@@ -69,12 +70,12 @@ add_members-returns-in_default-clause-text t c =
     member_last (c.args.text.now.items ++ compact_text (array (members_told (members_view c.args.members.now) m))) c.loop-member.text.items t1 t2 c.loop-member.later m c.loop-member.member-index
     c.in_ok-add_comma.ensures c.args.members.now x c.loop-member.invariant.text c.member-item.is c.loop-member-test.true
     (c.in_ok-add_told.ensures.text ∙ ap (λ (e : Bindings). t1 ++ compact_text (member_told x e)) same)
-    c.push-in_default.new.self.items (sym c.in_default.is ∙ c.in_ok-add_told.ensures.value ∙ ap (boxed (logic_view x)) same) c.in_ok-push-in_default.ensures.items
+    c.push-in_default.new.self.items (sym c.in_default.is ∙ c.in_ok-add_told.ensures.value ∙ ap (boxed (logic_view x)) same) c.in_ok-push-2.ensures.items
 
 pub add_members-returns-clause-text : goal.add_members-returns-clause-text
 add_members-returns-clause-text t c =
     members_ended (c.args.text.now.items ++ compact_text (array (members_told (members_view c.args.members.now) c.args.env.now))) c.loop-member.text.items c.push-2.new.self.items c.loop-member.later
-    c.args.env.now c.args.members.now c.loop-member.member-index c.loop-member.invariant.text c.loop-member-test.false c.in_ok-push-2.ensures.items
+    c.args.env.now c.args.members.now c.loop-member.member-index c.loop-member.invariant.text c.loop-member-test.false c.in_ok-push-3.ensures.items
 
 pub add_entries-loop-name-preserved : goal.add_entries-loop-name-preserved
 add_entries-loop-name-preserved t c =
@@ -85,15 +86,40 @@ add_entries-loop-name-preserved t c =
     let d : Datum = c.in-Is.value in
     let t1 = c.add_comma.new.text.items in
     let t2 = c.add_entry.new.text.items in
-    let outcome = sym c.in-Is.is ∙ c.in_ok-add_entry.ensures.value in
-    let named = c.as_str-2.ensures.value in
+    let outcome = sym c.in-Is.is ∙ c.in_ok-value.ensures.value in
+    let named = c.as_str-in-loop-name.ensures.value in
     let next : c.bind.new.self ≡ m ++ (string_bytes x.0, d) ∷ [] =
-    c.in_ok-bind.ensures ∙ ap (λ (e : Bindings). e ++ (c.as_str-2.result.now, d) ∷ []) c.in_ok-add_entry.ensures.same ∙ ap (λ (n : List ℕ). m ++ (n, d) ∷ []) named in record {
-      bound = bind_turn _ c.args.env.now m c.add_entry.new.env c.bind.new.self entries i x c.as_str-2.result.now d
-          c.loop-name.invariant.bound c.loop-name-item.is c.loop-name-test.true outcome c.in_ok-add_entry.ensures.same c.in_ok-bind.ensures named;
+    c.in_ok-bind.ensures ∙ ap (λ (e : Bindings). e ++ (c.as_str-in-loop-name.result.now, d) ∷ []) c.in_ok-value.ensures.same ∙ ap (λ (n : List ℕ). m ++ (n, d) ∷ []) named in record {
+      bound = bind_turn _ c.args.env.now m c.add_entry.new.env c.bind.new.self entries i x c.as_str-in-loop-name.result.now d
+          c.loop-name.invariant.bound c.loop-name-item.is c.loop-name-test.true outcome c.in_ok-value.ensures.same c.in_ok-bind.ensures named;
       text = ap (λ (e : Bindings). t2 ++ items_text true (entries_told (entries_view (drop (i + 1) entries)) e)) next
           ∙ entry_more (c.args.text.now.items ++ entries_text (entries_told (entries_view entries) c.args.env.now)) c.loop-name.text.items t1 t2 c.loop-name.later m i
           c.in_ok-add_comma.ensures entries x c.loop-name.invariant.text c.loop-name-item.is c.loop-name-test.true
-          (c.in_ok-add_entry.ensures.text ∙ ap (λ (n : List ℕ). t1 ++ compact_text (named_as n (value_of (boxed (logic_view x.1) m)) (how (logic_view x.1) m))) c.as_str.ensures.value)
+          (c.in_ok-value.ensures.text ∙ ap (λ (n : List ℕ). t1 ++ compact_text (named_as n (value_of (boxed (logic_view x.1) m)) (how (logic_view x.1) m))) c.as_str.ensures.value)
           d outcome;
     }
+
+pub add_how-returns-in-Context-clause-text : goal.add_how-returns-in-Context-clause-text
+add_how-returns-in-Context-clause-text t c =
+    let same = ap (λ (es : List Named). context (entries_view es)) c.deref-in-Context.ensures.value ∙ sym (ap logic_view c.in-Context.is ∙ logic_view-Context c.in-Context.entries) in
+    subst (λ l. OnOk c.add_context.result (c.add_context.new.text.items ≡ c.args.text.now.items ++ members_text true (how l c.args.env.now))) same c.add_context.ensures.text
+
+pub add_how-returns-after-add_entries-clause-text : goal.add_how-returns-after-add_entries-clause-text
+add_how-returns-after-add_entries-clause-text t c =
+    let m = c.args.env.now in
+    let t0 = c.args.text.now.items in
+    let t1 = c.add_entries.new.text.items in
+    let whole = t0 ++ members_text true (how (logic_view c.args.logic.now) m) in
+    let after = c.add_entries.new.env in
+    elim c.match-add_entries.branch [
+      | add_how-in-Ok w ↦
+          let rest = t1 ++ result_text w.in-Ok.all (logic_view c.in-ContextWith.last.value) after in
+          let same : t1 ++ result_text w.in-Ok.all (logic_view w.deref-in-Ok.result.now) after ≡ whole =
+          ap (λ l. t1 ++ result_text w.in-Ok.all (logic_view l) after) w.deref-in-Ok.ensures
+          ∙ context_with_added t0 t1 rest w.in-Ok.all c.args.logic.now c.in-ContextWith.entries c.deref-in-ContextWith.result.now c.in-ContextWith.last m after
+          c.in-ContextWith.is c.deref-in-ContextWith.ensures.value w.in-Ok.ensures.text w.in-Ok.ensures.bound refl in
+          subst (λ r. OnOk r (c.match-add_entries.text.items ≡ whole)) (sym w.added-is)
+          (subst (λ (s : Vec ℕ Global). OnOk w.add_result-added.result (s.items ≡ whole)) (sym w.text-is)
+          (subst (λ (s : List ℕ). OnOk w.add_result-added.result (w.add_result-added.new.text.items ≡ s)) same w.add_result-added.ensures.text))
+      | add_how-in-Err w ↦ subst (λ r. OnOk r (c.match-add_entries.text.items ≡ whole)) (sym w.added-is) tt
+    ]

@@ -1,0 +1,47 @@
+-- How the answer to a request came about, in JSON: the value of each decision on the way, and how its logic came to it.
+use Rattle.std.specs.Prelude.{ℕ, List, [], ◌∷◌, codes, Option, None, Some, option_map}
+use Rattle.std.specs.List.{slice_get}
+use Rattle.serde_json.specs.Data.{Data, string, object, Items, no_items, item, Members, no_members, member}
+use Rattle.feel_value.specs.Found.{value_of, ◌>>=◌}
+use Rattle.feel_value.specs.declared.feel.Outcome.{Outcome}
+use Rattle.feel_lang.specs.Expr.{Expr}
+use Rattle.feel_lang.specs.Meaning.{Bindings}
+use Rattle.dmn_table.specs.Table.{Table}
+use Rattle.dmn_form.specs.Model.{Name, Boxed, Decision}
+use Rattle.dmn_service.specs.Decision.{bindings_to}
+use Rattle.dmn_service.specs.Plan.{decision_of}
+use Rattle.dmn_service.specs.declared.plan.Item.{Item}
+use Rattle.dmn_service.specs.declared.plan.ServicePlan.{ServicePlan}
+use Rattle.dmn_explain.specs.How.{valued, members_from, named_as, how}
+
+-- nothing where a decision needs what broke a limit
+abbrev pub how_under : Option Bindings → Boxed Expr Table → Members
+how_under m b = members_from (how b) m
+
+-- a decision, where names have these outcomes
+abbrev pub decision_told : (Name → Outcome) → Decision Expr Table → Data
+decision_told outcome d = named_as d.name (value_of (outcome d.name)) (how_under (bindings_to outcome d.needs) d.logic)
+
+-- a decision whose value was given
+abbrev pub given_told : (Name → Outcome) → Decision Expr Table → Data
+given_told outcome d = object (member (codes "name") (string d.name) (valued (codes "given") (value_of (outcome d.name)) no_members))
+
+-- the decision at a place; None where an input stands there, or nothing
+abbrev pub decision_at : List Item → ℕ → Option (Decision Expr Table)
+decision_at items q = slice_get items q >>= decision_of items
+
+-- the thing in front, where there is one
+abbrev pub item_if : Option Data → Items → Items
+item_if None rest = rest
+item_if (Some d) rest = item d rest
+
+-- of each place the decision, as it is told; then the rest
+abbrev pub places_told : (Decision Expr Table → Data) → List Item → List ℕ → Items → Items
+places_told tell items [] rest = rest
+places_told tell items (q ∷ qs) rest = item_if (option_map tell (decision_at items q)) (places_told tell items qs rest)
+
+-- The input decisions, whose values are given, and then each decision of the plan's order: each once, behind those that it needs.
+abbrev pub decisions_told : (Name → Outcome) → List Item → ServicePlan → Items
+decisions_told outcome items plan =
+    places_told (given_told outcome) items plan.parameters.items
+    (places_told (decision_told outcome) items plan.order.items no_items)
