@@ -7,7 +7,7 @@ use dmn_check::{Key, Step};
 use dmn_form::{WrittenRule, WrittenTable};
 use std::alloc::AllocError;
 
-/// The cells of an input that compare with literals of a kind.
+/// The cells of an input that compare with literals of a kind and that some value meets.
 #[derive(Clone, Copy)]
 struct Tally {
     kind: LiteralKind,
@@ -97,10 +97,11 @@ fn look_at_cell(
     let Some(tests) = literal_tests(book.alloc, text)? else {
         return Ok(());
     };
-    if let Some(kind) = tests.kind {
-        tallies.add(kind, rule);
-    }
-    if !tests.are_met && book.is_wanted(OddityKind::UnmetTests) {
+    if tests.are_met {
+        if let Some(kind) = tests.kind {
+            tallies.add(kind, rule);
+        }
+    } else if book.is_wanted(OddityKind::UnmetTests) {
         let text = book.copy(text)?;
         book.keep(&cell_steps(rule, input), Oddity::UnmetTests { text })?;
     }

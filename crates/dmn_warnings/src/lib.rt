@@ -4,6 +4,7 @@
 mod all;
 mod book;
 mod cells;
+mod form;
 mod lexeme;
 mod literal;
 mod literal_tests;
@@ -11,6 +12,10 @@ mod near;
 mod outputs;
 mod reached;
 mod scope;
+mod shape;
+mod shape_book;
+#[cfg(test)]
+mod tests;
 mod trail;
 mod unbound;
 mod value_names;
@@ -18,4 +23,7 @@ mod walk;
 mod warning;
 
 pub use all::warnings;
+pub use form::Form;
+pub use shape::shape_faults;
+pub use shape_book::{Misshape, ShapeFault, ShapeFaults};
 pub use warning::{LiteralKind, More, Oddity, OddityKind, Warning, Warnings};

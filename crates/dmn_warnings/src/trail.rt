@@ -19,6 +19,11 @@ impl Trail {
         }
     }
 
+    /// How many steps it is from the whole model.
+    pub(crate) fn len(&self) -> usize {
+        self.steps.len()
+    }
+
     /// Goes to a part.
     pub(crate) fn enter(&mut self, step: Step) -> Result<(), AllocError> {
         self.steps.push(step)?;
