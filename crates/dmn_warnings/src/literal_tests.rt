@@ -33,8 +33,16 @@ struct End {
 
 /// Whether some whole number lies in an interval.
 fn holds_number(low: i64, low_is_closed: bool, high: i64, high_is_closed: bool) -> bool {
-    let first = if low_is_closed { Some(low) } else { low.checked_add(1) };
-    let last = if high_is_closed { Some(high) } else { high.checked_sub(1) };
+    let first = if low_is_closed {
+        Some(low)
+    } else {
+        low.checked_add(1)
+    };
+    let last = if high_is_closed {
+        Some(high)
+    } else {
+        high.checked_sub(1)
+    };
     match (first, last) {
         (Some(first), Some(last)) => first <= last,
         _ => false,
@@ -97,7 +105,11 @@ fn interval(alloc: Global, text: &str) -> Result<Option<LiteralTest>, AllocError
         return Ok(None);
     };
     let kind = kind_of(low.value.value());
-    let kind = if kind == kind_of(high.value.value()) { kind } else { None };
+    let kind = if kind == kind_of(high.value.value()) {
+        kind
+    } else {
+        None
+    };
     let is_met = is_interval_met(&low, &high);
     Ok(Some(LiteralTest { kind, is_met }))
 }
@@ -171,10 +183,7 @@ fn listed_tests(alloc: Global, text: &str) -> Result<Option<LiteralTests>, Alloc
 }
 
 /// The unary tests that a text spells, if all of them compare with literals. Those of a `not` are taken to be met.
-pub(crate) fn literal_tests(
-    alloc: Global,
-    text: &str,
-) -> Result<Option<LiteralTests>, AllocError> {
+pub(crate) fn literal_tests(alloc: Global, text: &str) -> Result<Option<LiteralTests>, AllocError> {
     let text = text.trim_ascii();
     if text == "-" {
         return Ok(None);

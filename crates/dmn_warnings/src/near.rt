@@ -20,9 +20,7 @@ fn differ_by_one(one: &[u8], other: &[u8]) -> bool {
     match (one, other) {
         ([_], []) | ([], [_]) => true,
         ([a, b, rest @ ..], [c, d, others @ ..]) if *a == *d && *b == *c && rest == others => true,
-        ([_, rest @ ..], [_, others @ ..]) => {
-            rest == others || rest == other || one == others
-        }
+        ([_, rest @ ..], [_, others @ ..]) => { rest == others || rest == other || one == others }
         _ => false,
     }
 }

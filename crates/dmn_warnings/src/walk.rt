@@ -7,7 +7,9 @@ use crate::scope::Scope;
 use crate::unbound::look_at_text;
 use crate::warning::{Oddity, OddityKind};
 use dmn_check::{Key, Step};
-use dmn_form::{WrittenColumn, WrittenDecision, WrittenLogic, WrittenModel, WrittenRule, WrittenTable};
+use dmn_form::{
+    WrittenColumn, WrittenDecision, WrittenLogic, WrittenModel, WrittenRule, WrittenTable,
+};
 use std::alloc::AllocError;
 
 /// A walk through a model.
@@ -147,10 +149,7 @@ impl<'m> Walk<'m> {
 
     /// Looks at each entry of a context, and binds its name for what comes after it.
     #[cycle(walk)]
-    fn look_at_entries(
-        &mut self,
-        entries: &'m [(String, WrittenLogic)],
-    ) -> Result<(), AllocError> {
+    fn look_at_entries(&mut self, entries: &'m [(String, WrittenLogic)]) -> Result<(), AllocError> {
         self.book.enter(Step::Key(Key::Context))?;
         for (index, (name, logic)) in entries.iter().enumerate() {
             self.book.enter(Step::Index(index))?;

@@ -24,7 +24,11 @@ fn told_of(alloc: Global, text: &str) -> Result<String, Fail> {
 struct Row(&'static str, &'static str, &'static str);
 
 const SHAPES: &[Row] = &[
-    Row("\"needs\": [\"age\", \"claims\"], ", "", "decisions[0] Missing(Needs)\n"),
+    Row(
+        "\"needs\": [\"age\", \"claims\"], ",
+        "",
+        "decisions[0] Missing(Needs)\n",
+    ),
     Row(
         "\"name\": \"prize\"",
         "\"nmae\": \"prize\"",
@@ -45,17 +49,41 @@ const SHAPES: &[Row] = &[
         "\"needs\": [\"age\", 7]",
         "decisions[0].needs[1] Due(Name)\n",
     ),
-    Row("[18..65)\"", "\", 18", "decisions[1].expr.table.rules[0].when[2] Due(Text)\n"),
-    Row("\"fee * 2\"", "2", "decisions[2].expr.context[1].expr.context[0].expr Due(Logic)\n"),
-    Row("{\"table\":", "{\"tabel\":", "decisions[1].expr Due(Logic)\n"),
+    Row(
+        "[18..65)\"",
+        "\", 18",
+        "decisions[1].expr.table.rules[0].when[2] Due(Text)\n",
+    ),
+    Row(
+        "\"fee * 2\"",
+        "2",
+        "decisions[2].expr.context[1].expr.context[0].expr Due(Logic)\n",
+    ),
+    Row(
+        "{\"table\":",
+        "{\"tabel\":",
+        "decisions[1].expr Due(Logic)\n",
+    ),
     Row(
         "{\"list\":",
         "{\"context\": [], \"list\":",
         "decisions[2].expr.result Surplus { key: \"context\", near: None }\n",
     ),
-    Row("{\"name\": \"half\", \"expr\": \"fee\"}", "[]", "decisions[2].expr.context[1].expr.context[1] Due(Entry)\n"),
-    Row("\"default\": \"\\\"LOW\\\"\"", "\"default\": null", "decisions[1].expr.table.outputs[0].default Due(Text)\n"),
-    Row("\"encapsulated\": [\"prize\", \"rate\"]", "\"encapsulated\": {}", "services[0].encapsulated Due(Names)\n"),
+    Row(
+        "{\"name\": \"half\", \"expr\": \"fee\"}",
+        "[]",
+        "decisions[2].expr.context[1].expr.context[1] Due(Entry)\n",
+    ),
+    Row(
+        "\"default\": \"\\\"LOW\\\"\"",
+        "\"default\": null",
+        "decisions[1].expr.table.outputs[0].default Due(Text)\n",
+    ),
+    Row(
+        "\"encapsulated\": [\"prize\", \"rate\"]",
+        "\"encapsulated\": {}",
+        "services[0].encapsulated Due(Names)\n",
+    ),
 ];
 
 #[test]
@@ -78,7 +106,10 @@ fn what_is_no_object_is_told(rt: HostRuntime) -> Result<(), Fail> {
         assert_eq!(rt; found.as_str(), " Due(Model)\n");
     }
     let found = told_of(alloc, "{}")?;
-    assert_eq!(rt; found.as_str(), " Missing(Inputs)\n Missing(Decisions)\n Missing(Services)\n");
+    assert_eq!(rt;
+        found.as_str(),
+        " Missing(Inputs)\n Missing(Decisions)\n Missing(Services)\n"
+    );
     Ok(())
 }
 
@@ -158,7 +189,9 @@ fn another_part_is_told_where_it_breaks_the_form(rt: HostRuntime) -> Result<(), 
 }
 
 /// Keys that are put into each object, with a text under them.
-const KEYS: &[&str] = &["result", "values", "default", "name", "expr", "table", "list", "spare"];
+const KEYS: &[&str] = &[
+    "result", "values", "default", "name", "expr", "table", "list", "spare",
+];
 
 #[test]
 fn a_key_too_many_is_told(rt: HostRuntime) -> Result<(), Fail> {
@@ -197,7 +230,10 @@ fn a_key_too_few_is_told(rt: HostRuntime) -> Result<(), Fail> {
 #[test]
 fn what_nests_too_deep_is_told(rt: HostRuntime) -> Result<(), Fail> {
     let alloc = rt.alloc();
-    let mut text = String::from_str(alloc, r#"{"inputs":[],"decisions":[{"name":"d","needs":[],"expr":"#)?;
+    let mut text = String::from_str(
+        alloc,
+        r#"{"inputs":[],"decisions":[{"name":"d","needs":[],"expr":"#,
+    )?;
     let mut pointer = String::from_str(alloc, "/decisions/0/expr")?;
     for _ in 0..62 {
         text.push_str("{\"list\":[")?;
@@ -211,7 +247,13 @@ fn what_nests_too_deep_is_told(rt: HostRuntime) -> Result<(), Fail> {
     let mut json = Value::from_str(alloc, &text)?;
     assert!(rt; read_form(alloc, &json)?.is_some());
     agrees(&rt, alloc, &json)?;
-    for part in ["[]", "{\"list\":[]}", "{\"table\":[]}", "{\"context\":[]}", "\"b\""] {
+    for part in [
+        "[]",
+        "{\"list\":[]}",
+        "{\"table\":[]}",
+        "{\"context\":[]}",
+        "\"b\"",
+    ] {
         *json.pointer_mut(&pointer).ok_or("no part")? = Value::from_str(alloc, part)?;
         agrees(&rt, alloc, &json)?;
     }

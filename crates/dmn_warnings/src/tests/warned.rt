@@ -178,11 +178,7 @@ const VALUES: &[Row] = &[
         r#""default": "7""#,
         "decisions[1].expr.table.outputs[0].default UnlistedValue { text: \"7\" }\n",
     ),
-    Row(
-        r#""default": "\"LOW\"""#,
-        r#""default": "null""#,
-        "",
-    ),
+    Row(r#""default": "\"LOW\"""#, r#""default": "null""#, ""),
     Row(r#""then": ["\"HIGH\""]"#, r#""then": ["region"]"#, ""),
 ];
 
