@@ -138,12 +138,27 @@ fn model_help(
     }
 }
 
-/// What helps at a finding.
+/// The most findings of a fault for which a hint is looked for that takes a walk through the whole model.
+const MOST_WALKS: usize = 10;
+
+/// Whether a hint at a mistake takes a walk through the whole model.
+fn takes_walk(mistake: Mistake) -> bool {
+    matches!(mistake, Mistake::Cycle | Mistake::Service(_))
+}
+
+/// What helps at a finding, before which so many findings of its fault are told.
 pub(crate) fn help_of(
     alloc: Global,
     subject: Subject<'_>,
     finding: &Finding,
+    before: usize,
 ) -> Result<Help, AllocError> {
+    if before >= MOST_WALKS && takes_walk(finding.mistake) {
+        return Ok(Help {
+            stop: None,
+            hint: None,
+        });
+    }
     if let Mistake::Expression(kind) = finding.mistake {
         let text = text_at(subject.json, &finding.place).unwrap_or("");
         return help_of_text(alloc, kind_of(kind), text);

@@ -56,6 +56,7 @@ fn add_text(
     text: &mut String,
     subject: Subject<'_>,
     finding: &Finding,
+    help: &Help,
 ) -> Result<(), AllocError> {
     text.push_str("  ")?;
     let words = place_words(alloc, subject.json, &finding.place)?;
@@ -71,8 +72,7 @@ fn add_text(
         write!(text, ": {shown}")?;
     }
     text.push_str("\n")?;
-    let help = help_of(alloc, subject, finding)?;
-    add_help(alloc, text, feel.unwrap_or(""), &help)
+    add_help(alloc, text, feel.unwrap_or(""), help)
 }
 
 /// The line of JSON about a finding.
@@ -81,8 +81,8 @@ fn json_line(
     subject: Subject<'_>,
     fault: ModelFault,
     finding: &Finding,
+    help: &Help,
 ) -> Result<String, AllocError> {
-    let help = help_of(alloc, subject, finding)?;
     let pointer = finding.place.pointer(alloc)?;
     let words = place_words(alloc, subject.json, &finding.place)?;
     let mut members = Members::new(alloc);
@@ -118,17 +118,19 @@ impl Report {
         Ok(())
     }
 
-    /// Tells a finding.
+    /// Tells a finding, before which so many of its fault are told.
     fn tell(
         &mut self,
         subject: Subject<'_>,
         fault: ModelFault,
         finding: &Finding,
+        before: usize,
     ) -> Result<(), AllocError> {
+        let help = help_of(self.alloc, subject, finding, before)?;
         if !self.is_json {
-            return add_text(self.alloc, &mut self.text, subject, finding);
+            return add_text(self.alloc, &mut self.text, subject, finding, &help);
         }
-        let line = json_line(self.alloc, subject, fault, finding)?;
+        let line = json_line(self.alloc, subject, fault, finding, &help)?;
         self.text.push_str(&line)?;
         Ok(())
     }
@@ -172,8 +174,8 @@ impl Report {
             return Ok(());
         }
         self.tell_count(fault, told.count)?;
-        for finding in &told.findings {
-            self.tell(subject, fault, finding)?;
+        for (before, finding) in told.findings.iter().enumerate() {
+            self.tell(subject, fault, finding, before)?;
         }
         self.tell_more(fault, told.count.saturating_sub(told.findings.len()))
     }
