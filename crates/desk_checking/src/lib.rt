@@ -12,11 +12,13 @@ mod quoted;
 mod report;
 mod requests;
 mod sentence;
+mod shaped;
 mod subject;
 mod summary;
 #[cfg(test)]
 mod tests;
 mod told;
+mod warned;
 
 pub use model_check::check;
 pub use options::CheckOptions;

@@ -16,9 +16,11 @@ use crate::options::CheckOptions;
 use crate::quoted::Members;
 use crate::report::Report;
 use crate::requests::request_notes;
+use crate::shaped::shape_lines;
 use crate::subject::subject;
 use crate::summary::{json_summary, summary};
 use crate::told::told_of;
+use crate::warned::warning_lines;
 use desk_lines::{FrontFault, Sink, Source, write_all};
 use dmn_form::{WrittenModel, read_form};
 use dmn_plan::{ModelFault, Plan};
@@ -42,6 +44,8 @@ fn said_of_fault(
     let mut report = Report::new(alloc, is_json);
     report.begin(fault)?;
     let Some(model) = read_form(alloc, json)? else {
+        let lines = shape_lines(alloc, is_json, json)?;
+        report.text.push_str(&lines)?;
         return Ok(report.text);
     };
     let subject = Subject {
@@ -52,10 +56,11 @@ fn said_of_fault(
     Ok(report.text)
 }
 
-/// What is told of a lawful model by its parts, and of the lines of requests behind it.
+/// What is told of a lawful model by its parts, what is mostly a mistake, and of the lines of requests behind it.
 fn said_of_model(
     alloc: Global,
     is_json: bool,
+    json: &Value,
     model: &WrittenModel,
     lines: &[u8],
 ) -> Result<String, AllocError> {
@@ -64,6 +69,8 @@ fn said_of_model(
     } else {
         summary(alloc, model)?
     };
+    let warnings = warning_lines(alloc, is_json, json, model)?;
+    text.push_str(&warnings)?;
     let notes = request_notes(alloc, is_json, model, lines)?;
     text.push_str(&notes)?;
     Ok(text)
@@ -77,7 +84,7 @@ fn said_of_lawful(
     lines: &[u8],
 ) -> Result<String, AllocError> {
     match read_form(alloc, json)? {
-        Some(model) => said_of_model(alloc, is_json, &model, lines),
+        Some(model) => said_of_model(alloc, is_json, json, &model, lines),
         None => Ok(String::new(alloc)),
     }
 }
@@ -167,7 +174,7 @@ fn write_told<W: Sink>(
 ///
 /// Writes what the model is, as lines of JSON where the options say so. What is written begins with the word of its first fault, or
 /// with that it is lawful. Behind a fault come the places of each fault that is told with places, at most 100 of each; behind
-/// that it is lawful its inputs, decisions and services, and what is odd in the lines of requests.
+/// that it is lawful its inputs, decisions and services, what is mostly a mistake, and what is odd in the lines of requests.
 ///
 /// The result is the first fault; None where the model is lawful. The faults of the run are those of `replay`, but that `Long`
 /// comes once more than 64 MiB came.

@@ -130,8 +130,19 @@ fn what_has_no_form_is_told_alone(rt: HostRuntime) -> Result<(), Fail> {
     let due = "{\"fault\":\"syntax\"}\n{\"fault\":\"syntax\",\"line\":2,\"column\":1}\n";
     is_said(&rt, alloc, JSON, "{\n]", fault, due)?;
     let fault = Some(ModelFault::Shape);
-    let due = "shape: not the form of a model\n";
-    is_said(&rt, alloc, PLAIN, r#"{"inputs":[]}"#, fault, due)
+    let due = "shape: not the form of a model
+shape: 2 places
+  the key decisions is missing
+  the key services is missing
+";
+    is_said(&rt, alloc, PLAIN, r#"{"inputs":[]}"#, fault, due)?;
+    let text = r#"{"inputs":[],"decisions":[{"nmae":"d","needs":[],"expr":7}],"services":[]}"#;
+    let due = r#"{"fault":"shape"}
+{"fault":"shape","pointer":"/decisions/0","place":"decisions[0]","said":"the key name is missing"}
+{"fault":"shape","pointer":"/decisions/0","place":"decisions[0]","said":"\"nmae\" is no key of it; is it name?"}
+{"fault":"shape","pointer":"/decisions/0/expr","place":"decisions[0], expr","said":"a text, or an object with list, with table, with context, or with context and result is due"}
+"#;
+    is_said(&rt, alloc, JSON, text, fault, due)
 }
 
 const TABLE: &str =
@@ -275,6 +286,7 @@ decisions:
   d: expression
 services:
   s(a)
+warning: inputs[1] \"b\": no decision needs it, and no service lists it
 line 4: \"x\" is no parameter of s
 line 4: what stands under a is no value: a number in it has a point or an exponent, and numbers are whole
 ";
@@ -290,6 +302,8 @@ fn notes_stand_on_lines_of_json(rt: HostRuntime) -> Result<(), Fail> {
     let model = model(alloc, "", "")?;
     let text = format!(in alloc; "{model}\n{{\"service\":\"sum\",\"inputs\":{{}}}}\nx")?;
     let due = r#"{"lawful":true,"inputs":["a","b"],"decisions":[],"services":[]}
+{"warning":"unneeded","pointer":"/inputs/0","place":"inputs[0] \"a\"","said":"no decision needs it, and no service lists it"}
+{"warning":"unneeded","pointer":"/inputs/1","place":"inputs[1] \"b\"","said":"no decision needs it, and no service lists it"}
 {"line":2,"note":"service","name":"sum","said":"\"sum\" is no service"}
 {"line":3,"note":"syntax","said":"no JSON text"}
 "#;

@@ -1,0 +1,29 @@
+//! What is lawful in a decision model and mostly a mistake, and where the form of a model breaks.
+#![tactic(auto)]
+
+mod all;
+mod book;
+mod cells;
+mod form;
+mod lexeme;
+mod literal;
+mod literal_tests;
+mod near;
+mod outputs;
+mod reached;
+mod scope;
+mod shape;
+mod shape_book;
+#[cfg(test)]
+mod tests;
+mod trail;
+mod unbound;
+mod value_names;
+mod walk;
+mod warning;
+
+pub use all::warnings;
+pub use form::Form;
+pub use shape::shape_faults;
+pub use shape_book::{Misshape, ShapeFault, ShapeFaults};
+pub use warning::{LiteralKind, More, Oddity, OddityKind, Warning, Warnings};

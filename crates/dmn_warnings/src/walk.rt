@@ -1,0 +1,203 @@
+//! A walk through the decisions of a model that looks for odd names and odd tables.
+
+use crate::book::Book;
+use crate::cells::look_at_cells;
+use crate::outputs::look_at_outputs;
+use crate::scope::Scope;
+use crate::unbound::look_at_text;
+use crate::warning::{Oddity, OddityKind};
+use dmn_check::{Key, Step};
+use dmn_form::{
+    WrittenColumn, WrittenDecision, WrittenLogic, WrittenModel, WrittenRule, WrittenTable,
+};
+use std::alloc::AllocError;
+
+/// A walk through a model.
+#[derive(Drop)]
+pub(crate) struct Walk<'m> {
+    pub(crate) book: Book,
+    pub(crate) scope: Scope<'m>,
+    pub(crate) model: &'m WrittenModel,
+}
+
+impl<'m> Walk<'m> {
+    /// Looks at the texts under a key, each a cell or an input of a table.
+    fn look_at_texts(
+        &mut self,
+        key: Key,
+        texts: &[String],
+        is_cell: bool,
+    ) -> Result<(), AllocError> {
+        self.book.enter(Step::Key(key))?;
+        for (index, text) in texts.iter().enumerate() {
+            look_at_text(self, &[Step::Index(index)], text.as_str(), is_cell)?;
+        }
+        self.book.leave();
+        Ok(())
+    }
+
+    fn look_at_defaults(&mut self, columns: &[WrittenColumn]) -> Result<(), AllocError> {
+        self.book.enter(Step::Key(Key::Outputs))?;
+        for (index, column) in columns.iter().enumerate() {
+            if let Some(text) = &column.fallback {
+                let steps = [Step::Index(index), Step::Key(Key::Default)];
+                look_at_text(self, &steps, text.as_str(), true)?;
+            }
+        }
+        self.book.leave();
+        Ok(())
+    }
+
+    fn look_at_rules(&mut self, rules: &[WrittenRule]) -> Result<(), AllocError> {
+        self.book.enter(Step::Key(Key::Rules))?;
+        for (index, rule) in rules.iter().enumerate() {
+            self.book.enter(Step::Index(index))?;
+            self.look_at_texts(Key::When, &rule.tests, true)?;
+            self.look_at_texts(Key::Then, &rule.gives, true)?;
+            self.book.leave();
+        }
+        self.book.leave();
+        Ok(())
+    }
+
+    fn look_at_table(&mut self, table: &WrittenTable) -> Result<(), AllocError> {
+        self.book.enter(Step::Key(Key::Table))?;
+        self.look_at_texts(Key::Inputs, &table.inputs, false)?;
+        self.look_at_defaults(&table.outputs)?;
+        self.look_at_rules(&table.rules)?;
+        look_at_outputs(&mut self.book, table)?;
+        look_at_cells(&mut self.book, table)?;
+        self.book.leave();
+        Ok(())
+    }
+
+    /// Notes the binding of this number if no text uses it.
+    fn note_unused(
+        &mut self,
+        kind: OddityKind,
+        steps: &[Step],
+        number: usize,
+        name: &str,
+    ) -> Result<(), AllocError> {
+        if self.scope.is_used(number) || !self.book.is_wanted(kind) {
+            return Ok(());
+        }
+        let name = self.book.copy(name)?;
+        let oddity = match kind {
+            OddityKind::UnusedNeed => Oddity::UnusedNeed { name },
+            _ => Oddity::UnusedEntry { name },
+        };
+        self.book.keep(steps, oddity)
+    }
+
+    /// Notes the entries of a context that aren't used; the first has the binding `first`.
+    fn note_unused_entries(
+        &mut self,
+        entries: &[(String, WrittenLogic)],
+        first: usize,
+    ) -> Result<(), AllocError> {
+        for (index, (name, _)) in entries.iter().enumerate() {
+            let steps = [Step::Key(Key::Context), Step::Index(index)];
+            let number = first.saturating_add(index);
+            self.note_unused(OddityKind::UnusedEntry, &steps, number, name.as_str())?;
+        }
+        Ok(())
+    }
+
+    /// Takes the last bindings back, so many.
+    fn unbind(&mut self, count: usize) -> Result<(), AllocError> {
+        for _ in 0..count {
+            self.scope.unbind()?;
+        }
+        Ok(())
+    }
+
+    /// Looks at each text and each table of a boxed expression. It goes as deep as that is.
+    #[cycle(walk)]
+    fn look_at_logic(&mut self, logic: &'m WrittenLogic) -> Result<(), AllocError> {
+        match logic {
+            WrittenLogic::Expression(text) => look_at_text(self, &[], text.as_str(), false),
+            WrittenLogic::Table(table) => self.look_at_table(table),
+            WrittenLogic::List(members) => self.look_at_members(members),
+            WrittenLogic::Context(entries) => {
+                self.look_at_entries(entries)?;
+                self.unbind(entries.len())
+            }
+            WrittenLogic::ContextWith(entries, last) => {
+                let first = self.scope.len();
+                self.look_at_entries(entries)?;
+                self.book.enter(Step::Key(Key::Result))?;
+                self.look_at_logic(last)?;
+                self.book.leave();
+                self.note_unused_entries(entries, first)?;
+                self.unbind(entries.len())
+            }
+        }
+    }
+
+    #[cycle(walk)]
+    fn look_at_members(&mut self, members: &'m [WrittenLogic]) -> Result<(), AllocError> {
+        self.book.enter(Step::Key(Key::List))?;
+        for (index, member) in members.iter().enumerate() {
+            self.book.enter(Step::Index(index))?;
+            self.look_at_logic(member)?;
+            self.book.leave();
+        }
+        self.book.leave();
+        Ok(())
+    }
+
+    /// Looks at each entry of a context, and binds its name for what comes after it.
+    #[cycle(walk)]
+    fn look_at_entries(&mut self, entries: &'m [(String, WrittenLogic)]) -> Result<(), AllocError> {
+        self.book.enter(Step::Key(Key::Context))?;
+        for (index, (name, logic)) in entries.iter().enumerate() {
+            self.book.enter(Step::Index(index))?;
+            self.book.enter(Step::Key(Key::Expr))?;
+            self.look_at_logic(logic)?;
+            self.book.leave();
+            self.book.leave();
+            self.scope.bind(name.as_str())?;
+        }
+        self.book.leave();
+        Ok(())
+    }
+
+    fn bind_needs(&mut self, decision: &'m WrittenDecision) -> Result<(), AllocError> {
+        for need in &decision.needs {
+            self.scope.bind(need.as_str())?;
+        }
+        Ok(())
+    }
+
+    fn note_unused_needs(&mut self, decision: &WrittenDecision) -> Result<(), AllocError> {
+        for (index, need) in decision.needs.iter().enumerate() {
+            let steps = [Step::Key(Key::Needs), Step::Index(index)];
+            self.note_unused(OddityKind::UnusedNeed, &steps, index, need.as_str())?;
+        }
+        Ok(())
+    }
+
+    /// Looks at a decision. No name is bound before.
+    fn look_at_decision(&mut self, decision: &'m WrittenDecision) -> Result<(), AllocError> {
+        self.bind_needs(decision)?;
+        self.book.enter(Step::Key(Key::Expr))?;
+        self.look_at_logic(&decision.logic)?;
+        self.book.leave();
+        self.note_unused_needs(decision)?;
+        self.unbind(decision.needs.len())
+    }
+
+    /// Looks at each decision of the model.
+    pub(crate) fn look_at_decisions(&mut self) -> Result<(), AllocError> {
+        let model = self.model;
+        self.book.enter(Step::Key(Key::Decisions))?;
+        for (index, decision) in model.decisions.iter().enumerate() {
+            self.book.enter(Step::Index(index))?;
+            self.look_at_decision(decision)?;
+            self.book.leave();
+        }
+        self.book.leave();
+        Ok(())
+    }
+}

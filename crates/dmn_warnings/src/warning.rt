@@ -1,0 +1,136 @@
+//! What is lawful in a model and mostly a mistake.
+
+use dmn_check::Place;
+
+/// The kind of a literal that can be compared.
+#[derive(Clone, Copy, Debug, PartialEq, Eq)]
+pub enum LiteralKind {
+    /// `true` or `false`.
+    Boolean,
+    /// A whole number.
+    Number,
+    /// A text in quotes.
+    Text,
+}
+
+/// What is lawful and mostly a mistake, with what a reader needs to mend it. A text is as it stands in the model.
+#[derive(Debug, Drop)]
+pub enum Oddity {
+    /// A name in a FEEL text that nothing binds there, so it is null: the decision doesn't need it, and no entry of a context round
+    /// the text stands before it.
+    Unbound {
+        /// The name.
+        name: String,
+        /// A name that differs from it by one letter: one that is bound there, or else an input or a decision.
+        near: Option<String>,
+        /// Mostly a text is meant, which stands in quotes.
+        is_text_meant: bool,
+    },
+    /// An input or a decision that no decision needs and no service lists.
+    Unneeded {
+        /// Its name.
+        name: String,
+    },
+    /// An input or a decision that is needed or listed, and that no output of a service needs, directly or through others.
+    Unreached {
+        /// Its name.
+        name: String,
+    },
+    /// A needed name that the texts of its decision never use.
+    UnusedNeed {
+        /// The name.
+        name: String,
+    },
+    /// An entry of a context with a result that neither a later entry nor the result uses.
+    UnusedEntry {
+        /// Its name.
+        name: String,
+    },
+    /// A listed output value that neither a rule nor the default gives.
+    UngivenValue {
+        /// The literal.
+        text: String,
+    },
+    /// A literal in a rule or a default that isn't among the listed output values of its column. `null` never is one.
+    UnlistedValue {
+        /// The literal.
+        text: String,
+    },
+    /// Unary tests that no value meets.
+    UnmetTests {
+        /// The tests.
+        text: String,
+    },
+    /// Unary tests of literals of one kind, where those of all other rules for this input are of another kind.
+    OtherKind {
+        /// The tests.
+        text: String,
+        /// The kind of their literals.
+        kind: LiteralKind,
+        /// The kind of the literals in the other rules.
+        others: LiteralKind,
+    },
+}
+
+/// A kind of oddity: `Oddity` without its data.
+#[derive(Clone, Copy, Debug, PartialEq, Eq)]
+pub enum OddityKind {
+    /// A name that nothing binds.
+    Unbound,
+    /// An input or a decision that no decision needs and no service lists.
+    Unneeded,
+    /// An input or a decision that no output leads to.
+    Unreached,
+    /// A needed name that isn't used.
+    UnusedNeed,
+    /// An entry of a context that isn't used.
+    UnusedEntry,
+    /// A listed output value that nothing gives.
+    UngivenValue,
+    /// A literal that isn't listed.
+    UnlistedValue,
+    /// Unary tests that no value meets.
+    UnmetTests,
+    /// Unary tests of another kind than the others.
+    OtherKind,
+}
+
+/// All kinds of oddities.
+pub(crate) const ODDITY_KINDS: [OddityKind; 9] = [
+    OddityKind::Unbound,
+    OddityKind::Unneeded,
+    OddityKind::Unreached,
+    OddityKind::UnusedNeed,
+    OddityKind::UnusedEntry,
+    OddityKind::UngivenValue,
+    OddityKind::UnlistedValue,
+    OddityKind::UnmetTests,
+    OddityKind::OtherKind,
+];
+
+/// An oddity and its place.
+#[derive(Debug, Drop)]
+pub struct Warning {
+    /// Where it is: the text, the entry, the input or the decision.
+    pub place: Place,
+    /// What it is.
+    pub oddity: Oddity,
+}
+
+/// How many oddities of a kind there are beyond those that are told.
+#[derive(Clone, Copy, Debug, PartialEq, Eq)]
+pub struct More {
+    /// The kind.
+    pub kind: OddityKind,
+    /// How many more; at least 1.
+    pub count: usize,
+}
+
+/// What is odd in a model.
+#[derive(Debug, Drop)]
+pub struct Warnings {
+    /// The first 100 of each kind: the inputs and decisions that nothing needs or reaches, and then the rest, decision by decision.
+    pub found: Vec<Warning>,
+    /// The kinds of which there are more than 100.
+    pub more: Vec<More>,
+}
