@@ -17,6 +17,7 @@ struct Uses<'m> {
     /// The names that were reached, and whose needs were not looked at.
     waiting: Vec<&'m str>,
     decisions: BTreeMap<&'m str, &'m WrittenDecision>,
+    has_services: bool,
 }
 
 impl<'m> Uses<'m> {
@@ -59,6 +60,12 @@ impl<'m> Uses<'m> {
         Ok(())
     }
 
+    /// Whether there are services, and no output of one leads to the name. Of a model without services nothing is reached, and that is
+    /// not told of each name.
+    fn is_unreached(&self, name: &str) -> bool {
+        self.has_services && !self.reached.contains(name)
+    }
+
     /// Reaches what the reached decisions need. Of so many names each waits once.
     fn reach_all(&mut self, names: usize) -> Result<(), AllocError> {
         for _ in 0..names {
@@ -72,17 +79,6 @@ impl<'m> Uses<'m> {
         }
         Ok(())
     }
-
-    /// How the name is odd. Of a model without services nothing is reached, and that is not told of each name.
-    fn oddity_of(&self, name: &str, has_services: bool) -> Option<OddityKind> {
-        if !self.named.contains(name) {
-            Some(OddityKind::Unneeded)
-        } else if has_services && !self.reached.contains(name) {
-            Some(OddityKind::Unreached)
-        } else {
-            None
-        }
-    }
 }
 
 /// What the services and decisions of a model use.
@@ -92,6 +88,7 @@ fn uses_of(alloc: Global, model: &WrittenModel) -> Result<Uses<'_>, AllocError> 
         reached: BTreeSet::new(alloc),
         waiting: Vec::new(alloc),
         decisions: BTreeMap::new(alloc),
+        has_services: !model.services.is_empty(),
     };
     uses.look_at_services(&model.services)?;
     uses.look_at_decisions(&model.decisions)?;
@@ -99,54 +96,50 @@ fn uses_of(alloc: Global, model: &WrittenModel) -> Result<Uses<'_>, AllocError> 
     Ok(uses)
 }
 
-/// Notes the name that these steps lead to, if it is odd.
+/// Notes the name that these steps lead to, if nothing needs it or no output leads to it.
 fn note_name(
     book: &mut Book,
+    uses: &Uses<'_>,
     steps: &[Step],
-    kind: Option<OddityKind>,
     name: &str,
 ) -> Result<(), AllocError> {
-    let Some(kind) = kind else {
-        return Ok(());
-    };
-    if !book.is_wanted(kind) {
+    if !uses.named.contains(name) {
+        if book.is_wanted(OddityKind::Unneeded) {
+            let name = book.copy(name)?;
+            book.keep(steps, Oddity::Unneeded { name })?;
+        }
         return Ok(());
     }
-    let name = book.copy(name)?;
-    let oddity = match kind {
-        OddityKind::Unneeded => Oddity::Unneeded { name },
-        _ => Oddity::Unreached { name },
-    };
-    book.keep(steps, oddity)
+    if uses.is_unreached(name) && book.is_wanted(OddityKind::Unreached) {
+        let name = book.copy(name)?;
+        book.keep(steps, Oddity::Unreached { name })?;
+    }
+    Ok(())
 }
 
-fn note_inputs(book: &mut Book, model: &WrittenModel, uses: &Uses<'_>) -> Result<(), AllocError> {
-    let has_services = !model.services.is_empty();
-    for (index, name) in model.inputs.iter().enumerate() {
+fn note_inputs(book: &mut Book, uses: &Uses<'_>, inputs: &[String]) -> Result<(), AllocError> {
+    for (index, name) in inputs.iter().enumerate() {
         let steps = [Step::Key(Key::Inputs), Step::Index(index)];
-        let kind = uses.oddity_of(name.as_str(), has_services);
-        note_name(book, &steps, kind, name.as_str())?;
+        note_name(book, uses, &steps, name.as_str())?;
     }
     Ok(())
 }
 
 fn note_decisions(
     book: &mut Book,
-    model: &WrittenModel,
     uses: &Uses<'_>,
+    decisions: &[WrittenDecision],
 ) -> Result<(), AllocError> {
-    let has_services = !model.services.is_empty();
-    for (index, decision) in model.decisions.iter().enumerate() {
+    for (index, decision) in decisions.iter().enumerate() {
         let steps = [Step::Key(Key::Decisions), Step::Index(index)];
-        let kind = uses.oddity_of(decision.name.as_str(), has_services);
-        note_name(book, &steps, kind, decision.name.as_str())?;
+        note_name(book, uses, &steps, decision.name.as_str())?;
     }
     Ok(())
 }
 
-/// Notes the inputs and then the decisions that nothing needs or that no service leads to.
+/// Notes the inputs and then the decisions that nothing needs or that no output leads to.
 pub(crate) fn look_at_values(book: &mut Book, model: &WrittenModel) -> Result<(), AllocError> {
     let uses = uses_of(book.alloc, model)?;
-    note_inputs(book, model, &uses)?;
-    note_decisions(book, model, &uses)
+    note_inputs(book, &uses, &model.inputs)?;
+    note_decisions(book, &uses, &model.decisions)
 }

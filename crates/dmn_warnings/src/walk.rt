@@ -71,23 +71,17 @@ impl<'m> Walk<'m> {
         Ok(())
     }
 
-    /// Notes the binding of this number if no text uses it.
-    fn note_unused(
+    /// The name of the binding of this number, if no text uses it and that is to be kept.
+    fn unused_name(
         &mut self,
         kind: OddityKind,
-        steps: &[Step],
         number: usize,
         name: &str,
-    ) -> Result<(), AllocError> {
+    ) -> Result<Option<String>, AllocError> {
         if self.scope.is_used(number) || !self.book.is_wanted(kind) {
-            return Ok(());
+            return Ok(None);
         }
-        let name = self.book.copy(name)?;
-        let oddity = match kind {
-            OddityKind::UnusedNeed => Oddity::UnusedNeed { name },
-            _ => Oddity::UnusedEntry { name },
-        };
-        self.book.keep(steps, oddity)
+        Ok(Some(self.book.copy(name)?))
     }
 
     /// Notes the entries of a context that aren't used; the first has the binding `first`.
@@ -97,9 +91,12 @@ impl<'m> Walk<'m> {
         first: usize,
     ) -> Result<(), AllocError> {
         for (index, (name, _)) in entries.iter().enumerate() {
-            let steps = [Step::Key(Key::Context), Step::Index(index)];
             let number = first.saturating_add(index);
-            self.note_unused(OddityKind::UnusedEntry, &steps, number, name.as_str())?;
+            let unused = self.unused_name(OddityKind::UnusedEntry, number, name.as_str())?;
+            if let Some(name) = unused {
+                let steps = [Step::Key(Key::Context), Step::Index(index)];
+                self.book.keep(&steps, Oddity::UnusedEntry { name })?;
+            }
         }
         Ok(())
     }
@@ -170,10 +167,14 @@ impl<'m> Walk<'m> {
         Ok(())
     }
 
+    /// Notes the needed names that aren't used; the first has the binding 0.
     fn note_unused_needs(&mut self, decision: &WrittenDecision) -> Result<(), AllocError> {
         for (index, need) in decision.needs.iter().enumerate() {
-            let steps = [Step::Key(Key::Needs), Step::Index(index)];
-            self.note_unused(OddityKind::UnusedNeed, &steps, index, need.as_str())?;
+            let unused = self.unused_name(OddityKind::UnusedNeed, index, need.as_str())?;
+            if let Some(name) = unused {
+                let steps = [Step::Key(Key::Needs), Step::Index(index)];
+                self.book.keep(&steps, Oddity::UnusedNeed { name })?;
+            }
         }
         Ok(())
     }

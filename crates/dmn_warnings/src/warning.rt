@@ -95,6 +95,23 @@ pub enum OddityKind {
     OtherKind,
 }
 
+impl Oddity {
+    /// Its kind.
+    pub fn kind(&self) -> OddityKind {
+        match self {
+            Oddity::Unbound { .. } => OddityKind::Unbound,
+            Oddity::Unneeded { .. } => OddityKind::Unneeded,
+            Oddity::Unreached { .. } => OddityKind::Unreached,
+            Oddity::UnusedNeed { .. } => OddityKind::UnusedNeed,
+            Oddity::UnusedEntry { .. } => OddityKind::UnusedEntry,
+            Oddity::UngivenValue { .. } => OddityKind::UngivenValue,
+            Oddity::UnlistedValue { .. } => OddityKind::UnlistedValue,
+            Oddity::UnmetTests { .. } => OddityKind::UnmetTests,
+            Oddity::OtherKind { .. } => OddityKind::OtherKind,
+        }
+    }
+}
+
 /// All kinds of oddities.
 pub(crate) const ODDITY_KINDS: [OddityKind; 9] = [
     OddityKind::Unbound,
