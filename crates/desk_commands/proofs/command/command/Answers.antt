@@ -1,7 +1,6 @@
 use Rattle.std.proofs.Common.{rules, ap, ap₂, codes, true, [], ◌≡◌, ◌∙◌}
 use Rattle.std.proofs.lemmas.Result.{IfOk-weaker}
 use Rattle.clap.specs.Words.{App, app_of, new_app, with_subcommand}
-use Rattle.desk_commands.specs.CommandLine.{check_app, desk_command, explain_app, serve_app}
 use Rattle.desk_commands.proofs.Commands.{has_no_global}
 use Rattle.desk_commands.proofs.command.command.Goals as goal
 
