@@ -5,5 +5,5 @@
 pub const VERSION: &str = concat!(
     "0.9.0\n",
     "proved with rattle-kit-13f logic dac8208d650f15bf\n",
-    "sources f9b8705383ca0346cdbe136081fe7e255f42060038811f7bdb04916aa7899dfb",
+    "sources 53ab9d657ccd3418715cc4fdd707ba0fdce569221241e69c30618a512f2f01c0",
 );
