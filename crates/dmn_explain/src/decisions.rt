@@ -133,6 +133,13 @@ pub fn add_decisions(
 {
     let found = &course.outcomes;
     let later = add_all_given(alloc, course.items, &course.service.parameters, found, text)?;
-    add_all_decided(alloc, course.items, &course.service.order, found, later, text)?;
+    add_all_decided(
+        alloc,
+        course.items,
+        &course.service.order,
+        found,
+        later,
+        text,
+    )?;
     Ok(())
 }

@@ -11,7 +11,7 @@ ghost use Rattle.dmn_explain.specs.Numbered.{hit_view, hits_from};
 
 use crate::key::{Key, add_comma, add_key};
 use crate::output::{has_no_default, output_of, values_of};
-use crate::value::{add_valued, add_value};
+use crate::value::{add_value, add_valued};
 use dmn_table::{Output, Rule, Table};
 use feel_lang::{Env, Held, holds};
 use feel_value::Feel;
