@@ -1,5 +1,5 @@
 -- What is told from the outcomes at the places of a plan is what is told from those that its names stand for.
-use Rattle.std.proofs.Common.{◌≡◌, ◌≢◌, ◌∙◌, sym, ap, ap₂, refl, subst, ℕ, zero, suc, ◌+◌, ◌<◌, ◌⊎◌, inl, inr, List, [], ◌∷◌, map, length, get_or, drop, true, false, ◌||◌, Option, None, Some, option_map, string_bytes, arith}
+use Rattle.std.proofs.Common.{◌≡◌, ◌≢◌, ◌∙◌, sym, ap, ap₂, refl, subst, ℕ, suc, ◌+◌, ◌<◌, ◌⊎◌, inl, inr, List, [], ◌∷◌, map, length, get_or, drop, true, false, ◌||◌, Option, None, Some, option_map, string_bytes, arith}
 use Rattle.std.specs.Prelude.{nat_eq, codes}
 use Rattle.std.specs.List.{list_any, All, slice_get}
 use Rattle.std.proofs.lemmas.Bool.Decides.{eqb_tells}
@@ -7,13 +7,13 @@ use Rattle.std.proofs.lemmas.List.{get_or-map, at_drop_more}
 use Rattle.std.proofs.lemmas.Option.{get_or_from_slice_get, slice_get_read}
 use Rattle.serde_json.specs.Data.{Data, string, object, Items, no_items, member, no_members}
 use Rattle.feel_value.specs.Datum.{Datum}
-use Rattle.feel_value.specs.Found.{value_of, ◌>>=◌, each}
+use Rattle.feel_value.specs.Found.{value_of, ◌>>=◌}
 use Rattle.feel_value.specs.declared.feel.Outcome.{Outcome}
 use Rattle.feel_lang.specs.Expr.{Expr}
 use Rattle.feel_lang.specs.Meaning.{Bindings}
 use Rattle.feel_lang.specs.Needed.{bindings_from, found_at}
 use Rattle.dmn_table.specs.Table.{Table}
-use Rattle.dmn_graph.specs.Reach.{Each, IsInOrder, has_same}
+use Rattle.dmn_graph.specs.Reach.{Each, IsInOrder}
 use Rattle.dmn_form.specs.Model.{Name, Boxed, Service, Model}
 use Rattle.dmn_logic.specs.LogicView.{logic_view}
 use Rattle.dmn_logic.specs.declared.logic.Logic.{Logic}

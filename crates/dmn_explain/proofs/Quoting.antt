@@ -1,8 +1,8 @@
 -- Texts in quotes.
-use Rattle.std.proofs.Common.{◌≡◌, ℕ, ◌==◌, ◌||◌, nat_lt, Bool, true, false, List, [], ◌∷◌, ◌++◌, append_assoc, refl, ap}
+use Rattle.std.proofs.Common.{◌≡◌, ℕ, ◌==◌, ◌||◌, nat_lt, false, List, [], ◌∷◌, ◌++◌, append_assoc, refl, ap}
 use Rattle.std.specs.List.{list_any}
 use Rattle.std.proofs.lemmas.Bool.{or_parts, eqb-false, ltb-false}
-use Rattle.json.specs.Print.{escape, escape_byte, quoted}
+use Rattle.json.specs.Print.{escape, quoted}
 use Rattle.json.specs.Run.{is_stop}
 use Rattle.json.proofs.Printed.Strings.{escape_byte_plain}
 

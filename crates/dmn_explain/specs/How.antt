@@ -1,5 +1,5 @@
 -- How tables and boxed expressions come to their outcomes, in JSON.
-use Rattle.std.specs.Prelude.{ℕ, ◌+◌, List, [], ◌∷◌, ◌++◌, Bool, true, false, ◌&&◌, not, codes, Option, None, Some}
+use Rattle.std.specs.Prelude.{ℕ, ◌+◌, List, [], ◌∷◌, ◌++◌, Bool, false, not, codes, Option, None, Some}
 use Rattle.std.specs.List.{list_all}
 use Rattle.std.specs.Option.{is_none}
 use Rattle.serde_json.specs.Data.{Data, boolean, number, unsigned, string, array, object, Items, no_items, item, Members, no_members, member}
@@ -7,7 +7,6 @@ use Rattle.feel_value.specs.Datum as datum
 use Rattle.feel_value.specs.Datum.{Datum, items_of}
 use Rattle.feel_value.specs.Json.{json_of}
 use Rattle.feel_value.specs.Found.{value_of, ◌>>=◌, each, outcome_from}
-use Rattle.feel_value.specs.declared.feel.Outcome.{Outcome}
 use Rattle.feel_lang.specs.Expr.{Expr}
 use Rattle.feel_lang.specs.Meaning.{Bindings}
 use Rattle.dmn_table.specs.Table.{Column, Rule, Table}

@@ -1,5 +1,5 @@
 -- Internal: no public contract cites these words. The explanation from what was found at the places of a plan.
-use Rattle.std.specs.Prelude.{ℕ, List, [], ◌∷◌, codes, string_bytes, Option, None, Some, option_map}
+use Rattle.std.specs.Prelude.{ℕ, List, [], ◌∷◌, codes, string_bytes, Option, option_map}
 use Rattle.std.specs.List.{slice_get}
 use Rattle.serde_json.specs.Data.{Data, string, object, Items, no_items, member, no_members}
 use Rattle.feel_value.specs.Found.{◌>>=◌}

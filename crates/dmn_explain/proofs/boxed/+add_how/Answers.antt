@@ -1,19 +1,18 @@
-use Rattle.std.proofs.Common.{◌≡◌, ap, sym, ◌∙◌, subst, ◌++◌, ◌+◌, [], ◌∷◌, List, ℕ, true, false, drop, Option, Some, None, Bool, string_bytes, if◌then◌else◌, OnOk, refl, Vec, Global}
+use Rattle.std.proofs.Common.{◌≡◌, ap, sym, ◌∙◌, subst, ◌++◌, ◌+◌, [], ◌∷◌, List, ℕ, true, false, drop, Option, string_bytes, OnOk, refl, Vec, Global}
 use Rattle.std.specs.Prelude.{codes}
-use Rattle.serde_json.specs.Data.{array, object, member, no_members}
-use Rattle.serde_json.specs.Written.{comma_if, compact_text, items_text, members_text}
+use Rattle.serde_json.specs.Data.{array}
+use Rattle.serde_json.specs.Written.{compact_text, items_text, members_text}
 use Rattle.feel_value.specs.Datum.{Datum}
 use Rattle.feel_value.specs.Found.{value_of}
-use Rattle.feel_value.specs.declared.feel.Outcome.TheVariants.{Is, Limit}
 use Rattle.feel_lang.specs.Meaning.{Bindings}
-use Rattle.dmn_form.specs.Model.{context, context_with}
+use Rattle.dmn_form.specs.Model.{context}
 use Rattle.dmn_logic.specs.Boxed.{boxed}
 use Rattle.dmn_logic.specs.LogicView.{logic_view, members_view, entries_view}
-use Rattle.dmn_logic.proofs.Boxes.{Named, logic_view-Context, logic_view-ContextWith, bind_turn}
-use Rattle.dmn_explain.specs.How.{how, table_told, members_told, entries_told, told_as, named_as}
+use Rattle.dmn_logic.proofs.Boxes.{Named, logic_view-Context, bind_turn}
+use Rattle.dmn_explain.specs.How.{how, members_told, entries_told, named_as}
 use Rattle.dmn_explain.specs.Text.{valued_text, entries_text, result_text}
-use Rattle.dmn_explain.proofs.Pieces.{member_ended_by, told_added_by, named_added_by, entries_added_by}
-use Rattle.dmn_explain.proofs.Telling.{context_with_added, member_told, entry_told, member_more, member_last, members_ended, entry_more, entry_last, entries_ended, none_bound}
+use Rattle.dmn_explain.proofs.Pieces.{member_ended_by, told_added_by, named_added_by}
+use Rattle.dmn_explain.proofs.Telling.{context_with_added, member_told, member_more, member_last, members_ended, entry_more}
 use Rattle.dmn_explain.proofs.boxed.+add_how.Goals as goal
 use Rattle.dmn_explain.proofs.boxed.+add_how.Goals.{add_how-in-Ok, add_how-in-Err}
 

@@ -1,7 +1,7 @@
-use Rattle.std.proofs.Common.{◌≡◌, ap, sym, ◌∙◌, ◌++◌, ◌+◌, List, ℕ, get_or, drop, true, Some, None}
+use Rattle.std.proofs.Common.{ap, sym, ◌∙◌, ◌++◌, ◌+◌, List, ℕ, get_or, drop, Some, None}
 use Rattle.std.proofs.lemmas.List.{drop_all}
 use Rattle.serde_json.specs.Data.{Items, no_items}
-use Rattle.serde_json.specs.Written.{compact_text, items_text}
+use Rattle.serde_json.specs.Written.{items_text}
 use Rattle.dmn_logic.specs.LogicView.{logic_view}
 use Rattle.dmn_explain.specs.Placed.{decided_here, decided_by_place}
 use Rattle.dmn_explain.proofs.Pieces.{row_ended, row_more}

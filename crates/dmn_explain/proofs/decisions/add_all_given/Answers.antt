@@ -1,4 +1,4 @@
-use Rattle.std.proofs.Common.{◌≡◌, ap, sym, ◌∙◌, ◌++◌, List, ℕ, ◌+◌, get_or, drop, true, Some, None}
+use Rattle.std.proofs.Common.{ap, sym, ◌∙◌, ◌++◌, List, ℕ, ◌+◌, get_or, drop, Some, None}
 use Rattle.std.proofs.lemmas.List.{drop_all}
 use Rattle.serde_json.specs.Data.{array, Items}
 use Rattle.serde_json.specs.Written.{compact_text, items_text}

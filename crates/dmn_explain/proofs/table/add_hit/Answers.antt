@@ -1,4 +1,4 @@
-use Rattle.std.proofs.Common.{ap, sym, ◌∙◌, ◌++◌, List, ℕ, true, false, map, Option}
+use Rattle.std.proofs.Common.{ap, ◌∙◌, ◌++◌, List, ℕ, true, false, map, Option}
 use Rattle.std.specs.Prelude.{codes}
 use Rattle.serde_json.specs.Data.{number, unsigned, member, no_members}
 use Rattle.feel_value.specs.Datum.{Datum}
