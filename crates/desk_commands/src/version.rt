@@ -5,5 +5,5 @@
 pub const VERSION: &str = concat!(
     "0.9.0\n",
     "proved with rattle-kit-13f logic dac8208d650f15bf\n",
-    "sources 53ab9d657ccd3418715cc4fdd707ba0fdce569221241e69c30618a512f2f01c0",
+    "sources ba18750b9e7dd8b501952cce83f294fd083ea79ea7b152f611485a24323477d9",
 );
