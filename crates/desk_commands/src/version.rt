@@ -5,5 +5,5 @@
 pub const VERSION: &str = concat!(
     "0.9.0\n",
     "proved with rattle-kit-13f logic dac8208d650f15bf\n",
-    "sources ba18750b9e7dd8b501952cce83f294fd083ea79ea7b152f611485a24323477d9",
+    "sources 3b8642c8850ff9bfc1bf6aa4b5f5375dea6f0d9dedc688c98d6d21302923179a",
 );
