@@ -1,5 +1,5 @@
 //! What the program does with its words, as a function of them and of its streams.
-ghost use Rattle.std.specs.Prelude.{◌≡◌, ◌≢◌, ◌⊎◌, ◌<◌, ◌-◌, ◌^◌, ℕ, List, [], None, Option, Result, IfSome, map, string_bytes, codes, true};
+ghost use Rattle.std.specs.Prelude.{◌≡◌, ◌≢◌, ◌⊎◌, ◌<◌, ◌-◌, ◌^◌, ℕ, List, [], None, Option, Result, IfSome, map, string_bytes, codes, false, true};
 ghost use Rattle.std.specs.IoError.{error_kind};
 ghost use Rattle.clap.specs.Words.{first_of, kind_of};
 ghost use Rattle.desk_lines.specs.declared.fault.FrontFault.{FrontFault};
@@ -101,7 +101,25 @@ fn run_explain_in_text<R: Source, W: Sink, F: Sink>(
     }
 }
 
-/// Explains the answers to the lines of the reader, and tells the fault that ends it, if one does.
+/// Explains the answers to the lines of the reader in lines, and tells the fault that ends it, if one does.
+fn run_explain_in_lines<R: Source, W: Sink, F: Sink>(
+    alloc: Global,
+    reader: &mut R,
+    writer: &mut W,
+    faults: &mut F,
+) -> u8
+    requires read_counts { R.faults reader.old < 2 ^ 64 - 1 }
+    requires write_counts { W.faults writer.old < 2 ^ 64 - 1 }
+    requires fault_counts { F.faults faults.old < 2 ^ 64 - 1 }
+    ensures { (end : Result (Unit {0}) FrontFault) × Explained R.remaining R.faults R.came reader.old reader.new W.contents W.faults writer.old writer.new false end × (result ≡ status_of end) × IsTold F.contents F.faults faults.old faults.new (end_text end) }
+{
+    match explain(alloc, reader, writer) {
+        Ok(()) => DONE,
+        Err(fault) => tell_fault(fault, faults),
+    }
+}
+
+/// Explains the answers to the lines of the reader, in texts for people or in lines.
 fn run_explain<R: Source, W: Sink, F: Sink>(
     alloc: Global,
     in_text: bool,
@@ -117,10 +135,7 @@ fn run_explain<R: Source, W: Sink, F: Sink>(
     if in_text {
         return run_explain_in_text(alloc, reader, writer, faults);
     }
-    match explain(alloc, reader, writer) {
-        Ok(()) => DONE,
-        Err(fault) => tell_fault(fault, faults),
-    }
+    run_explain_in_lines(alloc, reader, writer, faults)
 }
 
 /// Serves the lines of the reader, and tells the fault that ends it, if one does.

@@ -5,5 +5,5 @@
 pub const VERSION: &str = concat!(
     "0.9.0\n",
     "proved with rattle-kit-13f logic dac8208d650f15bf\n",
-    "sources 3b8642c8850ff9bfc1bf6aa4b5f5375dea6f0d9dedc688c98d6d21302923179a",
+    "sources 69ec270fd9abebc31c6fd9d9c0ff080d641997a3ae0b43cbab06ef3868163566",
 );
