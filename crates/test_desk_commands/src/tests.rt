@@ -161,7 +161,7 @@ fn checks_its_model(rt: HostRuntime) -> Result<(), Fail> {
         words,
         b"{\"inputs\":[],\"decisions\":[]}".as_slice(),
     )?;
-    let said = b"shape: not the form of a model\n";
+    let said = b"shape: not the form of a model\nshape: 1 place\n  the key services is missing\n";
     assert!(rt; left.is(3, said.as_slice(), b"".as_slice()));
     let left = run(&rt, alloc, words, Broken)?;
     assert!(rt; left.is(1, b"".as_slice(), b"read\n".as_slice()));
