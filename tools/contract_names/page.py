@@ -14,8 +14,8 @@ WIDTH = 118
 # The calls of which the page speaks: where each stands, and what it is.
 CALLS = {
     "Broker::run": ("crates/box_core/src/broker.rt", "a list of events, each reported: the mailboxes and their order"),
-    "replay": ("crates/desk_replaying/src/session.rt", "a script of lines, each answered before the next is read"),
-    "serve": ("crates/desk_serving/src/front.rt", "many clients at once, with workers in threads"),
+    "replay": ("crates/desk_replaying/src/run.rt", "a script of lines, each answered before the next is read"),
+    "serve": ("crates/desk_serving/src/run.rt", "many clients at once, with workers in threads"),
     "run_desk": ("crates/desk_commands/src/run.rt", "the program: its words, its streams and its status"),
 }
 

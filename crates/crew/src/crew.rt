@@ -1,9 +1,9 @@
-//! What a front and the workers beside it share.
+//! What a host and the workers beside it share.
 use lanes::Signals;
 use std::sync::Arc;
 use std::sync::atomic::{AtomicBool, AtomicUsize, Ordering};
 
-/// What a front and the workers' threads beside it share: whether the workers are to stop, and how many have ended.
+/// What a host and the workers' threads beside it share: whether the workers are to stop, and how many have ended.
 #[derive(Drop)]
 pub struct Crew {
     size: usize,
@@ -47,7 +47,7 @@ impl Crew {
         self.stopping.load(Ordering::SeqCst)
     }
 
-    // One worker more has ended. A front that waits for answers is woken, also one that waits for many.
+    // One worker more has ended. A host that waits for answers is woken, also one that waits for many.
     pub(crate) fn add_ended(&self) {
         self.ended.fetch_add(1, Ordering::SeqCst);
         self.signals.add_answer();

@@ -1,9 +1,9 @@
-//! A front beside the workers.
+//! A host beside the workers.
 ghost use Rattle.std.specs.Prelude.{◌≡◌, ◌≤◌, [], IfOk, OnErr, map, vec_len, vec_capacity};
 ghost use Rattle.lanes.specs.Workers.{worker_links};
 
 use crate::crew::Crew;
-use crate::front::Front;
+use crate::host::Host;
 use crate::threads::{finish, start};
 use box_core::Work;
 use lanes::{Gate, Signals, Worker};
@@ -12,28 +12,28 @@ use std::sync::{Arc, Wait};
 use std::thread;
 use std::thread::Threads;
 
-/// Runs the front on the calling thread, while each worker's end runs in a thread of its own, and then stops and joins
+/// Runs the host on the calling thread, while each worker's end runs in a thread of its own, and then stops and joins
 /// the workers: their ends come back in order, as the ends that they were.
 ///
-/// Where memory or a thread is refused, the front doesn't run, and the workers' ends are dropped.
-pub fn beside<R: Threads + Wait + Sync, G: Gate + Sync, W: Work + Send + Sync, F: Front>(
+/// Where memory or a thread is refused, the host doesn't run, and the workers' ends are dropped.
+pub fn beside<R: Threads + Wait + Sync, G: Gate + Sync, W: Work + Send + Sync, H: Host>(
     rt: &R,
     gate: &G,
     workers: Vec<Worker<W>>,
-    front: &mut F,
-) -> Result<(F::Out, Vec<Worker<W>>), AllocError>
+    host: &mut H,
+) -> Result<(H::Out, Vec<Worker<W>>), AllocError>
 where
     W::Out: Send,
-    requires ready { F.ready front.old }
-    ensures done { IfOk result (λ r. F.done front.old front.new r.0) }
+    requires ready { H.ready host.old }
+    ensures done { IfOk result (λ r. H.done host.old host.new r.0) }
     ensures ends { IfOk result (λ r. map worker_links r.1.items ≡ map worker_links workers.items) }
-    ensures refused { OnErr result (front.new ≡ front.old) }
+    ensures refused { OnErr result (host.new ≡ host.old) }
 {
     let joined = Vec::with_capacity(*workers.allocator(), workers.len())?;
     let signals = signals_of(&workers)?;
     let crew = Crew::of(workers.len(), signals);
-    let (front, ran) = run_beside(rt, gate, &crew, workers, joined, Lent { front });
-    take_back(front);
+    let (host, ran) = run_beside(rt, gate, &crew, workers, joined, Lent { host });
+    take_back(host);
     ran
 }
 
@@ -45,40 +45,40 @@ fn signals_of<W: Work>(workers: &Vec<Worker<W>>) -> Result<Arc<Signals>, AllocEr
     Arc::try_clone(workers[0].signals())
 }
 
-// A front that is lent.
+// A host that is lent.
 #[derive(Drop)]
-struct Lent<'a, F> {
-    front: &'a mut F,
+struct Lent<'a, H> {
+    host: &'a mut H,
 }
 
-// The same, with the list that the ends are joined into. The reference to the front comes back.
-fn run_beside<'a, R: Threads + Wait + Sync, G: Gate + Sync, W: Work + Send + Sync, F: Front>(
+// The same, with the list that the ends are joined into. The reference to the host comes back.
+fn run_beside<'a, R: Threads + Wait + Sync, G: Gate + Sync, W: Work + Send + Sync, H: Host>(
     rt: &R,
     gate: &G,
     crew: &Crew,
     workers: Vec<Worker<W>>,
     joined: Vec<Worker<W>>,
-    lent: Lent<'a, F>,
-) -> (&'a mut F, Result<(F::Out, Vec<Worker<W>>), AllocError>)
+    lent: Lent<'a, H>,
+) -> (&'a mut H, Result<(H::Out, Vec<Worker<W>>), AllocError>)
 where
     W::Out: Send,
     requires room { (joined.items ≡ []) × (vec_len workers ≤ vec_capacity joined) }
-    requires ready { F.ready lent.front.now }
-    ensures same { result.0.ghost_name ≡ lent.entry.front.ghost_name }
-    ensures done { IfOk result.1 (λ r. F.done lent.entry.front.now result.0.now r.0) }
+    requires ready { H.ready lent.host.now }
+    ensures same { result.0.ghost_name ≡ lent.entry.host.ghost_name }
+    ensures done { IfOk result.1 (λ r. H.done lent.entry.host.now result.0.now r.0) }
     ensures ends { IfOk result.1 (λ r. map worker_links r.1.items ≡ map worker_links workers.items) }
-    ensures refused { OnErr result.1 (result.0.now ≡ lent.entry.front.now) }
+    ensures refused { OnErr result.1 (result.0.now ≡ lent.entry.host.now) }
 {
     let (lent, ran) = thread::scope(
         thread::scope_env(),
         rt,
-        move |scope| -> (Lent<F>, Result<(F::Out, Vec<Worker<W>>), AllocError>)
+        move |scope| -> (Lent<H>, Result<(H::Out, Vec<Worker<W>>), AllocError>)
             requires room { (joined.items ≡ []) × (vec_len workers ≤ vec_capacity joined) }
-            requires ready { F.ready lent.front.now }
-            ensures same { result.0.front.ghost_name ≡ lent.entry.front.ghost_name }
-            ensures done { IfOk result.1 (λ r. F.done lent.entry.front.now result.0.front.now r.0) }
+            requires ready { H.ready lent.host.now }
+            ensures same { result.0.host.ghost_name ≡ lent.entry.host.ghost_name }
+            ensures done { IfOk result.1 (λ r. H.done lent.entry.host.now result.0.host.now r.0) }
             ensures ends { IfOk result.1 (λ r. map worker_links r.1.items ≡ map worker_links workers.items) }
-            ensures refused { OnErr result.1 (result.0.front.now ≡ lent.entry.front.now) }
+            ensures refused { OnErr result.1 (result.0.host.now ≡ lent.entry.host.now) }
         {
             let lent = lent;
             let handles = match start(rt, scope, crew, gate, workers) {
@@ -90,17 +90,17 @@ where
             (lent, Ok((answer, finish(rt, handles, joined))))
         },
     );
-    let Lent { front } = lent;
-    (front, ran)
+    let Lent { host } = lent;
+    (host, ran)
 }
 
-// Runs a front that is lent, and gives it back.
-fn run<'a, R: Wait, F: Front>(rt: &R, crew: &Crew, lent: Lent<'a, F>) -> (Lent<'a, F>, F::Out)
-    requires { F.ready lent.front.now }
-    ensures same { result.0.front.ghost_name ≡ lent.entry.front.ghost_name }
-    ensures done { F.done lent.entry.front.now result.0.front.now result.1 }
+// Runs a host that is lent, and gives it back.
+fn run<'a, R: Wait, H: Host>(rt: &R, crew: &Crew, lent: Lent<'a, H>) -> (Lent<'a, H>, H::Out)
+    requires { H.ready lent.host.now }
+    ensures same { result.0.host.ghost_name ≡ lent.entry.host.ghost_name }
+    ensures done { H.done lent.entry.host.now result.0.host.now result.1 }
 {
-    let answer = lent.front.run(rt, crew);
+    let answer = lent.host.run(rt, crew);
     (lent, answer)
 }
 

@@ -5,7 +5,7 @@ use Rattle.serde_json.specs.Read.{read}
 use Rattle.dmn_plan.specs.declared.fault.ModelFault.{ModelFault}
 use Rattle.dmn_plan.specs.declared.fault.ModelFault.TheVariants as fault
 use Rattle.dmn_plan.specs.ReadModel.{of_data, read_model}
-use Rattle.desk_checking.specs.Checked.{subject, fault_in, first_fault_of, IsFirstFault}
+use Rattle.desk_checking.specs.FirstFault.{subject, fault_in, first_fault_of, IsFirstFault}
 
 of_text : (s : List ℕ) (d : Data) (f : Option ModelFault) → read s ≡ Some d → f ≡ fault_in (read_model (subject d)) → first_fault_of s ≡ f
 of_text s d f r e = ap (λ o. fault_in (of_data (option_map subject o))) r ∙ sym e

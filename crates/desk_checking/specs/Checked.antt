@@ -1,28 +1,40 @@
--- What a text is as a model.
-use Rattle.std.specs.Prelude.{◌≡◌, ℕ, List, Option, None, Some, option_map, unwrap_or, Result, Ok, Err, IsUtf8, codes}
-use Rattle.serde_json.specs.Data.{Data}
-use Rattle.serde_json.specs.Find.{get}
-use Rattle.serde_json.specs.Read.{read}
-use Rattle.feel_lang.specs.Expr.{Expr}
-use Rattle.dmn_table.specs.Table.{Table}
-use Rattle.dmn_form.specs.Model.{Model}
+-- How a check ended.
+use Rattle.std.specs.Prelude.{◌≡◌, ◌<◌, ℕ, List, Option, Result, Err, OnOk, IfOk, length}
+use Rattle.std.specs.Io.KnownBytes.{Appends, Consumes, IsAtEnd}
+use Rattle.desk_lines.specs.Device.{Reader, Writer}
+use Rattle.desk_lines.specs.declared.fault.FrontFault.{FrontFault}
+use Rattle.desk_lines.specs.declared.fault.FrontFault.TheVariants.{Long, Read, Write}
 use Rattle.dmn_plan.specs.declared.fault.ModelFault.{ModelFault}
-use Rattle.dmn_plan.specs.declared.fault.ModelFault.TheVariants as fault
-use Rattle.dmn_plan.specs.ReadModel.{of_data}
+use Rattle.desk_checking.specs.FirstFault.{IsFirstFault}
+use Rattle.desk_checking.specs.Input.{model_text, most_bytes}
+use Rattle.desk_checking.specs.Told.{Begins}
+use Rattle.desk_checking.specs.declared.options.CheckOptions.{CheckOptions}
 
--- the value of a model: what stands under the key `model`, or the whole value
-abbrev pub subject : Data → Data
-subject d = unwrap_or (get (codes "model") d) d
+-- the reader was read to its end, and what it gave has a model with this first fault, or with none
+pub record Finds (options : CheckOptions) (reader reader' : Reader) (fault : Option ModelFault) : Type 0 where
+  pub text : List ℕ
+  pub read : Consumes reader.remaining reader'.remaining text
+  pub at_end : IsAtEnd reader'.remaining
+  pub first : IsFirstFault (model_text options text) fault
 
-abbrev pub fault_in : Result (Model Expr Table) ModelFault → Option ModelFault
-fault_in (Ok m) = None
-fault_in (Err f) = Some f
+-- what was written begins with the word of this fault, or with that there is none
+pub record Tells (options : CheckOptions) (writer writer' : Writer) (fault : Option ModelFault) : Type 0 where
+  pub told : List ℕ
+  pub written : Appends writer.contents writer'.contents told
+  pub begins : Begins options.json fault told
 
--- the first fault of the model in a text; None where it is lawful
-abbrev pub first_fault_of : List ℕ → Option ModelFault
-first_fault_of text = fault_in (of_data (option_map subject (read text)))
+-- more came than is checked
+pub record Overflows (reader reader' : Reader) : Type 0 where
+  pub text : List ℕ
+  pub read : Consumes reader.remaining reader'.remaining text
+  pub too_long : most_bytes < length text
 
--- The first fault of the model in a text, or none. What is no UTF-8 is refused as `Syntax`, and has no reading.
-abbrev pub IsFirstFault : List ℕ → Option ModelFault → Type 0
-IsFirstFault text (Some fault.Syntax) = IsUtf8 text → first_fault_of text ≡ Some fault.Syntax
-IsFirstFault text f = IsUtf8 text × (first_fault_of text ≡ f)
+-- A model was read from a reader and checked, and what it is was written: its first fault, or that it has none. Or a fault ended this.
+pub record Checked (options : CheckOptions) (reader reader' : Reader) (writer writer' : Writer) (found : Result (Option ModelFault) FrontFault) : Type 0 where
+  pub finds : IfOk found (λ fault. Finds options reader reader' fault)
+  pub tells : IfOk found (λ fault. Tells options writer writer' fault)
+  pub long : (found ≡ Err Long) → Overflows reader reader'
+  -- A fault of a device is never made up, and none is passed over.
+  pub read_only_at_fault : (found ≡ Err Read) → reader.faults < reader'.faults
+  pub write_only_at_fault : (found ≡ Err Write) → writer.faults < writer'.faults
+  pub ok_without_fault : OnOk found ((reader'.faults ≡ reader.faults) × (writer'.faults ≡ writer.faults))

@@ -1,3 +1,4 @@
 pub mod Input
 pub mod Told
+pub mod FirstFault
 pub mod Checked

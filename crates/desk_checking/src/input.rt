@@ -1,6 +1,7 @@
 //! A whole input.
-ghost use Rattle.std.specs.Prelude.{◌≡◌, ◌≢◌, ◌++◌, ◌<◌, ◌≤◌, ◌-◌, ◌^◌, ℕ, List, take, length, vec_len, Err, OnOk, OnErr, IfOk, IfErr};
+ghost use Rattle.std.specs.Prelude.{◌≡◌, ◌≢◌, ◌++◌, ◌<◌, ◌≤◌, ◌-◌, ◌^◌, take, length, vec_len, Err, OnOk, IfOk, IfErr};
 ghost use Rattle.std.specs.Io.KnownBytes.{Consumes, IsAtEnd};
+ghost use Rattle.desk_checking.specs.Checked.{Overflows};
 ghost use Rattle.desk_checking.specs.Input.{most_bytes};
 
 use desk_lines::{FrontFault, Source};
@@ -12,15 +13,16 @@ const MOST_BYTES: usize = 1 << 26;
 /// The most bytes that are read at once.
 const PIECE: usize = 65_536;
 
-// Reads a piece to the front of the buffer.
+/// Reads a piece to the front of the buffer.
 fn read_piece<R: Source>(reader: &mut R, buffer: &mut [u8]) -> Result<usize, FrontFault>
-    requires counts { R.faults reader.old < 2 ^ 64 - 1 }
+    requires counts { (R.seen reader.old).faults < 2 ^ 64 - 1 }
     ensures bound { IfOk result (λ n. n ≤ length buffer.new) }
     ensures len { length buffer.new ≡ length buffer.old }
-    ensures bytes { IfOk result (λ n. Consumes (R.remaining reader.old) (R.remaining reader.new) (take n buffer.new)) }
-    ensures end { IfOk result (λ n. n ≡ 0 → 0 < length buffer.new → IsAtEnd (R.remaining reader.new)) }
-    ensures fault { IfErr result (λ e. (e ≡ FrontFault.Read) × (R.faults reader.old < R.faults reader.new)) }
-    ensures counts { OnOk result (R.faults reader.new ≡ R.faults reader.old) }
+    ensures bytes { IfOk result (λ n.
+        Consumes (R.seen reader.old).remaining (R.seen reader.new).remaining (take n buffer.new)) }
+    ensures end { IfOk result (λ n. n ≡ 0 → 0 < length buffer.new → IsAtEnd (R.seen reader.new).remaining) }
+    ensures fault { IfErr result (λ e. (e ≡ FrontFault.Read) × ((R.seen reader.old).faults < (R.seen reader.new).faults)) }
+    ensures counts { OnOk result ((R.seen reader.new).faults ≡ (R.seen reader.old).faults) }
 {
     match reader.read(buffer) {
         Ok(n) => Ok(n),
@@ -28,7 +30,7 @@ fn read_piece<R: Source>(reader: &mut R, buffer: &mut [u8]) -> Result<usize, Fro
     }
 }
 
-// Adds a piece at the end.
+/// Adds a piece at the end.
 fn add(text: &mut Vec<u8>, piece: &[u8]) -> Result<(), AllocError>
     ensures { OnOk result (text.new.items ≡ text.old.items ++ piece.now) }
 {
@@ -38,13 +40,15 @@ fn add(text: &mut Vec<u8>, piece: &[u8]) -> Result<(), AllocError>
 
 /// All bytes of the reader, at most 64 MiB: `Long` once more came.
 pub(crate) fn read_whole<R: Source>(alloc: Global, reader: &mut R) -> Result<Vec<u8>, FrontFault>
-    requires counts { R.faults reader.old < 2 ^ 64 - 1 }
-    ensures whole { IfOk result (λ v. Consumes (R.remaining reader.old) (R.remaining reader.new) v.items × IsAtEnd (R.remaining reader.new)) }
+    requires counts { (R.seen reader.old).faults < 2 ^ 64 - 1 }
+    ensures whole { IfOk result (λ v.
+        Consumes (R.seen reader.old).remaining (R.seen reader.new).remaining v.items
+        × IsAtEnd (R.seen reader.new).remaining) }
     ensures small { IfOk result (λ v. vec_len v ≤ most_bytes) }
-    ensures long { (result ≡ Err FrontFault.Long) → (bytes : List ℕ) × Consumes (R.remaining reader.old) (R.remaining reader.new) bytes × (most_bytes < length bytes) }
-    ensures read { (result ≡ Err FrontFault.Read) → R.faults reader.old < R.faults reader.new }
+    ensures long { (result ≡ Err FrontFault.Long) → Overflows (R.seen reader.old) (R.seen reader.new) }
+    ensures read { (result ≡ Err FrontFault.Read) → (R.seen reader.old).faults < (R.seen reader.new).faults }
     ensures only { IfErr result (λ e. e ≢ FrontFault.Write) }
-    ensures counts { OnOk result (R.faults reader.new ≡ R.faults reader.old) }
+    ensures counts { OnOk result ((R.seen reader.new).faults ≡ (R.seen reader.old).faults) }
 {
     let mut buffer = vec![in alloc; 0; PIECE]?;
     let mut text = Vec::new(alloc);

@@ -1,12 +1,10 @@
 //! Checks one model.
-ghost use Rattle.std.specs.Prelude.{◌≡◌, ◌≢◌, ◌<◌, ◌-◌, ◌^◌, ℕ, List, length, None, Some, Err, OnOk, IfOk, IfErr};
-ghost use Rattle.std.specs.Io.KnownBytes.{Appends, Consumes, IsAtEnd};
+ghost use Rattle.std.specs.Prelude.{◌≡◌, ◌≢◌, ◌<◌, ◌-◌, ◌^◌, None, Some, Err, OnOk, IfOk, IfErr};
 ghost use Rattle.serde_json.specs.Read.{read};
 ghost use Rattle.serde_json.specs.View.{view};
 ghost use Rattle.dmn_plan.specs.ReadModel.{read_model};
-ghost use Rattle.desk_checking.specs.Checked.{IsFirstFault, fault_in};
-ghost use Rattle.desk_checking.specs.Input.{model_text, most_bytes};
-ghost use Rattle.desk_checking.specs.Told.{Begins};
+ghost use Rattle.desk_checking.specs.Checked.{Checked, Tells};
+ghost use Rattle.desk_checking.specs.FirstFault.{IsFirstFault, fault_in};
 
 use crate::cut::model_and_rest;
 use crate::faults::tell_faults;
@@ -29,7 +27,7 @@ use std::alloc::{AllocError, Global};
 
 /// What a model was found to be, and what is told of it behind how that begins.
 #[derive(Drop)]
-struct Checked {
+struct Verdict {
     fault: Option<ModelFault>,
     rest: String,
 }
@@ -116,16 +114,16 @@ fn check_json(
     is_json: bool,
     json: &Value,
     lines: &[u8],
-) -> Result<Checked, AllocError>
-    ensures { IfOk result (λ c. c.fault ≡ fault_in (read_model (view json.now))) }
+) -> Result<Verdict, AllocError>
+    ensures { IfOk result (λ verdict. verdict.fault ≡ fault_in (read_model (view json.now))) }
 {
     match Plan::of(alloc, json) {
-        Ok(_) => Ok(Checked {
+        Ok(_) => Ok(Verdict {
             fault: None,
             rest: said_of_lawful(alloc, is_json, json, lines)?,
         }),
         Err(ModelFault::Memory) => Err(AllocError),
-        Err(fault) => Ok(Checked {
+        Err(fault) => Ok(Verdict {
             fault: Some(fault),
             rest: said_of_fault(alloc, is_json, json, fault)?,
         }),
@@ -139,13 +137,13 @@ fn check_text(
     is_json: bool,
     text: &[u8],
     lines: &[u8],
-) -> Result<Checked, AllocError>
-    ensures { IfOk result (λ c. IsFirstFault text.now c.fault) }
+) -> Result<Verdict, AllocError>
+    ensures { IfOk result (λ verdict. IsFirstFault text.now verdict.fault) }
 {
     match Value::from_slice(alloc, text) {
         Ok(json) => check_json(alloc, is_json, subject(&json), lines),
         Err(error) if error.is_memory() => Err(AllocError),
-        Err(error) => Ok(Checked {
+        Err(error) => Ok(Verdict {
             fault: Some(ModelFault::Syntax),
             rest: said_of_syntax(alloc, is_json, &error)?,
         }),
@@ -155,17 +153,17 @@ fn check_text(
 /// Writes what is told of a model.
 fn write_told<W: Sink>(
     alloc: Global,
-    is_json: bool,
-    checked: &Checked,
+    options: CheckOptions,
+    verdict: &Verdict,
     writer: &mut W,
 ) -> Result<(), FrontFault>
-    requires counts { W.faults writer.old < 2 ^ 64 - 1 }
-    ensures told { OnOk result ((told : List ℕ) × Appends (W.contents writer.old) (W.contents writer.new) told × Begins is_json checked.now.fault told) }
+    requires counts { (W.seen writer.old).faults < 2 ^ 64 - 1 }
+    ensures tells { OnOk result (Tells options (W.seen writer.old) (W.seen writer.new) verdict.now.fault) }
     ensures only { IfErr result (λ e. (e ≢ FrontFault.Long) × (e ≢ FrontFault.Read)) }
-    ensures fault { (result ≡ Err FrontFault.Write) → W.faults writer.old < W.faults writer.new }
-    ensures counts { OnOk result (W.faults writer.new ≡ W.faults writer.old) }
+    ensures fault { (result ≡ Err FrontFault.Write) → (W.seen writer.old).faults < (W.seen writer.new).faults }
+    ensures counts { OnOk result ((W.seen writer.new).faults ≡ (W.seen writer.old).faults) }
 {
-    let told = told_of(alloc, is_json, checked.fault, &checked.rest)?;
+    let told = told_of(alloc, options.json, verdict.fault, &verdict.rest)?;
     write_all(writer, told.as_bytes())
 }
 
@@ -184,19 +182,13 @@ pub fn check<R: Source, W: Sink>(
     reader: &mut R,
     writer: &mut W,
 ) -> Result<Option<ModelFault>, FrontFault>
-    requires read_counts { R.faults reader.old < 2 ^ 64 - 1 }
-    requires write_counts { W.faults writer.old < 2 ^ 64 - 1 }
-    ensures fault { IfOk result (λ f. (text : List ℕ) × Consumes (R.remaining reader.old) (R.remaining reader.new) text × IsAtEnd (R.remaining reader.new) × IsFirstFault (model_text options text) f) }
-    ensures told { IfOk result (λ f. (told : List ℕ) × Appends (W.contents writer.old) (W.contents writer.new) told × Begins options.json f told) }
-    ensures long { (result ≡ Err FrontFault.Long) → (text : List ℕ) × Consumes (R.remaining reader.old) (R.remaining reader.new) text × (most_bytes < length text) }
-    ensures read_only_at_fault { (result ≡ Err FrontFault.Read) → R.faults reader.old < R.faults reader.new }
-    ensures write_only_at_fault { (result ≡ Err FrontFault.Write) → W.faults writer.old < W.faults writer.new }
-    ensures reads { OnOk result (R.faults reader.new ≡ R.faults reader.old) }
-    ensures writes { OnOk result (W.faults writer.new ≡ W.faults writer.old) }
+    requires read_counts { (R.seen reader.old).faults < 2 ^ 64 - 1 }
+    requires write_counts { (W.seen writer.old).faults < 2 ^ 64 - 1 }
+    ensures { Checked options (R.seen reader.old) (R.seen reader.new) (W.seen writer.old) (W.seen writer.new) result }
 {
     let text = read_whole(alloc, reader)?;
     let (model, lines) = model_and_rest(options, &text);
-    let checked = check_text(alloc, options.json, model, lines)?;
-    write_told(alloc, options.json, &checked, writer)?;
-    Ok(checked.fault)
+    let verdict = check_text(alloc, options.json, model, lines)?;
+    write_told(alloc, options, &verdict, writer)?;
+    Ok(verdict.fault)
 }

@@ -4,7 +4,7 @@ use crate::helping::{Help, Subject, help_of, text_at};
 use crate::place_words::{names_text, place_words};
 use crate::quoted::{Members, quoted};
 use crate::sentence::sentence;
-use desk_reports::model_word;
+use desk_wire::Word;
 use dmn_check::{Finding, Told};
 use dmn_plan::ModelFault;
 use feel_hints::Stop;
@@ -86,7 +86,7 @@ fn json_line(
     let pointer = finding.place.pointer(alloc)?;
     let words = place_words(alloc, subject.json, &finding.place)?;
     let mut members = Members::new(alloc);
-    members.add_text("fault", model_word(fault))?;
+    members.add_text("fault", Word::of_fault(fault).text())?;
     members.add_text("pointer", &pointer)?;
     members.add_text("place", &words)?;
     members.add_text("said", sentence(finding.mistake))?;
@@ -141,7 +141,7 @@ impl Report {
             return Ok(());
         }
         let places = if count == 1 { "place" } else { "places" };
-        let word = model_word(fault);
+        let word = Word::of_fault(fault).text();
         write!(self.text, "{word}: {count} {places}\n")?;
         Ok(())
     }
@@ -156,7 +156,7 @@ impl Report {
             return Ok(());
         }
         let mut members = Members::new(self.alloc);
-        members.add_text("fault", model_word(fault))?;
+        members.add_text("fault", Word::of_fault(fault).text())?;
         members.add_number("more", more)?;
         let line = members.into_line()?;
         self.text.push_str(&line)?;

@@ -1,7 +1,7 @@
 //! What is odd in the lines of requests behind a model.
 
 use crate::quoted::Members;
-use desk_reports::is_blank;
+use desk_wire::is_blank;
 use dmn_form::WrittenModel;
 use request_notes::{Note, notes_of};
 use std::alloc::{AllocError, Global};

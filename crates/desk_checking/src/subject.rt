@@ -1,7 +1,7 @@
 //! The model in a JSON value.
 ghost use Rattle.std.specs.Prelude.{◌≡◌};
 ghost use Rattle.serde_json.specs.View.{view};
-ghost use Rattle.desk_checking.specs.Checked.{subject as subject_of};
+ghost use Rattle.desk_checking.specs.FirstFault.{subject as subject_of};
 
 use serde_json::Value;
 

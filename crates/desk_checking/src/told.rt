@@ -2,7 +2,7 @@
 ghost use Rattle.std.specs.Prelude.{◌≡◌, ◌++◌, Some, None, OnOk, IfOk, string_bytes};
 ghost use Rattle.desk_checking.specs.Told.{head};
 
-use desk_reports::model_word;
+use desk_wire::Word;
 use dmn_plan::ModelFault;
 use std::alloc::{AllocError, Global};
 
@@ -13,11 +13,11 @@ fn fault_head(alloc: Global, is_json: bool, fault: ModelFault) -> Result<String,
     let mut text = String::new(alloc);
     if is_json {
         text.push_str("{\"fault\":\"")?;
-        text.push_str(model_word(fault))?;
+        text.push_str(Word::of_fault(fault).text())?;
         text.push_str("\"}")?;
         return Ok(text);
     }
-    text.push_str(model_word(fault))?;
+    text.push_str(Word::of_fault(fault).text())?;
     text.push_str(": ")?;
     Ok(text)
 }

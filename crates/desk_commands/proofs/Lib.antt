@@ -1,3 +1,2 @@
 pub mod Commands
-pub mod Serving
-pub mod Telling
+pub mod Ending

@@ -1,5 +1,5 @@
 -- The command line of the program.
-use Rattle.std.specs.Prelude.{◌≡◌, ◌≤◌, ℕ, List, [], ◌∷◌, Option, Some, None, IfSome, Bool, codes, option_and_then, true, false, if◌then◌else◌}
+use Rattle.std.specs.Prelude.{◌≡◌, ◌≤◌, ℕ, List, [], ◌∷◌, Option, Some, None, IfSome, Bool, Vec, String, codes, map, string_bytes, true, false, if◌then◌else◌}
 use Rattle.std.specs.Str.{bytes_eq}
 use Rattle.clap.specs.Words.{App, Row, Rule, Text, IsUnsignedIn, first_of, new_app, new_rule, subcommand_of, takes, with_rule, with_subcommand}
 use Rattle.clap.specs.Faults.{fault_of}
@@ -47,6 +47,10 @@ desk_command = with_subcommand (with_subcommand (with_subcommand (with_subcomman
   subs = [];
 }) (new_app (codes "replay")).top) serve_app.top) check_app.top) explain_app.top
 
+-- the words as texts
+abbrev pub texts_of : {Z Y : Type 0} → Vec (String Z) Y → List Text
+texts_of words = map string_bytes words.items
+
 -- `clap` takes these words
 abbrev pub IsCommand : List Text → Type 0
 IsCommand words = takes desk_command words ≡ true
@@ -55,20 +59,23 @@ IsCommand words = takes desk_command words ≡ true
 abbrev pub kinds_of : List Text → Kinds
 kinds_of words = fault_of desk_command words
 
-abbrev pub rows_under : Text → Text × List Row → Option (List Row)
-rows_under name found = if bytes_eq found.0 name then Some found.1 else None
+-- the command that words name which `clap` takes, with what they say of its options
+pub data Named : Type 0 where
+  Replay : Named
+  Serve : (rows : List Row) → Named
+  Check : (rows : List Row) → Named
+  Explain : (rows : List Row) → Named
 
--- what the words say of the options of `serve`, where they name it
-abbrev pub serve_rows : List Text → Option (List Row)
-serve_rows words = option_and_then (rows_under (codes "serve")) (subcommand_of desk_command words)
+-- by the name of the subcommand that the words have, and what they say of its options
+abbrev pub named_by : Option (Text × List Row) → Named
+named_by None = Replay
+named_by (Some found) =
+    if bytes_eq found.0 (codes "serve") then Serve found.1
+    else (if bytes_eq found.0 (codes "check") then Check found.1
+    else (if bytes_eq found.0 (codes "explain") then Explain found.1 else Replay))
 
--- what the words say of the options of `check`, where they name it
-abbrev pub check_rows : List Text → Option (List Row)
-check_rows words = option_and_then (rows_under (codes "check")) (subcommand_of desk_command words)
-
--- what the words say of the option of `explain`, where they name it
-abbrev pub explain_rows : List Text → Option (List Row)
-explain_rows words = option_and_then (rows_under (codes "explain")) (subcommand_of desk_command words)
+abbrev pub named_in : List Text → Named
+named_in words = named_by (subcommand_of desk_command words)
 
 -- a number from 1 to `top`: the one that the text says, where it says one of these; `clap` takes no other text
 pub record IsNumberOf (top : ℕ) (text : Option Text) (number : ℕ) : Type 0 where

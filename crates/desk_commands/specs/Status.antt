@@ -1,37 +1,66 @@
--- What the program's status says, and what it tells of it.
-use Rattle.std.specs.Prelude.{◌≡◌, ◌≢◌, ◌⊎◌, ◌<◌, ◌≤◌, ◌+◌, ◌-◌, ◌^◌, ◌++◌, ℕ, List, [], codes, Bool, true, false, Option, Some, None, Result, Ok, Err, OnOk, IfOk, IfErr, length}
-use Rattle.std.specs.Io.KnownBytes.{Appends, Consumes, IsAtEnd}
+-- What the program does with its words, what its status says of that, and what it tells.
+use Rattle.std.specs.Prelude.{◌≡◌, ◌≢◌, ◌⊎◌, ℕ, List, [], codes, Bool, true, false, Option, Some, None, Result, Ok, Err}
 use Rattle.clap.specs.Kinds.{Kinds, IsAmong}
+use Rattle.clap.specs.Words.{first_of}
 use Rattle.clap.specs.declared.error.kind.ErrorKind.{ErrorKind}
 use Rattle.clap.specs.declared.error.kind.ErrorKind.TheVariants as kind
-use Rattle.desk_lines.specs.Fault.{fault_word}
 use Rattle.dmn_plan.specs.declared.fault.ModelFault.{ModelFault}
-use Rattle.desk_checking.specs.Checked.{IsFirstFault}
-use Rattle.desk_checking.specs.Input.{model_text, most_bytes}
-use Rattle.desk_checking.specs.Told.{Begins}
-use Rattle.desk_checking.specs.declared.options.CheckOptions.{CheckOptions}
-use Rattle.clap.specs.Words.{Row}
-use Rattle.desk_serving.specs.Served.{Served, ServedInPart}
-use Rattle.desk_lines.specs.Talk.{EndsAs, Replays}
-use Rattle.desk_replaying.specs.Script.{Script}
-use Rattle.desk_explaining.specs.Explained as explained
-use Rattle.desk_explaining.specs.Printed.{AnyLines}
-use Rattle.desk_lines.specs.Lines.{ended, max_input}
+use Rattle.desk_lines.specs.Device.{Reader, Writer}
+use Rattle.desk_lines.specs.Fault.{fault_word}
+use Rattle.desk_lines.specs.Lines.{ended}
+use Rattle.desk_lines.specs.Ran.{Ran}
+use Rattle.desk_lines.specs.Told.{IsTold}
 use Rattle.desk_lines.specs.declared.fault.FrontFault.{FrontFault}
-use Rattle.desk_lines.specs.declared.fault.FrontFault.TheVariants as front
+use Rattle.desk_lines.specs.declared.fault.FrontFault.TheVariants.{Memory}
+use Rattle.desk_checking.specs.Checked.{Checked}
+use Rattle.desk_checking.specs.declared.options.CheckOptions.{CheckOptions}
+use Rattle.desk_explaining.specs.Printed.{AnyLines}
+use Rattle.desk_explaining.specs.Script as explaining
+use Rattle.desk_replaying.specs.Script as replaying
+use Rattle.desk_serving.specs.Script.{Served, ServedInPart}
 use Rattle.desk_serving.specs.declared.options.Options.{Options}
-use Rattle.desk_commands.specs.CommandLine.{AreOptionsOf}
+use Rattle.desk_commands.specs.CommandLine.{AreCheckOptionsOf, AreOptionsOf, Named, Replay, Serve, Check, Explain, is_true}
 
--- 0 at the end of the input, 1 where a fault came before it
-abbrev pub status_of : Result (Unit {0}) FrontFault → ℕ
-status_of (Ok done) = 0
-status_of (Err why) = 1
+-- ## The statuses
 
--- 0 where help or the version was asked for, 2 where the words are wrong
+-- the command came to its end, or help or the version was asked for
+abbrev pub done : ℕ
+done = 0
+
+-- a fault ended the run, or memory was refused
+abbrev pub stopped : ℕ
+stopped = 1
+
+-- the words name no command
+abbrev pub wrong_words : ℕ
+wrong_words = 2
+
+-- the model that was checked has a fault
+abbrev pub wrong_model : ℕ
+wrong_model = 3
+
+-- of a command, by how it ended
+abbrev pub status_of : {X : Type 0} → Result X FrontFault → ℕ
+status_of (Ok x) = done
+status_of (Err why) = stopped
+
+-- of `check`, by the first fault of the model, or by how it ended before
+abbrev pub status_of_check : Result (Option ModelFault) FrontFault → ℕ
+status_of_check (Ok None) = done
+status_of_check (Ok (Some fault)) = wrong_model
+status_of_check (Err why) = stopped
+
+-- of words that name no command
 abbrev pub status_of_kind : ErrorKind → ℕ
-status_of_kind kind.DisplayHelp = 0
-status_of_kind kind.DisplayVersion = 0
-status_of_kind _ = 2
+status_of_kind kind.DisplayHelp = done
+status_of_kind kind.DisplayVersion = done
+status_of_kind _ = wrong_words
+
+-- memory was refused, or the status is that of one of these kinds of error
+abbrev pub IsStatusOf : Kinds → ℕ → Type 0
+IsStatusOf kinds status = (status ≡ stopped) ⊎ ((k : ErrorKind) × IsAmong k kinds × (status ≡ status_of_kind k))
+
+-- ## What is told
 
 -- the line that tells a fault
 abbrev pub fault_line : FrontFault → List ℕ
@@ -41,72 +70,72 @@ fault_line why = ended (fault_word why)
 abbrev pub no_utf8_line : List ℕ
 no_utf8_line = ended (codes "error: a word of the command line is not UTF-8")
 
--- what is told of how a run ended: a fault on a line of its own, and nothing else
-abbrev pub end_text : Result (Unit {0}) FrontFault → List ℕ
-end_text (Ok done) = []
+-- some text is told, and nothing is said of which
+pub record IsSomethingTold (old new : Writer) : Type 0 where
+  pub text : List ℕ
+  pub told : IsTold old new text
+
+-- what is told of how a command ended: a fault on a line of its own, and nothing else
+abbrev pub end_text : {X : Type 0} → Result X FrontFault → List ℕ
+end_text (Ok x) = []
 end_text (Err why) = fault_line why
 
--- 3 where the model that was checked has a fault
-abbrev pub status_of_check : Result (Option ModelFault) FrontFault → ℕ
-status_of_check (Ok None) = 0
-status_of_check (Ok (Some fault)) = 3
-status_of_check (Err why) = 1
+-- ## A command
 
--- what is told of how a check ended
-abbrev pub check_end_text : Result (Option ModelFault) FrontFault → List ℕ
-check_end_text (Ok fault) = []
-check_end_text (Err why) = fault_line why
+-- it ended so that the relation holds; the status follows from how it ended, and a fault is told
+pub record EndsBy {X : Type 0} (Did : Result X FrontFault → Type 0) (status_by : Result X FrontFault → ℕ) (faults faults' : Writer) (status : ℕ) : Type 0 where
+  pub end : Result X FrontFault
+  pub did : Did end
+  pub is : status ≡ status_by end
+  pub told : IsTold faults faults' (end_text end)
 
--- a text went to a writer: all of it, or as far as the writer took it before it failed
-module _ {W : Type 0} (contents : W → Option (List ℕ)) (failures : W → ℕ) (old new : W) where
-  pub record IsTold (text : List ℕ) : Type 0 where
-    pub told : List ℕ
-    pub untold : List ℕ
-    pub begins : text ≡ told ++ untold
-    pub written : Appends (contents old) (contents new) told
-    pub cut_only_at_fault : (untold ≢ []) → failures old < failures new
-
--- A command read from a reader and wrote to a writer, and ended so. `Whole` says which lines answer the lines of a whole input, and
--- `Part` which lines answer the first lines of an input.
-module _ {R W : Type 0} (remaining : R → Option (List ℕ)) (failures came : R → ℕ) (reader reader' : R) (contents : W → Option (List ℕ)) (write_failures : W → ℕ) (writer writer' : W) where
-  pub record Ran (Whole Part : List (List ℕ) → List (List ℕ) → Type 0) (end : Result (Unit {0}) FrontFault) : Type 0 where
-    pub ok : OnOk end (Replays Whole (remaining reader) (remaining reader') (contents writer) (contents writer'))
-    pub fault : IfErr end (λ e. EndsAs Whole Part (remaining reader) (remaining reader') (contents writer) (contents writer') e)
-    pub read_only_at_fault : (end ≡ Err front.Read) → failures reader < failures reader'
-    pub write_only_at_fault : (end ≡ Err front.Write) → write_failures writer < write_failures writer'
-    pub ok_without_fault : OnOk end ((failures reader' ≡ failures reader) × (write_failures writer' ≡ write_failures writer))
-    pub long_only_past_limit : (end ≡ Err front.Long) → came reader < 2 ^ 63 → max_input < came reader' - came reader
-    pub ok_within_limit : OnOk end (came reader' ≤ came reader + max_input)
-    pub read_within_limit : (end ≡ Err front.Read) → came reader' ≤ came reader + max_input
-
+module _ (reader reader' : Reader) (writer writer' : Writer) where
   abbrev pub Replayed : Result (Unit {0}) FrontFault → Type 0
-  Replayed end = Ran Script Script end
+  Replayed end = Ran replaying.Script replaying.Script reader reader' writer writer' end
+
+  -- with so many lanes
+  abbrev pub ServedWith : ℕ → Result (Unit {0}) FrontFault → Type 0
+  ServedWith lanes end = Ran (Served lanes) (ServedInPart lanes) reader reader' writer writer' end
 
   -- in texts for people, of which nothing is said, or in lines
   abbrev pub Explained : Bool → Result (Unit {0}) FrontFault → Type 0
-  Explained true end = Ran AnyLines AnyLines end
-  Explained false end = Ran explained.Script explained.Script end
+  Explained true end = Ran AnyLines AnyLines reader reader' writer writer' end
+  Explained false end = Ran explaining.Script explaining.Script reader reader' writer writer' end
 
-  -- with so many lanes
-  abbrev pub ServedBy : ℕ → Result (Unit {0}) FrontFault → Type 0
-  ServedBy lanes end = Ran (Served lanes) (ServedInPart lanes) end
+  module _ (faults faults' : Writer) (status : ℕ) where
+    -- what is promised of each command
+    abbrev pub Does : Named → Type 0
+    Does Replay = EndsBy Replayed status_of faults faults' status
+    Does (Serve rows) = (options : Options) × AreOptionsOf rows options × EndsBy (ServedWith options.clients) status_of faults faults' status
+    Does (Check rows) = (options : CheckOptions) × AreCheckOptionsOf rows options
+        × EndsBy (Checked options reader reader' writer writer') status_of_check faults faults' status
+    Does (Explain rows) = EndsBy (Explained (is_true (first_of (codes "text") rows))) status_of faults faults' status
 
-  -- `serve` where the words name it, with as many lanes as they say, and `replay` where they name none of the others
-  abbrev pub RanAs : Option (List Row) → Result (Unit {0}) FrontFault → Type 0
-  RanAs None end = Replayed end
-  RanAs (Some rows) end = (options : Options) × AreOptionsOf rows options × ServedBy options.clients end
+-- ## A command line
 
--- A model was read from a reader and checked: what its first fault is, if it has one, was found of all that the reader gave, or of the
--- first line, and is told first; or a fault ended the command.
-module _ {R W : Type 0} (remaining : R → Option (List ℕ)) (failures : R → ℕ) (reader reader' : R) (contents : W → Option (List ℕ)) (write_failures : W → ℕ) (writer writer' : W) where
-  pub record Checked (options : CheckOptions) (found : Result (Option ModelFault) FrontFault) : Type 0 where
-    pub fault : IfOk found (λ f. (text : List ℕ) × Consumes (remaining reader) (remaining reader') text × IsAtEnd (remaining reader') × IsFirstFault (model_text options text) f)
-    pub told : IfOk found (λ f. (told : List ℕ) × Appends (contents writer) (contents writer') told × Begins options.json f told)
-    pub long : (found ≡ Err front.Long) → (text : List ℕ) × Consumes (remaining reader) (remaining reader') text × (most_bytes < length text)
-    pub read_only_at_fault : (found ≡ Err front.Read) → failures reader < failures reader'
-    pub write_only_at_fault : (found ≡ Err front.Write) → write_failures writer < write_failures writer'
-    pub ok_without_fault : OnOk found ((failures reader' ≡ failures reader) × (write_failures writer' ≡ write_failures writer))
+-- memory was refused before the command began
+pub record Starves {R W F : Type 0} (reader reader' : R) (writer writer' : W) (seen_faults : F → Writer) (faults faults' : F) (status : ℕ) : Type 0 where
+  pub is : status ≡ stopped
+  pub unread : reader' ≡ reader
+  pub unwritten : writer' ≡ writer
+  pub told : IsTold (seen_faults faults) (seen_faults faults') (fault_line Memory)
 
--- memory was refused, or the status is that of one of these kinds of error
-abbrev pub IsStatusOf : Kinds → ℕ → Type 0
-IsStatusOf kinds status = (status ≡ 1) ⊎ ((k : ErrorKind) × IsAmong k kinds × (status ≡ status_of_kind k))
+-- the words name this command, and memory was refused before it began, or it does what is promised of it
+abbrev pub Runs : Named → {R W F : Type 0} → (R → Reader) → (reader reader' : R) → (W → Writer) → (writer writer' : W) → (F → Writer) → (faults faults' : F) → ℕ → Type 0
+Runs named seen reader reader' seen_writer writer writer' seen_faults faults faults' status =
+    Starves reader reader' writer writer' seen_faults faults faults' status
+    ⊎ Does (seen reader) (seen reader') (seen_writer writer) (seen_writer writer') (seen_faults faults) (seen_faults faults') status named
+
+-- help or the version is told on the writer and nothing else; or on the faults that memory was refused, or what is wrong
+pub record Says {W F : Type 0} (seen_writer : W → Writer) (writer writer' : W) (seen_faults : F → Writer) (faults faults' : F) (status : ℕ) : Type 0 where
+  pub memory : status ≡ stopped → IsTold (seen_faults faults) (seen_faults faults') (fault_line Memory)
+  pub wrong : status ≡ wrong_words → IsSomethingTold (seen_faults faults) (seen_faults faults')
+  pub help : status ≡ done → IsSomethingTold (seen_writer writer) (seen_writer writer')
+  pub silent : status ≢ done → writer' ≡ writer
+  pub no_fault : status ≡ done → faults' ≡ faults
+
+-- the words name no command, for one of these reasons
+pub record Refuses (kinds : Kinds) {R W F : Type 0} (reader reader' : R) (seen_writer : W → Writer) (writer writer' : W) (seen_faults : F → Writer) (faults faults' : F) (status : ℕ) : Type 0 where
+  pub is : IsStatusOf kinds status
+  pub unread : reader' ≡ reader
+  pub says : Says seen_writer writer writer' seen_faults faults faults' status

@@ -5,5 +5,5 @@
 pub const VERSION: &str = concat!(
     "0.9.0\n",
     "proved with rattle-kit-13f logic dac8208d650f15bf\n",
-    "sources 69ec270fd9abebc31c6fd9d9c0ff080d641997a3ae0b43cbab06ef3868163566",
+    "sources adf03ca41750739a28cd499ea2f7dea901eb3032318dfc274670012933e32d10",
 );

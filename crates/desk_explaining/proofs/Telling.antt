@@ -12,9 +12,9 @@ use Rattle.dmn_plan.specs.Request.{Request, request_result}
 use Rattle.dmn_plan.specs.declared.course.Course.{Course}
 use Rattle.dmn_explain.specs.Explanation.{decisions_told}
 use Rattle.desk_lines.specs.Lines.{ended}
-use Rattle.desk_explaining.specs.Desk.{Adds}
-use Rattle.desk_explaining.specs.Explained.{IsTaskAnswer, explanation, result_told, skipped}
-use Rattle.desk_explaining.specs.Line.{begin_of, head_of, tail_of}
+use Rattle.desk_explaining.specs.StateView.{Adds}
+use Rattle.desk_explaining.specs.Due.{IsTaskAnswer, explanation, result_told}
+use Rattle.desk_explaining.specs.ExplainedLine.{begin_of, head_of, tail_of}
 
 pub pieces_3 : (l a b c : List ℕ) → ((l ++ a) ++ b) ++ c ≡ l ++ (a ++ (b ++ c))
 pieces_3 l a b c = simp append_assoc
@@ -64,11 +64,6 @@ explained_line text name k service decisions outcome =
     ∙ ap (λ t. text ++ from_client name k (from_service service (listed ++ t))) (result_line outcome)
     ∙ ap (λ t. text ++ t)
     (newline_last (quoted (codes "client")) (quoted name) (quoted (codes "line")) (decimal k) (quoted (codes "service")) (quoted service) (quoted (codes "decisions")) listed told)
-
-pub skipped_line : (text name : List ℕ) (k : ℕ) (word : List ℕ)
-    → (((text ++ begin_of name k) ++ codes ",\"skipped\":") ++ quoted word) ++ codes "}\n" ≡ text ++ ended (compact_text (skipped name k word))
-unfolding escape_byte
-skipped_line text name k word = simp append_assoc
 
 -- the pieces make up the line of an explanation
 pub explains : (name : List ℕ) (k : ℕ) (service : List ℕ) (q : Request) (course : Course) (text headed listed text' : List ℕ) (c : IsCourseOf q course)

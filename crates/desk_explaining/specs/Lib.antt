@@ -1,4 +1,5 @@
-pub mod Explained
-pub mod Desk
-pub mod Line
+pub mod Due
+pub mod Script
+pub mod StateView
+pub mod ExplainedLine
 pub mod Printed

@@ -1,22 +1,21 @@
 //! What is answered to each line.
 ghost use Rattle.std.specs.Prelude.{◌≡◌, ℕ, List, OnOk, codes};
 ghost use Rattle.serde_json.specs.View.{view};
-ghost use Rattle.desk_reports.specs.Reading.{Says};
-ghost use Rattle.desk_serving.specs.AskedView.{asked_view};
-ghost use Rattle.desk_serving.specs.Heard.{IsHeardAs};
-ghost use Rattle.desk_explaining.specs.Desk.{Adds, Hears, HearsText, Loads, Replies};
-ghost use Rattle.desk_explaining.specs.Explained.{skipped};
+ghost use Rattle.desk_wire.specs.Reading.{Says};
+ghost use Rattle.desk_serving.specs.LineView.{line_view};
+ghost use Rattle.desk_wire.specs.Heard.{IsHeardAs};
+ghost use Rattle.desk_explaining.specs.StateView.{Adds, Hears, HearsText, Loads, Replies};
 
-use crate::desk::Desk;
-use crate::explanation::{add_explanation, add_skipped};
-use desk_reports::{LineRefusal, model_word, refusal_of, report};
-use desk_serving::{Asked, Heard, asked_by};
+use crate::explanation::add_explanation;
+use crate::state::State;
+use desk_serving::{Line, line_heard};
+use desk_wire::{Heard, Report, Told, Word};
 use dmn_plan::{ModelFault, Plan, Task, TaskFault};
 use serde_json::Value;
 use std::alloc::{AllocError, Global};
 use std::sync::Arc;
 
-impl Desk {
+impl State {
     /// The model on a line is in force from the next line on, or its fault is told.
     fn answer_model(
         &mut self,
@@ -30,11 +29,11 @@ impl Desk {
         match Plan::of(alloc, model) {
             Ok(plan) => {
                 self.plan = Some(Arc::new(alloc, plan)?);
-                report::loaded(alloc, number, text)
+                Report::Loaded(number).add_to(alloc, text)
             }
             Err(fault) => match fault {
                 ModelFault::Memory => Err(AllocError),
-                fault => report::faulty(alloc, number, model_word(fault), text),
+                fault => Report::Faulty(number, Word::of_fault(fault)).add_to(alloc, text),
             },
         }
     }
@@ -52,35 +51,42 @@ impl Desk {
         ensures { OnOk result (Replies self.now name.now number service.now (view inputs.now) text.old.items text.new.items) }
     {
         let Some(plan) = &self.plan else {
-            return report::refused(alloc, name, number, "model", text);
+            return Report::Of(name, number, Told::Refused(Word::Model)).add_to(alloc, text);
         };
         let plan = Arc::try_clone(plan)?;
         match Task::new(alloc, plan, service, inputs) {
             Ok(task) => add_explanation(alloc, name, number, service, &task, text),
             Err(fault) => match fault {
                 TaskFault::Memory => Err(AllocError),
-                fault => report::refused(alloc, name, number, refusal_of(fault).word(), text),
+                fault => {
+                    let told = Told::Refused(Word::of_task_fault(fault));
+                    Report::Of(name, number, told).add_to(alloc, text)
+                }
             },
         }
     }
 
     /// Answers a line of one of the forms.
-    fn answer_asked(
+    fn answer_line(
         &mut self,
         alloc: Global,
         number: u64,
-        asked: &Asked<'_>,
+        says: &Line<'_>,
         text: &mut Vec<u8>,
     ) -> Result<(), AllocError>
-        ensures { OnOk result (Hears self.old number (Says (asked_view asked.now)) text.old.items text.new.items self.new) }
+        ensures { OnOk result (Hears self.old number (Says (line_view says.now)) text.old.items text.new.items self.new) }
     {
-        match asked {
-            Asked::Model(model) => self.answer_model(alloc, number, model, text),
-            Asked::Request(name, service, inputs) => {
+        match says {
+            Line::Model(model) => self.answer_model(alloc, number, model, text),
+            Line::Request(name, service, inputs) => {
                 self.answer_request(alloc, number, name, service, inputs, text)
             }
-            Asked::Close(name) => add_skipped(alloc, name, number, "close", text),
-            Asked::Resize(name, _) => add_skipped(alloc, name, number, "resize", text),
+            Line::Close(name) => {
+                Report::Of(name, number, Told::Skipped(Word::Close)).add_to(alloc, text)
+            },
+            Line::Resize(name, _) => {
+                Report::Of(name, number, Told::Skipped(Word::Resize)).add_to(alloc, text)
+            },
         }
     }
 
@@ -94,17 +100,15 @@ impl Desk {
     ) -> Result<(), AllocError>
         ensures { OnOk result ((it : List ℕ) → IsHeardAs it heard.now → HearsText self.old number it text.old.items text.new.items self.new) }
     {
-        if let Some(asked) = asked_by(heard) {
-            return self.answer_asked(alloc, number, &asked, text);
+        if let Some(says) = line_heard(heard) {
+            return self.answer_line(alloc, number, &says, text);
         }
         match heard {
-            Heard::Long => report::refused_line(alloc, number, LineRefusal::Long.word(), text),
+            Heard::Long => Report::Refused(number, Word::Long).add_to(alloc, text),
             Heard::Blank => Ok(()),
-            Heard::Syntax => report::refused_line(alloc, number, LineRefusal::Syntax.word(), text),
-            Heard::Other => report::refused_line(alloc, number, LineRefusal::Shape.word(), text),
-            Heard::Object(_) => {
-                report::refused_line(alloc, number, LineRefusal::Shape.word(), text)
-            }
+            Heard::Syntax => Report::Refused(number, Word::Syntax).add_to(alloc, text),
+            Heard::Other => Report::Refused(number, Word::Shape).add_to(alloc, text),
+            Heard::Object(_) => Report::Refused(number, Word::Shape).add_to(alloc, text),
         }
     }
 }

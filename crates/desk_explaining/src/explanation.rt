@@ -1,10 +1,10 @@
-//! The line that explains an answer, and the note on a line that is skipped.
+//! The line that explains an answer.
 ghost use Rattle.std.specs.Prelude.{◌≡◌, ◌++◌, OnOk, Ok};
 ghost use Rattle.json.specs.Print.{quoted};
 ghost use Rattle.serde_json.specs.Data.{Data};
-ghost use Rattle.desk_explaining.specs.Desk.{Adds};
-ghost use Rattle.desk_explaining.specs.Explained.{IsTaskAnswer, skipped};
-ghost use Rattle.desk_explaining.specs.Line.{begin_of, head_of, tail_of};
+ghost use Rattle.desk_explaining.specs.StateView.{Adds};
+ghost use Rattle.desk_explaining.specs.Due.{IsTaskAnswer};
+ghost use Rattle.desk_explaining.specs.ExplainedLine.{begin_of, head_of, tail_of};
 
 use dmn_explain::{add_decisions, add_value};
 use dmn_plan::Task;
@@ -81,21 +81,4 @@ pub fn add_explanation(
     add_head(alloc, name, number, service, text)?;
     add_decisions(alloc, &course, text)?;
     add_tail(alloc, &course.result, text)
-}
-
-/// Adds `{"client":name,"line":k,"skipped":word}`, with the newline.
-pub fn add_skipped(
-    alloc: Global,
-    name: &str,
-    number: u64,
-    word: &str,
-    text: &mut Vec<u8>,
-) -> Result<(), AllocError>
-    ensures { OnOk result (Adds text.old.items (skipped name.now number word.now) text.new.items) }
-{
-    add_begin(alloc, name, number, text)?;
-    text.extend_from_slice(b",\"skipped\":")?;
-    add_text(alloc, word, text)?;
-    text.extend_from_slice(b"}\n")?;
-    Ok(())
 }

@@ -2,12 +2,12 @@
 #![tactic(auto)]
 
 mod answering;
-mod desk;
 mod explanation;
 mod printing;
-mod session;
+mod run;
+mod state;
 #[cfg(test)]
 mod tests;
 
 pub use printing::explain_in_text;
-pub use session::explain;
+pub use run::explain;

@@ -1,13 +1,14 @@
 //! `explain --text`: the same answers as texts for people.
-ghost use Rattle.std.specs.Prelude.{◌≡◌, ◌<◌, ◌≤◌, ◌+◌, ◌-◌, ◌^◌, [], ℕ, List, OnOk, IfOk, IfErr, Err, string_bytes};
+ghost use Rattle.std.specs.Prelude.{◌≡◌, ◌<◌, ◌-◌, ◌^◌, ℕ, List, IfOk, string_bytes};
 ghost use Rattle.std.specs.List.{flat_map};
-ghost use Rattle.desk_lines.specs.Lines.{ended, max_input};
-ghost use Rattle.desk_lines.specs.Talk.{Replays, EndsBy};
+ghost use Rattle.desk_lines.specs.Lines.{ended};
+ghost use Rattle.desk_lines.specs.Ran.{Ran};
 ghost use Rattle.desk_explaining.specs.Printed.{AnyLines};
 
-use crate::desk::Desk;
-use desk_lines::{Clerk, FrontFault, LineText, Sink, Source, Unwritten, answer_lines};
-use desk_serving::{Asked, asked_by, hear};
+use crate::state::State;
+use desk_lines::{Answerer, FrontFault, LineText, Sink, Source, answer_at_once};
+use desk_serving::{Line, line_heard};
+use desk_wire::hear;
 use dmn_form::{WrittenModel, read_form};
 use explanation_text::text_of;
 use json_reader::JsonReader;
@@ -18,14 +19,14 @@ use std::alloc::{AllocError, Global};
 /// reader of their texts.
 #[derive(Drop)]
 struct Printer {
-    desk: Desk,
+    state: State,
     model: Option<WrittenModel>,
     texts: JsonReader,
 }
 
 /// The model in force as it is written.
-fn written_model(alloc: Global, desk: &Desk) -> Result<Option<WrittenModel>, AllocError> {
-    let Some(plan) = &desk.plan else {
+fn written_model(alloc: Global, state: &State) -> Result<Option<WrittenModel>, AllocError> {
+    let Some(plan) = &state.plan else {
         return Ok(None);
     };
     match Value::from_slice(alloc, plan.text()) {
@@ -67,7 +68,7 @@ fn with_end(text: String) -> Result<Vec<u8>, AllocError>
 fn said_to(
     alloc: Global,
     texts: &mut JsonReader,
-    desk: &mut Desk,
+    state: &mut State,
     model: &mut Option<WrittenModel>,
     number: u64,
     line: &LineText,
@@ -76,9 +77,9 @@ fn said_to(
 {
     let heard = hear(alloc, texts, line)?;
     let mut answer = Vec::new(alloc);
-    desk.answer_heard(alloc, number, &heard, &mut answer)?;
-    if let Some(Asked::Model(_)) = asked_by(&heard) {
-        *model = written_model(alloc, desk)?;
+    state.answer_heard(alloc, number, &heard, &mut answer)?;
+    if let Some(Line::Model(_)) = line_heard(&heard) {
+        *model = written_model(alloc, state)?;
     }
     if answer.is_empty() {
         return Ok(Vec::new(alloc));
@@ -87,44 +88,27 @@ fn said_to(
     with_end(text)
 }
 
-impl Clerk for Printer {
+impl Answerer for Printer {
     ghost use Rattle.desk_explaining.specs.Printed.{AnyLines};
 
-    ghost Script = { λ _. AnyLines };
-
-    ghost Kept = { Unit {0} };
-
-    ghost kept = { λ _. tt };
+    ghost Script = { AnyLines };
 
     ghost After = { λ _. AnyLines };
 
-    fn answer<W: Sink>(
+    fn answer(
         &mut self,
         alloc: Global,
         number: u64,
         line: &LineText,
-        _writer: &mut W,
-        _unwritten: &mut Unwritten,
-    ) -> Result<Vec<u8>, FrontFault> {
-        let said = said_to(
+    ) -> Result<Vec<u8>, AllocError> {
+        said_to(
             alloc,
             &mut self.texts,
-            &mut self.desk,
+            &mut self.state,
             &mut self.model,
             number,
             line,
-        )?;
-        Ok(said)
-    }
-
-    /// Nothing: each line is answered at once.
-    fn catch_up<W: Sink>(
-        &mut self,
-        _alloc: Global,
-        _writer: &mut W,
-        _unwritten: &mut Unwritten,
-    ) -> Result<(), FrontFault> {
-        Ok(())
+        )
     }
 
     ghost follows = { λ printer lines said a. a };
@@ -136,21 +120,14 @@ pub fn explain_in_text<R: Source, W: Sink>(
     reader: &mut R,
     writer: &mut W,
 ) -> Result<(), FrontFault>
-    requires read_counts { R.faults reader.old < 2 ^ 64 - 1 }
-    requires write_counts { W.faults writer.old < 2 ^ 64 - 1 }
-    ensures ok { OnOk result (Replays AnyLines (R.remaining reader.old) (R.remaining reader.new) (W.contents writer.old) (W.contents writer.new)) }
-    ensures fault { IfErr result (λ e. EndsBy AnyLines (R.remaining reader.old) (R.remaining reader.new) (W.contents writer.old) (W.contents writer.new) e) }
-    ensures read_only_at_fault { (result ≡ Err FrontFault.Read) → R.faults reader.old < R.faults reader.new }
-    ensures write_only_at_fault { (result ≡ Err FrontFault.Write) → W.faults writer.old < W.faults writer.new }
-    ensures ok_without_fault { OnOk result ((R.faults reader.new ≡ R.faults reader.old) × (W.faults writer.new ≡ W.faults writer.old)) }
-    ensures long_only_past_limit { (result ≡ Err FrontFault.Long) → R.came reader.old < 2 ^ 63 → max_input < R.came reader.new - R.came reader.old }
-    ensures ok_within_limit { OnOk result (R.came reader.new ≤ R.came reader.old + max_input) }
-    ensures read_within_limit { (result ≡ Err FrontFault.Read) → R.came reader.new ≤ R.came reader.old + max_input }
+    requires read_counts { (R.seen reader.old).faults < 2 ^ 64 - 1 }
+    requires write_counts { (W.seen writer.old).faults < 2 ^ 64 - 1 }
+    ensures { Ran AnyLines AnyLines (R.seen reader.old) (R.seen reader.new) (W.seen writer.old) (W.seen writer.new) result }
 {
     let mut printer = Printer {
-        desk: Desk { plan: None },
+        state: State { plan: None },
         model: None,
         texts: JsonReader::new(),
     };
-    answer_lines(alloc, &mut printer, reader, writer)
+    answer_at_once(alloc, &mut printer, reader, writer)
 }

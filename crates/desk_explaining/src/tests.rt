@@ -1,5 +1,5 @@
 //! What is answered to whole inputs.
-use crate::session::explain;
+use crate::run::explain;
 use desk_lines::{Counted, FrontFault};
 use std::alloc::Global;
 use std::process::Abort;

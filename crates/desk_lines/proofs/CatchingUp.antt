@@ -1,5 +1,5 @@
 -- What is said between lines.
-use Rattle.std.proofs.Common.{◌≡◌, ◌+◌, ℕ, List, length, [], ◌∷◌, ◌++◌, sym, ap, ◌∙◌, refl, subst, append-nil, append_assoc, Option}
+use Rattle.std.proofs.Common.{◌≡◌, ◌+◌, ℕ, List, length, [], ◌∷◌, ◌++◌, sym, refl, subst, append-nil, append_assoc, Option}
 use Rattle.std.specs.List.{flat_map}
 use Rattle.std.proofs.lemmas.Grind.{flat_map-append}
 use Rattle.desk_lines.specs.Answering.{Answers, SaysInPart, SaysMore}
@@ -62,19 +62,3 @@ module _ (After Script After' : List (List ℕ) → List (List ℕ) → Type 0) 
   part_within s h = λ lines said it after keeps num.
       let m = s lines said it after keeps num in
       (lines, it ∷ [], m.0, refl, m.2, gathers_quiet m.3 h)
-
--- nothing is said before the answer
-pub answers_at_once : (After Script After' : List (List ℕ) → List (List ℕ) → Type 0) {kept : Option (List ℕ)} {number : ℕ} (a : Option (List ℕ)) (waits : List ℕ) {text : List ℕ}
-    → ((lines said : List (List ℕ)) → After lines said → Script lines said)
-    → ((lines said : List (List ℕ)) (it : List ℕ) → After lines said → kept ≡ kept_line it → number ≡ length lines + 1
-    → (more : List (List ℕ)) × After' (lines ++ it ∷ []) (said ++ more) × (text ≡ flat_map ended more))
-    → Answers After Script After' kept number a a waits waits text
-answers_at_once After Script After' a waits f s = λ lines said it after keeps num.
-    let m = s lines said it after keeps num in (
-      [],
-      m.0,
-      subst (Script lines) (sym (append-nil said)) (f lines said after),
-      gathers_none a waits,
-      subst (λ t. After' (lines ++ it ∷ []) (t ++ m.0)) (sym (append-nil said)) m.1,
-      m.2,
-    )

@@ -1,7 +1,6 @@
 -- What waits to be written.
-use Rattle.std.proofs.Common.{◌≡◌, ℕ, List, [], ◌++◌, take, drop, ap, sym, ◌∙◌, append_assoc, append-nil, Option}
+use Rattle.std.proofs.Common.{◌≡◌, ℕ, List, [], ◌++◌, ap, sym, ◌∙◌, append_assoc, append-nil, Option}
 use Rattle.std.specs.Io.KnownBytes.{Appends}
-use Rattle.std.proofs.lemmas.List.{take-append-drop}
 use Rattle.desk_lines.specs.Gathers.{Gathers}
 use Rattle.desk_lines.proofs.Coming.{Appends-then, Appends-none}
 
@@ -29,5 +28,5 @@ all_written {a} {b} {text} {waits} g e =
     rw all g.written
 
 -- a part is written
-pub gathers_part : {a b : Option (List ℕ)} (n : ℕ) (waits : List ℕ) → Appends a b (take n waits) → Gathers a b waits [] (drop n waits)
-gathers_part n waits h = record { out = take n waits; written = h; is = append-nil waits ∙ sym (take-append-drop n waits) }
+pub gathers_part : {a b : Option (List ℕ)} (out rest waits : List ℕ) → waits ≡ out ++ rest → Appends a b out → Gathers a b waits [] rest
+gathers_part out rest waits e h = record { out = out; written = h; is = append-nil waits ∙ e }

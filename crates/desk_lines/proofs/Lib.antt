@@ -2,6 +2,8 @@ pub mod Searching
 pub mod Splitting
 pub mod Coming
 pub mod Gathering
+pub mod Telling
 pub mod CatchingUp
 pub mod Talking
+pub mod Ending
 pub mod Keeping

@@ -16,6 +16,12 @@ Answers After Script After' kept number wrote wrote' waits waits' text = (lines 
     (before : List (List ℕ)) × (more : List (List ℕ)) × Script lines (said ++ before) × Gathers wrote wrote' waits (flat_map ended before) waits'
     × After' (lines ++ it ∷ []) ((said ++ before) ++ more) × (text ≡ flat_map ended more)
 
+-- After whichever lines and sayings it stood before the line with this number, the text is said, and then it stands after
+-- that line.
+abbrev pub AnswersAtOnce : (After After' : List (List ℕ) → List (List ℕ) → Type 0) → (kept : Option (List ℕ)) → (number : ℕ) → (text : List ℕ) → Type 0
+AnswersAtOnce After After' kept number text = (lines said : List (List ℕ)) (it : List ℕ) → After lines said → kept ≡ kept_line it → number ≡ length lines + 1 →
+    (more : List (List ℕ)) × After' (lines ++ it ∷ []) (said ++ more) × (text ≡ flat_map ended more)
+
 -- Internal from here on: no contract of a main call reaches what follows.
 
 -- More is said, and the script allows it of the lines before the line with this number, or of that line too.

@@ -3,6 +3,8 @@ pub mod Counted
 pub mod Lines
 pub mod LineReader
 pub mod Talk
+pub mod Ran
 pub mod Answering
 pub mod Gathers
+pub mod Told
 pub mod Fault

@@ -6,6 +6,10 @@ use Rattle.desk_lines.specs.declared.fault.FrontFault.{FrontFault}
 use Rattle.desk_lines.specs.declared.fault.FrontFault.TheVariants.{Read, Write, Long, Memory}
 use Rattle.desk_lines.specs.Lines.{lines_of, whole_lines_of, ended, max_input}
 
+-- wherever the first relation holds of some lines and of what was said to them, the second does
+abbrev pub IsWithin : (Less More : List (List ℕ) → List (List ℕ) → Type 0) → Type 0
+IsWithin Less More = (lines said : List (List ℕ)) → Less lines said → More lines said
+
 -- the lines that an input has so far: the whole ones within the limit, and at its end the last one too
 abbrev pub IsHeard : List ℕ → Option (List ℕ) → List (List ℕ) → Type 0
 IsHeard input left lines = (lines ≡ whole_lines_of (take max_input input)) ⊎ ((lines ≡ lines_of input) × IsAtEnd left × (length input ≤ max_input))
@@ -76,10 +80,6 @@ EndsAs Whole Part left left' wrote wrote' Read = Breaks Whole left left' wrote w
 EndsAs Whole Part left left' wrote wrote' Long = Overflows Whole left left' wrote wrote'
 EndsAs Whole Part left left' wrote wrote' Write = IsCut Part left left' wrote wrote'
 EndsAs Whole Part left left' wrote wrote' Memory = Stops Part left left' wrote wrote'
-
--- the same, where one relation says both
-abbrev pub EndsBy : (Script : List (List ℕ) → List (List ℕ) → Type 0) → (left left' wrote wrote' : Option (List ℕ)) → FrontFault → Type 0
-EndsBy Script = EndsAs Script Script
 
 -- the same, whether it stops before or at the end
 abbrev pub Ends : (Whole Part : List (List ℕ) → List (List ℕ) → Type 0) → (left left' wrote wrote' : Option (List ℕ)) → {X : Type 0} → Result X FrontFault → Type 0

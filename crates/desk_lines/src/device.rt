@@ -1,53 +1,37 @@
 //! Readers and writers that count their faults.
-ghost use Rattle.std.specs.Prelude.{◌≡◌, ℕ, List, Option};
-ghost use Rattle.std.specs.Io.{ReadsAtMost, WritesAtMost};
-ghost use Rattle.std.specs.Io.KnownBytes.{ReadConsumes, WriteAppends};
-ghost use Rattle.desk_lines.specs.Device.{came_after, counted, read_fails, write_fails};
+ghost use Rattle.std.specs.Prelude.{◌≡◌};
+ghost use Rattle.desk_lines.specs.Device.{Reader, Reads, Writer, Writes};
 
 use std::io;
 
 /// A reader that counts its faults: each error of a read is one. At 2^64 - 1 the count stays, and so does that of the
 /// bytes that came.
 pub trait Source {
-    /// The bytes that reads will give from here on, where they are known.
-    ghost remaining: { Self → Option (List ℕ) };
-
-    /// How many faults there were.
-    ghost faults: { Self → ℕ };
-
-    /// How many bytes came.
-    ghost came: { Self → ℕ };
+    /// What is seen of it: the bytes that reads will give, its faults, and how many bytes came.
+    ghost seen: { Self → Reader };
 
     /// Reads as `std::io::Read::read` does.
     fn read(&mut self, buf: &mut [u8]) -> io::Result<usize>
-        ensures bound { ReadsAtMost result buf.new }
-        ensures bytes { ReadConsumes (remaining self.old) (remaining self.new) result buf.new }
-        ensures count { faults self.new ≡ counted (faults self.old) (read_fails result) }
-        ensures comes { came self.new ≡ came_after (came self.old) result };
+        ensures { Reads (seen self.old) (seen self.new) result buf.new };
 
     /// How many faults there were.
     fn failures(&self) -> u64
-        ensures { result ≡ faults self.now };
+        ensures { result ≡ (seen self.now).faults };
 }
 
 /// A writer that counts its faults: each error of a write is one, and each write of a piece that is not empty and of which
 /// nothing was taken. At 2^64 - 1 the count stays.
 pub trait Sink {
-    /// The bytes that were written, where they are known.
-    ghost contents: { Self → Option (List ℕ) };
-
-    /// How many faults there were.
-    ghost faults: { Self → ℕ };
+    /// What is seen of it: the bytes that were written, and its faults.
+    ghost seen: { Self → Writer };
 
     /// Writes as `std::io::Write::write` does.
     fn write(&mut self, buf: &[u8]) -> io::Result<usize>
-        ensures bound { WritesAtMost result buf.now }
-        ensures bytes { WriteAppends (contents self.old) (contents self.new) result buf.now }
-        ensures count { faults self.new ≡ counted (faults self.old) (write_fails result buf.now) };
+        ensures { Writes (seen self.old) (seen self.new) result buf.now };
 
     /// How many faults there were.
     fn failures(&self) -> u64
-        ensures { result ≡ faults self.now };
+        ensures { result ≡ (seen self.now).faults };
 }
 
 /// A reader or a writer of std, with the count of its faults and, of a reader, that of the bytes that came.
@@ -77,13 +61,9 @@ impl<T> Counted<T> {
 }
 
 impl<T: io::Read> Source for Counted<T> {
-    ghost use Rattle.desk_lines.specs.Counted.{came_of, faults_of};
+    ghost use Rattle.desk_lines.specs.Counted.{reader_of};
 
-    ghost remaining = { λ s. T.remaining s.inner };
-
-    ghost faults = { faults_of };
-
-    ghost came = { came_of };
+    ghost seen = { reader_of T.remaining };
 
     /// Reads as `std::io::Read::read` does.
     fn read(&mut self, buf: &mut [u8]) -> io::Result<usize> {
@@ -101,11 +81,9 @@ impl<T: io::Read> Source for Counted<T> {
 }
 
 impl<T: io::Write> Sink for Counted<T> {
-    ghost use Rattle.desk_lines.specs.Counted.{faults_of};
+    ghost use Rattle.desk_lines.specs.Counted.{writer_of};
 
-    ghost contents = { λ s. T.contents s.inner };
-
-    ghost faults = { faults_of };
+    ghost seen = { writer_of T.contents };
 
     fn write(&mut self, buf: &[u8]) -> io::Result<usize> {
         let result = self.inner.write(buf);

@@ -1,12 +1,14 @@
 //! Lines of a reader, each answered by a clerk, to a writer.
 #![tactic(auto)]
 
+mod at_once;
 mod device;
 mod fault;
 mod lines;
 mod talk;
 mod write;
 
+pub use at_once::{Answerer, answer_at_once};
 pub use device::{Counted, Sink, Source};
 pub use fault::FrontFault;
 pub use lines::LineText;

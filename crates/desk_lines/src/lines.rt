@@ -111,16 +111,16 @@ fn read_piece<R: Source>(
     buffer: &mut [u8],
     most: usize,
 ) -> Result<usize, FrontFault>
-    requires counts { R.faults source.old < 2 ^ 64 - 1 }
+    requires counts { (R.seen source.old).faults < 2 ^ 64 - 1 }
     requires room { most ≤ length buffer.old }
     ensures bound { IfOk result (λ n. n ≤ most) }
-    ensures bytes { IfOk result (λ n. Consumes (R.remaining source.old) (R.remaining source.new) (take n buffer.new)) }
-    ensures end { IfOk result (λ n. n ≡ 0 → 0 < most → IsAtEnd (R.remaining source.new)) }
-    ensures none { OnErr result (Consumes (R.remaining source.old) (R.remaining source.new) []) }
-    ensures comes { IfOk result (λ n. R.came source.new ≡ grown (R.came source.old) n) }
-    ensures stays { OnErr result (R.came source.new ≡ R.came source.old) }
-    ensures fault { IfErr result (λ e. (e ≡ FrontFault.Read) × (R.faults source.old < R.faults source.new)) }
-    ensures counts { OnOk result (R.faults source.new ≡ R.faults source.old) }
+    ensures bytes { IfOk result (λ n. Consumes (R.seen source.old).remaining (R.seen source.new).remaining (take n buffer.new)) }
+    ensures end { IfOk result (λ n. n ≡ 0 → 0 < most → IsAtEnd (R.seen source.new).remaining) }
+    ensures none { OnErr result (Consumes (R.seen source.old).remaining (R.seen source.new).remaining []) }
+    ensures comes { IfOk result (λ n. (R.seen source.new).came ≡ grown (R.seen source.old).came n) }
+    ensures stays { OnErr result ((R.seen source.new).came ≡ (R.seen source.old).came) }
+    ensures fault { IfErr result (λ e. (e ≡ FrontFault.Read) × ((R.seen source.old).faults < (R.seen source.new).faults)) }
+    ensures counts { OnOk result ((R.seen source.new).faults ≡ (R.seen source.old).faults) }
 {
     match source.read(&mut buffer[..most]) {
         Ok(n) => Ok(n),
@@ -188,17 +188,20 @@ impl LineReader {
 
     /// Reads the next piece of the input. At the end there is none.
     fn fill<R: Source>(&mut self, source: &mut R) -> Result<bool, FrontFault>
-        requires counts { R.faults source.old < 2 ^ 64 - 1 }
-        ensures reads { (bytes : List ℕ) × Comes (R.remaining source.old) (R.remaining source.new) self.old.came self.new.came bytes
+        requires counts { (R.seen source.old).faults < 2 ^ 64 - 1 }
+        ensures reads { (bytes : List ℕ)
+            × Comes (R.seen source.old).remaining (R.seen source.new).remaining self.old.came self.new.came bytes
             × OnOk result (waiting self.new ≡ heard self.old.came bytes)
             × OnErr result (heard self.old.came bytes ≡ []) }
         ensures some { IfOk result (λ more. IsTrue more → 0 < length (waiting self.new)) }
-        ensures end { IfOk result (λ more. more ≡ false → (waiting self.new ≡ []) × IsAtEnd (R.remaining source.new) × (self.new.came ≤ max_input)) }
-        ensures read { (result ≡ Err FrontFault.Read) → (R.faults source.old < R.faults source.new) × (self.new.came ≤ max_input) }
+        ensures end { IfOk result (λ more. more ≡ false →
+            (waiting self.new ≡ []) × IsAtEnd (R.seen source.new).remaining × (self.new.came ≤ max_input)) }
+        ensures read { (result ≡ Err FrontFault.Read) →
+            ((R.seen source.old).faults < (R.seen source.new).faults) × (self.new.came ≤ max_input) }
         ensures long { (result ≡ Err FrontFault.Long) → max_input < self.new.came }
         ensures only { IfErr result (λ e. (e ≢ FrontFault.Write) × (e ≢ FrontFault.Memory)) }
-        ensures counts { OnOk result (R.faults source.new ≡ R.faults source.old) }
-        ensures in_step { StaysInStep (R.came source.old) (R.came source.new) self.old.came self.new.came }
+        ensures counts { OnOk result ((R.seen source.new).faults ≡ (R.seen source.old).faults) }
+        ensures in_step { StaysInStep (R.seen source.old).came (R.seen source.new).came self.old.came self.new.came }
     {
         if self.came > MAX_INPUT {
             return Err(FrontFault::Long);
@@ -217,18 +220,22 @@ impl LineReader {
 
     /// Reads on where nothing waits. At the end still nothing does.
     fn refill<R: Source>(&mut self, source: &mut R) -> Result<bool, FrontFault>
-        requires counts { R.faults source.old < 2 ^ 64 - 1 }
-        ensures reads { IfOk result (λ _. (bytes : List ℕ) × Comes (R.remaining source.old) (R.remaining source.new) self.old.came self.new.came bytes
+        requires counts { (R.seen source.old).faults < 2 ^ 64 - 1 }
+        ensures reads { IfOk result (λ _. (bytes : List ℕ)
+            × Comes (R.seen source.old).remaining (R.seen source.new).remaining self.old.came self.new.came bytes
             × (waiting self.new ≡ waiting self.old ++ heard self.old.came bytes)) }
-        ensures lost { IfErr result (λ e. (bytes : List ℕ) × Comes (R.remaining source.old) (R.remaining source.new) self.old.came self.new.came bytes
+        ensures lost { IfErr result (λ e. (bytes : List ℕ)
+            × Comes (R.seen source.old).remaining (R.seen source.new).remaining self.old.came self.new.came bytes
             × (waiting self.old ≡ []) × (heard self.old.came bytes ≡ [])) }
         ensures some { IfOk result (λ more. IsTrue more → 0 < length (waiting self.new)) }
-        ensures end { IfOk result (λ more. more ≡ false → (waiting self.new ≡ []) × IsAtEnd (R.remaining source.new) × (self.new.came ≤ max_input)) }
-        ensures read { (result ≡ Err FrontFault.Read) → (R.faults source.old < R.faults source.new) × (self.new.came ≤ max_input) }
+        ensures end { IfOk result (λ more. more ≡ false →
+            (waiting self.new ≡ []) × IsAtEnd (R.seen source.new).remaining × (self.new.came ≤ max_input)) }
+        ensures read { (result ≡ Err FrontFault.Read) →
+            ((R.seen source.old).faults < (R.seen source.new).faults) × (self.new.came ≤ max_input) }
         ensures long { (result ≡ Err FrontFault.Long) → max_input < self.new.came }
         ensures only { IfErr result (λ e. (e ≢ FrontFault.Write) × (e ≢ FrontFault.Memory)) }
-        ensures counts { OnOk result (R.faults source.new ≡ R.faults source.old) }
-        ensures in_step { StaysInStep (R.came source.old) (R.came source.new) self.old.came self.new.came }
+        ensures counts { OnOk result ((R.seen source.new).faults ≡ (R.seen source.old).faults) }
+        ensures in_step { StaysInStep (R.seen source.old).came (R.seen source.new).came self.old.came self.new.came }
     {
         if self.at < self.end {
             return Ok(true);
@@ -266,19 +273,20 @@ impl LineReader {
         source: &mut R,
         line: &mut LineText,
     ) -> Result<Next, FrontFault>
-        requires counts { R.faults source.old < 2 ^ 64 - 1 }
+        requires counts { (R.seen source.old).faults < 2 ^ 64 - 1 }
         ensures took { IfOk result (λ next. (bytes : List ℕ)
-            × Comes (R.remaining source.old) (R.remaining source.new) self.old.came self.new.came bytes
-            × Took next (waiting self.old ++ heard self.old.came bytes) (waiting self.new) line.new (R.remaining source.new)) }
+            × Comes (R.seen source.old).remaining (R.seen source.new).remaining self.old.came self.new.came bytes
+            × Took next (waiting self.old ++ heard self.old.came bytes) (waiting self.new) line.new (R.seen source.new).remaining) }
         ensures within { IfOk result (λ next. next ≢ Next.Line → self.new.came ≤ max_input) }
         ensures lost { IfErr result (λ e. (bytes : List ℕ)
-            × Comes (R.remaining source.old) (R.remaining source.new) self.old.came self.new.came bytes
+            × Comes (R.seen source.old).remaining (R.seen source.new).remaining self.old.came self.new.came bytes
             × (e ≢ FrontFault.Memory → IsOneLine (waiting self.old ++ heard self.old.came bytes))) }
-        ensures read { (result ≡ Err FrontFault.Read) → (R.faults source.old < R.faults source.new) × (self.new.came ≤ max_input) }
+        ensures read { (result ≡ Err FrontFault.Read) →
+            ((R.seen source.old).faults < (R.seen source.new).faults) × (self.new.came ≤ max_input) }
         ensures long { (result ≡ Err FrontFault.Long) → max_input < self.new.came }
         ensures never { result ≢ Err FrontFault.Write }
-        ensures counts { OnOk result (R.faults source.new ≡ R.faults source.old) }
-        ensures in_step { StaysInStep (R.came source.old) (R.came source.new) self.old.came self.new.came }
+        ensures counts { OnOk result ((R.seen source.new).faults ≡ (R.seen source.old).faults) }
+        ensures in_step { StaysInStep (R.seen source.old).came (R.seen source.new).came self.old.came self.new.came }
     {
         line.clear();
         'pieces: loop {

@@ -5,7 +5,8 @@ ghost use Rattle.desk_lines.specs.Answering.{Answers, SaysInPart, SaysMore};
 ghost use Rattle.desk_lines.specs.Gathers.{Ended, Gathers};
 ghost use Rattle.desk_lines.specs.LineReader.{has_newline, IsInStep};
 ghost use Rattle.desk_lines.specs.Lines.{kept_line, ended, max_input};
-ghost use Rattle.desk_lines.specs.Talk.{Replays, EndsAs, IsCut};
+ghost use Rattle.desk_lines.specs.Ran.{Ran};
+ghost use Rattle.desk_lines.specs.Talk.{EndsAs, IsCut, IsWithin, Replays};
 
 use crate::device::{Sink, Source};
 use crate::fault::FrontFault;
@@ -36,17 +37,20 @@ pub trait Clerk {
         writer: &mut W,
         unwritten: &mut Unwritten,
     ) -> Result<Vec<u8>, FrontFault>
-        requires counts { W.faults writer.old < 2 ^ 64 - 1 }
+        requires counts { (W.seen writer.old).faults < 2 ^ 64 - 1 }
         requires few { number < 2 ^ 60 }
         requires stands { (lines : List (List ℕ)) × (said : List (List ℕ)) × After self.old lines said × (number ≡ length lines + 1) }
         ensures same { kept self.new ≡ kept self.old }
-        ensures keeps { (lines said : List (List ℕ)) → Script self.new lines said → Script self.old lines said }
-        ensures answers { IfOk result (λ text. Answers (After self.old) (Script self.old) (After self.new) line.now number (W.contents writer.old) (W.contents writer.new) unwritten.old.bytes.items unwritten.new.bytes.items text.items) }
-        ensures write { (result ≡ Err FrontFault.Write) → (unsaid : List ℕ) × SaysMore (After self.old) (Script self.old) (W.contents writer.old) (W.contents writer.new) unwritten.old.bytes.items unsaid }
-        ensures memory { (result ≡ Err FrontFault.Memory) → SaysMore (After self.old) (Script self.old) (W.contents writer.old) (W.contents writer.new) unwritten.old.bytes.items unwritten.new.bytes.items }
+        ensures keeps { IsWithin (Script self.new) (Script self.old) }
+        ensures answers { IfOk result (λ text. Answers (After self.old) (Script self.old) (After self.new) line.now number
+            (W.seen writer.old).contents (W.seen writer.new).contents unwritten.old.bytes.items unwritten.new.bytes.items text.items) }
+        ensures write { (result ≡ Err FrontFault.Write) → (unsaid : List ℕ) × SaysMore (After self.old) (Script self.old)
+            (W.seen writer.old).contents (W.seen writer.new).contents unwritten.old.bytes.items unsaid }
+        ensures memory { (result ≡ Err FrontFault.Memory) → SaysMore (After self.old) (Script self.old)
+            (W.seen writer.old).contents (W.seen writer.new).contents unwritten.old.bytes.items unwritten.new.bytes.items }
         ensures only { IfErr result (λ e. (e ≢ FrontFault.Read) × (e ≢ FrontFault.Long)) }
-        ensures fault { (result ≡ Err FrontFault.Write) → W.faults writer.old < W.faults writer.new }
-        ensures counts { (result ≢ Err FrontFault.Write) → W.faults writer.new ≡ W.faults writer.old };
+        ensures fault { (result ≡ Err FrontFault.Write) → (W.seen writer.old).faults < (W.seen writer.new).faults }
+        ensures counts { (result ≢ Err FrontFault.Write) → (W.seen writer.new).faults ≡ (W.seen writer.old).faults };
 
     /// Says what it still owes. It is called before more is read, where no whole line waits.
     fn catch_up<W: Sink>(
@@ -55,18 +59,21 @@ pub trait Clerk {
         writer: &mut W,
         unwritten: &mut Unwritten,
     ) -> Result<(), FrontFault>
-        requires counts { W.faults writer.old < 2 ^ 64 - 1 }
+        requires counts { (W.seen writer.old).faults < 2 ^ 64 - 1 }
         ensures same { kept self.new ≡ kept self.old }
-        ensures keeps { (lines said : List (List ℕ)) → Script self.new lines said → Script self.old lines said }
-        ensures said { OnOk result (SaysMore (After self.old) (After self.new) (W.contents writer.old) (W.contents writer.new) unwritten.old.bytes.items unwritten.new.bytes.items) }
-        ensures write { (result ≡ Err FrontFault.Write) → (unsaid : List ℕ) × SaysMore (After self.old) (Script self.old) (W.contents writer.old) (W.contents writer.new) unwritten.old.bytes.items unsaid }
-        ensures memory { (result ≡ Err FrontFault.Memory) → SaysMore (After self.old) (Script self.old) (W.contents writer.old) (W.contents writer.new) unwritten.old.bytes.items unwritten.new.bytes.items }
+        ensures keeps { IsWithin (Script self.new) (Script self.old) }
+        ensures said { OnOk result (SaysMore (After self.old) (After self.new)
+            (W.seen writer.old).contents (W.seen writer.new).contents unwritten.old.bytes.items unwritten.new.bytes.items) }
+        ensures write { (result ≡ Err FrontFault.Write) → (unsaid : List ℕ) × SaysMore (After self.old) (Script self.old)
+            (W.seen writer.old).contents (W.seen writer.new).contents unwritten.old.bytes.items unsaid }
+        ensures memory { (result ≡ Err FrontFault.Memory) → SaysMore (After self.old) (Script self.old)
+            (W.seen writer.old).contents (W.seen writer.new).contents unwritten.old.bytes.items unwritten.new.bytes.items }
         ensures only { IfErr result (λ e. (e ≢ FrontFault.Read) × (e ≢ FrontFault.Long)) }
-        ensures fault { (result ≡ Err FrontFault.Write) → W.faults writer.old < W.faults writer.new }
-        ensures counts { (result ≢ Err FrontFault.Write) → W.faults writer.new ≡ W.faults writer.old };
+        ensures fault { (result ≡ Err FrontFault.Write) → (W.seen writer.old).faults < (W.seen writer.new).faults }
+        ensures counts { (result ≢ Err FrontFault.Write) → (W.seen writer.new).faults ≡ (W.seen writer.old).faults };
 
     /// What was said follows the script.
-    ghost follows: { (c : Self) (lines said : List (List ℕ)) → After c lines said → Script c lines said };
+    ghost follows: { (c : Self) → IsWithin (After c) (Script c) };
 }
 
 /// Answers a line. What is said to it may wait to be written.
@@ -78,20 +85,23 @@ fn answer_line<W: Sink, C: Clerk>(
     number: u64,
     line: &LineText,
 ) -> Result<(), FrontFault>
-    requires counts { W.faults writer.old < 2 ^ 64 - 1 }
+    requires counts { (W.seen writer.old).faults < 2 ^ 64 - 1 }
     requires few { number < 2 ^ 60 }
     requires stands { (lines : List (List ℕ)) × (said : List (List ℕ)) × C.After clerk.old lines said × (number ≡ length lines + 1) }
     ensures same { C.kept clerk.new ≡ C.kept clerk.old }
-    ensures keeps { (lines said : List (List ℕ)) → C.Script clerk.new lines said → C.Script clerk.old lines said }
+    ensures keeps { IsWithin (C.Script clerk.new) (C.Script clerk.old) }
     ensures said { IfOk result (λ _. (lines said : List (List ℕ)) (it : List ℕ) →
         C.After clerk.old lines said → line.now ≡ kept_line it → number ≡ length lines + 1 →
         (more : List (List ℕ)) × C.After clerk.new (lines ++ it ∷ []) (said ++ more)
-        × Gathers (W.contents writer.old) (W.contents writer.new) unwritten.old.bytes.items (flat_map ended more) unwritten.new.bytes.items) }
-    ensures write { (result ≡ Err FrontFault.Write) → (unsaid : List ℕ) × SaysInPart (C.After clerk.old) (C.Script clerk.old) line.now number (W.contents writer.old) (W.contents writer.new) unwritten.old.bytes.items unsaid }
-    ensures memory { (result ≡ Err FrontFault.Memory) → SaysInPart (C.After clerk.old) (C.Script clerk.old) line.now number (W.contents writer.old) (W.contents writer.new) unwritten.old.bytes.items unwritten.new.bytes.items }
+        × Gathers (W.seen writer.old).contents (W.seen writer.new).contents
+        unwritten.old.bytes.items (flat_map ended more) unwritten.new.bytes.items) }
+    ensures write { (result ≡ Err FrontFault.Write) → (unsaid : List ℕ) × SaysInPart (C.After clerk.old) (C.Script clerk.old) line.now number
+        (W.seen writer.old).contents (W.seen writer.new).contents unwritten.old.bytes.items unsaid }
+    ensures memory { (result ≡ Err FrontFault.Memory) → SaysInPart (C.After clerk.old) (C.Script clerk.old) line.now number
+        (W.seen writer.old).contents (W.seen writer.new).contents unwritten.old.bytes.items unwritten.new.bytes.items }
     ensures only { IfErr result (λ e. (e ≢ FrontFault.Read) × (e ≢ FrontFault.Long)) }
-    ensures fault { (result ≡ Err FrontFault.Write) → W.faults writer.old < W.faults writer.new }
-    ensures counts { (result ≢ Err FrontFault.Write) → W.faults writer.new ≡ W.faults writer.old }
+    ensures fault { (result ≡ Err FrontFault.Write) → (W.seen writer.old).faults < (W.seen writer.new).faults }
+    ensures counts { (result ≢ Err FrontFault.Write) → (W.seen writer.new).faults ≡ (W.seen writer.old).faults }
 {
     let text = clerk.answer(alloc, number, line, writer, unwritten)?;
     unwritten.add(writer, &text)
@@ -105,16 +115,19 @@ fn before_read<W: Sink, C: Clerk>(
     writer: &mut W,
     unwritten: &mut Unwritten,
 ) -> Result<(), FrontFault>
-    requires counts { W.faults writer.old < 2 ^ 64 - 1 }
+    requires counts { (W.seen writer.old).faults < 2 ^ 64 - 1 }
     ensures same { C.kept clerk.new ≡ C.kept clerk.old }
-    ensures keeps { (lines said : List (List ℕ)) → C.Script clerk.new lines said → C.Script clerk.old lines said }
-    ensures said { OnOk result (SaysMore (C.After clerk.old) (C.After clerk.new) (W.contents writer.old) (W.contents writer.new) unwritten.old.bytes.items unwritten.new.bytes.items) }
-    ensures write { (result ≡ Err FrontFault.Write) → (unsaid : List ℕ) × SaysMore (C.After clerk.old) (C.Script clerk.old) (W.contents writer.old) (W.contents writer.new) unwritten.old.bytes.items unsaid }
-    ensures memory { (result ≡ Err FrontFault.Memory) → SaysMore (C.After clerk.old) (C.Script clerk.old) (W.contents writer.old) (W.contents writer.new) unwritten.old.bytes.items unwritten.new.bytes.items }
+    ensures keeps { IsWithin (C.Script clerk.new) (C.Script clerk.old) }
+    ensures said { OnOk result (SaysMore (C.After clerk.old) (C.After clerk.new)
+        (W.seen writer.old).contents (W.seen writer.new).contents unwritten.old.bytes.items unwritten.new.bytes.items) }
+    ensures write { (result ≡ Err FrontFault.Write) → (unsaid : List ℕ) × SaysMore (C.After clerk.old) (C.Script clerk.old)
+        (W.seen writer.old).contents (W.seen writer.new).contents unwritten.old.bytes.items unsaid }
+    ensures memory { (result ≡ Err FrontFault.Memory) → SaysMore (C.After clerk.old) (C.Script clerk.old)
+        (W.seen writer.old).contents (W.seen writer.new).contents unwritten.old.bytes.items unwritten.new.bytes.items }
     ensures nothing_waits { OnOk result (has_newline lines.now ≡ false → unwritten.new.bytes.items ≡ []) }
     ensures only { IfErr result (λ e. (e ≢ FrontFault.Read) × (e ≢ FrontFault.Long)) }
-    ensures fault { (result ≡ Err FrontFault.Write) → W.faults writer.old < W.faults writer.new }
-    ensures counts { (result ≢ Err FrontFault.Write) → W.faults writer.new ≡ W.faults writer.old }
+    ensures fault { (result ≡ Err FrontFault.Write) → (W.seen writer.old).faults < (W.seen writer.new).faults }
+    ensures counts { (result ≢ Err FrontFault.Write) → (W.seen writer.new).faults ≡ (W.seen writer.old).faults }
 {
     if lines.has_line() {
         return Ok(());
@@ -131,26 +144,31 @@ fn answer_each<R: Source, W: Sink, C: Clerk>(
     writer: &mut W,
     unwritten: &mut Unwritten,
 ) -> Result<(), FrontFault>
-    requires read_counts { R.faults reader.old < 2 ^ 64 - 1 }
-    requires write_counts { W.faults writer.old < 2 ^ 64 - 1 }
+    requires read_counts { (R.seen reader.old).faults < 2 ^ 64 - 1 }
+    requires write_counts { (W.seen writer.old).faults < 2 ^ 64 - 1 }
     requires starts { C.After clerk.old [] [] }
     requires nothing_waits { unwritten.old.bytes.items ≡ [] }
 
-    ensures ok { OnOk result (Ended (Replays (C.After clerk.new) (R.remaining reader.old) (R.remaining reader.new)) (W.contents writer.old) (W.contents writer.new) unwritten.new.bytes.items) }
+    ensures ok { OnOk result (Ended (Replays (C.After clerk.new) (R.seen reader.old).remaining (R.seen reader.new).remaining)
+        (W.seen writer.old).contents (W.seen writer.new).contents unwritten.new.bytes.items) }
 
-    ensures fault { IfErr result (λ e. e ≢ FrontFault.Write → Ended (λ wrote wrote_new. EndsAs (C.After clerk.new) (C.Script clerk.old) (R.remaining reader.old) (R.remaining reader.new) wrote wrote_new e) (W.contents writer.old) (W.contents writer.new) unwritten.new.bytes.items) }
+    ensures fault { IfErr result (λ e. e ≢ FrontFault.Write → Ended
+        (λ wrote wrote_new. EndsAs (C.After clerk.new) (C.Script clerk.old)
+        (R.seen reader.old).remaining (R.seen reader.new).remaining wrote wrote_new e)
+        (W.seen writer.old).contents (W.seen writer.new).contents unwritten.new.bytes.items) }
 
-    ensures cut { (result ≡ Err FrontFault.Write) → IsCut (C.Script clerk.old) (R.remaining reader.old) (R.remaining reader.new) (W.contents writer.old) (W.contents writer.new) }
+    ensures cut { (result ≡ Err FrontFault.Write) → IsCut (C.Script clerk.old) (R.seen reader.old).remaining (R.seen reader.new).remaining
+        (W.seen writer.old).contents (W.seen writer.new).contents }
 
-    ensures read_only_at_fault { (result ≡ Err FrontFault.Read) → R.faults reader.old < R.faults reader.new }
-    ensures write_only_at_fault { (result ≡ Err FrontFault.Write) → W.faults writer.old < W.faults writer.new }
-    ensures reads { OnOk result (R.faults reader.new ≡ R.faults reader.old) }
-    ensures writes { (result ≢ Err FrontFault.Write) → W.faults writer.new ≡ W.faults writer.old }
+    ensures read_only_at_fault { (result ≡ Err FrontFault.Read) → (R.seen reader.old).faults < (R.seen reader.new).faults }
+    ensures write_only_at_fault { (result ≡ Err FrontFault.Write) → (W.seen writer.old).faults < (W.seen writer.new).faults }
+    ensures reads { OnOk result ((R.seen reader.new).faults ≡ (R.seen reader.old).faults) }
+    ensures writes { (result ≢ Err FrontFault.Write) → (W.seen writer.new).faults ≡ (W.seen writer.old).faults }
 
     ensures same { C.kept clerk.new ≡ C.kept clerk.old }
-    ensures keeps { (lines said : List (List ℕ)) → C.Script clerk.new lines said → C.Script clerk.old lines said }
+    ensures keeps { IsWithin (C.Script clerk.new) (C.Script clerk.old) }
 
-    ensures came { (came : ℕ) × IsInStep (R.came reader.old) (R.came reader.new) came × OnOk result (came ≤ max_input)
+    ensures came { (came : ℕ) × IsInStep (R.seen reader.old).came (R.seen reader.new).came came × OnOk result (came ≤ max_input)
         × ((result ≡ Err FrontFault.Read) → came ≤ max_input) × ((result ≡ Err FrontFault.Long) → max_input < came) }
 {
     let mut lines = LineReader::new(alloc)?;
@@ -181,24 +199,14 @@ pub fn answer_lines<R: Source, W: Sink, C: Clerk>(
     reader: &mut R,
     writer: &mut W,
 ) -> Result<(), FrontFault>
-    requires read_counts { R.faults reader.old < 2 ^ 64 - 1 }
-    requires write_counts { W.faults writer.old < 2 ^ 64 - 1 }
+    requires read_counts { (R.seen reader.old).faults < 2 ^ 64 - 1 }
+    requires write_counts { (W.seen writer.old).faults < 2 ^ 64 - 1 }
     requires starts { C.After clerk.old [] [] }
 
+    ensures ran { Ran (C.After clerk.new) (C.Script clerk.old)
+        (R.seen reader.old) (R.seen reader.new) (W.seen writer.old) (W.seen writer.new) result }
     ensures same { C.kept clerk.new ≡ C.kept clerk.old }
-    ensures ok { OnOk result (Replays (C.After clerk.new) (R.remaining reader.old) (R.remaining reader.new) (W.contents writer.old) (W.contents writer.new)) }
-
-    ensures fault { IfErr result (λ e. EndsAs (C.After clerk.new) (C.Script clerk.old) (R.remaining reader.old) (R.remaining reader.new) (W.contents writer.old) (W.contents writer.new) e) }
-
-    ensures read_only_at_fault { (result ≡ Err FrontFault.Read) → R.faults reader.old < R.faults reader.new }
-    ensures write_only_at_fault { (result ≡ Err FrontFault.Write) → W.faults writer.old < W.faults writer.new }
-    ensures reads { OnOk result (R.faults reader.new ≡ R.faults reader.old) }
-    ensures writes { (result ≢ Err FrontFault.Write) → W.faults writer.new ≡ W.faults writer.old }
-
-    // By the reader's own count, also of a reader whose bytes are not known.
-    ensures long_only_past_limit { (result ≡ Err FrontFault.Long) → R.came reader.old < 2 ^ 63 → max_input < R.came reader.new - R.came reader.old }
-    ensures ok_within_limit { OnOk result (R.came reader.new ≤ R.came reader.old + max_input) }
-    ensures read_within_limit { (result ≡ Err FrontFault.Read) → R.came reader.new ≤ R.came reader.old + max_input }
+    ensures writes { (result ≢ Err FrontFault.Write) → (W.seen writer.new).faults ≡ (W.seen writer.old).faults }
 {
     let mut unwritten = Unwritten::new(alloc);
     let ended = answer_each(alloc, clerk, reader, writer, &mut unwritten);

@@ -1,7 +1,7 @@
 //! What is said, on its way to a writer.
-ghost use Rattle.std.specs.Prelude.{◌≡◌, ◌≢◌, ◌<◌, ◌≤◌, ◌+◌, ◌-◌, ◌^◌, ◌↔◌, ℕ, [], List, length, take, IsTrue, OnOk, OnErr, IfErr, Err};
-ghost use Rattle.std.specs.Io.KnownBytes.{Appends};
+ghost use Rattle.std.specs.Prelude.{◌≡◌, ◌≢◌, ◌<◌, ◌≤◌, ◌+◌, ◌-◌, ◌^◌, ◌↔◌, ℕ, [], List, length, IsTrue, OnOk, OnErr, IfErr, Err};
 ghost use Rattle.desk_lines.specs.Gathers.{Gathers};
+ghost use Rattle.desk_lines.specs.Told.{WritesAll};
 
 use crate::device::Sink;
 use crate::fault::FrontFault;
@@ -13,11 +13,8 @@ const PIECE: usize = 65_536;
 /// Writes the bytes. Where the writer fails a beginning of them is written, which may be empty. A call that takes nothing of
 /// some bytes is a fault, and none is repeated.
 pub fn write_all<W: Sink>(writer: &mut W, bytes: &[u8]) -> Result<(), FrontFault>
-    requires counts { W.faults writer.old < 2 ^ 64 - 1 }
-    ensures whole { OnOk result (Appends (W.contents writer.old) (W.contents writer.new) bytes.now) }
-    ensures part { OnErr result ((n : ℕ) × Appends (W.contents writer.old) (W.contents writer.new) (take n bytes.now)) }
-    ensures counts { OnOk result (W.faults writer.new ≡ W.faults writer.old) }
-    ensures fault { IfErr result (λ e. (e ≡ FrontFault.Write) × (W.faults writer.old < W.faults writer.new)) }
+    requires counts { (W.seen writer.old).faults < 2 ^ 64 - 1 }
+    ensures { WritesAll (W.seen writer.old) (W.seen writer.new) bytes.now result }
 {
     let mut at = 0;
     'pieces: while at < bytes.len() {
@@ -61,12 +58,14 @@ impl Unwritten {
 
     /// Writes all that waits.
     pub fn write_out<W: Sink>(&mut self, writer: &mut W) -> Result<(), FrontFault>
-        requires counts { W.faults writer.old < 2 ^ 64 - 1 }
-        ensures all { OnOk result (Gathers (W.contents writer.old) (W.contents writer.new) self.old.bytes.items [] self.new.bytes.items) }
+        requires counts { (W.seen writer.old).faults < 2 ^ 64 - 1 }
+        ensures all { OnOk result (Gathers
+            (W.seen writer.old).contents (W.seen writer.new).contents self.old.bytes.items [] self.new.bytes.items) }
         ensures nothing_waits { OnOk result (self.new.bytes.items ≡ []) }
-        ensures part { OnErr result ((rest : List ℕ) × Gathers (W.contents writer.old) (W.contents writer.new) self.old.bytes.items [] rest) }
-        ensures counts { OnOk result (W.faults writer.new ≡ W.faults writer.old) }
-        ensures fault { IfErr result (λ e. (e ≡ FrontFault.Write) × (W.faults writer.old < W.faults writer.new)) }
+        ensures part { OnErr result ((rest : List ℕ) × Gathers
+            (W.seen writer.old).contents (W.seen writer.new).contents self.old.bytes.items [] rest) }
+        ensures counts { OnOk result ((W.seen writer.new).faults ≡ (W.seen writer.old).faults) }
+        ensures fault { IfErr result (λ e. (e ≡ FrontFault.Write) × ((W.seen writer.old).faults < (W.seen writer.new).faults)) }
     {
         write_all(writer, &self.bytes)?;
         self.bytes.clear();
@@ -75,13 +74,16 @@ impl Unwritten {
 
     /// Adds a text to what waits, and writes all once that is a large piece.
     pub fn add<W: Sink>(&mut self, writer: &mut W, text: &[u8]) -> Result<(), FrontFault>
-        requires counts { W.faults writer.old < 2 ^ 64 - 1 }
-        ensures said { OnOk result (Gathers (W.contents writer.old) (W.contents writer.new) self.old.bytes.items text.now self.new.bytes.items) }
-        ensures part { (result ≡ Err FrontFault.Write) → (rest : List ℕ) × Gathers (W.contents writer.old) (W.contents writer.new) self.old.bytes.items text.now rest }
-        ensures memory { (result ≡ Err FrontFault.Memory) → Gathers (W.contents writer.old) (W.contents writer.new) self.old.bytes.items [] self.new.bytes.items }
+        requires counts { (W.seen writer.old).faults < 2 ^ 64 - 1 }
+        ensures said { OnOk result (Gathers
+            (W.seen writer.old).contents (W.seen writer.new).contents self.old.bytes.items text.now self.new.bytes.items) }
+        ensures part { (result ≡ Err FrontFault.Write) → (rest : List ℕ) × Gathers
+            (W.seen writer.old).contents (W.seen writer.new).contents self.old.bytes.items text.now rest }
+        ensures memory { (result ≡ Err FrontFault.Memory) → Gathers
+            (W.seen writer.old).contents (W.seen writer.new).contents self.old.bytes.items [] self.new.bytes.items }
         ensures only { IfErr result (λ e. (e ≢ FrontFault.Read) × (e ≢ FrontFault.Long)) }
-        ensures counts { (result ≢ Err FrontFault.Write) → W.faults writer.new ≡ W.faults writer.old }
-        ensures fault { (result ≡ Err FrontFault.Write) → W.faults writer.old < W.faults writer.new }
+        ensures counts { (result ≢ Err FrontFault.Write) → (W.seen writer.new).faults ≡ (W.seen writer.old).faults }
+        ensures fault { (result ≡ Err FrontFault.Write) → (W.seen writer.old).faults < (W.seen writer.new).faults }
     {
         self.bytes.extend_from_slice(text)?;
         if self.bytes.len() < PIECE {
@@ -92,14 +94,17 @@ impl Unwritten {
 
     /// Adds a text to what waits, as `add` does. Where the text is empty, all that waits is written.
     pub fn pass_on<W: Sink>(&mut self, writer: &mut W, text: &[u8]) -> Result<(), FrontFault>
-        requires counts { W.faults writer.old < 2 ^ 64 - 1 }
-        ensures said { OnOk result (Gathers (W.contents writer.old) (W.contents writer.new) self.old.bytes.items text.now self.new.bytes.items) }
+        requires counts { (W.seen writer.old).faults < 2 ^ 64 - 1 }
+        ensures said { OnOk result (Gathers
+            (W.seen writer.old).contents (W.seen writer.new).contents self.old.bytes.items text.now self.new.bytes.items) }
         ensures out { text.now ≡ [] → OnOk result (self.new.bytes.items ≡ []) }
-        ensures part { (result ≡ Err FrontFault.Write) → (rest : List ℕ) × Gathers (W.contents writer.old) (W.contents writer.new) self.old.bytes.items text.now rest }
-        ensures memory { (result ≡ Err FrontFault.Memory) → Gathers (W.contents writer.old) (W.contents writer.new) self.old.bytes.items [] self.new.bytes.items }
+        ensures part { (result ≡ Err FrontFault.Write) → (rest : List ℕ) × Gathers
+            (W.seen writer.old).contents (W.seen writer.new).contents self.old.bytes.items text.now rest }
+        ensures memory { (result ≡ Err FrontFault.Memory) → Gathers
+            (W.seen writer.old).contents (W.seen writer.new).contents self.old.bytes.items [] self.new.bytes.items }
         ensures only { IfErr result (λ e. (e ≢ FrontFault.Read) × (e ≢ FrontFault.Long)) }
-        ensures counts { (result ≢ Err FrontFault.Write) → W.faults writer.new ≡ W.faults writer.old }
-        ensures fault { (result ≡ Err FrontFault.Write) → W.faults writer.old < W.faults writer.new }
+        ensures counts { (result ≢ Err FrontFault.Write) → (W.seen writer.new).faults ≡ (W.seen writer.old).faults }
+        ensures fault { (result ≡ Err FrontFault.Write) → (W.seen writer.old).faults < (W.seen writer.new).faults }
     {
         if text.is_empty() {
             return self.write_out(writer);

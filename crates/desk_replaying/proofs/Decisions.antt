@@ -2,8 +2,8 @@
 use Rattle.std.proofs.Common.{◌≢◌, ◌⊎◌, inr, ℕ, List, codes, refl, sym}
 use Rattle.serde_json.specs.Data.{Data, no_members, member}
 use Rattle.desk_replaying.specs.Line.{Line, Model, Open, Submit, Take, Answer, AnswerWith, Release, Close, Resize, object_of, IsLawful, Reads}
-use Rattle.desk_reports.specs.Reading.{Reading}
-use Rattle.desk_reports.proofs.Deciding.{Decision, by_turns, begins, is_object, is_string, is_unsigned, is_end, is_any, any_text, is_name, is_ticket, is_capacity, is_inputs, is_named, is_named_number, is_numbered_name, IsOf, IsSome, IsNone, or_else, reading_of}
+use Rattle.desk_wire.specs.Reading.{Reading}
+use Rattle.desk_wire.proofs.Deciding.{Decision, by_turns, begins, is_object, is_string, is_unsigned, is_end, is_any, any_text, is_name, is_ticket, is_capacity, is_inputs, is_named, is_named_number, is_numbered_name, IsOf, IsSome, IsNone, or_else, reading_of}
 
 is_model : (d : Data) → Decision (IsOf object_of IsLawful Data Model d)
 is_model d =

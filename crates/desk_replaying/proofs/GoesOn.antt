@@ -10,12 +10,12 @@ use Rattle.dmn_plan.specs.Request.{Request, request_result}
 use Rattle.dmn_plan.proofs.Decided.{one_request}
 use Rattle.feel_value.specs.declared.feel.Outcome.{Outcome}
 use Rattle.desk_replaying.specs.Line.{Line}
-use Rattle.desk_reports.specs.Reading.{Reading, Blank, Long, Syntax, Shape, Says}
-use Rattle.desk_replaying.specs.Turns.{Deed, Skipped, Loaded, Faulty, Refused, Asked, Turn, history, opened, in_force}
+use Rattle.desk_wire.specs.Reading.{Reading, Blank, Long, Syntax, Shape, Says}
+use Rattle.desk_replaying.specs.State.{Deed, Skipped, Loaded, Faulty, Refused, Asked, Turn, history, opened, in_force}
 use Rattle.desk_replaying.specs.Due.{Due, Loads, Faults, Refuses, Asks, due_to, IsDone, IsDueAs, Follows}
-use Rattle.desk_replaying.specs.Said.{said_of}
+use Rattle.desk_replaying.specs.Reports.{said_of}
 use Rattle.desk_replaying.specs.Script.{AreInOrder, Script}
-use Rattle.desk_reports.specs.declared.refusal.LineRefusal.TheVariants as line
+use Rattle.desk_wire.specs.declared.word.Word.TheVariants as word
 use Rattle.desk_replaying.proofs.Decisions.{a_reading}
 
 deed_for : (past : broker.History Request Outcome) (due : Due) → (deed : Deed) × IsDone past due deed
@@ -27,9 +27,9 @@ deed_for past (Asks event) =
 
 deed_as : (before : List Turn) (reading : Reading Line) → (deed : Deed) × IsDueAs before reading deed
 deed_as before Blank = (Skipped, refl)
-deed_as before Long = (Refused line.Long, refl)
-deed_as before Syntax = (Refused line.Syntax, refl)
-deed_as before Shape = (Refused line.Shape, refl)
+deed_as before Long = (Refused word.Long, refl)
+deed_as before Syntax = (Refused word.Syntax, refl)
+deed_as before Shape = (Refused word.Shape, refl)
 deed_as before (Says says) =
     let d = deed_for (history before) (due_to (opened before) (in_force before) (history before) says) in (d.0, inl d.1)
 

@@ -12,13 +12,13 @@ use Rattle.box_core.specs.declared.faults.AddRefusal.TheVariants as unadded
 use Rattle.dmn_plan.specs.Request.{Request, request_result}
 use Rattle.feel_value.specs.declared.feel.Outcome.{Outcome}
 use Rattle.desk_replaying.specs.Line.{Line, Model, Open, Submit, Take, Answer, AnswerWith, Release, Close, Resize, object_of, IsLawful, Reads}
-use Rattle.desk_reports.specs.Reading.{Reading, Blank, Long, Syntax, Shape, Says}
-use Rattle.desk_reports.proofs.ReadOnce.{some_same, read_once}
-use Rattle.desk_replaying.specs.Turns.{Deed, Skipped, Loaded, Faulty, Asked, Refused, Turn, pair_of, history}
+use Rattle.desk_wire.specs.Reading.{Reading, Blank, Long, Syntax, Shape, Says}
+use Rattle.desk_wire.proofs.ReadOnce.{some_same, read_once}
+use Rattle.desk_replaying.specs.State.{Deed, Skipped, Loaded, Faulty, Asked, Refused, Turn, pair_of, history}
 use Rattle.desk_replaying.specs.Due.{Due, Loads, Faults, Refuses, Asks, IsDone, IsDue, IsDueAs, Follows}
-use Rattle.desk_replaying.specs.Said.{said_of}
+use Rattle.desk_replaying.specs.Reports.{said_of}
 use Rattle.desk_replaying.specs.Script.{AreInOrder, Script, told_memory, tells_memory}
-use Rattle.desk_reports.specs.declared.refusal.LineRefusal.TheVariants as line
+use Rattle.desk_wire.specs.declared.word.Word.TheVariants as word
 
 -- ---- a script's history is legal
 
@@ -179,8 +179,8 @@ done_once past (Asks event) x y h k quiet silent =
 due_once : (before : List Turn) (says : Line) (x y : Deed) → IsDue before says x → IsDue before says y
     → tells_memory x ≡ false → tells_memory y ≡ false → x ≡ y
 due_once before says x y (inl h) (inl k) quiet silent = done_once (history before) _ x y h k quiet silent
-due_once before says x y (inr lack) k quiet silent = absurd (memory_told tells_memory x (Refused line.Memory) lack.1 refl quiet)
-due_once before says x y (inl h) (inr lack) quiet silent = absurd (memory_told tells_memory y (Refused line.Memory) lack.1 refl silent)
+due_once before says x y (inr lack) k quiet silent = absurd (memory_told tells_memory x (Refused word.Memory) lack.1 refl quiet)
+due_once before says x y (inl h) (inr lack) quiet silent = absurd (memory_told tells_memory y (Refused word.Memory) lack.1 refl silent)
 
 deed_once : (before : List Turn) (reading : Reading Line) (x y : Deed) → IsDueAs before reading x → IsDueAs before reading y
     → tells_memory x ≡ false → tells_memory y ≡ false → x ≡ y

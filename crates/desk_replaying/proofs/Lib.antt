@@ -3,7 +3,7 @@ pub mod Fewness
 pub mod Counting
 pub mod Finding
 pub mod Turning
-pub mod Answering
+pub mod Hearing
 pub mod Laws
 pub mod Decisions
 pub mod GoesOn

@@ -11,11 +11,11 @@ use Rattle.dmn_plan.specs.declared.fault.ModelFault.{ModelFault}
 use Rattle.dmn_plan.specs.declared.fault.TaskFault.{TaskFault}
 use Rattle.feel_value.specs.declared.feel.Outcome.{Outcome}
 use Rattle.desk_replaying.specs.Line.{Line, Model, Open, Submit, Take, Answer, AnswerWith, Release, Close, Resize, Reads}
-use Rattle.desk_reports.specs.Reading.{Reading, Blank, Long, Syntax, Shape, Says}
-use Rattle.desk_reports.specs.Words.{line_refusal}
-use Rattle.desk_replaying.specs.Turns.{Deed, Skipped, Loaded, Faulty, Asked, Refused, Turn, history, opened, in_force, taken_work}
-use Rattle.desk_reports.specs.declared.refusal.LineRefusal.{LineRefusal}
-use Rattle.desk_reports.specs.declared.refusal.LineRefusal.TheVariants as line
+use Rattle.desk_wire.specs.Reading.{Reading, Blank, Long, Syntax, Shape, Says}
+use Rattle.desk_wire.specs.Words.{task_fault_word}
+use Rattle.desk_replaying.specs.State.{Deed, Skipped, Loaded, Faulty, Asked, Refused, Turn, history, opened, in_force, taken_work}
+use Rattle.desk_wire.specs.declared.word.Word.{Word}
+use Rattle.desk_wire.specs.declared.word.Word.TheVariants as word
 
 -- the number of an opened name's client
 abbrev pub number_of : List (List ℕ) → List ℕ → Option ℕ
@@ -25,23 +25,23 @@ number_of names name = position (λ opened. bytes_eq opened name) names
 abbrev pub client_of : List (List ℕ) → List ℕ → ℕ
 client_of names name = unwrap_or (number_of names name) (length names)
 
-abbrev pub or_refusal : Result Request TaskFault → Result Request LineRefusal
+abbrev pub or_refusal : Result Request TaskFault → Result Request Word
 or_refusal (Ok request) = Ok request
-or_refusal (Err why) = Err (line_refusal why)
+or_refusal (Err why) = Err (task_fault_word why)
 
 -- the request to a service with these inputs under the model in force, or why there is none
-abbrev pub request_under : Option (List ℕ) → List ℕ → Data → Result Request LineRefusal
-request_under None service inputs = Err line.Model
+abbrev pub request_under : Option (List ℕ) → List ℕ → Data → Result Request Word
+request_under None service inputs = Err word.Model
 request_under (Some text) service inputs = or_refusal (request_of text service inputs)
 
 -- what is due: a model is put in force, a model's fault is told, the front refuses, or the broker is asked
 pub data Due : Type 0 where
   Loads : (text : List ℕ) → Due
   Faults : (fault : ModelFault) → Due
-  Refuses : (why : LineRefusal) → Due
+  Refuses : (why : Word) → Due
   Asks : (event : broker.Event Request) → Due
 
-abbrev pub asks_with : Result Request LineRefusal → (Request → broker.Event Request) → Due
+abbrev pub asks_with : Result Request Word → (Request → broker.Event Request) → Due
 asks_with (Ok request) event = Asks (event request)
 asks_with (Err why) event = Refuses why
 
@@ -52,16 +52,16 @@ due_to_model json (Err fault) = Faults fault
 
 -- a name is opened once
 abbrev pub due_to_open : Option ℕ → ℕ → Due
-due_to_open (Some client) capacity = Refuses line.Present
+due_to_open (Some client) capacity = Refuses word.Present
 due_to_open None capacity = Asks (broker.AddClient capacity)
 
 -- the work that was taken answers
 abbrev pub due_to_work : ℕ → ℕ → Option Request → Due
-due_to_work client ticket None = Refuses line.Strange
+due_to_work client ticket None = Refuses word.Strange
 due_to_work client ticket (Some work) = Asks (broker.Answer client (record { ticket = ticket; work = work }))
 
 abbrev pub due_to_answer : broker.History Request Outcome → ℕ → Option ℕ → Due
-due_to_answer past ticket None = Refuses line.NoClient
+due_to_answer past ticket None = Refuses word.NoClient
 due_to_answer past ticket (Some client) = due_to_work client ticket (taken_work past client ticket)
 
 -- what is due to a line, by the names that were opened, the model in force and what the broker reported before it
@@ -99,14 +99,14 @@ MayLackMemory line = ⊥
 abbrev pub IsDue : List Turn → Line → Deed → Type 0
 IsDue before says deed =
     IsDone (history before) (due_to (opened before) (in_force before) (history before) says) deed
-    ⊎ (MayLackMemory says × (deed ≡ Refused line.Memory))
+    ⊎ (MayLackMemory says × (deed ≡ Refused word.Memory))
 
 -- the same, as the line is read
 abbrev pub IsDueAs : List Turn → Reading Line → Deed → Type 0
 IsDueAs before Blank deed = deed ≡ Skipped
-IsDueAs before Long deed = deed ≡ Refused line.Long
-IsDueAs before Syntax deed = deed ≡ Refused line.Syntax
-IsDueAs before Shape deed = deed ≡ Refused line.Shape
+IsDueAs before Long deed = deed ≡ Refused word.Long
+IsDueAs before Syntax deed = deed ≡ Refused word.Syntax
+IsDueAs before Shape deed = deed ≡ Refused word.Shape
 IsDueAs before (Says line) deed = IsDue before line deed
 
 -- the turn is that of the line after these

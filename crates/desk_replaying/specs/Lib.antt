@@ -1,7 +1,7 @@
 pub mod Line
 pub mod LineView
-pub mod Turns
+pub mod State
 pub mod Due
-pub mod Said
+pub mod Reports
 pub mod Script
-pub mod Desk
+pub mod StateView

@@ -1,8 +1,8 @@
 -- What a line says.
 use Rattle.std.specs.Prelude.{◌≡◌, ℕ, ◌^◌, ◌<◌, List, codes}
 use Rattle.serde_json.specs.Data.{Data, object, member, no_members}
-use Rattle.desk_reports.specs.Parts.{with_name, with_number, IsName, IsTicket, IsObject}
-use Rattle.desk_reports.specs.Reading.{Reading, ReadsAs}
+use Rattle.desk_wire.specs.Parts.{with_name, with_number, IsName, IsTicket, IsObject}
+use Rattle.desk_wire.specs.Reading.{Reading, ReadsAs}
 
 -- the lines of `replay`, by what they name
 pub data Line : Type 0 where

@@ -5,7 +5,7 @@ use Rattle.serde_json.specs.Data.{Members, object}
 use Rattle.serde_json.specs.Read.{read}
 use Rattle.serde_json.specs.View.{view}
 use Rattle.desk_lines.specs.Lines.{max_line}
-use Rattle.desk_reports.specs.Reading.{is_blank}
+use Rattle.desk_wire.specs.Reading.{is_blank}
 use Rattle.desk_replaying.specs.Line as said
 use Rattle.desk_replaying.specs.declared.line.Line.{Line}
 use Rattle.desk_replaying.specs.declared.line.Line.TheVariants.{Model, Open, Submit, Take, Answer, AnswerWith, Release, Close, Resize}

@@ -6,10 +6,10 @@ use Rattle.box_core.specs.declared.faults.Refusal.TheVariants as refusal
 use Rattle.box_core.specs.declared.faults.AddRefusal.TheVariants as unadded
 use Rattle.dmn_plan.specs.Request.{Request}
 use Rattle.feel_value.specs.declared.feel.Outcome.{Outcome}
-use Rattle.desk_replaying.specs.Turns.{Deed, Asked, Refused, Turn}
+use Rattle.desk_replaying.specs.State.{Deed, Asked, Refused, Turn}
 use Rattle.desk_replaying.specs.Due.{Follows}
-use Rattle.desk_replaying.specs.Said.{said_of}
-use Rattle.desk_reports.specs.declared.refusal.LineRefusal.TheVariants as line
+use Rattle.desk_replaying.specs.Reports.{said_of}
+use Rattle.desk_wire.specs.declared.word.Word.TheVariants as word
 
 -- each of the turns follows the turns before it
 abbrev pub AreInOrder : List Turn → List Turn → Type 0
@@ -30,6 +30,6 @@ told_memory (broker.Refused refusal.Memory) = true
 told_memory told = false
 
 abbrev pub tells_memory : Deed → Bool
-tells_memory (Refused line.Memory) = true
+tells_memory (Refused word.Memory) = true
 tells_memory (Asked event told) = told_memory told
 tells_memory deed = false

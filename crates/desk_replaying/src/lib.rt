@@ -1,11 +1,10 @@
 //! `replay`: a script of what happened, answered line by line: one report a line.
 #![tactic(auto)]
 
-mod desk;
-mod effect;
-mod hearing;
+mod answering;
 mod line;
-mod said;
-mod session;
+mod reports;
+mod run;
+mod state;
 
-pub use session::replay;
+pub use run::replay;

@@ -4,15 +4,16 @@ ghost use Rattle.std.specs.Str.{IsUtf8};
 ghost use Rattle.serde_json.specs.Data.{Data, string, number, unsigned, object};
 ghost use Rattle.serde_json.specs.View.{view};
 ghost use Rattle.serde_json.specs.Read.{read};
-ghost use Rattle.desk_reports.specs.Parts.{IsName, IsTicket};
+ghost use Rattle.desk_wire.specs.Parts.{IsName, IsTicket};
 ghost use Rattle.desk_replaying.specs.Line.{IsLine};
-ghost use Rattle.desk_reports.specs.Reading.{is_blank};
+ghost use Rattle.desk_wire.specs.Reading.{is_blank};
 ghost use Rattle.desk_replaying.specs.Line as said;
 ghost use Rattle.desk_replaying.specs.LineView.{line_view};
-ghost use Rattle.json_fields.specs.Listed.{members_of};
+ghost use Rattle.json_reader.specs.Members.{members_of};
 
-use desk_reports::{capacity_in, name_in, ticket_in};
-use json_fields::{four_members, one_member, three_members, two_members};
+use desk_wire::{
+    capacity_in, four_members, name_in, one_member, three_members, ticket_in, two_members,
+};
 use serde_json::Value;
 use std::alloc::{AllocError, Global};
 

@@ -6,31 +6,31 @@ use Rattle.desk_lines.specs.Lines.{kept_line}
 use Rattle.desk_lines.specs.declared.fault.FrontFault.{FrontFault}
 use Rattle.desk_serving.specs.LanesView.{lanes_in, names_in}
 use Rattle.desk_serving.specs.Owed.{AreFirst, AreHanded, Hands, due_to}
-use Rattle.desk_serving.specs.Served.{ServedInPart, texts_of}
-use Rattle.desk_serving.specs.Serving.{After, HearsText}
+use Rattle.desk_serving.specs.Script.{ServedInPart, texts_of}
+use Rattle.desk_serving.specs.StateView.{After, HearsText}
 use Rattle.desk_serving.specs.Telling.{Tells}
 use Rattle.desk_serving.specs.declared.named_lanes.Lanes.{Lanes}
-use Rattle.desk_serving.specs.declared.serving.Serving.{Serving}
-use Rattle.desk_serving.proofs.Asking.{after_line}
+use Rattle.desk_serving.specs.declared.state.State.{State}
+use Rattle.desk_serving.proofs.Hearing.{after_line}
 use Rattle.desk_serving.proofs.Fronting.{after_more, in_part_more}
 use Rattle.desk_serving.proofs.Owing.{handed_first}
 use Rattle.desk_serving.proofs.Saying.{tells_none, tells_weaker}
 
-module _ {R : Type 0} (old new : Serving R) {a b : Option (List ℕ)} {waits waits' : List ℕ} where
+module _ {R : Type 0} (old new : State R) {a b : Option (List ℕ)} {waits waits' : List ℕ} where
   pub caught_up : names_in new.lanes ≡ names_in old.lanes → new.plan ≡ old.plan → Tells (AreHanded (names_in old.lanes) (lanes_in old.lanes) (lanes_in new.lanes)) a b waits waits'
       → SaysMore (After old) (After new) a b waits waits'
   caught_up names plan t = λ lines said s. (texts_of t.more, after_more old new lines said t.more s names plan t.are, t.gathers)
 
-module _ {R : Type 0} (old : Serving R) {a b : Option (List ℕ)} {waits waits' : List ℕ} where
+module _ {R : Type 0} (old : State R) {a b : Option (List ℕ)} {waits waits' : List ℕ} where
   pub caught_in_part : Tells (AreFirst (names_in old.lanes) (lanes_in old.lanes)) a b waits waits' → SaysMore (After old) (ServedInPart (length (lanes_in old.lanes))) a b waits waits'
   caught_in_part t = λ lines said s. (texts_of t.more, in_part_more old lines said t.more s t.are, t.gathers)
 
-pub ok_caught : {R : Type 0} (old new : Serving R) (a b : Option (List ℕ)) (waits waits' : List ℕ) {X : Type 0} (r : Result X FrontFault) → names_in new.lanes ≡ names_in old.lanes → new.plan ≡ old.plan
+pub ok_caught : {R : Type 0} (old new : State R) (a b : Option (List ℕ)) (waits waits' : List ℕ) {X : Type 0} (r : Result X FrontFault) → names_in new.lanes ≡ names_in old.lanes → new.plan ≡ old.plan
     → OnOk r (Tells (AreHanded (names_in old.lanes) (lanes_in old.lanes) (lanes_in new.lanes)) a b waits waits') → OnOk r (SaysMore (After old) (After new) a b waits waits')
 ok_caught old new a b waits waits' (Ok x) names plan t = caught_up old new names plan t
 ok_caught old new a b waits waits' (Err e) names plan t = tt
 
-module _ {R : Type 0} (old : Serving R) where
+module _ {R : Type 0} (old : State R) where
   -- nothing is said
   pub caught_nothing : (a : Option (List ℕ)) (waits : List ℕ) → SaysMore (After old) (ServedInPart (length (lanes_in old.lanes))) a a waits waits
   caught_nothing a waits =
@@ -45,7 +45,7 @@ module _ {R : Type 0} (old : Serving R) where
       caught_in_part old (tells_weaker (AreHanded names lanes (lanes_in mid)) (AreFirst names lanes) a b waits waits' (λ m h. handed_first names lanes (lanes_in mid) m h) t)
 
 -- some is handed out on its way to a writer, some more into a text, and then a line is answered
-pub line_answered : {R : Type 0} (old mid last new : Serving R) (kept : Option (List ℕ)) (k : ℕ) {a b : Option (List ℕ)} {waits waits' : List ℕ} (text text' : List ℕ)
+pub line_answered : {R : Type 0} (old mid last new : State R) (kept : Option (List ℕ)) (k : ℕ) {a b : Option (List ℕ)} {waits waits' : List ℕ} (text text' : List ℕ)
     → names_in mid.lanes ≡ names_in old.lanes → mid.plan ≡ old.plan → names_in last.lanes ≡ names_in mid.lanes → last.plan ≡ mid.plan
     → Tells (AreHanded (names_in old.lanes) (lanes_in old.lanes) (lanes_in mid.lanes)) a b waits waits' → Hands (names_in mid.lanes) (lanes_in mid.lanes) (lanes_in last.lanes) [] text
     → ((it : List ℕ) → kept ≡ kept_line it → HearsText last k it text text' new)

@@ -7,32 +7,30 @@ use Rattle.std.proofs.lemmas.List.{drop_all, length-map, map-set}
 use mathlib.Core.Logic.{dite}
 use native.Mathlib.Decide.{ℕ_discrete}
 use Rattle.box_core.specs.Answer.{Ticketed}
-use Rattle.box_core.specs.History.{Report, Kept, Strange, Repeated}
+use Rattle.box_core.specs.History as history
+use Rattle.box_core.specs.History.{Kept, Strange, Repeated}
 use Rattle.box_core.specs.Mail.{Mail, Place, changed_at, accepted_in, open_in, open_of_place, status_in, status_by, next_in, with_kept}
 use Rattle.box_core.specs.Mail as mail
 use Rattle.box_core.specs.Table.{AnswerReport}
 use Rattle.box_core.specs.Views.{answered_report}
 use Rattle.box_core.specs.declared.faults.Answered.{Answered}
 use Rattle.box_core.specs.declared.faults.Answered.TheVariants as answered
-use Rattle.box_core.specs.declared.work.Work.{Ghosts}
 use Rattle.dmn_plan.specs.Request.{Request, request_result}
 use Rattle.feel_value.specs.declared.feel.Outcome.{Outcome}
+use Rattle.lanes.specs.Ends.{ClientEnd, SettledEnd, LaneEnd}
 use Rattle.lanes.specs.Accounts.{taken_of, all_true}
 use Rattle.lanes.specs.Books.{work_of}
 use Rattle.lanes.specs.Clients.{mail_of}
 use Rattle.lanes.specs.Rest.{put_in, mail_in, left_in}
 use Rattle.lanes.specs.Settling.{AllKept, AllSettle, Settles}
-use Rattle.lanes.specs.declared.client.Client.{Client}
-use Rattle.lanes.specs.declared.port.Port.{Port}
-use Rattle.lanes.specs.declared.settled.Settled.{Settled}
 use Rattle.lanes.proofs.Accounting.{taken_at}
 use Rattle.lanes.proofs.Mails.{option_case, order, some_is, none_is_not, got, changed_other, status_place, get_drop, drop_suc}
 use Rattle.desk_serving.specs.Ending.{IsReady, IsWhole, ends_lanes}
 use Rattle.desk_serving.specs.Owed.{Lane, lane_in, lane_of, with_handed, due, AreBooked, AreDistinct, AreFirst, AreFirstOwn, AreHanded, AreOwn}
-use Rattle.desk_reports.specs.Reading.{Reading}
-use Rattle.desk_serving.specs.Asked.{Asked}
-use Rattle.desk_serving.specs.Served.{Entry, of_client, of_name}
-use Rattle.desk_reports.specs.Shown.{reply}
+use Rattle.desk_wire.specs.Reading.{Reading}
+use Rattle.desk_serving.specs.Line.{Line}
+use Rattle.desk_wire.specs.Reports.{Report, Reply}
+use Rattle.desk_serving.specs.Script.{of_client}
 use Rattle.desk_serving.proofs.Owing.{due-next, name_itself, of_client-append, of_other, of_same, own_first, own_handed, set_at}
 
 -- ## What an answer makes of the open tickets
@@ -89,7 +87,7 @@ module _ {W O : Type 0} where
       (order t old.handed)
 
 module _ {W R O : Type 0} (request : W → R) (result_of : R → O) where
-  not_repeated : ◌≡◌ {A = Report W O} Kept Repeated → ⊥
+  not_repeated : ◌≡◌ {A = history.Report W O} Kept Repeated → ⊥
   not_repeated e = cc
 
   kept_after : (old : Mail W O) (x : Ticketed W) → AnswerReport {O = O} request (status_in old x.ticket) x.work Kept → old.handed ≤ x.ticket
@@ -99,7 +97,7 @@ module _ {W R O : Type 0} (request : W → R) (result_of : R → O) where
       (order x.ticket old.handed)
 
   -- an answer to an open ticket, for its request, is kept
-  open_kept : (old : Mail W O) (x : Ticketed W) (report : Report W O) → taken_of old.outstanding ≡ all_true old.outstanding → open_in old x.ticket ≡ Some x.work
+  open_kept : (old : Mail W O) (x : Ticketed W) (report : history.Report W O) → taken_of old.outstanding ≡ all_true old.outstanding → open_in old x.ticket ≡ Some x.work
       → AnswerReport request (status_in old x.ticket) x.work report → report ≡ Kept
   open_kept old x report running is due =
       let place = open_is_at old x.ticket x.work is in
@@ -111,7 +109,7 @@ module _ {W R O : Type 0} (request : W → R) (result_of : R → O) where
       (λ (e : (request p.work ≢ request x.work) × (report ≡ Strange)). absurd (e.0 (ap request place.1.work))) due'
 
   -- an answer that is not kept was for a ticket that is not open
-  dropped_closes : (old new : Mail W O) (x : Ticketed W) (report : Report W O) → report ≢ Kept → taken_of old.outstanding ≡ all_true old.outstanding
+  dropped_closes : (old new : Mail W O) (x : Ticketed W) (report : history.Report W O) → report ≢ Kept → taken_of old.outstanding ≡ all_true old.outstanding
       → (open_in old x.ticket ≡ Some x.work) ⊎ (open_in old x.ticket ≡ None) → AnswerReport request (status_in old x.ticket) x.work report → new ≡ old → Closes old new x.ticket
   dropped_closes old new x report n running right due same =
       let here : open_in old x.ticket ≡ None = ⊎_elim (λ is. absurd (n (open_kept old x report running is due))) (λ none. none) right in
@@ -138,55 +136,54 @@ run_handed old new run is t = subst (λ (m : Mail Request Outcome). open_in m t 
 
 -- ## Ends
 
-module _ {g : Ghosts Request Outcome} where
-  -- once a job is answered, the others are what is left
-  pub ready_next : (old new : Settled Request Outcome g) (x : Ticketed Request) → IsReady old → left_in old ≡ left_in new ++ x ∷ [] → Closes (mail_in old) (mail_in new) x.ticket → IsReady new
-  ready_next old new x ready left closes = record {
-    all = λ t w is. dite (ℕ_discrete t x.ticket)
-        (λ (same : t ≡ x.ticket). absurd (none_is_not w (sym closes.here ∙ ap (open_in (mail_in new)) (sym same) ∙ is)))
-        (λ ne. ⊎_elim
-        (λ (found : Contains (left_in new) (record { ticket = t; work = w })). found)
-        (λ (e : x ≡ record { ticket = t; work = w }). absurd (ne (ap (λ (y : Ticketed Request). y.ticket) (sym e))))
-        (Contains-push_cases (left_in new) x (record { ticket = t; work = w }) (subst (λ l. Contains l (record { ticket = t; work = w })) left (ready.all t w (sym (closes.other t ne) ∙ is)))));
-    right = λ k d lt.
-        let job : Ticketed Request = get_or (left_in new) k d in
-        let was : (open_in (mail_in old) job.ticket ≡ Some job.work) ⊎ (open_in (mail_in old) job.ticket ≡ None) =
-        All-contains (λ (j : Ticketed Request). (open_in (mail_in old) j.ticket ≡ Some j.work) ⊎ (open_in (mail_in old) j.ticket ≡ None)) (left_in old) job ready.right
-        (subst (λ l. Contains l job) (sym left) (Contains-append_left (left_in new) (x ∷ []) job (Contains-get_or (left_in new) k d lt))) in
-        dite (ℕ_discrete job.ticket x.ticket)
-        (λ (same : job.ticket ≡ x.ticket). inr (ap (open_in (mail_in new)) same ∙ closes.here))
-        (λ ne. ⊎_elim (λ is. inl (closes.other job.ticket ne ∙ is)) (λ none. inr (closes.other job.ticket ne ∙ none)) was);
-  }
+-- once a job is answered, the others are what is left
+pub ready_next : (old new : SettledEnd Request Outcome) (x : Ticketed Request) → IsReady old → left_in old ≡ left_in new ++ x ∷ [] → Closes (mail_in old) (mail_in new) x.ticket → IsReady new
+ready_next old new x ready left closes = record {
+  all = λ t w is. dite (ℕ_discrete t x.ticket)
+      (λ (same : t ≡ x.ticket). absurd (none_is_not w (sym closes.here ∙ ap (open_in (mail_in new)) (sym same) ∙ is)))
+      (λ ne. ⊎_elim
+      (λ (found : Contains (left_in new) (record { ticket = t; work = w })). found)
+      (λ (e : x ≡ record { ticket = t; work = w }). absurd (ne (ap (λ (y : Ticketed Request). y.ticket) (sym e))))
+      (Contains-push_cases (left_in new) x (record { ticket = t; work = w }) (subst (λ l. Contains l (record { ticket = t; work = w })) left (ready.all t w (sym (closes.other t ne) ∙ is)))));
+  right = λ k d lt.
+      let job : Ticketed Request = get_or (left_in new) k d in
+      let was : (open_in (mail_in old) job.ticket ≡ Some job.work) ⊎ (open_in (mail_in old) job.ticket ≡ None) =
+      All-contains (λ (j : Ticketed Request). (open_in (mail_in old) j.ticket ≡ Some j.work) ⊎ (open_in (mail_in old) j.ticket ≡ None)) (left_in old) job ready.right
+      (subst (λ l. Contains l job) (sym left) (Contains-append_left (left_in new) (x ∷ []) job (Contains-get_or (left_in new) k d lt))) in
+      dite (ℕ_discrete job.ticket x.ticket)
+      (λ (same : job.ticket ≡ x.ticket). inr (ap (open_in (mail_in new)) same ∙ closes.here))
+      (λ ne. ⊎_elim (λ is. inl (closes.other job.ticket ne ∙ is)) (λ none. inr (closes.other job.ticket ne ∙ none)) was);
+}
 
-  -- an answer to the job that was the last of those left
-  pub ready_answered : (old mid new : Settled Request Outcome g) (x : Ticketed Request) (a : Answered) → IsReady old → left_in old ≡ left_in mid ++ x ∷ [] → mail_in mid ≡ mail_in old → left_in new ≡ left_in mid
-      → AnswerReport {O = Outcome} (λ (q : Request). q) (status_in (mail_in mid) x.ticket) x.work (answered_report a)
-      → (a ≡ answered.Kept → mail_in new ≡ with_kept (request_result x.work) x.ticket (mail_in mid)) → (a ≢ answered.Kept → mail_in new ≡ mail_in mid) → IsReady new
-  ready_answered old mid new x a ready left mail rest due kept dropped =
-      let right = All-contains (λ (j : Ticketed Request). (open_in (mail_in old) j.ticket ≡ Some j.work) ⊎ (open_in (mail_in old) j.ticket ≡ None)) (left_in old) x ready.right
-      (subst (λ l. Contains l x) (sym left) (Contains-push (left_in mid) x)) in
-      let right' : (open_in (mail_in mid) x.ticket ≡ Some x.work) ⊎ (open_in (mail_in mid) x.ticket ≡ None) =
-      subst (λ m. (open_in m x.ticket ≡ Some x.work) ⊎ (open_in m x.ticket ≡ None)) (sym mail) right in
-      let closes = answer_closes (λ (q : Request). q) request_result (mail_in mid) (mail_in new) x a mid.running right' due kept dropped in
-      ready_next old new x ready (left ∙ ap (λ l. l ++ x ∷ []) (sym rest)) (subst (λ m. Closes m (mail_in new) x.ticket) mail closes)
+-- an answer to the job that was the last of those left
+pub ready_answered : (old mid new : SettledEnd Request Outcome) (x : Ticketed Request) (a : Answered) → IsReady old → left_in old ≡ left_in mid ++ x ∷ [] → mail_in mid ≡ mail_in old → left_in new ≡ left_in mid
+    → AnswerReport {O = Outcome} (λ (q : Request). q) (status_in (mail_in mid) x.ticket) x.work (answered_report a)
+    → (a ≡ answered.Kept → mail_in new ≡ with_kept (request_result x.work) x.ticket (mail_in mid)) → (a ≢ answered.Kept → mail_in new ≡ mail_in mid) → IsReady new
+ready_answered old mid new x a ready left mail rest due kept dropped =
+    let right = All-contains (λ (j : Ticketed Request). (open_in (mail_in old) j.ticket ≡ Some j.work) ⊎ (open_in (mail_in old) j.ticket ≡ None)) (left_in old) x ready.right
+    (subst (λ l. Contains l x) (sym left) (Contains-push (left_in mid) x)) in
+    let right' : (open_in (mail_in mid) x.ticket ≡ Some x.work) ⊎ (open_in (mail_in mid) x.ticket ≡ None) =
+    subst (λ m. (open_in m x.ticket ≡ Some x.work) ⊎ (open_in m x.ticket ≡ None)) (sym mail) right in
+    let closes = answer_closes (λ (q : Request). q) request_result (mail_in mid) (mail_in new) x a mid.running right' due kept dropped in
+    ready_next old new x ready (left ∙ ap (λ l. l ++ x ∷ []) (sym rest)) (subst (λ m. Closes m (mail_in new) x.ticket) mail closes)
 
-  -- an answer leaves the lane
-  pub answered_lane : (mid new : Settled Request Outcome g) (o : Outcome) (x : Ticketed Request) (a : Answered) → put_in new ≡ put_in mid
-      → (a ≡ answered.Kept → mail_in new ≡ with_kept o x.ticket (mail_in mid)) → (a ≢ answered.Kept → mail_in new ≡ mail_in mid) → lane_in new ≡ lane_in mid
-  answered_lane mid new o x answered.Kept put kept dropped = let m = kept refl in λ i. record { put = map work_of (put i); handed = (m i).handed; closed = (m i).closed }
-  answered_lane mid new o x answered.Strange put kept dropped = let m = dropped (λ e. cc) in λ i. record { put = map work_of (put i); handed = (m i).handed; closed = (m i).closed }
-  answered_lane mid new o x answered.Repeated put kept dropped = let m = dropped (λ e. cc) in λ i. record { put = map work_of (put i); handed = (m i).handed; closed = (m i).closed }
+-- an answer leaves the lane
+pub answered_lane : (mid new : SettledEnd Request Outcome) (o : Outcome) (x : Ticketed Request) (a : Answered) → put_in new ≡ put_in mid
+    → (a ≡ answered.Kept → mail_in new ≡ with_kept o x.ticket (mail_in mid)) → (a ≢ answered.Kept → mail_in new ≡ mail_in mid) → lane_in new ≡ lane_in mid
+answered_lane mid new o x answered.Kept put kept dropped = let m = kept refl in λ i. record { put = map work_of (put i); handed = (m i).handed; closed = (m i).closed }
+answered_lane mid new o x answered.Strange put kept dropped = let m = dropped (λ e. cc) in λ i. record { put = map work_of (put i); handed = (m i).handed; closed = (m i).closed }
+answered_lane mid new o x answered.Repeated put kept dropped = let m = dropped (λ e. cc) in λ i. record { put = map work_of (put i); handed = (m i).handed; closed = (m i).closed }
 
-  pub same_lane : (old new : Settled Request Outcome g) → put_in new ≡ put_in old → mail_in new ≡ mail_in old → lane_in new ≡ lane_in old
-  same_lane old new put m = λ i. record { put = map work_of (put i); handed = (m i).handed; closed = (m i).closed }
+pub same_lane : (old new : SettledEnd Request Outcome) → put_in new ≡ put_in old → mail_in new ≡ mail_in old → lane_in new ≡ lane_in old
+same_lane old new put m = λ i. record { put = map work_of (put i); handed = (m i).handed; closed = (m i).closed }
 
-  -- the next request, where its outcome is kept
-  pub next_put : (end : Settled Request Outcome g) (o : Outcome) → next_in (mail_in end) ≡ Some o → (x : Ticketed Request) × (slice_get (put_in end) (mail_in end).handed ≡ Some x)
-  next_put end o next = got (put_in end) (mail_in end).handed (let some = has_next (mail_in end).outstanding next in omega (arith, some, end.count))
-    where
-      has_next : (places : List (Place Request Outcome)) → mail.kept_of_place (slice_get places 0) ≡ Some o → 0 < length places
-      has_next [] e = absurd (none_is_not o e)
-      has_next (p ∷ ps) e = omega arith
+-- the next request, where its outcome is kept
+pub next_put : (end : SettledEnd Request Outcome) (o : Outcome) → next_in (mail_in end) ≡ Some o → (x : Ticketed Request) × (slice_get (put_in end) (mail_in end).handed ≡ Some x)
+next_put end o next = got (put_in end) (mail_in end).handed (let some = has_next (mail_in end).outstanding next in omega (arith, some, end.count))
+  where
+    has_next : (places : List (Place Request Outcome)) → mail.kept_of_place (slice_get places 0) ≡ Some o → 0 < length places
+    has_next [] e = absurd (none_is_not o e)
+    has_next (p ∷ ps) e = omega arith
 
 pub map_at : {A B : Type 0} (f : A → B) (xs : List A) (i : ℕ) (x : A) → slice_get xs i ≡ Some x → slice_get (map f xs) i ≡ Some (f x)
 map_at f [] i x e = absurd (none_is_not x e)
@@ -203,7 +200,7 @@ map_get f (x ∷ xs) (suc i) y e = map_get f xs i y e
 pub own_none : (name : List ℕ) (lane : Lane) → AreOwn name lane lane []
 own_none name lane = record { put = refl; closed = refl; own = refl; others = λ who far. refl }
 
-pub own_then : (name : List ℕ) (a b c : Lane) (m k : List Entry) → AreOwn name a b m → AreOwn name b c k → AreOwn name a c (m ++ k)
+pub own_then : (name : List ℕ) (a b c : Lane) (m k : List Report) → AreOwn name a b m → AreOwn name b c k → AreOwn name a c (m ++ k)
 own_then name a b c m k x y = record {
   put = y.put ∙ x.put;
   closed = y.closed ∙ x.closed;
@@ -212,15 +209,15 @@ own_then name a b c m k x y = record {
   others = λ who far. of_client-append who m k ∙ ap (λ t. t ++ of_client who k) (x.others who far) ∙ y.others who far;
 }
 
-pub own_next : (name : List ℕ) (lane : Lane) (q : Request) → slice_get lane.put lane.handed ≡ Some q → AreOwn name lane (with_handed lane) (of_name name (reply name (request_result q) lane.handed) ∷ [])
+pub own_next : (name : List ℕ) (lane : Lane) (q : Request) → slice_get lane.put lane.handed ≡ Some q → AreOwn name lane (with_handed lane) (Reply name lane.handed (request_result q) ∷ [])
 own_next name lane q at = record {
   put = refl;
   closed = refl;
-  own = ap (λ t. t ++ due name (with_handed lane)) (of_same (Some name) (of_name name (reply name (request_result q) lane.handed)) (name_itself name)) ∙ sym (due-next name lane q at);
-  others = λ who far. of_other who (of_name name (reply name (request_result q) lane.handed)) far;
+  own = ap (λ t. t ++ due name (with_handed lane)) (of_same (Some name) (Reply name lane.handed (request_result q)) (name_itself name)) ∙ sym (due-next name lane q at);
+  others = λ who far. of_other who (Reply name lane.handed (request_result q)) far;
 }
 
-pub own_begun : (name : List ℕ) (old new : Lane) (m : List Entry) → AreOwn name old new m → AreFirstOwn name old m
+pub own_begun : (name : List ℕ) (old new : Lane) (m : List Report) → AreOwn name old new m → AreFirstOwn name old m
 own_begun name old new m x = record { rest = due name new; own = x.own; others = x.others }
 
 drop_none : {A : Type 0} (n : ℕ) (xs : List A) → drop n xs ≡ [] → length xs ≤ n
@@ -233,59 +230,58 @@ all_kept : (old new : Mail Request Outcome) (answers : List (Ticketed Request)) 
 all_kept old new [] kept = (ap (λ (m : Mail Request Outcome). m.handed) kept, ap (λ (m : Mail Request Outcome). m.closed) kept)
 all_kept old new (x ∷ answers) kept = all_kept (with_kept (request_result x.work) x.ticket old) new answers kept.1
 
-module _ {g : Ghosts Request Outcome} where
-  -- a result that is handed out is the next reply that was owed
-  pub own_released : (name : List ℕ) (old new : Settled Request Outcome g) (ticket : ℕ) (outcome : Outcome)
-      → (next_in (mail_in old) ≡ Some outcome) × (ticket ≡ (mail_in old).handed) × (mail_in new ≡ mail.with_handed (mail_in old))
-      → ((x : Ticketed Request) → slice_get (put_in old) ticket ≡ Some x → outcome ≡ request_result x.work) → put_in new ≡ put_in old
-      → AreOwn name (lane_in old) (lane_in new) (of_name name (reply name outcome ticket) ∷ [])
-  own_released name old new ticket outcome handed right put =
-      let x = next_put old outcome handed.0 in
-      let at : slice_get (put_in old) ticket ≡ Some x.0 = ap (slice_get (put_in old)) handed.1 ∙ x.1 in
-      let lane : lane_in new ≡ with_handed (lane_in old) = λ i. record { put = map work_of (put i); handed = (handed.2 i).handed; closed = (handed.2 i).closed } in
-      let next = own_next name (lane_in old) x.0.work (map_at work_of (put_in old) (mail_in old).handed x.0 x.1) in
-      let said : of_name name (reply name (request_result x.0.work) (mail_in old).handed) ≡ of_name name (reply name outcome ticket) = λ i. of_name name (reply name (sym (right x.0 at) i) (sym handed.1 i)) in
-      subst (λ l. AreOwn name (lane_in old) l (of_name name (reply name outcome ticket) ∷ [])) (sym lane)
-      (subst (λ e. AreOwn name (lane_in old) (with_handed (lane_in old)) (e ∷ [])) said next)
+-- a result that is handed out is the next reply that was owed
+pub own_released : (name : List ℕ) (old new : SettledEnd Request Outcome) (ticket : ℕ) (outcome : Outcome)
+    → (next_in (mail_in old) ≡ Some outcome) × (ticket ≡ (mail_in old).handed) × (mail_in new ≡ mail.with_handed (mail_in old))
+    → ((x : Ticketed Request) → slice_get (put_in old) ticket ≡ Some x → outcome ≡ request_result x.work) → put_in new ≡ put_in old
+    → AreOwn name (lane_in old) (lane_in new) (Reply name ticket outcome ∷ [])
+own_released name old new ticket outcome handed right put =
+    let x = next_put old outcome handed.0 in
+    let at : slice_get (put_in old) ticket ≡ Some x.0 = ap (slice_get (put_in old)) handed.1 ∙ x.1 in
+    let lane : lane_in new ≡ with_handed (lane_in old) = λ i. record { put = map work_of (put i); handed = (handed.2 i).handed; closed = (handed.2 i).closed } in
+    let next = own_next name (lane_in old) x.0.work (map_at work_of (put_in old) (mail_in old).handed x.0 x.1) in
+    let said : Reply name (mail_in old).handed (request_result x.0.work) ≡ Reply name ticket outcome = λ i. Reply name (sym handed.1 i) (sym (right x.0 at) i) in
+    subst (λ l. AreOwn name (lane_in old) l (Reply name ticket outcome ∷ [])) (sym lane)
+    (subst (λ e. AreOwn name (lane_in old) (with_handed (lane_in old)) (e ∷ [])) said next)
 
-  -- all ends, as they come out of their lanes
+-- all ends, as they come out of their lanes
 
-  settled_lane : (client : Client Request Outcome g) (ports : List (Port Request Outcome g)) (end : Settled Request Outcome g) → Settles (λ (q : Request). q) request_result client ports end → lane_in end ≡ lane_of client
-  settled_lane client ports end s =
-      let same = all_kept (mail_of client) (mail_in end) s.answers s.kept in
-      λ i. record { put = map work_of (s.put i); handed = same.0 i; closed = same.1 i }
+settled_lane : (client : ClientEnd Request Outcome) (ports : List (LaneEnd Request Outcome)) (end : SettledEnd Request Outcome) → Settles (λ (q : Request). q) request_result client ports end → lane_in end ≡ lane_of client
+settled_lane client ports end s =
+    let same = all_kept (mail_of client) (mail_in end) s.answers s.kept in
+    λ i. record { put = map work_of (s.put i); handed = same.0 i; closed = same.1 i }
 
-  pub settled_lanes : (c : ℕ) (ports : List (List (Port Request Outcome g))) (clients : List (Client Request Outcome g)) (ends : List (Settled Request Outcome g))
-      → AllSettle (λ (q : Request). q) request_result c ports clients ends → ends_lanes ends ≡ map (λ client. lane_of client) clients
-  settled_lanes c ports [] [] s = refl
-  settled_lanes c ports [] (end ∷ ends) s = absurd s
-  settled_lanes c ports (client ∷ clients) [] s = absurd s
-  settled_lanes c ports (client ∷ clients) (end ∷ ends) s = λ i. settled_lane client _ end s.0 i ∷ settled_lanes (suc c) ports clients ends s.1 i
+pub settled_lanes : (c : ℕ) (ports : List (List (LaneEnd Request Outcome))) (clients : List (ClientEnd Request Outcome)) (ends : List (SettledEnd Request Outcome))
+    → AllSettle (λ (q : Request). q) request_result c ports clients ends → ends_lanes ends ≡ map (λ client. lane_of client) clients
+settled_lanes c ports [] [] s = refl
+settled_lanes c ports [] (end ∷ ends) s = absurd s
+settled_lanes c ports (client ∷ clients) [] s = absurd s
+settled_lanes c ports (client ∷ clients) (end ∷ ends) s = λ i. settled_lane client _ end s.0 i ∷ settled_lanes (suc c) ports clients ends s.1 i
 
-  pub settled_ready : (c : ℕ) (ports : List (List (Port Request Outcome g))) (clients : List (Client Request Outcome g)) (ends : List (Settled Request Outcome g))
-      → AllSettle (λ (q : Request). q) request_result c ports clients ends → All IsReady ends
-  settled_ready c ports [] [] s = All-nil IsReady
-  settled_ready c ports [] (end ∷ ends) s = absurd s
-  settled_ready c ports (client ∷ clients) [] s = absurd s
-  settled_ready c ports (client ∷ clients) (end ∷ ends) s =
-      All-cons IsReady end ends (record { all = s.0.all_left; right = λ k d lt. inl (s.0.unanswered k d lt) }) (settled_ready (suc c) ports clients ends s.1)
+pub settled_ready : (c : ℕ) (ports : List (List (LaneEnd Request Outcome))) (clients : List (ClientEnd Request Outcome)) (ends : List (SettledEnd Request Outcome))
+    → AllSettle (λ (q : Request). q) request_result c ports clients ends → All IsReady ends
+settled_ready c ports [] [] s = All-nil IsReady
+settled_ready c ports [] (end ∷ ends) s = absurd s
+settled_ready c ports (client ∷ clients) [] s = absurd s
+settled_ready c ports (client ∷ clients) (end ∷ ends) s =
+    All-cons IsReady end ends (record { all = s.0.all_left; right = λ k d lt. inl (s.0.unanswered k d lt) }) (settled_ready (suc c) ports clients ends s.1)
 
-  pub settled_count : (c : ℕ) (ports : List (List (Port Request Outcome g))) (clients : List (Client Request Outcome g)) (ends : List (Settled Request Outcome g))
-      → AllSettle (λ (q : Request). q) request_result c ports clients ends → length ends ≡ length clients
-  settled_count c ports [] [] s = refl
-  settled_count c ports [] (end ∷ ends) s = absurd s
-  settled_count c ports (client ∷ clients) [] s = absurd s
-  settled_count c ports (client ∷ clients) (end ∷ ends) s = ap suc (settled_count (suc c) ports clients ends s.1)
+pub settled_count : (c : ℕ) (ports : List (List (LaneEnd Request Outcome))) (clients : List (ClientEnd Request Outcome)) (ends : List (SettledEnd Request Outcome))
+    → AllSettle (λ (q : Request). q) request_result c ports clients ends → length ends ≡ length clients
+settled_count c ports [] [] s = refl
+settled_count c ports [] (end ∷ ends) s = absurd s
+settled_count c ports (client ∷ clients) [] s = absurd s
+settled_count c ports (client ∷ clients) (end ∷ ends) s = ap suc (settled_count (suc c) ports clients ends s.1)
 
-  -- an end whose lane owes nothing is whole
-  pub owes_none : (end : Settled Request Outcome g) → drop (lane_in end).handed (lane_in end).put ≡ [] → IsWhole end
-  owes_none end e = let few = drop_none (lane_in end).handed (lane_in end).put e in omega (arith, few, end.count, length-map (put_in end) work_of)
+-- an end whose lane owes nothing is whole
+pub owes_none : (end : SettledEnd Request Outcome) → drop (lane_in end).handed (lane_in end).put ≡ [] → IsWhole end
+owes_none end e = let few = drop_none (lane_in end).handed (lane_in end).put e in omega (arith, few, end.count, length-map (put_in end) work_of)
 
-  pub whole_owes : (end : Settled Request Outcome g) → IsWhole end → drop (lane_in end).handed (lane_in end).put ≡ []
-  whole_owes end w = drop_all (lane_in end).handed (lane_in end).put (omega (arith, w, end.count, length-map (put_in end) work_of))
+pub whole_owes : (end : SettledEnd Request Outcome) → IsWhole end → drop (lane_in end).handed (lane_in end).put ≡ []
+whole_owes end w = drop_all (lane_in end).handed (lane_in end).put (omega (arith, w, end.count, length-map (put_in end) work_of))
 
 -- the lanes without a name have no request
-pub booked_rest : (names : List (List ℕ)) (lanes : List Lane) (readings : List (Reading Asked)) → AreBooked names lanes readings
+pub booked_rest : (names : List (List ℕ)) (lanes : List Lane) (readings : List (Reading Line)) → AreBooked names lanes readings
     → (place : ℕ) (lane : Lane) → length names ≤ place → slice_get lanes place ≡ Some lane → lane.put ≡ []
 booked_rest [] [] readings b place lane le at = absurd (none_is_not lane at)
 booked_rest [] (x ∷ lanes) readings b zero lane le at = ap (λ (l : Lane). l.put) (sym (some_is x lane at)) ∙ b.0
@@ -334,44 +330,43 @@ drop_nil : {A : Type 0} (n : ℕ) → ◌≡◌ {A = List A} (drop n []) []
 drop_nil zero = refl
 drop_nil (suc n) = refl
 
-module _ {g : Ghosts Request Outcome} where
-  -- what one end hands out is handed out of all
-  pub end_handed : (names : List (List ℕ)) (ends : List (Settled Request Outcome g)) (place : ℕ) (name : List ℕ) (end new : Settled Request Outcome g) (more : List Entry) → AreDistinct names
-      → slice_get names place ≡ Some name → slice_get ends place ≡ Some end → AreOwn name (lane_in end) (lane_in new) more → AreHanded names (ends_lanes ends) (ends_lanes (slice_set ends place new)) more
-  end_handed names ends place name end new more distinct at here own =
-      subst (λ ls. AreHanded names (ends_lanes ends) ls more) (sym (map-set (λ (e : Settled Request Outcome g). lane_in e) ends place new))
-      (own_handed names (ends_lanes ends) place name (lane_in end) (lane_in new) more distinct at (map_at (λ (e : Settled Request Outcome g). lane_in e) ends place end here) own)
+-- what one end hands out is handed out of all
+pub end_handed : (names : List (List ℕ)) (ends : List (SettledEnd Request Outcome)) (place : ℕ) (name : List ℕ) (end new : SettledEnd Request Outcome) (more : List Report) → AreDistinct names
+    → slice_get names place ≡ Some name → slice_get ends place ≡ Some end → AreOwn name (lane_in end) (lane_in new) more → AreHanded names (ends_lanes ends) (ends_lanes (slice_set ends place new)) more
+end_handed names ends place name end new more distinct at here own =
+    subst (λ ls. AreHanded names (ends_lanes ends) ls more) (sym (map-set (λ (e : SettledEnd Request Outcome). lane_in e) ends place new))
+    (own_handed names (ends_lanes ends) place name (lane_in end) (lane_in new) more distinct at (map_at (λ (e : SettledEnd Request Outcome). lane_in e) ends place end here) own)
 
-  pub end_first : (names : List (List ℕ)) (ends : List (Settled Request Outcome g)) (place : ℕ) (name : List ℕ) (end : Settled Request Outcome g) (more : List Entry) → AreDistinct names
-      → slice_get names place ≡ Some name → slice_get ends place ≡ Some end → AreFirstOwn name (lane_in end) more → AreFirst names (ends_lanes ends) more
-  end_first names ends place name end more distinct at here own =
-      own_first names (ends_lanes ends) place name (lane_in end) more distinct at (map_at (λ (e : Settled Request Outcome g). lane_in e) ends place end here) own
+pub end_first : (names : List (List ℕ)) (ends : List (SettledEnd Request Outcome)) (place : ℕ) (name : List ℕ) (end : SettledEnd Request Outcome) (more : List Report) → AreDistinct names
+    → slice_get names place ≡ Some name → slice_get ends place ≡ Some end → AreFirstOwn name (lane_in end) more → AreFirst names (ends_lanes ends) more
+end_first names ends place name end more distinct at here own =
+    own_first names (ends_lanes ends) place name (lane_in end) more distinct at (map_at (λ (e : SettledEnd Request Outcome). lane_in e) ends place end here) own
 
-  -- one end more owes nothing
-  pub whole_after : (ends : List (Settled Request Outcome g)) (place : ℕ) (end new : Settled Request Outcome g) → slice_get ends place ≡ Some end
-      → ((k : ℕ) (lane : Lane) → k < place → slice_get (ends_lanes ends) k ≡ Some lane → drop lane.handed lane.put ≡ []) → IsWhole new
-      → (k : ℕ) (lane : Lane) → k < place + 1 → slice_get (ends_lanes (slice_set ends place new)) k ≡ Some lane → drop lane.handed lane.put ≡ []
-  whole_after ends place end new here before whole k lane lt at =
-      let found = map_get (λ (e : Settled Request Outcome g). lane_in e) (slice_set ends place new) k lane at in
-      dite (ℕ_discrete k place)
-      (λ (same : k ≡ place).
-      let it : found.0 ≡ new = some_is found.0 new (sym found.1 ∙ ap (slice_get (slice_set ends place new)) same ∙ set_at ends place end new here) in
-      subst (λ (l : Lane). drop l.handed l.put ≡ []) (ap (λ (e : Settled Request Outcome g). lane_in e) (sym it) ∙ found.2) (whole_owes new whole))
-      (λ ne. before k lane (omega (arith, lt, ne)) (map_at (λ (e : Settled Request Outcome g). lane_in e) ends k found.0 (sym (set_other ends place k new ne) ∙ found.1) ∙ ap Some found.2))
+-- one end more owes nothing
+pub whole_after : (ends : List (SettledEnd Request Outcome)) (place : ℕ) (end new : SettledEnd Request Outcome) → slice_get ends place ≡ Some end
+    → ((k : ℕ) (lane : Lane) → k < place → slice_get (ends_lanes ends) k ≡ Some lane → drop lane.handed lane.put ≡ []) → IsWhole new
+    → (k : ℕ) (lane : Lane) → k < place + 1 → slice_get (ends_lanes (slice_set ends place new)) k ≡ Some lane → drop lane.handed lane.put ≡ []
+whole_after ends place end new here before whole k lane lt at =
+    let found = map_get (λ (e : SettledEnd Request Outcome). lane_in e) (slice_set ends place new) k lane at in
+    dite (ℕ_discrete k place)
+    (λ (same : k ≡ place).
+    let it : found.0 ≡ new = some_is found.0 new (sym found.1 ∙ ap (slice_get (slice_set ends place new)) same ∙ set_at ends place end new here) in
+    subst (λ (l : Lane). drop l.handed l.put ≡ []) (ap (λ (e : SettledEnd Request Outcome). lane_in e) (sym it) ∙ found.2) (whole_owes new whole))
+    (λ ne. before k lane (omega (arith, lt, ne)) (map_at (λ (e : SettledEnd Request Outcome). lane_in e) ends k found.0 (sym (set_other ends place k new ne) ∙ found.1) ∙ ap Some found.2))
 
-  -- the ends of the lanes with names owe nothing, and the others never did
-  pub all_whole : (n : ℕ) (old new : List (Settled Request Outcome g)) (lanes : List Lane) → ends_lanes old ≡ lanes
-      → ((k : ℕ) (lane : Lane) → k < n → slice_get (ends_lanes new) k ≡ Some lane → drop lane.handed lane.put ≡ []) → drop n new ≡ drop n old
-      → ((k : ℕ) (lane : Lane) → n ≤ k → slice_get lanes k ≡ Some lane → lane.put ≡ []) → All IsWhole new
-  all_whole n old new lanes same named rest others k d lt =
-      let end : Settled Request Outcome g = get_or new k d in
-      let at : slice_get new k ≡ Some end = lent new k d lt in
-      owes_none end (⊎_elim
-      (λ (below : k < n). named k (lane_in end) below (map_at (λ (e : Settled Request Outcome g). lane_in e) new k end at))
-      (λ (above : n ≤ k).
-      let there : k ≡ n + (k - n) = omega (arith, above) in
-      let was : slice_get old k ≡ Some end = sym (get_drop n (k - n) k old there) ∙ ap (λ l. slice_get l (k - n)) (sym rest) ∙ get_drop n (k - n) k new there ∙ at in
-      let none : (lane_in end).put ≡ [] =
-      others k (lane_in end) above (ap (λ l. slice_get l k) (sym same) ∙ map_at (λ (e : Settled Request Outcome g). lane_in e) old k end was) in
-      ap (drop (lane_in end).handed) none ∙ drop_nil (lane_in end).handed)
-      (order k n))
+-- the ends of the lanes with names owe nothing, and the others never did
+pub all_whole : (n : ℕ) (old new : List (SettledEnd Request Outcome)) (lanes : List Lane) → ends_lanes old ≡ lanes
+    → ((k : ℕ) (lane : Lane) → k < n → slice_get (ends_lanes new) k ≡ Some lane → drop lane.handed lane.put ≡ []) → drop n new ≡ drop n old
+    → ((k : ℕ) (lane : Lane) → n ≤ k → slice_get lanes k ≡ Some lane → lane.put ≡ []) → All IsWhole new
+all_whole n old new lanes same named rest others k d lt =
+    let end : SettledEnd Request Outcome = get_or new k d in
+    let at : slice_get new k ≡ Some end = lent new k d lt in
+    owes_none end (⊎_elim
+    (λ (below : k < n). named k (lane_in end) below (map_at (λ (e : SettledEnd Request Outcome). lane_in e) new k end at))
+    (λ (above : n ≤ k).
+    let there : k ≡ n + (k - n) = omega (arith, above) in
+    let was : slice_get old k ≡ Some end = sym (get_drop n (k - n) k old there) ∙ ap (λ l. slice_get l (k - n)) (sym rest) ∙ get_drop n (k - n) k new there ∙ at in
+    let none : (lane_in end).put ≡ [] =
+    others k (lane_in end) above (ap (λ l. slice_get l k) (sym same) ∙ map_at (λ (e : SettledEnd Request Outcome). lane_in e) old k end was) in
+    ap (drop (lane_in end).handed) none ∙ drop_nil (lane_in end).handed)
+    (order k n))

@@ -1,24 +1,27 @@
 -- How `serve` ends, by how the lines and the rest were answered.
-use Rattle.std.proofs.Common.{◌≡◌, ℕ, List, ◌++◌, length, Option, Result, Ok, Err, ap, sym, ◌∙◌, subst, inl, inr, Vec, Global}
+use Rattle.std.proofs.Common.{◌≡◌, ◌≢◌, ◌+◌, ◌<◌, ◌≤◌, ℕ, List, ◌++◌, length, Option, Result, Ok, Err, OnOk, IfOk, IfErr, ap, sym, ◌∙◌, subst, inl, inr, Vec, Global}
 use Rattle.std.proofs.lemmas.List.{length-map}
+use Rattle.lanes.specs.Ends.{ClientEnd, SettledEnd}
 use Rattle.lanes.specs.Clients.{client_links}
-use Rattle.lanes.specs.declared.client.Client.{Client}
-use Rattle.box_core.specs.declared.work.Work.{Ghosts}
 use Rattle.dmn_plan.specs.Request.{Request}
 use Rattle.feel_value.specs.declared.feel.Outcome.{Outcome}
-use Rattle.lanes.specs.declared.settled.Settled.{Settled}
 use Rattle.desk_serving.specs.Ending.{ServedBy, ends_lanes}
-use Rattle.desk_serving.specs.Front.{FinishesBy, GoesOn, IsHandedOut}
+use Rattle.desk_serving.specs.Running.{FinishesBy, GoesOn, IsHandedOut}
 use Rattle.desk_serving.specs.LanesView.{lanes_in, links_in, names_in}
-use Rattle.desk_serving.specs.Owed.{AreFirst, AreHanded, lane_of}
-use Rattle.desk_serving.specs.Served.{Served, ServedInPart, texts_of}
-use Rattle.desk_serving.specs.Serving.{After}
+use Rattle.desk_serving.specs.Owed.{AreFirst, AreHanded, Lane, lane_of}
+use Rattle.desk_serving.specs.Script.{Served, ServedInPart, texts_of}
+use Rattle.desk_serving.specs.StateView.{After}
+use Rattle.desk_lines.specs.Device.{Reader, Writer}
+use Rattle.desk_lines.specs.Lines.{max_input}
+use Rattle.desk_lines.specs.Ran.{Ran}
 use Rattle.desk_lines.specs.Talk.{EndsAs, Ends, Replays}
 use Rattle.desk_lines.specs.declared.fault.FrontFault.{FrontFault}
 use Rattle.desk_lines.specs.declared.fault.FrontFault.TheVariants.{Read, Write, Long, Memory}
 use Rattle.desk_serving.specs.declared.named_lanes.Lanes.{Lanes}
-use Rattle.desk_serving.specs.declared.serving.Serving.{Serving}
+use Rattle.desk_serving.specs.declared.state.State.{State}
 use Rattle.desk_serving.proofs.Fronting.{in_part_more, served_by, served_more}
+use Rattle.desk_lines.proofs.Talking.{replays_weaker}
+use Rattle.desk_serving.proofs.Running.{ends_of, err_is, failed, goes_without}
 use Rattle.desk_serving.proofs.Saying.{ends_cut_off, ends_more, ends_stop, replays_more}
 
 -- where not all lines heard were answered, nothing is said of those that were
@@ -35,39 +38,94 @@ lanes_kept old new same =
     length-map new.clients.items (λ client. lane_of client) ∙ sym (length-map new.clients.items (λ client. client_links client)) ∙ ap length same
     ∙ length-map old.clients.items (λ client. client_links client) ∙ sym (length-map old.clients.items (λ client. lane_of client))
 
-pub lanes_begun : (lanes : Lanes) (ends : Vec (Client Request Outcome _) Global) (clients : ℕ) → lanes.clients ≡ ends → length ends.items ≡ clients → length (lanes_in lanes) ≡ clients
+pub lanes_begun : (lanes : Lanes) (ends : Vec (ClientEnd Request Outcome) Global) (clients : ℕ) → lanes.clients ≡ ends → length ends.items ≡ clients → length (lanes_in lanes) ≡ clients
 lanes_begun lanes ends clients is count = length-map lanes.clients.items (λ client. lane_of client) ∙ ap (λ v. length v.items) is ∙ count
 
-module _ {R : Type 0} (old : Lanes) (serving : Serving R) (clients : ℕ) (begun : length (lanes_in old) ≡ clients) (kept : links_in serving.lanes ≡ links_in old)
-    (left left' a b c : Option (List ℕ)) (ended : Result (Unit {0}) FrontFault) (came : Ends (After serving) (ServedInPart (length (lanes_in old))) left left' a b ended) where
-  few : length (lanes_in serving.lanes) ≡ clients
-  few = lanes_kept old serving.lanes kept ∙ begun
+-- where neither the writer failed nor memory was refused at the end, it was so before
+ended_before : (names : List (List ℕ)) (lanes : List Lane) (wrote wrote' : Option (List ℕ)) (ended : Result (Unit {0}) FrontFault) (fault : FrontFault) → FinishesBy names lanes wrote wrote' ended fault
+    → fault ≢ Write → fault ≢ Memory → ended ≡ Err fault
+ended_before names lanes wrote wrote' ended fault (inl h) write memory = absurd (write h.1)
+ended_before names lanes wrote wrote' ended fault (inr (inl h)) write memory = absurd (memory h.1)
+ended_before names lanes wrote wrote' ended fault (inr (inr h)) write memory = h.0
 
-  answers : Ends (After serving) (ServedInPart clients) left left' a b ended
-  answers = subst (λ k. Ends (After serving) (ServedInPart k) left left' a b ended) begun came
+module _ {R : Type 0} (old : Lanes) (state : State R) (clients : ℕ) (begun : length (lanes_in old) ≡ clients) (kept : links_in state.lanes ≡ links_in old)
+    (reader reader' : Reader) (writer mid writer' : Writer) (ended : Result (Unit {0}) FrontFault)
+    (ran : Ran (After state) (ServedInPart (length (lanes_in old))) reader reader' writer mid ended) where
+  few : length (lanes_in state.lanes) ≡ clients
+  few = lanes_kept old state.lanes kept ∙ begun
 
-  pub ends_whole : {g : Ghosts Request Outcome} (ends : List (Settled Request Outcome g)) → ended ≡ Ok tt → IsHandedOut (names_in serving.lanes) (lanes_in serving.lanes) b c ends
-      → Replays (ServedBy clients ends) left left' a c
+  answers : Ends (After state) (ServedInPart clients) reader.remaining reader'.remaining writer.contents mid.contents ended
+  answers =
+      subst (λ k. Ends (After state) (ServedInPart k) reader.remaining reader'.remaining writer.contents mid.contents ended) begun
+      (ends_of (After state) (ServedInPart (length (lanes_in old))) reader.remaining reader'.remaining writer.contents mid.contents ended ran.ok ran.fault)
+
+  pub ends_whole : (ends : List (SettledEnd Request Outcome)) → ended ≡ Ok tt → IsHandedOut (names_in state.lanes) (lanes_in state.lanes) mid.contents writer'.contents ends
+      → Replays (ServedBy clients ends) reader.remaining reader'.remaining writer.contents writer'.contents
   ends_whole ends is out =
-      let all : Replays (After serving) left left' a b = subst (λ r. Ends (After serving) (ServedInPart clients) left left' a b r) is answers in
-      subst (λ k. Replays (ServedBy k ends) left left' a c) few
-      (replays_more (After serving) (ServedInPart clients) left left' a b c (AreHanded (names_in serving.lanes) (lanes_in serving.lanes) (ends_lanes ends)) (ServedBy (length (lanes_in serving.lanes)) ends)
-      (λ lines said more s h. served_by serving ends lines said more s h out.whole) all out.told)
+      let all : Replays (After state) reader.remaining reader'.remaining writer.contents mid.contents =
+      subst (λ r. Ends (After state) (ServedInPart clients) reader.remaining reader'.remaining writer.contents mid.contents r) is answers in
+      subst (λ k. Replays (ServedBy k ends) reader.remaining reader'.remaining writer.contents writer'.contents) few
+      (replays_more (After state) (ServedInPart clients) reader.remaining reader'.remaining writer.contents mid.contents writer'.contents (AreHanded (names_in state.lanes) (lanes_in state.lanes) (ends_lanes ends))
+      (ServedBy (length (lanes_in state.lanes)) ends) (λ lines said more s h. served_by state ends lines said more s h out.whole) all out.told)
 
-  pub ends_by : (fault : FrontFault) → FinishesBy (names_in serving.lanes) (lanes_in serving.lanes) b c ended fault → EndsAs (Served clients) (ServedInPart clients) left left' a c fault
+  ends_by : (fault : FrontFault) → FinishesBy (names_in state.lanes) (lanes_in state.lanes) mid.contents writer'.contents ended fault
+      → EndsAs (Served clients) (ServedInPart clients) reader.remaining reader'.remaining writer.contents writer'.contents fault
   ends_by fault (inl h) =
-      subst (λ f. EndsAs (Served clients) (ServedInPart clients) left left' a c f) (sym h.1)
-      (ends_cut_off (After serving) (ServedInPart clients) left left' a b c (AreFirst (names_in serving.lanes) (lanes_in serving.lanes))
-      (λ lines said more s f. subst (λ k. ServedInPart k lines (said ++ texts_of more)) few (in_part_more serving lines said more s f)) ended h.0 answers h.2)
+      subst (λ f. EndsAs (Served clients) (ServedInPart clients) reader.remaining reader'.remaining writer.contents writer'.contents f) (sym h.1)
+      (ends_cut_off (After state) (ServedInPart clients) reader.remaining reader'.remaining writer.contents mid.contents writer'.contents (AreFirst (names_in state.lanes) (lanes_in state.lanes))
+      (λ lines said more s f. subst (λ k. ServedInPart k lines (said ++ texts_of more)) few (in_part_more state lines said more s f)) ended h.0 answers h.2)
   ends_by fault (inr (inl h)) =
-      subst (λ f. EndsAs (Served clients) (ServedInPart clients) left left' a c f) (sym h.1)
-      (ends_stop (After serving) (ServedInPart clients) left left' a b c (AreFirst (names_in serving.lanes) (lanes_in serving.lanes))
-      (λ lines said more s f. subst (λ k. ServedInPart k lines (said ++ texts_of more)) few (in_part_more serving lines said more s f)) ended h.0 answers h.2)
+      subst (λ f. EndsAs (Served clients) (ServedInPart clients) reader.remaining reader'.remaining writer.contents writer'.contents f) (sym h.1)
+      (ends_stop (After state) (ServedInPart clients) reader.remaining reader'.remaining writer.contents mid.contents writer'.contents (AreFirst (names_in state.lanes) (lanes_in state.lanes))
+      (λ lines said more s f. subst (λ k. ServedInPart k lines (said ++ texts_of more)) few (in_part_more state lines said more s f)) ended h.0 answers h.2)
   ends_by fault (inr (inr (is, inl h))) =
-      subst (λ r. Ends (Served clients) (ServedInPart clients) left left' a c r) is
-      (ends_more (After serving) (ServedInPart clients) left left' a b c (AreHanded (names_in serving.lanes) (lanes_in serving.lanes) h.1.0) (Served clients)
-      (λ lines said more s t. subst (λ k. Served k lines (said ++ texts_of more)) few (served_more serving h.1.0 h.1.2 lines said more s t)) ended h.0 answers h.1.1)
+      subst (λ r. Ends (Served clients) (ServedInPart clients) reader.remaining reader'.remaining writer.contents writer'.contents r) is
+      (ends_more (After state) (ServedInPart clients) reader.remaining reader'.remaining writer.contents mid.contents writer'.contents (AreHanded (names_in state.lanes) (lanes_in state.lanes) h.1.0) (Served clients)
+      (λ lines said more s t. subst (λ k. Served k lines (said ++ texts_of more)) few (served_more state h.1.0 h.1.2 lines said more s t)) ended h.0 answers h.1.1)
   ends_by fault (inr (inr (is, inr h))) =
-      subst (λ w. EndsAs (Served clients) (ServedInPart clients) left left' a w fault) (sym h.1)
-      (stopped (After serving) (Served clients) (ServedInPart clients) left left' a b fault (subst (λ r. ¬ GoesOn r) is h.0)
-      (subst (λ r. Ends (After serving) (ServedInPart clients) left left' a b r) is answers))
+      subst (λ w. EndsAs (Served clients) (ServedInPart clients) reader.remaining reader'.remaining writer.contents w fault) (sym h.1)
+      (stopped (After state) (Served clients) (ServedInPart clients) reader.remaining reader'.remaining writer.contents mid.contents fault (subst (λ r. ¬ GoesOn r) is h.0)
+      (subst (λ r. Ends (After state) (ServedInPart clients) reader.remaining reader'.remaining writer.contents mid.contents r) is answers))
+
+  -- no fault of the writer is made up
+  fails_by : (fault : FrontFault) → FinishesBy (names_in state.lanes) (lanes_in state.lanes) mid.contents writer'.contents ended fault → fault ≡ Write
+      → ((ended ≢ Err Write) → mid.faults ≡ writer.faults) → (GoesOn ended → mid.faults < writer'.faults) → (¬ GoesOn ended → writer' ≡ mid) → writer.faults < writer'.faults
+  fails_by fault (inl h) is quiet fails same = subst (λ k. k < writer'.faults) (quiet (goes_without ended h.0).0) (fails h.0)
+  fails_by fault (inr (inl h)) is quiet fails same = let both = sym h.1 ∙ is in let wrong : ⊥ = cc in absurd wrong
+  fails_by fault (inr (inr (was, inl h))) is quiet fails same = absurd ((goes_without ended h.0).0 (was ∙ ap (failed (Unit {0})) is))
+  fails_by fault (inr (inr (was, inr h))) is quiet fails same =
+      subst (λ (w : Writer). writer.faults < w.faults) (sym (same h.0)) (ran.write_only_at_fault (was ∙ ap (failed (Unit {0})) is))
+
+  -- what a whole run comes to
+  pub served_ran : {X : Type 0} (ends_in : X → List (SettledEnd Request Outcome)) (result : Result X FrontFault) → ((ended ≢ Err Write) → mid.faults ≡ writer.faults)
+      → IfOk result (λ ends. (ended ≡ Ok tt) × IsHandedOut (names_in state.lanes) (lanes_in state.lanes) mid.contents writer'.contents (ends_in ends))
+      → IfErr result (FinishesBy (names_in state.lanes) (lanes_in state.lanes) mid.contents writer'.contents ended)
+      → OnOk result (writer'.faults ≡ mid.faults) → (GoesOn ended → result ≡ Err Write → mid.faults < writer'.faults) → (¬ GoesOn ended → writer' ≡ mid)
+      → Ran (Served clients) (ServedInPart clients) reader reader' writer writer' result
+  served_ran ends_in (Ok ends) quiet ok err counts fails same =
+      let was : ended ≡ Ok tt = ok.0 in
+      let faults : (reader'.faults ≡ reader.faults) × (mid.faults ≡ writer.faults) = subst (λ r. OnOk r ((reader'.faults ≡ reader.faults) × (mid.faults ≡ writer.faults))) was ran.ok_without_fault in
+      record {
+        ok = replays_weaker reader.remaining reader'.remaining writer.contents writer'.contents (λ lines said s. s.served) (ends_whole (ends_in ends) was ok.1);
+        fault = tt;
+        read_only_at_fault = λ e. let wrong : ⊥ = cc in absurd wrong;
+        write_only_at_fault = λ e. let wrong : ⊥ = cc in absurd wrong;
+        ok_without_fault = (faults.0, counts ∙ faults.1);
+        long_only_past_limit = λ e. let wrong : ⊥ = cc in absurd wrong;
+        ok_within_limit = subst (λ r. OnOk r (reader'.came ≤ reader.came + max_input)) was ran.ok_within_limit;
+        read_within_limit = λ e. let wrong : ⊥ = cc in absurd wrong;
+      }
+  served_ran {X = X} ends_in (Err fault) quiet ok err counts fails same =
+      let before = ended_before (names_in state.lanes) (lanes_in state.lanes) mid.contents writer'.contents ended fault err in
+      let of_reader : (f : FrontFault) → f ≢ Write → f ≢ Memory → failed X fault ≡ failed X f → ended ≡ Err f =
+      λ f write memory e. let is = err_is fault f e in before (λ w. write (sym is ∙ w)) (λ m. memory (sym is ∙ m)) ∙ ap (failed (Unit {0})) is in
+      record {
+        ok = tt;
+        fault = ends_by fault err;
+        read_only_at_fault = λ e. ran.read_only_at_fault (of_reader Read (λ w. cc) (λ m. cc) e);
+        write_only_at_fault = λ e. fails_by fault err (err_is fault Write e) quiet (λ goes. fails goes e) same;
+        ok_without_fault = tt;
+        long_only_past_limit = λ e. ran.long_only_past_limit (of_reader Long (λ w. cc) (λ m. cc) e);
+        ok_within_limit = tt;
+        read_within_limit = λ e. ran.read_within_limit (of_reader Read (λ w. cc) (λ m. cc) e);
+      }

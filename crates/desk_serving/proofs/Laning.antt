@@ -2,26 +2,22 @@
 use Rattle.std.proofs.Common.{◌≡◌, ◌≢◌, ℕ, zero, suc, ◌+◌, ◌-◌, ◌<◌, ◌≤◌, ◌⊎◌, ⊎_elim, Bool, List, [], ◌∷◌, ◌++◌, Option, Some, None, IfSome, IfNone, length, map, drop, slice_get, refl, sym, ap, ◌∙◌, arith, append-nil}
 use Rattle.std.proofs.lemmas.List.{length-map}
 use Rattle.std.proofs.lemmas.List.Sorted.{IsPermutation-refl}
-use Rattle.serde_json.specs.Data.{Data}
-use Rattle.serde_json.specs.Written.{compact_text}
 use Rattle.box_core.specs.Answer.{Ticketed}
 use Rattle.box_core.specs.History.{Report, Kept}
 use Rattle.box_core.specs.Mail.{Mail, Place, accepted_in, kept_of_place, resize_refusal_by}
 use Rattle.box_core.specs.declared.faults.Refusal.{Refusal}
 use Rattle.box_core.specs.declared.faults.Refusal.TheVariants as refusal
 use Rattle.box_core.specs.declared.work.Reply.{Reply}
-use Rattle.box_core.specs.declared.work.Work.{Ghosts}
 use Rattle.dmn_plan.specs.Request.{Request, request_result}
 use Rattle.feel_value.specs.declared.feel.Outcome.{Outcome}
+use Rattle.lanes.specs.Ends.{ClientEnd}
 use Rattle.lanes.specs.Books.{work_of}
 use Rattle.lanes.specs.Clients.{put_of, mail_of, came_to, reply_of}
 use Rattle.lanes.specs.Polls.{Polls, TakenIn, left_by}
-use Rattle.lanes.specs.declared.client.Client.{Client}
 use Rattle.lanes.proofs.Mails.{changed_length, got}
 use Rattle.desk_lines.specs.Lines.{ended}
 use Rattle.desk_serving.specs.Owed.{Lane, lane_of, due, HandsOwn, with_handed}
-use Rattle.desk_serving.specs.Served.{of_name}
-use Rattle.desk_reports.specs.Shown.{reply}
+use Rattle.desk_wire.specs.Reports as reports
 use Rattle.desk_serving.proofs.Owing.{due-next, name_itself, of_other, of_same}
 
 -- ## Why a capacity is refused
@@ -101,8 +97,8 @@ get_map f (y ∷ xs) (suc i) x e = get_map f xs i x e
 pub lane_is : (x y : Lane) → x.put ≡ y.put → x.handed ≡ y.handed → x.closed ≡ y.closed → x ≡ y
 lane_is x y p h c = λ i. record { put = p i; handed = h i; closed = c i }
 
-module _ {g : Ghosts Request Outcome} {R : Type 0} (request : Request → R) (result_of : R → Outcome) where
-  pub poll_handed : (old new : Client Request Outcome g) (r : Option (Reply Request Outcome)) → put_of new ≡ put_of old
+module _ {R : Type 0} (request : Request → R) (result_of : R → Outcome) where
+  pub poll_handed : (old new : ClientEnd Request Outcome) (r : Option (Reply Request Outcome)) → put_of new ≡ put_of old
       → Polls request result_of (came_to old) (came_to new) (mail_of old) (mail_of new) (reply_of r)
       → IfSome r (λ reply. (reply.ticket ≡ (lane_of old).handed) × (lane_of new ≡ with_handed (lane_of old)))
   poll_handed old new None put p = tt
@@ -110,7 +106,7 @@ module _ {g : Ghosts Request Outcome} {R : Type 0} (request : Request → R) (re
       let h = polled_some request result_of (came_to old) (came_to new) (mail_of old) (mail_of new) (reply.ticket, reply.outcome) p in
       (h.ticket, lane_is (lane_of new) (with_handed (lane_of old)) (ap (map work_of) put) h.handed h.closed)
 
-  pub poll_right : (old new : Client Request Outcome g) (r : Option (Reply Request Outcome))
+  pub poll_right : (old new : ClientEnd Request Outcome) (r : Option (Reply Request Outcome))
       → Polls request result_of (came_to old) (came_to new) (mail_of old) (mail_of new) (reply_of r)
       → IfSome r (λ reply. (x : Ticketed Request) → slice_get (put_of old) reply.ticket ≡ Some x → reply.outcome ≡ result_of (request x.work))
       → IfSome r (λ reply. (q : Request) × (slice_get (lane_of old).put (lane_of old).handed ≡ Some q) × (reply.outcome ≡ result_of (request q)))
@@ -120,7 +116,7 @@ module _ {g : Ghosts Request Outcome} {R : Type 0} (request : Request → R) (re
       let x = got (put_of old) (mail_of old).handed (let n = old.count in let t = h.there in omega (arith, n, t)) in
       (x.0.work, get_map work_of (put_of old) (mail_of old).handed x.0 x.1, right x.0 (ap (λ k. slice_get (put_of old) k) h.ticket ∙ x.1))
 
-  pub poll_nothing : (old new : Client Request Outcome g) (r : Option (Reply Request Outcome)) → put_of new ≡ put_of old
+  pub poll_nothing : (old new : ClientEnd Request Outcome) (r : Option (Reply Request Outcome)) → put_of new ≡ put_of old
       → Polls request result_of (came_to old) (came_to new) (mail_of old) (mail_of new) (reply_of r) → IfNone r (lane_of new ≡ lane_of old)
   poll_nothing old new None put p =
       let h = polled_none request result_of (came_to old) (came_to new) (mail_of old) (mail_of new) p in
@@ -136,13 +132,14 @@ own_none name old new text e = record {
   handed = record { put = ap (λ l. l.put) e; closed = ap (λ l. l.closed) e; own = ap (due name) e; others = λ who h. refl };
 }
 
-pub own_one : (name : List ℕ) (old new : Lane) (q : Request) (report : Data) (text text' : List ℕ) → slice_get old.put old.handed ≡ Some q → new ≡ with_handed old
-    → report ≡ reply name (request_result q) old.handed → text' ≡ text ++ ended (compact_text report) → HandsOwn name old new text text'
-own_one name old new q report text text' at e same is =
-    let said = of_name name (reply name (request_result q) old.handed) in
+pub own_one : (name : List ℕ) (old new : Lane) (q : Request) (ticket : ℕ) (outcome : Outcome) (text text' : List ℕ) → slice_get old.put old.handed ≡ Some q → new ≡ with_handed old
+    → ticket ≡ old.handed → outcome ≡ request_result q → text' ≡ text ++ ended (reports.report_text (reports.Reply name ticket outcome)) → HandsOwn name old new text text'
+own_one name old new q ticket outcome text text' at e next right is =
+    let said = reports.Reply name old.handed (request_result q) in
+    let same : reports.Reply name ticket outcome ≡ said = λ i. reports.Reply name (next i) (right i) in
     record {
       more = said ∷ [];
-      is = is ∙ ap (λ r. text ++ ended (compact_text r)) same ∙ ap (λ v. text ++ v) (sym (append-nil (ended said.text)));
+      is = is ∙ ap (λ r. text ++ ended (reports.report_text r)) same ∙ ap (λ v. text ++ v) (sym (append-nil (ended (reports.report_text said))));
       handed = record {
         put = ap (λ l. l.put) e;
         closed = ap (λ l. l.closed) e;
@@ -165,18 +162,17 @@ all_dropped zero (x ∷ xs) h = let wrong : ⊥ = omega (arith, h) in absurd wro
 all_dropped (suc n) [] h = refl
 all_dropped (suc n) (x ∷ xs) h = let less : length xs ≤ n = omega (arith, h) in all_dropped n xs less
 
-module _ {g : Ghosts Request Outcome} where
-  pub put_length : (client : Client Request Outcome g) → length (lane_of client).put ≡ accepted_in (mail_of client)
-  put_length client = length-map (put_of client) work_of ∙ client.count
+pub put_length : (client : ClientEnd Request Outcome) → length (lane_of client).put ≡ accepted_in (mail_of client)
+put_length client = length-map (put_of client) work_of ∙ client.count
 
-  pub handed_within : (client : Client Request Outcome g) → (lane_of client).handed ≤ length (lane_of client).put
-  handed_within client = let n = put_length client in omega (arith, n)
+pub handed_within : (client : ClientEnd Request Outcome) → (lane_of client).handed ≤ length (lane_of client).put
+handed_within client = let n = put_length client in omega (arith, n)
 
-  pub dropped_whole : (client : Client Request Outcome g) → drop (lane_of client).handed (lane_of client).put ≡ [] → accepted_in (mail_of client) ≡ (mail_of client).handed
-  dropped_whole client e =
-      let n = put_length client in let h = length_of_dropped (lane_of client).handed (lane_of client).put e in omega (arith, n, h)
+pub dropped_whole : (client : ClientEnd Request Outcome) → drop (lane_of client).handed (lane_of client).put ≡ [] → accepted_in (mail_of client) ≡ (mail_of client).handed
+dropped_whole client e =
+    let n = put_length client in let h = length_of_dropped (lane_of client).handed (lane_of client).put e in omega (arith, n, h)
 
-  pub whole_dropped : (client : Client Request Outcome g) → accepted_in (mail_of client) ≡ (mail_of client).handed → drop (lane_of client).handed (lane_of client).put ≡ []
-  whole_dropped client e =
-      let n = put_length client in let h : length (lane_of client).put ≤ (lane_of client).handed = omega (arith, n, e) in
-      all_dropped (lane_of client).handed (lane_of client).put h
+pub whole_dropped : (client : ClientEnd Request Outcome) → accepted_in (mail_of client) ≡ (mail_of client).handed → drop (lane_of client).handed (lane_of client).put ≡ []
+whole_dropped client e =
+    let n = put_length client in let h : length (lane_of client).put ≤ (lane_of client).handed = omega (arith, n, e) in
+    all_dropped (lane_of client).handed (lane_of client).put h

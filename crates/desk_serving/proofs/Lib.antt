@@ -2,7 +2,7 @@ pub mod ServedLaws
 pub mod Owing
 pub mod Standing
 pub mod Replying
-pub mod Asking
+pub mod Hearing
 pub mod Saying
 pub mod EndingLanes
 pub mod Fronting

@@ -9,9 +9,9 @@ use Rattle.std.proofs.lemmas.Slice.Eq.{bytes_eq-Decides}
 use Rattle.dmn_plan.specs.Request.{Request, request_result}
 use Rattle.desk_lines.specs.Lines.{ended}
 use Rattle.desk_serving.specs.Owed.{Lane, replies, due, due_to, due_to_name, unhanded, AreDistinct, AreHanded, AreOwn, AreFirst, AreFirstOwn, Hands, HandsOwn, HandsThen, with_handed}
-use Rattle.desk_serving.specs.Served.{Entry, same_client, of_client, of_name, texts_of}
+use Rattle.desk_wire.specs.Reports.{Report, Reply, client_on, report_text}
+use Rattle.desk_serving.specs.Script.{same_client, of_client, texts_of}
 use Rattle.feel_value.specs.Distinct.{is_among}
-use Rattle.desk_reports.specs.Shown.{reply}
 
 -- ## Names
 
@@ -50,10 +50,10 @@ among_at n [] c at = cc
 among_at n (k ∷ names) zero at = let is : k ≡ n = cc in let e : bytes_eq n k ≡ true = subst (λ x. bytes_eq n x ≡ true) (sym is) (name_itself n) in rw e refl
 among_at n (k ∷ names) (suc c) at = rw (among_at n names c at) (or_true (bytes_eq n k))
 
--- ## Entries
+-- ## Reports
 
-pub of_client-append : (who : Option (List ℕ)) (xs ys : List Entry) → of_client who (xs ++ ys) ≡ of_client who xs ++ of_client who ys
-of_client-append who xs ys = filter-append (λ e. same_client e.client who) xs ys
+pub of_client-append : (who : Option (List ℕ)) (xs ys : List Report) → of_client who (xs ++ ys) ≡ of_client who xs ++ of_client who ys
+of_client-append who xs ys = filter-append (λ e. same_client (client_on e) who) xs ys
 
 pub same_client-refl : (who : Option (List ℕ)) → same_client who who ≡ true
 same_client-refl None = refl
@@ -65,27 +65,27 @@ same_is None (Some n) h = cc
 same_is (Some m) None h = cc
 same_is (Some m) (Some n) h = ap Some (same_name m n h)
 
-pub of_other : (who : Option (List ℕ)) (e : Entry) → same_client e.client who ≡ false → of_client who (e ∷ []) ≡ []
+pub of_other : (who : Option (List ℕ)) (e : Report) → same_client (client_on e) who ≡ false → of_client who (e ∷ []) ≡ []
 of_other who e h = rw h refl
 
-pub of_same : (who : Option (List ℕ)) (e : Entry) → same_client e.client who ≡ true → of_client who (e ∷ []) ≡ e ∷ []
+pub of_same : (who : Option (List ℕ)) (e : Report) → same_client (client_on e) who ≡ true → of_client who (e ∷ []) ≡ e ∷ []
 of_same who e h = rw h refl
 
--- the lines of more entries
-pub lines-append : (xs ys : List Entry) → flat_map ended (texts_of (xs ++ ys)) ≡ flat_map ended (texts_of xs) ++ flat_map ended (texts_of ys)
-lines-append xs ys = ap (flat_map ended) (map-append (λ e. e.text) xs ys) ∙ flat_map-append ended (texts_of xs) (texts_of ys)
+-- the lines of more reports
+pub lines-append : (xs ys : List Report) → flat_map ended (texts_of (xs ++ ys)) ≡ flat_map ended (texts_of xs) ++ flat_map ended (texts_of ys)
+lines-append xs ys = ap (flat_map ended) (map-append (λ e. report_text e) xs ys) ∙ flat_map-append ended (texts_of xs) (texts_of ys)
 
 -- ## What a lane owes
 
 -- the reply at a place is the first that is owed from there
 pub replies-drop : (name : List ℕ) (t : ℕ) (qs : List Request) (i : ℕ) (q : Request) → slice_get qs i ≡ Some q
-    → replies name t (drop i qs) ≡ of_name name (reply name (request_result q) t) ∷ replies name (t + 1) (drop (suc i) qs)
+    → replies name t (drop i qs) ≡ Reply name t (request_result q) ∷ replies name (t + 1) (drop (suc i) qs)
 replies-drop name t [] i q h = cc
-replies-drop name t (x ∷ qs) zero q h = let is : x ≡ q = cc in ap (λ (y : Request). of_name name (reply name (request_result y) t) ∷ replies name (t + 1) qs) is
+replies-drop name t (x ∷ qs) zero q h = let is : x ≡ q = cc in ap (λ (y : Request). Reply name t (request_result y) ∷ replies name (t + 1) qs) is
 replies-drop name t (x ∷ qs) (suc i) q h = replies-drop name t qs i q h
 
 pub due-next : (name : List ℕ) (lane : Lane) (q : Request) → slice_get lane.put lane.handed ≡ Some q
-    → due name lane ≡ of_name name (reply name (request_result q) lane.handed) ∷ due name (with_handed lane)
+    → due name lane ≡ Reply name lane.handed (request_result q) ∷ due name (with_handed lane)
 due-next name lane q h = simp add-one (simp add-one at (replies-drop name lane.handed lane.put lane.handed q h))
 
 -- where each request was handed its result, nothing is owed
@@ -113,7 +113,7 @@ due_to_other m (k ∷ names) [] c n lane at h = refl
 due_to_other m (k ∷ names) (x ∷ lanes) zero n lane at h =
     let is : k ≡ n = cc in
     let e : bytes_eq k m ≡ false = subst (λ y. bytes_eq y m ≡ false) (sym is) h in rw e refl
-due_to_other m (k ∷ names) (x ∷ lanes) (suc c) n lane at h = ap (λ (t : List Entry). if bytes_eq k m then due k x else t) (due_to_other m names lanes c n lane at h)
+due_to_other m (k ∷ names) (x ∷ lanes) (suc c) n lane at h = ap (λ (t : List Report). if bytes_eq k m then due k x else t) (due_to_other m names lanes c n lane at h)
 
 -- nothing is owed to a name without a lane
 pub due_to_none : (m : List ℕ) (names : List (List ℕ)) (lanes : List Lane) → is_among names m ≡ false → due_to_name m names lanes ≡ []
@@ -155,24 +155,24 @@ unhanded-set (x ∷ lanes) (suc c) lane new h p q = ap (λ (t : List Lane). (rec
 pub handed_none : (names : List (List ℕ)) (lanes : List Lane) → AreHanded names lanes lanes []
 handed_none names lanes = record { lanes = refl; owed = λ who. refl }
 
-pub handed_then : (names : List (List ℕ)) (a b c : List Lane) (m k : List Entry) → AreHanded names a b m → AreHanded names b c k → AreHanded names a c (m ++ k)
+pub handed_then : (names : List (List ℕ)) (a b c : List Lane) (m k : List Report) → AreHanded names a b m → AreHanded names b c k → AreHanded names a c (m ++ k)
 handed_then names a b c m k x y = record {
   lanes = y.lanes ∙ x.lanes;
   owed = λ who. ap (λ t. t ++ due_to who names c) (of_client-append who m k) ∙ append_assoc (of_client who m) (of_client who k) (due_to who names c)
       ∙ ap (λ t. of_client who m ++ t) (y.owed who) ∙ x.owed who;
 }
 
-pub handed_first : (names : List (List ℕ)) (a b : List Lane) (m : List Entry) → AreHanded names a b m → AreFirst names a m
+pub handed_first : (names : List (List ℕ)) (a b : List Lane) (m : List Report) → AreHanded names a b m → AreFirst names a m
 handed_first names a b m x who = (due_to who names b, x.owed who)
 
-pub first_after : (names : List (List ℕ)) (a b : List Lane) (m k : List Entry) → AreHanded names a b m → AreFirst names b k → AreFirst names a (m ++ k)
+pub first_after : (names : List (List ℕ)) (a b : List Lane) (m k : List Report) → AreHanded names a b m → AreFirst names b k → AreFirst names a (m ++ k)
 first_after names a b m k x y who =
     let r = y who in (
       r.0,
       ap (λ t. t ++ r.0) (of_client-append who m k) ∙ append_assoc (of_client who m) (of_client who k) r.0 ∙ ap (λ t. of_client who m ++ t) r.1 ∙ x.owed who,
     )
 
-owed_at : (names : List (List ℕ)) (lanes : List Lane) (c : ℕ) (n : List ℕ) (lane new : Lane) (more : List Entry) → AreDistinct names → slice_get names c ≡ Some n → slice_get lanes c ≡ Some lane
+owed_at : (names : List (List ℕ)) (lanes : List Lane) (c : ℕ) (n : List ℕ) (lane new : Lane) (more : List Report) → AreDistinct names → slice_get names c ≡ Some n → slice_get lanes c ≡ Some lane
     → AreOwn n lane new more → (m : List ℕ) (b : Bool) → bytes_eq n m ≡ b → of_client (Some m) more ++ due_to_name m names (slice_set lanes c new) ≡ due_to_name m names lanes
 owed_at names lanes c n lane new more dis at la own m false e = rw (own.others (Some m) e, due_to_other m names lanes c n new at e) refl
 owed_at names lanes c n lane new more dis at la own m true e =
@@ -181,7 +181,7 @@ owed_at names lanes c n lane new more dis at la own m true e =
     let P : List ℕ → Type 0 = λ k. of_client (Some k) more ++ due_to_name k names (slice_set lanes c new) ≡ due_to_name k names lanes in
     subst P is (rw (now, due_to_own names lanes c n lane dis at la) own.own)
 
-pub own_handed : (names : List (List ℕ)) (lanes : List Lane) (c : ℕ) (n : List ℕ) (lane new : Lane) (more : List Entry) → AreDistinct names → slice_get names c ≡ Some n → slice_get lanes c ≡ Some lane
+pub own_handed : (names : List (List ℕ)) (lanes : List Lane) (c : ℕ) (n : List ℕ) (lane new : Lane) (more : List Report) → AreDistinct names → slice_get names c ≡ Some n → slice_get lanes c ≡ Some lane
     → AreOwn n lane new more → AreHanded names lanes (slice_set lanes c new) more
 own_handed names lanes c n lane new more dis at la own = record {
   lanes = unhanded-set lanes c lane new la own.put own.closed;
@@ -191,15 +191,15 @@ own_handed names lanes c n lane new more dis at la own = record {
   ];
 }
 
-first_at : (names : List (List ℕ)) (lanes : List Lane) (c : ℕ) (n : List ℕ) (lane : Lane) (more : List Entry) → AreDistinct names → slice_get names c ≡ Some n → slice_get lanes c ≡ Some lane
-    → AreFirstOwn n lane more → (m : List ℕ) (b : Bool) → bytes_eq n m ≡ b → (rest : List Entry) × (of_client (Some m) more ++ rest ≡ due_to_name m names lanes)
+first_at : (names : List (List ℕ)) (lanes : List Lane) (c : ℕ) (n : List ℕ) (lane : Lane) (more : List Report) → AreDistinct names → slice_get names c ≡ Some n → slice_get lanes c ≡ Some lane
+    → AreFirstOwn n lane more → (m : List ℕ) (b : Bool) → bytes_eq n m ≡ b → (rest : List Report) × (of_client (Some m) more ++ rest ≡ due_to_name m names lanes)
 first_at names lanes c n lane more dis at la own m false e = (due_to_name m names lanes, ap (λ t. t ++ due_to_name m names lanes) (own.others (Some m) e))
 first_at names lanes c n lane more dis at la own m true e =
     let is : n ≡ m = same_name n m e in
-    let P : List ℕ → Type 0 = λ k. (rest : List Entry) × (of_client (Some k) more ++ rest ≡ due_to_name k names lanes) in
+    let P : List ℕ → Type 0 = λ k. (rest : List Report) × (of_client (Some k) more ++ rest ≡ due_to_name k names lanes) in
     subst P is (own.rest, own.own ∙ sym (due_to_own names lanes c n lane dis at la))
 
-pub own_first : (names : List (List ℕ)) (lanes : List Lane) (c : ℕ) (n : List ℕ) (lane : Lane) (more : List Entry) → AreDistinct names → slice_get names c ≡ Some n → slice_get lanes c ≡ Some lane
+pub own_first : (names : List (List ℕ)) (lanes : List Lane) (c : ℕ) (n : List ℕ) (lane : Lane) (more : List Report) → AreDistinct names → slice_get names c ≡ Some n → slice_get lanes c ≡ Some lane
     → AreFirstOwn n lane more → AreFirst names lanes more
 own_first names lanes c n lane more dis at la own = elim [
   | None ↦ ([], append-nil (of_client None more) ∙ own.others None refl)
@@ -227,25 +227,25 @@ own_hands names lanes c n lane new s t dis at la h = record {
   handed = own_handed names lanes c n lane new h.more dis at la h.handed;
 }
 
--- an entry that is said where nothing is owed to its client any more
-then_by : (names : List (List ℕ)) (old new : List Lane) (more : List Entry) (e : Entry) → AreHanded names old new more → due_to e.client names new ≡ []
-    → (who : Option (List ℕ)) (b : Bool) → same_client e.client who ≡ b → of_client who (more ++ e ∷ []) ++ due_to who names new ≡ due_to who names old ++ of_client who (e ∷ [])
+-- a report that is said where nothing is owed to its client any more
+then_by : (names : List (List ℕ)) (old new : List Lane) (more : List Report) (e : Report) → AreHanded names old new more → due_to (client_on e) names new ≡ []
+    → (who : Option (List ℕ)) (b : Bool) → same_client (client_on e) who ≡ b → of_client who (more ++ e ∷ []) ++ due_to who names new ≡ due_to who names old ++ of_client who (e ∷ [])
 then_by names old new more e h free who false s =
     ap (λ t. t ++ due_to who names new) (of_client-append who more (e ∷ []) ∙ ap (λ t. of_client who more ++ t) (of_other who e s) ∙ append-nil (of_client who more))
     ∙ h.owed who ∙ sym (append-nil (due_to who names old)) ∙ ap (λ t. due_to who names old ++ t) (sym (of_other who e s))
 then_by names old new more e h free who true s =
-    let is : e.client ≡ who = same_is e.client who s in
+    let is : client_on e ≡ who = same_is (client_on e) who s in
     let nothing : due_to who names new ≡ [] = subst (λ (c : Option (List ℕ)). due_to c names new ≡ []) is free in
     let at : of_client who more ≡ due_to who names old = sym (append-nil (of_client who more)) ∙ ap (λ t. of_client who more ++ t) (sym nothing) ∙ h.owed who in
     ap (λ t. of_client who (more ++ e ∷ []) ++ t) nothing ∙ append-nil (of_client who (more ++ e ∷ [])) ∙ of_client-append who more (e ∷ []) ∙ ap (λ t. t ++ of_client who (e ∷ [])) at
 
-pub hands_then_entry : (names : List (List ℕ)) (old new : List Lane) (e : Entry) (s t u : List ℕ) → Hands names old new s t → due_to e.client names new ≡ [] → u ≡ t ++ ended e.text
+pub hands_then_report : (names : List (List ℕ)) (old new : List Lane) (e : Report) (s t u : List ℕ) → Hands names old new s t → due_to (client_on e) names new ≡ [] → u ≡ t ++ ended (report_text e)
     → HandsThen names old new e s u
-hands_then_entry names old new e s t u h free is = record {
+hands_then_report names old new e s t u h free is = record {
   more = h.more ++ e ∷ [];
-  is = is ∙ ap (λ v. v ++ ended e.text) h.is ∙ append_assoc s (flat_map ended (texts_of h.more)) (ended e.text)
-      ∙ ap (λ v. s ++ v) (sym (lines-append h.more (e ∷ []) ∙ ap (λ v. flat_map ended (texts_of h.more) ++ v) (append-nil (ended e.text))));
-  owed = λ who. then_by names old new h.more e h.handed free who (same_client e.client who) refl;
+  is = is ∙ ap (λ v. v ++ ended (report_text e)) h.is ∙ append_assoc s (flat_map ended (texts_of h.more)) (ended (report_text e))
+      ∙ ap (λ v. s ++ v) (sym (lines-append h.more (e ∷ []) ∙ ap (λ v. flat_map ended (texts_of h.more) ++ v) (append-nil (ended (report_text e)))));
+  owed = λ who. then_by names old new h.more e h.handed free who (same_client (client_on e) who) refl;
 }
 
 -- ## Lanes that are the same but for what they handed out

@@ -1,23 +1,26 @@
 -- What stays of a list of lanes, and what a request that is put adds to what is owed.
 use Rattle.std.proofs.Common.{◌≡◌, ℕ, zero, suc, ◌+◌, ◌<◌, ◌≤◌, Bool, true, false, List, [], ◌∷◌, ◌++◌, Option, Some, None, Ok, length, map, drop, take, slice_get, length-append, string_bytes, slice_set, slice_index_or, if◌then◌else◌, refl, sym, ap, ◌∙◌, arith, append_assoc, append-nil, subst}
-use Rattle.std.specs.Prelude.{bytes_eq, codes}
+use Rattle.std.specs.Prelude.{bytes_eq}
 use Rattle.std.specs.List.{flat_map}
 use Rattle.std.proofs.lemmas.List.{length-map, map-append}
-use Rattle.box_core.specs.declared.work.Work.{Ghosts}
 use Rattle.dmn_plan.specs.Request.{Request, request_result}
 use Rattle.feel_value.specs.declared.feel.Outcome.{Outcome}
-use Rattle.lanes.specs.declared.client.Client.{Client}
+use Rattle.lanes.specs.Ends.{ClientEnd}
 use Rattle.lanes.proofs.Making.{map_set}
 use Rattle.desk_serving.specs.LanesView.{ArePolled, IsPolled, lanes_in, names_in}
 use Rattle.desk_serving.specs.declared.named_lanes.Lanes.{Lanes}
 use Rattle.desk_lines.specs.Lines.{ended}
 use Rattle.desk_serving.specs.Owed.{Lane, lane_of, replies, due, due_to, due_to_name, unhanded, AreDistinct, Hands, HandsOwn, HandsThen, with_lane, with_put, with_put_if}
-use Rattle.desk_serving.specs.Served.{Entry, of_client, of_name, task_answer, texts_of}
+use Rattle.desk_wire.specs.Reports.{Report, Of, Reply, report_text}
+use Rattle.desk_wire.specs.declared.report.Told.{Told}
+use Rattle.desk_wire.specs.declared.report.Told.TheVariants as told
+use Rattle.desk_wire.specs.declared.word.Word.TheVariants as word
+use Rattle.desk_serving.specs.Script.{of_client, texts_of}
+use Rattle.desk_serving.specs.Due.{task_answer}
 use Rattle.feel_value.specs.Distinct.{is_among}
-use Rattle.desk_reports.specs.Shown.{named_refusal, reply}
 use Rattle.desk_serving.proofs.Laning.{get_map}
 use Rattle.desk_serving.proofs.Standing.{distinct-push}
-use Rattle.desk_serving.proofs.Owing.{same_name, name_itself, turned_name, or_false, of_client-append, of_other, of_same, lines-append, due_to_own, due_to_other, due-whole, set_at, get_at, own_hands, hands_then_entry, unhanded_at, unhanded_with}
+use Rattle.desk_serving.proofs.Owing.{same_name, name_itself, turned_name, or_false, of_client-append, of_other, of_same, lines-append, due_to_own, due_to_other, due-whole, set_at, get_at, own_hands, hands_then_report, unhanded_at, unhanded_with}
 
 -- ## Lists of lanes
 
@@ -37,44 +40,43 @@ set_back (y ∷ xs) (suc c) x h = ap (λ zs. y ∷ zs) (set_back xs c x h)
 pub some_same : {X : Type 0} (o : Option X) (x y : X) → o ≡ Some x → o ≡ Some y → x ≡ y
 some_same o x y p q = cc
 
-module _ {g : Ghosts Request Outcome} where
-  -- the lane at a place, as it is held
-  pub lane_at : (clients : List (Client Request Outcome g)) (c : ℕ) (client : Client Request Outcome g) → c < length clients → client ≡ slice_index_or clients c client
-      → slice_get (map (λ (x : Client Request Outcome g). lane_of x) clients) c ≡ Some (lane_of client)
-  lane_at clients c client lt is = get_map (λ (x : Client Request Outcome g). lane_of x) clients c client (get_at clients c client lt is)
+-- the lane at a place, as it is held
+pub lane_at : (clients : List (ClientEnd Request Outcome)) (c : ℕ) (client : ClientEnd Request Outcome) → c < length clients → client ≡ slice_index_or clients c client
+    → slice_get (map (λ (x : ClientEnd Request Outcome). lane_of x) clients) c ≡ Some (lane_of client)
+lane_at clients c client lt is = get_map (λ (x : ClientEnd Request Outcome). lane_of x) clients c client (get_at clients c client lt is)
 
-  pub lanes_set : (clients : List (Client Request Outcome g)) (c : ℕ) (new : Client Request Outcome g)
-      → map (λ (x : Client Request Outcome g). lane_of x) (slice_set clients c new) ≡ slice_set (map (λ (x : Client Request Outcome g). lane_of x) clients) c (lane_of new)
-  lanes_set clients c new = map_set (λ (x : Client Request Outcome g). lane_of x) clients c new
+pub lanes_set : (clients : List (ClientEnd Request Outcome)) (c : ℕ) (new : ClientEnd Request Outcome)
+    → map (λ (x : ClientEnd Request Outcome). lane_of x) (slice_set clients c new) ≡ slice_set (map (λ (x : ClientEnd Request Outcome). lane_of x) clients) c (lane_of new)
+lanes_set clients c new = map_set (λ (x : ClientEnd Request Outcome). lane_of x) clients c new
 
-  pub client_hands : (names : List (List ℕ)) (clients : List (Client Request Outcome g)) (c : ℕ) (name : List ℕ) (old new : Client Request Outcome g) (s t : List ℕ) → AreDistinct names → slice_get names c ≡ Some name
-      → c < length clients → old ≡ slice_index_or clients c old → HandsOwn name (lane_of old) (lane_of new) s t
-      → Hands names (map (λ (x : Client Request Outcome g). lane_of x) clients) (map (λ (x : Client Request Outcome g). lane_of x) (slice_set clients c new)) s t
-  client_hands names clients c name old new s t dis at lt is h =
-      let before = map (λ (x : Client Request Outcome g). lane_of x) clients in
-      subst (λ (ls : List Lane). Hands names before ls s t) (sym (lanes_set clients c new))
-      (own_hands names before c name (lane_of old) (lane_of new) s t dis at (lane_at clients c old lt is) h)
+pub client_hands : (names : List (List ℕ)) (clients : List (ClientEnd Request Outcome)) (c : ℕ) (name : List ℕ) (old new : ClientEnd Request Outcome) (s t : List ℕ) → AreDistinct names → slice_get names c ≡ Some name
+    → c < length clients → old ≡ slice_index_or clients c old → HandsOwn name (lane_of old) (lane_of new) s t
+    → Hands names (map (λ (x : ClientEnd Request Outcome). lane_of x) clients) (map (λ (x : ClientEnd Request Outcome). lane_of x) (slice_set clients c new)) s t
+client_hands names clients c name old new s t dis at lt is h =
+    let before = map (λ (x : ClientEnd Request Outcome). lane_of x) clients in
+    subst (λ (ls : List Lane). Hands names before ls s t) (sym (lanes_set clients c new))
+    (own_hands names before c name (lane_of old) (lane_of new) s t dis at (lane_at clients c old lt is) h)
 
-  -- one more client was polled
-  polled_first : (old : List (Client Request Outcome g)) (client client' : Client Request Outcome g) → 0 < length old → client ≡ slice_index_or old 0 client → IsPolled client client'
-      → ArePolled 1 old (slice_set old 0 client')
-  polled_first [] client client' lt is p = absurd (omega (arith, lt))
-  polled_first (x ∷ old) client client' lt is p = (subst (λ (c : Client Request Outcome g). IsPolled c client') is p, refl)
+-- one more client was polled
+polled_first : (old : List (ClientEnd Request Outcome)) (client client' : ClientEnd Request Outcome) → 0 < length old → client ≡ slice_index_or old 0 client → IsPolled client client'
+    → ArePolled 1 old (slice_set old 0 client')
+polled_first [] client client' lt is p = absurd (omega (arith, lt))
+polled_first (x ∷ old) client client' lt is p = (subst (λ (c : ClientEnd Request Outcome). IsPolled c client') is p, refl)
 
-  polled_suc : (n : ℕ) (old now : List (Client Request Outcome g)) (client client' : Client Request Outcome g) → n < length now → client ≡ slice_index_or now n client
-      → IsPolled client client' → ArePolled n old now → ArePolled (suc n) old (slice_set now n client')
-  polled_suc zero old now client client' lt is p same =
-      subst (λ (cs : List (Client Request Outcome g)). ArePolled 1 cs (slice_set now 0 client')) same (polled_first now client client' lt is p)
-  polled_suc (suc n) [] [] client client' lt is p polled = polled
-  polled_suc (suc n) [] (y ∷ now) client client' lt is p polled = polled
-  polled_suc (suc n) (x ∷ old) [] client client' lt is p polled = polled
-  polled_suc (suc n) (x ∷ old) (y ∷ now) client client' lt is p polled = (polled.0, polled_suc n old now client client' (omega (arith, lt)) is p polled.1)
+polled_suc : (n : ℕ) (old now : List (ClientEnd Request Outcome)) (client client' : ClientEnd Request Outcome) → n < length now → client ≡ slice_index_or now n client
+    → IsPolled client client' → ArePolled n old now → ArePolled (suc n) old (slice_set now n client')
+polled_suc zero old now client client' lt is p same =
+    subst (λ (cs : List (ClientEnd Request Outcome)). ArePolled 1 cs (slice_set now 0 client')) same (polled_first now client client' lt is p)
+polled_suc (suc n) [] [] client client' lt is p polled = polled
+polled_suc (suc n) [] (y ∷ now) client client' lt is p polled = polled
+polled_suc (suc n) (x ∷ old) [] client client' lt is p polled = polled
+polled_suc (suc n) (x ∷ old) (y ∷ now) client client' lt is p polled = (polled.0, polled_suc n old now client client' (omega (arith, lt)) is p polled.1)
 
-  pub polled_next : (n : ℕ) (old now : List (Client Request Outcome g)) (client client' : Client Request Outcome g) → n < length now → client ≡ slice_index_or now n client
-      → IsPolled client client' → ArePolled n old now → ArePolled (n + 1) old (slice_set now n client')
-  polled_next n old now client client' lt is p polled =
-      let next : suc n ≡ n + 1 = omega arith in
-      subst (λ (k : ℕ). ArePolled k old (slice_set now n client')) next (polled_suc n old now client client' lt is p polled)
+pub polled_next : (n : ℕ) (old now : List (ClientEnd Request Outcome)) (client client' : ClientEnd Request Outcome) → n < length now → client ≡ slice_index_or now n client
+    → IsPolled client client' → ArePolled n old now → ArePolled (n + 1) old (slice_set now n client')
+polled_next n old now client client' lt is p polled =
+    let next : suc n ≡ n + 1 = omega arith in
+    subst (λ (k : ℕ). ArePolled k old (slice_set now n client')) next (polled_suc n old now client client' lt is p polled)
 
 -- a place with a name has a lane
 pub lanes_inside : (lanes : Lanes) (place : ℕ) → place < length (names_in lanes) → (place < length lanes.clients.items) × (place < length (lanes_in lanes))
@@ -116,51 +118,51 @@ pushed_names f clients names names' x false is dis new lt = ((let n = ap length 
 -- ## What a request adds
 
 replies-push : (name : List ℕ) (t k : ℕ) (qs : List Request) (q : Request) → k ≡ t + length qs
-    → replies name t (qs ++ q ∷ []) ≡ replies name t qs ++ of_name name (reply name (request_result q) k) ∷ []
-replies-push name t k [] q h = let e : t ≡ k = omega (arith, h) in ap (λ (u : ℕ). of_name name (reply name (request_result q) u) ∷ []) e
-replies-push name t k (x ∷ qs) q h = ap (λ (rs : List Entry). of_name name (reply name (request_result x) t) ∷ rs) (replies-push name (t + 1) k qs q (omega (arith, h)))
+    → replies name t (qs ++ q ∷ []) ≡ replies name t qs ++ Reply name k (request_result q) ∷ []
+replies-push name t k [] q h = let e : t ≡ k = omega (arith, h) in ap (λ (u : ℕ). Reply name u (request_result q) ∷ []) e
+replies-push name t k (x ∷ qs) q h = ap (λ (rs : List Report). Reply name t (request_result x) ∷ rs) (replies-push name (t + 1) k qs q (omega (arith, h)))
 
 replies-push_drop : (name : List ℕ) (t k i : ℕ) (qs : List Request) (q : Request) → i ≤ length qs → k + i ≡ t + length qs
-    → replies name t (drop i (qs ++ q ∷ [])) ≡ replies name t (drop i qs) ++ of_name name (reply name (request_result q) k) ∷ []
+    → replies name t (drop i (qs ++ q ∷ [])) ≡ replies name t (drop i qs) ++ Reply name k (request_result q) ∷ []
 replies-push_drop name t k zero qs q le h = replies-push name t k qs q (omega (arith, h))
 replies-push_drop name t k (suc i) [] q le h = absurd (omega (arith, le))
 replies-push_drop name t k (suc i) (x ∷ qs) q le h = replies-push_drop name t k i qs q (omega (arith, le)) (omega (arith, h))
 
 due-put : (name : List ℕ) (lane : Lane) (q : Request) → lane.handed ≤ length lane.put
-    → due name (with_put lane q) ≡ due name lane ++ of_name name (reply name (request_result q) (length lane.put)) ∷ []
+    → due name (with_put lane q) ≡ due name lane ++ Reply name (length lane.put) (request_result q) ∷ []
 due-put name lane q le = replies-push_drop name lane.handed (length lane.put) lane.handed lane.put q le (omega arith)
 
 due_to_put_at : (names : List (List ℕ)) (lanes : List Lane) (c : ℕ) (n : List ℕ) (lane : Lane) (q : Request) → AreDistinct names → slice_get names c ≡ Some n → slice_get lanes c ≡ Some lane → lane.handed ≤ length lane.put
     → (m : List ℕ) (b : Bool) → bytes_eq n m ≡ b
-    → due_to_name m names (slice_set lanes c (with_put lane q)) ≡ due_to_name m names lanes ++ of_client (Some m) (of_name n (reply n (request_result q) (length lane.put)) ∷ [])
+    → due_to_name m names (slice_set lanes c (with_put lane q)) ≡ due_to_name m names lanes ++ of_client (Some m) (Reply n (length lane.put) (request_result q) ∷ [])
 due_to_put_at names lanes c n lane q dis at la le m false e =
-    let entry = of_name n (reply n (request_result q) (length lane.put)) in
-    due_to_other m names lanes c n (with_put lane q) at e ∙ sym (append-nil (due_to_name m names lanes)) ∙ ap (λ t. due_to_name m names lanes ++ t) (sym (of_other (Some m) entry e))
+    let report = Reply n (length lane.put) (request_result q) in
+    due_to_other m names lanes c n (with_put lane q) at e ∙ sym (append-nil (due_to_name m names lanes)) ∙ ap (λ t. due_to_name m names lanes ++ t) (sym (of_other (Some m) report e))
 due_to_put_at names lanes c n lane q dis at la le m true e =
-    let entry = of_name n (reply n (request_result q) (length lane.put)) in
+    let report = Reply n (length lane.put) (request_result q) in
     let is : n ≡ m = same_name n m e in
-    let P : List ℕ → Type 0 = λ k. due_to_name k names (slice_set lanes c (with_put lane q)) ≡ due_to_name k names lanes ++ of_client (Some k) (entry ∷ []) in
+    let P : List ℕ → Type 0 = λ k. due_to_name k names (slice_set lanes c (with_put lane q)) ≡ due_to_name k names lanes ++ of_client (Some k) (report ∷ []) in
     subst P is
     (due_to_own names (slice_set lanes c (with_put lane q)) c n (with_put lane q) dis at (set_at lanes c lane (with_put lane q) la) ∙ due-put n lane q le
-    ∙ ap (λ t. t ++ entry ∷ []) (sym (due_to_own names lanes c n lane dis at la)) ∙ ap (λ t. due_to_name n names lanes ++ t) (sym (of_same (Some n) entry (name_itself n))))
+    ∙ ap (λ t. t ++ report ∷ []) (sym (due_to_own names lanes c n lane dis at la)) ∙ ap (λ t. due_to_name n names lanes ++ t) (sym (of_same (Some n) report (name_itself n))))
 
 due_to_put : (names : List (List ℕ)) (lanes : List Lane) (c : ℕ) (n : List ℕ) (lane : Lane) (q : Request) → AreDistinct names → slice_get names c ≡ Some n → slice_get lanes c ≡ Some lane → lane.handed ≤ length lane.put
-    → (who : Option (List ℕ)) → due_to who names (slice_set lanes c (with_put lane q)) ≡ due_to who names lanes ++ of_client who (of_name n (reply n (request_result q) (length lane.put)) ∷ [])
+    → (who : Option (List ℕ)) → due_to who names (slice_set lanes c (with_put lane q)) ≡ due_to who names lanes ++ of_client who (Reply n (length lane.put) (request_result q) ∷ [])
 due_to_put names lanes c n lane q dis at la le None = refl
 due_to_put names lanes c n lane q dis at la le (Some m) = due_to_put_at names lanes c n lane q dis at la le m (bytes_eq n m) refl
 
 -- results were handed out, and then a request was put
 pub put_then : (names : List (List ℕ)) (old mid : List Lane) (c : ℕ) (n : List ℕ) (x lane : Lane) (q : Request) (s t : List ℕ) → AreDistinct names → slice_get names c ≡ Some n → slice_get mid c ≡ Some x → slice_get old c ≡ Some lane
-    → x.handed ≤ length x.put → Hands names old mid s t → HandsThen names old (slice_set mid c (with_put x q)) (of_name n (reply n (request_result q) (length lane.put))) s t
+    → x.handed ≤ length x.put → Hands names old mid s t → HandsThen names old (slice_set mid c (with_put x q)) (Reply n (length lane.put) (request_result q)) s t
 put_then names old mid c n x lane q s t dis at la was le h =
     let size : length x.put ≡ length lane.put = ap (λ (qs : List Request). length qs) (same_at old mid c x lane h.handed.lanes la was).0 in
-    let entry = of_name n (reply n (request_result q) (length x.put)) in
-    subst (λ (k : ℕ). HandsThen names old (slice_set mid c (with_put x q)) (of_name n (reply n (request_result q) k)) s t) size
+    let report = Reply n (length x.put) (request_result q) in
+    subst (λ (k : ℕ). HandsThen names old (slice_set mid c (with_put x q)) (Reply n k (request_result q)) s t) size
     (record {
       more = h.more;
       is = h.is;
-      owed = λ who. ap (λ d. of_client who h.more ++ d) (due_to_put names mid c n x q dis at la le who) ∙ sym (append_assoc (of_client who h.more) (due_to who names mid) (of_client who (entry ∷ [])))
-          ∙ ap (λ d. d ++ of_client who (entry ∷ [])) (h.handed.owed who);
+      owed = λ who. ap (λ d. of_client who h.more ++ d) (due_to_put names mid c n x q dis at la le who) ∙ sym (append_assoc (of_client who h.more) (due_to who names mid) (of_client who (report ∷ [])))
+          ∙ ap (λ d. d ++ of_client who (report ∷ [])) (h.handed.owed who);
     })
 
 pub put_unhanded : (old mid : List Lane) (c : ℕ) (x lane : Lane) (q : Request) → unhanded mid ≡ unhanded old → slice_get mid c ≡ Some x → slice_get old c ≡ Some lane
@@ -171,12 +173,12 @@ put_unhanded old mid c x lane q e la was =
 pub with_put-closed : (lane : Lane) (q : Request) → lane.closed ≡ true → with_put_if lane q ≡ lane
 with_put-closed lane q h = rw h refl
 
-pub closed_answer : (k : ℕ) (name : List ℕ) (closed : Bool) (ticket : ℕ) (q : Request) → closed ≡ true → named_refusal name k (codes "closed") ≡ task_answer k name closed ticket (Ok q)
+pub closed_answer : (k : ℕ) (name : List ℕ) (closed : Bool) (ticket : ℕ) (q : Request) → closed ≡ true → Of name k (told.Refused word.Closed) ≡ task_answer k name closed ticket (Ok q)
 closed_answer k name true ticket q h = refl
 closed_answer k name false ticket q h = cc
 
 -- results were handed out, and then the line was answered
-pub hands_before : (names : List (List ℕ)) (a b c : List Lane) (e : Entry) (s t u : List ℕ) → Hands names a b s t → HandsThen names b c e t u → HandsThen names a c e s u
+pub hands_before : (names : List (List ℕ)) (a b c : List Lane) (e : Report) (s t u : List ℕ) → Hands names a b s t → HandsThen names b c e t u → HandsThen names a c e s u
 hands_before names a b c e s t u x y = record {
   more = x.more ++ y.more;
   is = y.is ∙ ap (λ v. v ++ flat_map ended (texts_of y.more)) x.is ∙ append_assoc s (flat_map ended (texts_of x.more)) (flat_map ended (texts_of y.more))
@@ -186,11 +188,11 @@ hands_before names a b c e s t u x y = record {
       ∙ ap (λ d. d ++ of_client who (e ∷ [])) (x.handed.owed who);
 }
 
--- once a lane is whole, what is said of its client stands behind all that was owed
-pub whole_then : (names : List (List ℕ)) (old new : List Lane) (c : ℕ) (n text s t u : List ℕ) → AreDistinct names → slice_get names c ≡ Some n → c < length new
-    → ((lane : Lane) → slice_get new c ≡ Some lane → drop lane.handed lane.put ≡ []) → Hands names old new s t → u ≡ t ++ ended text
-    → HandsThen names old new (record { client = Some n; text = text }) s u
-whole_then names old new c n text s t u dis at lt whole h is =
+-- once a lane is whole, what is told of its client's line stands behind all that was owed
+pub whole_then : (names : List (List ℕ)) (old new : List Lane) (c k : ℕ) (what : Told) (n s t u : List ℕ) → AreDistinct names → slice_get names c ≡ Some n → c < length new
+    → ((lane : Lane) → slice_get new c ≡ Some lane → drop lane.handed lane.put ≡ []) → Hands names old new s t → u ≡ t ++ ended (report_text (Of n k what))
+    → HandsThen names old new (Of n k what) s u
+whole_then names old new c k what n s t u dis at lt whole h is =
     let lane = there_at new c lt in
-    hands_then_entry names old new (record { client = Some n; text = text }) s t u h
+    hands_then_report names old new (Of n k what) s t u h
     (due_to_own names new c n lane.0 dis at lane.1 ∙ due-whole n lane.0 (whole lane.0 lane.1)) is

@@ -1,10 +1,11 @@
 -- Every line that can come has a reading, and so every input has an output that is served.
 use Rattle.std.proofs.Common.{◌≡◌, ◌≢◌, ◌⊎◌, inl, inr, ℕ, List, [], ◌∷◌, reverse, codes, true, false, refl, sym}
 use Rattle.serde_json.specs.Data.{Data, null, boolean, number, string, array, object, no_members, member}
-use Rattle.desk_reports.specs.Reading.{Reading}
-use Rattle.desk_reports.proofs.Deciding.{Decision, by_turns, begins, is_object, is_string, is_end, is_any, any_text, is_name, is_capacity, is_inputs, is_numbered_name, IsOf, IsSome, IsNone, or_else, reading_of}
-use Rattle.desk_serving.specs.Asked.{Asked, Model, Request, Close, Resize, object_of, IsLawful, Reads}
-use Rattle.desk_serving.specs.Served.{AreRead, Served, answers, texts_of}
+use Rattle.desk_wire.specs.Reading.{Reading}
+use Rattle.desk_wire.proofs.Deciding.{Decision, by_turns, begins, is_object, is_string, is_end, is_any, any_text, is_name, is_capacity, is_inputs, is_numbered_name, IsOf, IsSome, IsNone, or_else, reading_of}
+use Rattle.desk_serving.specs.Line.{Line, Model, Request, Close, Resize, object_of, IsLawful, Reads}
+use Rattle.desk_serving.specs.Script.{AreRead, Served, texts_of}
+use Rattle.desk_serving.specs.Due.{answers}
 
 is_model : (d : Data) → Decision (IsOf object_of IsLawful Data Model d)
 is_model d =
@@ -38,8 +39,8 @@ is_close d =
     (is_object (begins (codes "client") (is_string is_name) (begins (codes "close") is_true is_end)) d)
 
 -- a value is a lawful line, or none
-pub asked_or_none : (d : Data) → IsSome object_of IsLawful d ⊎ IsNone object_of IsLawful d
-asked_or_none d =
+pub line_or_none : (d : Data) → IsSome object_of IsLawful d ⊎ IsNone object_of IsLawful d
+line_or_none d =
     or_else object_of IsLawful Model (is_model d) (λ no_model.
     or_else object_of IsLawful (λ (a : List ℕ × List ℕ × Data). Request a.0 a.1 a.2) (is_request d) (λ no_request.
     or_else object_of IsLawful Close (is_close d) (λ no_close.
@@ -57,10 +58,10 @@ asked_or_none d =
     none m r c z (Resize name n) = z (name, n)
 
 -- every text has a reading
-pub a_reading : (text : List ℕ) → (reading : Reading Asked) × Reads text reading
-a_reading text = reading_of object_of IsLawful asked_or_none text
+pub a_reading : (text : List ℕ) → (reading : Reading Line) × Reads text reading
+a_reading text = reading_of object_of IsLawful line_or_none text
 
-are_read : (lines : List (List ℕ)) → (readings : List (Reading Asked)) × AreRead lines readings
+are_read : (lines : List (List ℕ)) → (readings : List (Reading Line)) × AreRead lines readings
 are_read [] = ([], tt)
 are_read (line ∷ lines) =
     let first = a_reading line in

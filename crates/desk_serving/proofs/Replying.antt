@@ -1,41 +1,45 @@
--- What each line is answered with, and how the front stands then.
-use Rattle.std.proofs.Common.{◌≡◌, ◌<◌, ℕ, zero, suc, Bool, true, false, List, [], ◌∷◌, ◌++◌, Option, Some, None, Ok, Err, length, take, slice_get, slice_set, codes, refl, sym, ap, ◌∙◌, arith, append-nil, subst, ltb-true}
+-- What each line is answered with, and what stands then.
+use Rattle.std.proofs.Common.{◌≡◌, ◌<◌, ℕ, zero, suc, Bool, true, false, List, [], ◌∷◌, ◌++◌, Option, Some, None, Ok, Err, length, take, slice_get, slice_set, refl, sym, ap, ◌∙◌, arith, append-nil, subst, ltb-true}
 use Rattle.std.specs.Prelude.{bytes_eq, nat_lt}
 use Rattle.std.specs.List.{flat_map}
 use Rattle.serde_json.specs.Data.{Data}
-use Rattle.serde_json.specs.Written.{compact_text}
 use Rattle.box_core.specs.Mail.{resize_refusal_by, is_no_capacity}
 use Rattle.dmn_plan.specs.ReadModel.{read_model}
 use Rattle.dmn_plan.specs.Request as plan
 use Rattle.dmn_plan.specs.declared.fault.TaskFault.{TaskFault}
-use Rattle.desk_serving.specs.Asked.{Asked, Model, Request, Close, Resize}
-use Rattle.desk_reports.specs.Words.{line_refusal, line_word}
+use Rattle.desk_serving.specs.Line.{Line, Model, Request, Close, Resize}
+use Rattle.desk_wire.specs.Words.{task_fault_word}
 use Rattle.desk_lines.specs.Lines.{ended}
 use Rattle.desk_serving.specs.Owed.{Lane, due_to, due_to_name, unhanded, AreDistinct, AreBooked, HandsThen, Stands, with_lane, with_put, with_put_if, with_closed}
-use Rattle.desk_reports.specs.Reading.{Reading, Blank, Long, Syntax, Shape, Says}
-use Rattle.desk_reports.specs.Shown.{refusal, named_refusal}
-use Rattle.desk_serving.specs.Said.{resize_said}
-use Rattle.desk_serving.specs.Served.{Entry, of_none, of_name, of_client, texts_of, callers, has_lane, in_force, is_closed, requests_under, requests, number_after, answer, request_answer, task_answer, close_answer, resize_answer, model_answer}
+use Rattle.desk_wire.specs.Reading.{Reading, Blank, Long, Syntax, Shape, Says}
+use Rattle.desk_wire.specs.Reports.{Report, Refused, Of, client_on, report_text}
+use Rattle.desk_wire.specs.declared.report.Told.TheVariants as told
+use Rattle.desk_wire.specs.declared.word.Word.{Word}
+use Rattle.desk_wire.specs.declared.word.Word.TheVariants as word
+use Rattle.desk_serving.specs.Reports.{resize_told}
+use Rattle.desk_serving.specs.Script.{of_client, texts_of}
+use Rattle.desk_serving.specs.State.{callers, has_lane, in_force, is_closed, requests_under, requests, number_after}
+use Rattle.desk_serving.specs.Due.{answer, request_answer, task_answer, close_answer, resize_answer, model_answer}
 use Rattle.feel_value.specs.Distinct.{is_among}
-use Rattle.desk_serving.proofs.Owing.{same_name, name_itself, among_at, due_to_none, hands_none, hands_then_entry, length-unhanded}
+use Rattle.desk_serving.proofs.Owing.{same_name, name_itself, among_at, due_to_none, hands_none, hands_then_report, length-unhanded}
 use Rattle.desk_serving.proofs.Standing.{requests-other, requests-refused, requests-closed, requests-accepted, quiet, booked_same, booked_at, booked-set, due_to_quiet, stands_answered, stands_named}
 
 -- what a line that is heard comes to
-abbrev pub IsHeard : Reading Asked → List (Reading Asked) → List (List ℕ) → Option (List ℕ) → List Lane → List Entry → List ℕ → List ℕ → Type 0
+abbrev pub IsHeard : Reading Line → List (Reading Line) → List (List ℕ) → Option (List ℕ) → List Lane → List Report → List ℕ → List ℕ → Type 0
 IsHeard reading earlier names model lanes said text text' =
-    (more : List Entry) × (text' ≡ text ++ flat_map ended (texts_of more)) × Stands (reading ∷ earlier) (reading ∷ earlier) names model lanes (said ++ more)
+    (more : List Report) × (text' ≡ text ++ flat_map ended (texts_of more)) × Stands (reading ∷ earlier) (reading ∷ earlier) names model lanes (said ++ more)
 
-heard : (reading : Reading Asked) (earlier : List (Reading Asked)) (names : List (List ℕ)) (model model' : Option (List ℕ)) (lanes new : List Lane) (said : List Entry) (e : Entry) (text text' : List ℕ)
+heard : (reading : Reading Line) (earlier : List (Reading Line)) (names : List (List ℕ)) (model model' : Option (List ℕ)) (lanes new : List Lane) (said : List Report) (e : Report) (text text' : List ℕ)
     → Stands (reading ∷ earlier) earlier names model lanes said → HandsThen names lanes new e text text' → answer (length lanes) earlier reading ≡ e ∷ []
     → length new ≡ length lanes → model' ≡ in_force (reading ∷ earlier) → AreBooked names new (reading ∷ earlier)
     → IsHeard reading earlier names model' new said text text'
 heard reading earlier names model model' lanes new said e text text' s h is len force booked =
     (h.more, h.is, stands_answered reading earlier names model model' lanes new said h.more e s is h.owed len force booked)
 
--- a line that asks for no lane
-asks_none : (reading : Reading Asked) (earlier : List (Reading Asked)) (names : List (List ℕ)) (model : Option (List ℕ)) (lanes : List Lane) (said : List Entry)
+-- a line that needs no lane
+needs_none : (reading : Reading Line) (earlier : List (Reading Line)) (names : List (List ℕ)) (model : Option (List ℕ)) (lanes : List Lane) (said : List Report)
     → Stands earlier earlier names model lanes said → callers (reading ∷ earlier) ≡ callers earlier → Stands (reading ∷ earlier) earlier names model lanes said
-asks_none reading earlier names model lanes said s cs = record {
+needs_none reading earlier names model lanes said s cs = record {
   names = s.names ∙ ap (take (length lanes)) (sym cs);
   distinct = s.distinct;
   model = s.model;
@@ -45,7 +49,7 @@ asks_none reading earlier names model lanes said s cs = record {
 
 -- ## Blank lines, and lines that are none
 
-pub heard_blank : (earlier : List (Reading Asked)) (names : List (List ℕ)) (model : Option (List ℕ)) (lanes : List Lane) (said : List Entry) (text : List ℕ)
+pub heard_blank : (earlier : List (Reading Line)) (names : List (List ℕ)) (model : Option (List ℕ)) (lanes : List Lane) (said : List Report) (text : List ℕ)
     → Stands earlier earlier names model lanes said → IsHeard Blank earlier names model lanes said text text
 heard_blank earlier names model lanes said text s = (
   [],
@@ -60,61 +64,61 @@ heard_blank earlier names model lanes said text s = (
 )
 
 -- such a line tells nothing of any client and leaves the model
-abbrev pub IsNone : Reading Asked → List ℕ → Type 0
-IsNone Blank word = ⊥
-IsNone Long word = word ≡ codes "long"
-IsNone Syntax word = word ≡ codes "syntax"
-IsNone Shape word = word ≡ codes "shape"
-IsNone (Says asked) word = ⊥
+abbrev pub IsNone : Reading Line → Word → Type 0
+IsNone Blank why = ⊥
+IsNone Long why = why ≡ word.Long
+IsNone Syntax why = why ≡ word.Syntax
+IsNone Shape why = why ≡ word.Shape
+IsNone (Says line) why = ⊥
 
-pub heard_none : (reading : Reading Asked) (word : List ℕ) (k : ℕ) (d : Data) (earlier : List (Reading Asked)) (names : List (List ℕ)) (model : Option (List ℕ)) (lanes : List Lane) (said : List Entry) (text text' : List ℕ)
-    → IsNone reading word → Stands earlier earlier names model lanes said → k ≡ number_after earlier → d ≡ refusal k word → text' ≡ text ++ ended (compact_text d)
+pub heard_none : (reading : Reading Line) (why : Word) (k : ℕ) (earlier : List (Reading Line)) (names : List (List ℕ)) (model : Option (List ℕ)) (lanes : List Lane) (said : List Report) (text text' : List ℕ)
+    → IsNone reading why → Stands earlier earlier names model lanes said → k ≡ number_after earlier → text' ≡ text ++ ended (report_text (Refused k why))
     → IsHeard reading earlier names model lanes said text text'
-heard_none Blank word k d earlier names model lanes said text text' none s num v is = absurd none
-heard_none Long word k d earlier names model lanes said text text' none s num v is =
-    heard Long earlier names model model lanes lanes said (of_none d) text text' (asks_none Long earlier names model lanes said s refl)
-    (hands_then_entry names lanes lanes (of_none d) text text text' (hands_none names lanes text) refl is)
-    (ap (λ x. of_none x ∷ []) (sym (v ∙ ap (λ j. refusal j word) num ∙ ap (refusal (number_after earlier)) none)))
+heard_none Blank why k earlier names model lanes said text text' none s num is = absurd none
+heard_none Long why k earlier names model lanes said text text' none s num is =
+    heard Long earlier names model model lanes lanes said (Refused k why) text text' (needs_none Long earlier names model lanes said s refl)
+    (hands_then_report names lanes lanes (Refused k why) text text text' (hands_none names lanes text) refl is)
+    (sym (ap (λ j. Refused j why ∷ []) num ∙ ap (λ w. Refused (number_after earlier) w ∷ []) none))
     refl s.model (booked_same names lanes lanes earlier (Long ∷ earlier) refl s.booked (λ m among. (refl, refl)))
-heard_none Syntax word k d earlier names model lanes said text text' none s num v is =
-    heard Syntax earlier names model model lanes lanes said (of_none d) text text' (asks_none Syntax earlier names model lanes said s refl)
-    (hands_then_entry names lanes lanes (of_none d) text text text' (hands_none names lanes text) refl is)
-    (ap (λ x. of_none x ∷ []) (sym (v ∙ ap (λ j. refusal j word) num ∙ ap (refusal (number_after earlier)) none)))
+heard_none Syntax why k earlier names model lanes said text text' none s num is =
+    heard Syntax earlier names model model lanes lanes said (Refused k why) text text' (needs_none Syntax earlier names model lanes said s refl)
+    (hands_then_report names lanes lanes (Refused k why) text text text' (hands_none names lanes text) refl is)
+    (sym (ap (λ j. Refused j why ∷ []) num ∙ ap (λ w. Refused (number_after earlier) w ∷ []) none))
     refl s.model (booked_same names lanes lanes earlier (Syntax ∷ earlier) refl s.booked (λ m among. (refl, refl)))
-heard_none Shape word k d earlier names model lanes said text text' none s num v is =
-    heard Shape earlier names model model lanes lanes said (of_none d) text text' (asks_none Shape earlier names model lanes said s refl)
-    (hands_then_entry names lanes lanes (of_none d) text text text' (hands_none names lanes text) refl is)
-    (ap (λ x. of_none x ∷ []) (sym (v ∙ ap (λ j. refusal j word) num ∙ ap (refusal (number_after earlier)) none)))
+heard_none Shape why k earlier names model lanes said text text' none s num is =
+    heard Shape earlier names model model lanes lanes said (Refused k why) text text' (needs_none Shape earlier names model lanes said s refl)
+    (hands_then_report names lanes lanes (Refused k why) text text text' (hands_none names lanes text) refl is)
+    (sym (ap (λ j. Refused j why ∷ []) num ∙ ap (λ w. Refused (number_after earlier) w ∷ []) none))
     refl s.model (booked_same names lanes lanes earlier (Shape ∷ earlier) refl s.booked (λ m among. (refl, refl)))
-heard_none (Says asked) word k d earlier names model lanes said text text' none s num v is = absurd none
+heard_none (Says line) why k earlier names model lanes said text text' none s num is = absurd none
 
 -- ## Models
 
-pub heard_model : (json : Data) (k : ℕ) (d : Data) (earlier : List (Reading Asked)) (names : List (List ℕ)) (model model' : Option (List ℕ)) (lanes : List Lane) (said : List Entry) (text text' : List ℕ)
-    → Stands earlier earlier names model lanes said → k ≡ number_after earlier → d ≡ model_answer k (read_model json) → text' ≡ text ++ ended (compact_text d)
+pub heard_model : (json : Data) (k : ℕ) (e : Report) (earlier : List (Reading Line)) (names : List (List ℕ)) (model model' : Option (List ℕ)) (lanes : List Lane) (said : List Report) (text text' : List ℕ)
+    → Stands earlier earlier names model lanes said → k ≡ number_after earlier → client_on e ≡ None → e ≡ model_answer k (read_model json) → text' ≡ text ++ ended (report_text e)
     → model' ≡ in_force (Says (Model json) ∷ earlier) → IsHeard (Says (Model json)) earlier names model' lanes said text text'
-heard_model json k d earlier names model model' lanes said text text' s num v is force =
-    heard (Says (Model json)) earlier names model model' lanes lanes said (of_none d) text text' (asks_none (Says (Model json)) earlier names model lanes said s refl)
-    (hands_then_entry names lanes lanes (of_none d) text text text' (hands_none names lanes text) refl is)
-    (ap (λ x. of_none x ∷ []) (sym (v ∙ ap (λ j. model_answer j (read_model json)) num)))
+heard_model json k e earlier names model model' lanes said text text' s num none v is force =
+    heard (Says (Model json)) earlier names model model' lanes lanes said e text text' (needs_none (Says (Model json)) earlier names model lanes said s refl)
+    (hands_then_report names lanes lanes e text text text' (hands_none names lanes text) (ap (λ (who : Option (List ℕ)). due_to who names lanes) none) is)
+    (ap (λ x. x ∷ []) (sym (v ∙ ap (λ j. model_answer j (read_model json)) num)))
     refl force (booked_same names lanes lanes earlier (Says (Model json) ∷ earlier) refl s.booked (λ m among. (refl, refl)))
 
 -- ## Requests
 
 -- no model is in force
-pub heard_no_model : (n s : List ℕ) (i : Data) (k : ℕ) (d : Data) (earlier : List (Reading Asked)) (names : List (List ℕ)) (model : Option (List ℕ)) (lanes : List Lane) (said : List Entry) (text text' : List ℕ)
-    → Stands earlier earlier names model lanes said → model ≡ None → k ≡ number_after earlier → d ≡ named_refusal n k (codes "model") → text' ≡ text ++ ended (compact_text d)
+pub heard_no_model : (n s : List ℕ) (i : Data) (k : ℕ) (earlier : List (Reading Line)) (names : List (List ℕ)) (model : Option (List ℕ)) (lanes : List Lane) (said : List Report) (text text' : List ℕ)
+    → Stands earlier earlier names model lanes said → model ≡ None → k ≡ number_after earlier → text' ≡ text ++ ended (report_text (Of n k (told.Refused word.Model)))
     → IsHeard (Says (Request n s i)) earlier names model lanes said text text'
-heard_no_model n s i k d earlier names model lanes said text text' st none num v is =
-    let reading = Says (Request n s i) in
+heard_no_model n s i k earlier names model lanes said text text' st none num is =
+    let reading = Says (Request n s i) in let e = Of n k (told.Refused word.Model) in
     let out : in_force earlier ≡ None = sym st.model ∙ none in
-    heard reading earlier names model model lanes lanes said (of_name n d) text text' (asks_none reading earlier names model lanes said st (rw out refl))
-    (hands_then_entry names lanes lanes (of_name n d) text text text' (hands_none names lanes text) (due_to_quiet n names lanes earlier st.booked (quiet n earlier out)) is)
-    (rw out (ap (λ x. of_name n x ∷ []) (sym (v ∙ ap (λ j. named_refusal n j (codes "model")) num))))
+    heard reading earlier names model model lanes lanes said e text text' (needs_none reading earlier names model lanes said st (rw out refl))
+    (hands_then_report names lanes lanes e text text text' (hands_none names lanes text) (due_to_quiet n names lanes earlier st.booked (quiet n earlier out)) is)
+    (rw out (ap (λ j. Of n j (told.Refused word.Model) ∷ []) (sym num)))
     refl st.model (booked_same names lanes lanes earlier (reading ∷ earlier) refl st.booked (λ m among. (requests-refused m n s i earlier (rw out refl), refl)))
 
 -- the line's name got a lane, if there was one
-pub named_request : (n s : List ℕ) (i : Data) (t : List ℕ) (earlier : List (Reading Asked)) (names names' : List (List ℕ)) (model : Option (List ℕ)) (lanes : List Lane) (said : List Entry)
+pub named_request : (n s : List ℕ) (i : Data) (t : List ℕ) (earlier : List (Reading Line)) (names names' : List (List ℕ)) (model : Option (List ℕ)) (lanes : List Lane) (said : List Report)
     → Stands earlier earlier names model lanes said → model ≡ Some t → names' ≡ with_lane (length lanes) n names → Stands (Says (Request n s i) ∷ earlier) earlier names' model lanes said
 named_request n s i t earlier names names' model lanes said st some is =
     let out : in_force earlier ≡ Some t = sym st.model ∙ some in
@@ -127,48 +131,47 @@ apart n m names true e absent among =
 apart n m names false e absent among = e
 
 -- no lane is left
-pub heard_no_lane : (n s : List ℕ) (i : Data) (t : List ℕ) (k : ℕ) (d : Data) (earlier : List (Reading Asked)) (names : List (List ℕ)) (model : Option (List ℕ)) (lanes : List Lane) (said : List Entry) (text text' : List ℕ)
+pub heard_no_lane : (n s : List ℕ) (i : Data) (t : List ℕ) (k : ℕ) (earlier : List (Reading Line)) (names : List (List ℕ)) (model : Option (List ℕ)) (lanes : List Lane) (said : List Report) (text text' : List ℕ)
     → Stands (Says (Request n s i) ∷ earlier) earlier names model lanes said → model ≡ Some t → is_among names n ≡ false → k ≡ number_after earlier
-    → d ≡ named_refusal n k (codes "clients") → text' ≡ text ++ ended (compact_text d) → IsHeard (Says (Request n s i)) earlier names model lanes said text text'
-heard_no_lane n s i t k d earlier names model lanes said text text' st some absent num v is =
-    let reading = Says (Request n s i) in
+    → text' ≡ text ++ ended (report_text (Of n k (told.Refused word.Clients))) → IsHeard (Says (Request n s i)) earlier names model lanes said text text'
+heard_no_lane n s i t k earlier names model lanes said text text' st some absent num is =
+    let reading = Says (Request n s i) in let e = Of n k (told.Refused word.Clients) in
     let out : in_force earlier ≡ Some t = sym st.model ∙ some in
     let lane : has_lane (length lanes) (reading ∷ earlier) n ≡ false = ap (λ ns. is_among ns n) (sym st.names) ∙ absent in
-    heard reading earlier names model model lanes lanes said (of_name n d) text text' st
-    (hands_then_entry names lanes lanes (of_name n d) text text text' (hands_none names lanes text) (due_to_none n names lanes absent) is)
-    (ap (λ b. of_name n (request_answer (number_after earlier) n (in_force earlier) b (is_closed n earlier) (length (requests n earlier)) s i) ∷ []) lane
-    ∙ ap (λ o. of_name n (request_answer (number_after earlier) n o false (is_closed n earlier) (length (requests n earlier)) s i) ∷ []) out
-    ∙ ap (λ x. of_name n x ∷ []) (sym (v ∙ ap (λ j. named_refusal n j (codes "clients")) num)))
+    heard reading earlier names model model lanes lanes said e text text' st
+    (hands_then_report names lanes lanes e text text text' (hands_none names lanes text) (due_to_none n names lanes absent) is)
+    (ap (λ b. request_answer (number_after earlier) n (in_force earlier) b (is_closed n earlier) (length (requests n earlier)) s i ∷ []) lane
+    ∙ ap (λ o. request_answer (number_after earlier) n o false (is_closed n earlier) (length (requests n earlier)) s i ∷ []) out
+    ∙ ap (λ j. Of n j (told.Refused word.Clients) ∷ []) (sym num))
     refl st.model (booked_same names lanes lanes earlier (reading ∷ earlier) refl st.booked
     (λ m among. (requests-other m n s i earlier (apart n m names (bytes_eq n m) refl absent among), refl)))
 
 -- the name has a lane, and this is the answer there
-pub heard_task : (n s : List ℕ) (i : Data) (t : List ℕ) (k : ℕ) (d : Data) (earlier : List (Reading Asked)) (names : List (List ℕ)) (model : Option (List ℕ)) (lanes new : List Lane) (said : List Entry) (text text' : List ℕ)
+pub heard_task : (n s : List ℕ) (i : Data) (t : List ℕ) (k : ℕ) (e : Report) (earlier : List (Reading Line)) (names : List (List ℕ)) (model : Option (List ℕ)) (lanes new : List Lane) (said : List Report) (text text' : List ℕ)
     → Stands (Says (Request n s i) ∷ earlier) earlier names model lanes said → model ≡ Some t → is_among names n ≡ true → k ≡ number_after earlier
-    → d ≡ task_answer k n (is_closed n earlier) (length (requests n earlier)) (plan.request_of t s i) → HandsThen names lanes new (of_name n d) text text'
+    → e ≡ task_answer k n (is_closed n earlier) (length (requests n earlier)) (plan.request_of t s i) → HandsThen names lanes new e text text'
     → length new ≡ length lanes → AreBooked names new (Says (Request n s i) ∷ earlier) → IsHeard (Says (Request n s i)) earlier names model new said text text'
-heard_task n s i t k d earlier names model lanes new said text text' st some inside num v h len booked =
+heard_task n s i t k e earlier names model lanes new said text text' st some inside num v h len booked =
     let reading = Says (Request n s i) in
     let out : in_force earlier ≡ Some t = sym st.model ∙ some in
     let lane : has_lane (length lanes) (reading ∷ earlier) n ≡ true = ap (λ ns. is_among ns n) (sym st.names) ∙ inside in
-    heard reading earlier names model model lanes new said (of_name n d) text text' st h
-    (ap (λ b. of_name n (request_answer (number_after earlier) n (in_force earlier) b (is_closed n earlier) (length (requests n earlier)) s i) ∷ []) lane
-    ∙ ap (λ o. of_name n (request_answer (number_after earlier) n o true (is_closed n earlier) (length (requests n earlier)) s i) ∷ []) out
-    ∙ ap (λ x. of_name n x ∷ []) (sym (v ∙ ap (λ j. task_answer j n (is_closed n earlier) (length (requests n earlier)) (plan.request_of t s i)) num)))
+    heard reading earlier names model model lanes new said e text text' st h
+    (ap (λ b. request_answer (number_after earlier) n (in_force earlier) b (is_closed n earlier) (length (requests n earlier)) s i ∷ []) lane
+    ∙ ap (λ o. request_answer (number_after earlier) n o true (is_closed n earlier) (length (requests n earlier)) s i ∷ []) out
+    ∙ ap (λ x. x ∷ []) (sym (v ∙ ap (λ j. task_answer j n (is_closed n earlier) (length (requests n earlier)) (plan.request_of t s i)) num)))
     len st.model booked
 
 -- there is no such task
-pub heard_no_task : (n s : List ℕ) (i : Data) (t : List ℕ) (k : ℕ) (d : Data) (f : TaskFault) (earlier : List (Reading Asked)) (names : List (List ℕ)) (model : Option (List ℕ)) (lanes new : List Lane) (said : List Entry) (text text' : List ℕ)
+pub heard_no_task : (n s : List ℕ) (i : Data) (t : List ℕ) (k : ℕ) (f : TaskFault) (earlier : List (Reading Line)) (names : List (List ℕ)) (model : Option (List ℕ)) (lanes new : List Lane) (said : List Report) (text text' : List ℕ)
     → Stands (Says (Request n s i) ∷ earlier) earlier names model lanes said → model ≡ Some t → is_among names n ≡ true → k ≡ number_after earlier
-    → plan.request_of t s i ≡ Err f → d ≡ named_refusal n k (line_word (line_refusal f)) → HandsThen names lanes new (of_name n d) text text'
-    → unhanded new ≡ unhanded lanes → IsHeard (Says (Request n s i)) earlier names model new said text text'
-heard_no_task n s i t k d f earlier names model lanes new said text text' st some inside num bad v h same =
+    → plan.request_of t s i ≡ Err f → HandsThen names lanes new (Of n k (told.Refused (task_fault_word f))) text text' → unhanded new ≡ unhanded lanes → IsHeard (Says (Request n s i)) earlier names model new said text text'
+heard_no_task n s i t k f earlier names model lanes new said text text' st some inside num bad h same =
     let out : in_force earlier ≡ Some t = sym st.model ∙ some in
-    heard_task n s i t k d earlier names model lanes new said text text' st some inside num
-    (v ∙ ap (task_answer k n (is_closed n earlier) (length (requests n earlier))) (sym bad)) h (length-unhanded new lanes same)
+    heard_task n s i t k (Of n k (told.Refused (task_fault_word f))) earlier names model lanes new said text text' st some inside num
+    (ap (task_answer k n (is_closed n earlier) (length (requests n earlier))) (sym bad)) h (length-unhanded new lanes same)
     (booked_same names lanes new earlier (Says (Request n s i) ∷ earlier) same st.booked (λ m among. (requests-refused m n s i earlier (rw (out, bad) refl), refl)))
 
-closed_requests : (m n s : List ℕ) (i : Data) (earlier : List (Reading Asked)) (b : Bool) → is_closed n earlier ≡ true → bytes_eq n m ≡ b → requests m (Says (Request n s i) ∷ earlier) ≡ requests m earlier
+closed_requests : (m n s : List ℕ) (i : Data) (earlier : List (Reading Line)) (b : Bool) → is_closed n earlier ≡ true → bytes_eq n m ≡ b → requests m (Says (Request n s i) ∷ earlier) ≡ requests m earlier
 closed_requests m n s i earlier true h e = subst (λ j. requests j (Says (Request n s i) ∷ earlier) ≡ requests j earlier) (same_name n m e) (requests-closed n s i earlier h)
 closed_requests m n s i earlier false h e = requests-other m n s i earlier e
 
@@ -183,7 +186,7 @@ set_same (x ∷ lanes) zero lane h = let is : x ≡ lane = cc in ap (λ y. y ∷
 set_same (x ∷ lanes) (suc c) lane h = ap (λ t. x ∷ t) (set_same lanes c lane h)
 
 -- the request is put into its lane, unless that is closed
-put_booked : (n s : List ℕ) (i : Data) (earlier : List (Reading Asked)) (names : List (List ℕ)) (lanes new : List Lane) (c : ℕ) (lane : Lane) (q : plan.Request) (b : Bool) → AreDistinct names
+put_booked : (n s : List ℕ) (i : Data) (earlier : List (Reading Line)) (names : List (List ℕ)) (lanes new : List Lane) (c : ℕ) (lane : Lane) (q : plan.Request) (b : Bool) → AreDistinct names
     → AreBooked names lanes earlier → slice_get names c ≡ Some n → slice_get lanes c ≡ Some lane → lane.closed ≡ b → requests_under (in_force earlier) s i ≡ q ∷ []
     → unhanded new ≡ unhanded (slice_set lanes c (with_put_if lane q)) → AreBooked names new (Says (Request n s i) ∷ earlier)
 put_booked n s i earlier names lanes new c lane q true dis b at la closed good same =
@@ -199,63 +202,63 @@ put_booked n s i earlier names lanes new c lane q false dis b at la closed good 
     (ap (λ qs. qs ++ q ∷ []) book.0 ∙ sym (requests-accepted n s i earlier q open_yet good)) book.1
     (λ m far. (requests-other m n s i earlier far, refl))
 
-pub heard_put : (n s : List ℕ) (i : Data) (t : List ℕ) (k c : ℕ) (d : Data) (q : plan.Request) (earlier : List (Reading Asked)) (names : List (List ℕ)) (model : Option (List ℕ)) (lanes new : List Lane) (lane : Lane) (said : List Entry) (text text' : List ℕ)
+pub heard_put : (n s : List ℕ) (i : Data) (t : List ℕ) (k c : ℕ) (q : plan.Request) (earlier : List (Reading Line)) (names : List (List ℕ)) (model : Option (List ℕ)) (lanes new : List Lane) (lane : Lane) (said : List Report) (text text' : List ℕ)
     → Stands (Says (Request n s i) ∷ earlier) earlier names model lanes said → model ≡ Some t → slice_get names c ≡ Some n → slice_get lanes c ≡ Some lane → k ≡ number_after earlier
-    → plan.request_of t s i ≡ Ok q → d ≡ task_answer k n lane.closed (length lane.put) (Ok q) → HandsThen names lanes new (of_name n d) text text'
+    → plan.request_of t s i ≡ Ok q → HandsThen names lanes new (task_answer k n lane.closed (length lane.put) (Ok q)) text text'
     → unhanded new ≡ unhanded (slice_set lanes c (with_put_if lane q)) → IsHeard (Says (Request n s i)) earlier names model new said text text'
-heard_put n s i t k c d q earlier names model lanes new lane said text text' st some at la num good v h same =
+heard_put n s i t k c q earlier names model lanes new lane said text text' st some at la num good h same =
     let out : in_force earlier ≡ Some t = sym st.model ∙ some in
     let book = booked_at names lanes earlier c n lane st.booked at la in
-    heard_task n s i t k d earlier names model lanes new said text text' st some (among_at n names c at) num
-    (v ∙ ap (λ b. task_answer k n b (length lane.put) (Ok q)) book.1 ∙ ap (λ qs. task_answer k n (is_closed n earlier) (length qs) (Ok q)) book.0
+    heard_task n s i t k (task_answer k n lane.closed (length lane.put) (Ok q)) earlier names model lanes new said text text' st some (among_at n names c at) num
+    (ap (λ b. task_answer k n b (length lane.put) (Ok q)) book.1 ∙ ap (λ qs. task_answer k n (is_closed n earlier) (length qs) (Ok q)) book.0
     ∙ ap (task_answer k n (is_closed n earlier) (length (requests n earlier))) (sym good))
     h (length-unhanded new (slice_set lanes c (with_put_if lane q)) same ∙ length-set lanes c (with_put_if lane q))
     (put_booked n s i earlier names lanes new c lane q lane.closed st.distinct st.booked at la refl (rw (out, good) refl) same)
 
 -- ## Closes
 
-pub named_close : (n : List ℕ) (earlier : List (Reading Asked)) (names names' : List (List ℕ)) (model : Option (List ℕ)) (lanes : List Lane) (said : List Entry)
+pub named_close : (n : List ℕ) (earlier : List (Reading Line)) (names names' : List (List ℕ)) (model : Option (List ℕ)) (lanes : List Lane) (said : List Report)
     → Stands earlier earlier names model lanes said → names' ≡ with_lane (length lanes) n names → Stands (Says (Close n) ∷ earlier) earlier names' model lanes said
 named_close n earlier names names' model lanes said st is = stands_named n (Says (Close n)) earlier names names' model lanes said st refl is
 
-closed-other : (m n : List ℕ) (earlier : List (Reading Asked)) → bytes_eq n m ≡ false → is_closed m (Says (Close n) ∷ earlier) ≡ is_closed m earlier
+closed-other : (m n : List ℕ) (earlier : List (Reading Line)) → bytes_eq n m ≡ false → is_closed m (Says (Close n) ∷ earlier) ≡ is_closed m earlier
 closed-other m n earlier e = rw e refl
 
-closed-own : (n : List ℕ) (earlier : List (Reading Asked)) → is_closed n (Says (Close n) ∷ earlier) ≡ true
+closed-own : (n : List ℕ) (earlier : List (Reading Line)) → is_closed n (Says (Close n) ∷ earlier) ≡ true
 closed-own n earlier = rw (name_itself n) refl
 
-pub heard_close_no_lane : (n : List ℕ) (k : ℕ) (d : Data) (earlier : List (Reading Asked)) (names : List (List ℕ)) (model : Option (List ℕ)) (lanes : List Lane) (said : List Entry) (text text' : List ℕ)
+pub heard_close_no_lane : (n : List ℕ) (k : ℕ) (earlier : List (Reading Line)) (names : List (List ℕ)) (model : Option (List ℕ)) (lanes : List Lane) (said : List Report) (text text' : List ℕ)
     → Stands (Says (Close n) ∷ earlier) earlier names model lanes said → is_among names n ≡ false → k ≡ number_after earlier
-    → d ≡ named_refusal n k (codes "clients") → text' ≡ text ++ ended (compact_text d) → IsHeard (Says (Close n)) earlier names model lanes said text text'
-heard_close_no_lane n k d earlier names model lanes said text text' st absent num v is =
-    let reading = Says (Close n) in
+    → text' ≡ text ++ ended (report_text (Of n k (told.Refused word.Clients))) → IsHeard (Says (Close n)) earlier names model lanes said text text'
+heard_close_no_lane n k earlier names model lanes said text text' st absent num is =
+    let reading = Says (Close n) in let e = Of n k (told.Refused word.Clients) in
     let lane : has_lane (length lanes) (reading ∷ earlier) n ≡ false = ap (λ ns. is_among ns n) (sym st.names) ∙ absent in
-    heard reading earlier names model model lanes lanes said (of_name n d) text text' st
-    (hands_then_entry names lanes lanes (of_name n d) text text text' (hands_none names lanes text) (due_to_none n names lanes absent) is)
-    (ap (λ b. of_name n (close_answer (number_after earlier) n b (is_closed n earlier)) ∷ []) lane
-    ∙ ap (λ x. of_name n x ∷ []) (sym (v ∙ ap (λ j. named_refusal n j (codes "clients")) num)))
+    heard reading earlier names model model lanes lanes said e text text' st
+    (hands_then_report names lanes lanes e text text text' (hands_none names lanes text) (due_to_none n names lanes absent) is)
+    (ap (λ b. close_answer (number_after earlier) n b (is_closed n earlier) ∷ []) lane
+    ∙ ap (λ j. Of n j (told.Refused word.Clients) ∷ []) (sym num))
     refl st.model (booked_same names lanes lanes earlier (reading ∷ earlier) refl st.booked
     (λ m among. (refl, closed-other m n earlier (apart n m names (bytes_eq n m) refl absent among))))
 
 -- the lane is closed, and then its earlier results are handed out
-pub heard_close : (n : List ℕ) (k c : ℕ) (d : Data) (earlier : List (Reading Asked)) (names : List (List ℕ)) (model : Option (List ℕ)) (lanes mid new : List Lane) (lane : Lane) (said : List Entry) (text text' : List ℕ)
+pub heard_close : (n : List ℕ) (k c : ℕ) (e : Report) (earlier : List (Reading Line)) (names : List (List ℕ)) (model : Option (List ℕ)) (lanes mid new : List Lane) (lane : Lane) (said : List Report) (text text' : List ℕ)
     → Stands (Says (Close n) ∷ earlier) earlier names model lanes said → slice_get names c ≡ Some n → slice_get lanes c ≡ Some lane → k ≡ number_after earlier
-    → d ≡ close_answer k n true lane.closed → mid ≡ slice_set lanes c (with_closed lane) → unhanded new ≡ unhanded mid
+    → e ≡ close_answer k n true lane.closed → mid ≡ slice_set lanes c (with_closed lane) → unhanded new ≡ unhanded mid
     → ((who : Option (List ℕ)) → due_to who names mid ≡ due_to who names lanes)
-    → HandsThen names mid new (of_name n d) text text' → IsHeard (Says (Close n)) earlier names model new said text text'
-heard_close n k c d earlier names model lanes mid new lane said text text' st at la num v is same owes h =
+    → HandsThen names mid new e text text' → IsHeard (Says (Close n)) earlier names model new said text text'
+heard_close n k c e earlier names model lanes mid new lane said text text' st at la num v is same owes h =
     let reading = Says (Close n) in
     let book = booked_at names lanes earlier c n lane st.booked at la in
     let inside : has_lane (length lanes) (reading ∷ earlier) n ≡ true = ap (λ ns. is_among ns n) (sym st.names) ∙ among_at n names c at in
-    let h' : HandsThen names lanes new (of_name n d) text text' = record {
+    let h' : HandsThen names lanes new e text text' = record {
       more = h.more;
       is = h.is;
-      owed = λ who. h.owed who ∙ ap (λ t. t ++ of_client who (of_name n d ∷ [])) (owes who);
+      owed = λ who. h.owed who ∙ ap (λ t. t ++ of_client who (e ∷ [])) (owes who);
     } in
     let lanes_are : unhanded new ≡ unhanded (slice_set lanes c (with_closed lane)) = same ∙ ap unhanded is in
-    heard reading earlier names model model lanes new said (of_name n d) text text' st h'
-    (ap (λ b. of_name n (close_answer (number_after earlier) n b (is_closed n earlier)) ∷ []) inside
-    ∙ ap (λ x. of_name n x ∷ []) (sym (v ∙ ap (λ j. close_answer j n true lane.closed) num ∙ ap (close_answer (number_after earlier) n true) book.1)))
+    heard reading earlier names model model lanes new said e text text' st h'
+    (ap (λ b. close_answer (number_after earlier) n b (is_closed n earlier) ∷ []) inside
+    ∙ ap (λ x. x ∷ []) (sym (v ∙ ap (λ j. close_answer j n true lane.closed) num ∙ ap (close_answer (number_after earlier) n true) book.1)))
     (length-unhanded new (slice_set lanes c (with_closed lane)) lanes_are ∙ length-set lanes c (with_closed lane)) st.model
     (booked-set names lanes new earlier (reading ∷ earlier) c n (with_closed lane) st.distinct st.booked at lanes_are book.0 (sym (closed-own n earlier))
     (λ m far. (refl, closed-other m n earlier far)))
@@ -273,42 +276,42 @@ due_to_closed names lanes c lane la (Some m) = due_to_closed_name m names lanes 
 
 -- ## Resizes
 
-pub named_resize : (n : List ℕ) (size : ℕ) (earlier : List (Reading Asked)) (names names' : List (List ℕ)) (model : Option (List ℕ)) (lanes : List Lane) (said : List Entry)
+pub named_resize : (n : List ℕ) (size : ℕ) (earlier : List (Reading Line)) (names names' : List (List ℕ)) (model : Option (List ℕ)) (lanes : List Lane) (said : List Report)
     → Stands earlier earlier names model lanes said → names' ≡ with_lane (length lanes) n names → Stands (Says (Resize n size) ∷ earlier) earlier names' model lanes said
 named_resize n size earlier names names' model lanes said st is = stands_named n (Says (Resize n size)) earlier names names' model lanes said st refl is
 
-pub heard_resize_no_lane : (n : List ℕ) (size k : ℕ) (d : Data) (earlier : List (Reading Asked)) (names : List (List ℕ)) (model : Option (List ℕ)) (lanes : List Lane) (said : List Entry) (text text' : List ℕ)
+pub heard_resize_no_lane : (n : List ℕ) (size k : ℕ) (earlier : List (Reading Line)) (names : List (List ℕ)) (model : Option (List ℕ)) (lanes : List Lane) (said : List Report) (text text' : List ℕ)
     → Stands (Says (Resize n size) ∷ earlier) earlier names model lanes said → is_among names n ≡ false → k ≡ number_after earlier
-    → d ≡ named_refusal n k (codes "clients") → text' ≡ text ++ ended (compact_text d) → IsHeard (Says (Resize n size)) earlier names model lanes said text text'
-heard_resize_no_lane n size k d earlier names model lanes said text text' st absent num v is =
-    let reading = Says (Resize n size) in
+    → text' ≡ text ++ ended (report_text (Of n k (told.Refused word.Clients))) → IsHeard (Says (Resize n size)) earlier names model lanes said text text'
+heard_resize_no_lane n size k earlier names model lanes said text text' st absent num is =
+    let reading = Says (Resize n size) in let e = Of n k (told.Refused word.Clients) in
     let lane : has_lane (length lanes) (reading ∷ earlier) n ≡ false = ap (λ ns. is_among ns n) (sym st.names) ∙ absent in
-    heard reading earlier names model model lanes lanes said (of_name n d) text text' st
-    (hands_then_entry names lanes lanes (of_name n d) text text text' (hands_none names lanes text) (due_to_none n names lanes absent) is)
-    (ap (λ b. of_name n (resize_answer (number_after earlier) n size b (is_closed n earlier)) ∷ []) lane
-    ∙ ap (λ x. of_name n x ∷ []) (sym (v ∙ ap (λ j. named_refusal n j (codes "clients")) num)))
+    heard reading earlier names model model lanes lanes said e text text' st
+    (hands_then_report names lanes lanes e text text text' (hands_none names lanes text) (due_to_none n names lanes absent) is)
+    (ap (λ b. resize_answer (number_after earlier) n size b (is_closed n earlier) ∷ []) lane
+    ∙ ap (λ j. Of n j (told.Refused word.Clients) ∷ []) (sym num))
     refl st.model (booked_same names lanes lanes earlier (reading ∷ earlier) refl st.booked (λ m among. (refl, refl)))
 
 not_less : (size : ℕ) (b : Bool) → nat_lt size 0 ≡ b → b ≡ false
 not_less size true e = let less : size < 0 = ltb-true size 0 e in absurd (omega (arith, less))
 not_less size false e = refl
 
-resize_by : (k : ℕ) (n : List ℕ) (size : ℕ) (closed none : Bool) → is_no_capacity size ≡ none → resize_said k n size (resize_refusal_by closed 0 0 size) ≡ resize_answer k n size true closed
+resize_by : (k : ℕ) (n : List ℕ) (size : ℕ) (closed none : Bool) → is_no_capacity size ≡ none → Of n k (resize_told size (resize_refusal_by closed 0 0 size)) ≡ resize_answer k n size true closed
 resize_by k n size true none e = refl
 resize_by k n size false true e = rw e refl
 resize_by k n size false false e = rw (e, not_less size (nat_lt size 0) refl) refl
 
-pub heard_resize : (n : List ℕ) (size k c : ℕ) (d : Data) (earlier : List (Reading Asked)) (names : List (List ℕ)) (model : Option (List ℕ)) (lanes new : List Lane) (lane : Lane) (said : List Entry) (text text' : List ℕ)
+pub heard_resize : (n : List ℕ) (size k c : ℕ) (e : Report) (earlier : List (Reading Line)) (names : List (List ℕ)) (model : Option (List ℕ)) (lanes new : List Lane) (lane : Lane) (said : List Report) (text text' : List ℕ)
     → Stands (Says (Resize n size) ∷ earlier) earlier names model lanes said → slice_get names c ≡ Some n → slice_get lanes c ≡ Some lane → k ≡ number_after earlier
-    → d ≡ resize_said k n size (resize_refusal_by lane.closed 0 0 size) → unhanded new ≡ unhanded lanes
-    → HandsThen names lanes new (of_name n d) text text' → IsHeard (Says (Resize n size)) earlier names model new said text text'
-heard_resize n size k c d earlier names model lanes new lane said text text' st at la num v same h =
+    → e ≡ Of n k (resize_told size (resize_refusal_by lane.closed 0 0 size)) → unhanded new ≡ unhanded lanes
+    → HandsThen names lanes new e text text' → IsHeard (Says (Resize n size)) earlier names model new said text text'
+heard_resize n size k c e earlier names model lanes new lane said text text' st at la num v same h =
     let reading = Says (Resize n size) in
     let book = booked_at names lanes earlier c n lane st.booked at la in
     let inside : has_lane (length lanes) (reading ∷ earlier) n ≡ true = ap (λ ns. is_among ns n) (sym st.names) ∙ among_at n names c at in
-    heard reading earlier names model model lanes new said (of_name n d) text text' st h
-    (ap (λ b. of_name n (resize_answer (number_after earlier) n size b (is_closed n earlier)) ∷ []) inside
-    ∙ ap (λ x. of_name n x ∷ []) (sym (v ∙ resize_by k n size lane.closed (is_no_capacity size) refl ∙ ap (λ j. resize_answer j n size true lane.closed) num
+    heard reading earlier names model model lanes new said e text text' st h
+    (ap (λ b. resize_answer (number_after earlier) n size b (is_closed n earlier) ∷ []) inside
+    ∙ ap (λ x. x ∷ []) (sym (v ∙ resize_by k n size lane.closed (is_no_capacity size) refl ∙ ap (λ j. resize_answer j n size true lane.closed) num
     ∙ ap (resize_answer (number_after earlier) n size true) book.1)))
     (length-unhanded new lanes same) st.model
     (booked_same names lanes new earlier (reading ∷ earlier) same st.booked (λ m among. (refl, refl)))

@@ -1,15 +1,16 @@
 -- How a run of the front ends.
 use Rattle.std.proofs.Common.{◌≡◌, ◌≢◌, ℕ, List, [], Option, Result, Ok, Err, OnOk, IfErr, ap, refl, inl, take, ◌∷◌, suc, map, arith}
-use Rattle.box_core.specs.declared.work.Work.{Ghosts}
 use Rattle.dmn_plan.specs.Request.{Request}
 use Rattle.feel_value.specs.declared.feel.Outcome.{Outcome}
+use Rattle.lanes.specs.Ends.{ClientEnd}
 use Rattle.lanes.specs.Books.{work_of}
 use Rattle.lanes.specs.Made.{AreNew}
-use Rattle.lanes.specs.declared.client.Client.{Client}
 use Rattle.desk_serving.specs.Owed.{AreBooked, lane_of}
-use Rattle.desk_serving.specs.Front.{GoesOn}
+use Rattle.desk_serving.specs.Running.{GoesOn}
+use Rattle.desk_lines.specs.Device.{Reader, Writer}
+use Rattle.desk_lines.specs.Ran.{Ran}
 use Rattle.desk_lines.specs.Lines.{lines_of, whole_lines_of, max_input}
-use Rattle.desk_serving.specs.Served.{ServedInPart}
+use Rattle.desk_serving.specs.Script.{ServedInPart}
 use Rattle.desk_lines.specs.Talk.{EndsAs, Ends, IsCut, Replays, Stops}
 use Rattle.desk_lines.specs.declared.fault.FrontFault.{FrontFault}
 use Rattle.desk_lines.specs.declared.fault.FrontFault.TheVariants.{Read, Write, Long, Memory}
@@ -20,6 +21,14 @@ module _ (Whole Part : List (List ℕ) → List (List ℕ) → Type 0) (left lef
       → Ends Whole Part left left' wrote wrote' r
   ends_of (Ok x) ok fault = ok
   ends_of (Err e) ok fault = fault
+
+  pub ok_of : {X : Type 0} (r : Result X FrontFault) → Ends Whole Part left left' wrote wrote' r → OnOk r (Replays Whole left left' wrote wrote')
+  ok_of (Ok x) ends = ends
+  ok_of (Err e) ends = tt
+
+  pub fault_of : {X : Type 0} (r : Result X FrontFault) → Ends Whole Part left left' wrote wrote' r → IfErr r (λ e. EndsAs Whole Part left left' wrote wrote' e)
+  fault_of (Ok x) ends = tt
+  fault_of (Err e) ends = ends
 
   -- the writer failed, or memory was refused
   pub ends_in_part : (e : FrontFault) → (e ≢ Read) × (e ≢ Long) → (e ≡ Write → IsCut Part left left' wrote wrote') → (e ≡ Memory → Stops Part left left' wrote wrote')
@@ -64,13 +73,26 @@ failed X e = Err e
 pub err_is : {X : Type 0} (x y : FrontFault) → failed X x ≡ failed X y → x ≡ y
 err_is x y h = cc
 
+-- memory was refused
+pub ran_stopped : (Whole Part : List (List ℕ) → List (List ℕ) → Type 0) (reader reader' : Reader) (writer writer' : Writer) {X : Type 0}
+    → Stops Part reader.remaining reader'.remaining writer.contents writer'.contents → Ran Whole Part reader reader' writer writer' (failed X Memory)
+ran_stopped Whole Part reader reader' writer writer' stops = record {
+  ok = tt;
+  fault = stops;
+  read_only_at_fault = λ e. let wrong : ⊥ = cc in absurd wrong;
+  write_only_at_fault = λ e. let wrong : ⊥ = cc in absurd wrong;
+  ok_without_fault = tt;
+  long_only_past_limit = λ e. let wrong : ⊥ = cc in absurd wrong;
+  ok_within_limit = tt;
+  read_within_limit = λ e. let wrong : ⊥ = cc in absurd wrong;
+}
+
 -- new lanes are booked where nothing was read
-module _ {g : Ghosts Request Outcome} where
-  pub new_booked : (capacity : ℕ) (clients : List (Client Request Outcome g)) → AreNew capacity clients → AreBooked [] (map (λ client. lane_of client) clients) []
-  new_booked capacity [] h = tt
-  new_booked capacity (x ∷ clients) h =
-      let first = h 0 x (omega arith) in
-      (ap (map work_of) first.0, ap (λ m. m.closed) first.2, new_booked capacity clients (λ k d lt. h (suc k) d (omega (arith, lt))))
+pub new_booked : (capacity : ℕ) (clients : List (ClientEnd Request Outcome)) → AreNew capacity clients → AreBooked [] (map (λ client. lane_of client) clients) []
+new_booked capacity [] h = tt
+new_booked capacity (x ∷ clients) h =
+    let first = h 0 x (omega arith) in
+    (ap (map work_of) first.0, ap (λ m. m.closed) first.2, new_booked capacity clients (λ k d lt. h (suc k) d (omega (arith, lt))))
 
 -- where all lines heard were answered, there are such lines
 pub some_answered : {X : Type 0} (Whole Part : List (List ℕ) → List (List ℕ) → Type 0) (left left' wrote wrote' : Option (List ℕ)) (r : Result X FrontFault) → GoesOn r

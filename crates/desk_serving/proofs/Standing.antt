@@ -1,4 +1,4 @@
--- What a line makes of how the front stands.
+-- What a line makes of what stands between the lines.
 use Rattle.std.proofs.Common.{◌≡◌, ◌<◌, ◌≤◌, ℕ, zero, suc, Bool, true, false, not, List, [], ◌∷◌, ◌++◌, Option, Some, None, Result, Ok, Err, length, take, drop, slice_get, slice_set, if◌then◌else◌, ◌||◌, ◌&&◌, refl, sym, ap, ◌∙◌, arith, append_assoc, append-nil, subst}
 use Rattle.std.specs.Prelude.{bytes_eq, nat_le}
 use Rattle.std.proofs.lemmas.Bool.Decides.{nat_tests}
@@ -9,17 +9,20 @@ use Rattle.dmn_plan.specs.ReadModel.{read_model}
 use Rattle.dmn_plan.specs.Request as plan
 use Rattle.dmn_plan.specs.declared.fault.ModelFault.{ModelFault}
 use Rattle.dmn_plan.specs.declared.fault.TaskFault.{TaskFault}
-use Rattle.desk_serving.specs.Asked.{Asked, Model, Request, Close, Resize}
+use Rattle.desk_serving.specs.Line.{Line, Model, Request, Close, Resize}
 use Rattle.desk_serving.specs.Owed.{Lane, due, due_to, due_to_name, unhanded, AreDistinct, AreHanded, AreBooked, Stands, with_lane}
-use Rattle.desk_reports.specs.Reading.{Reading, Blank, Long, Syntax, Shape, Says}
-use Rattle.desk_serving.specs.Served.{Entry, of_client, with_one, with_requester, callers, names_with_lanes, in_force, newer_model, is_closed, ok_list, requests_under, requests, answer, answers}
+use Rattle.desk_wire.specs.Reading.{Reading, Blank, Long, Syntax, Shape, Says}
+use Rattle.desk_wire.specs.Reports.{Report}
+use Rattle.desk_serving.specs.Script.{of_client}
+use Rattle.desk_serving.specs.State.{with_one, with_requester, callers, names_with_lanes, in_force, newer_model, is_closed, ok_list, requests_under, requests}
+use Rattle.desk_serving.specs.Due.{answer, answers}
 use Rattle.feel_value.specs.Distinct.{is_among}
 use Rattle.desk_serving.proofs.Owing.{same_name, name_itself, turned_name, or_true, or_false, not_among_at, of_client-append, due-whole, stripped, length-unhanded}
 
 -- ## Requests and closes
 
 -- a line that is no request of this name adds none
-pub requests-other : (m n s : List ℕ) (i : Data) (earlier : List (Reading Asked)) → bytes_eq n m ≡ false → requests m (Says (Request n s i) ∷ earlier) ≡ requests m earlier
+pub requests-other : (m n s : List ℕ) (i : Data) (earlier : List (Reading Line)) → bytes_eq n m ≡ false → requests m (Says (Request n s i) ∷ earlier) ≡ requests m earlier
 requests-other m n s i earlier e = rw e refl
 
 same_if : (b : Bool) (xs t : List plan.Request) → t ≡ [] → (if b then xs ++ t else xs) ≡ xs
@@ -27,14 +30,14 @@ same_if true xs t z = rw z (append-nil xs)
 same_if false xs t z = refl
 
 -- nor does one that is refused
-pub requests-refused : (m n s : List ℕ) (i : Data) (earlier : List (Reading Asked)) → requests_under (in_force earlier) s i ≡ [] → requests m (Says (Request n s i) ∷ earlier) ≡ requests m earlier
+pub requests-refused : (m n s : List ℕ) (i : Data) (earlier : List (Reading Line)) → requests_under (in_force earlier) s i ≡ [] → requests m (Says (Request n s i) ∷ earlier) ≡ requests m earlier
 requests-refused m n s i earlier z = same_if (bytes_eq n m && not (is_closed m earlier)) (requests m earlier) (requests_under (in_force earlier) s i) z
 
 -- nor one of a closed client
-pub requests-closed : (n s : List ℕ) (i : Data) (earlier : List (Reading Asked)) → is_closed n earlier ≡ true → requests n (Says (Request n s i) ∷ earlier) ≡ requests n earlier
+pub requests-closed : (n s : List ℕ) (i : Data) (earlier : List (Reading Line)) → is_closed n earlier ≡ true → requests n (Says (Request n s i) ∷ earlier) ≡ requests n earlier
 requests-closed n s i earlier h = rw (name_itself n, h) refl
 
-pub requests-accepted : (n s : List ℕ) (i : Data) (earlier : List (Reading Asked)) (q : plan.Request) → is_closed n earlier ≡ false → requests_under (in_force earlier) s i ≡ q ∷ []
+pub requests-accepted : (n s : List ℕ) (i : Data) (earlier : List (Reading Line)) (q : plan.Request) → is_closed n earlier ≡ false → requests_under (in_force earlier) s i ≡ q ∷ []
     → requests n (Says (Request n s i) ∷ earlier) ≡ requests n earlier ++ q ∷ []
 requests-accepted n s i earlier q h u = rw (name_itself n, h, u) refl
 
@@ -43,7 +46,7 @@ no_model : {M : Type 0} (json : Data) (r : Result M ModelFault) (old : Option (L
 no_model json (Ok m) old h = cc
 no_model json (Err f) old h = h
 
-pub quiet : (m : List ℕ) (earlier : List (Reading Asked)) → in_force earlier ≡ None → requests m earlier ≡ []
+pub quiet : (m : List ℕ) (earlier : List (Reading Line)) → in_force earlier ≡ None → requests m earlier ≡ []
 quiet m [] h = refl
 quiet m (Blank ∷ earlier) h = quiet m earlier h
 quiet m (Long ∷ earlier) h = quiet m earlier h
@@ -67,7 +70,7 @@ one_more true xs t k h l = omega (arith, length-append xs t, h, l)
 one_more false xs t k h l = omega (arith, l)
 
 -- there are no more requests than lines
-pub requests-few : (m : List ℕ) (earlier : List (Reading Asked)) → length (requests m earlier) ≤ length earlier
+pub requests-few : (m : List ℕ) (earlier : List (Reading Line)) → length (requests m earlier) ≤ length earlier
 requests-few m [] = omega arith
 requests-few m (Blank ∷ earlier) = let h = requests-few m earlier in omega (arith, h)
 requests-few m (Long ∷ earlier) = let h = requests-few m earlier in omega (arith, h)
@@ -104,10 +107,10 @@ not_with_one : (n m : List ℕ) (names : List (List ℕ)) → is_among (with_one
 not_with_one n m names h = not_with_one_at n m names (is_among names m) refl h
 
 -- a name that never asked for a lane has no requests, and isn't closed
-abbrev IsStranger : List ℕ → List (Reading Asked) → Type 0
+abbrev IsStranger : List ℕ → List (Reading Line) → Type 0
 IsStranger n earlier = (requests n earlier ≡ []) × (is_closed n earlier ≡ false)
 
-stranger_request : (n m s : List ℕ) (i : Data) (earlier : List (Reading Asked)) (model : Option (List ℕ)) → in_force earlier ≡ model
+stranger_request : (n m s : List ℕ) (i : Data) (earlier : List (Reading Line)) (model : Option (List ℕ)) → in_force earlier ≡ model
     → (is_among (callers earlier) n ≡ false → IsStranger n earlier) → is_among (with_requester model m (callers earlier)) n ≡ false → IsStranger n (Says (Request m s i) ∷ earlier)
 stranger_request n m s i earlier None e before h =
     let b = before h in (requests-refused n m s i earlier (rw e refl) ∙ b.0, b.1)
@@ -115,7 +118,7 @@ stranger_request n m s i earlier (Some text) e before h =
     let no = not_with_one n m (callers earlier) h in let b = before no.0 in
     (requests-other n m s i earlier no.1 ∙ b.0, b.1)
 
-pub stranger : (n : List ℕ) (earlier : List (Reading Asked)) → is_among (callers earlier) n ≡ false → IsStranger n earlier
+pub stranger : (n : List ℕ) (earlier : List (Reading Line)) → is_among (callers earlier) n ≡ false → IsStranger n earlier
 stranger n [] h = (refl, refl)
 stranger n (Blank ∷ earlier) h = stranger n earlier h
 stranger n (Long ∷ earlier) h = stranger n earlier h
@@ -159,7 +162,7 @@ distinct-push (m ∷ names) n d h =
 
 -- ## The lanes' books
 
-pub booked_same : (names : List (List ℕ)) (lanes new : List Lane) (earlier later : List (Reading Asked)) → unhanded new ≡ unhanded lanes → AreBooked names lanes earlier
+pub booked_same : (names : List (List ℕ)) (lanes new : List Lane) (earlier later : List (Reading Line)) → unhanded new ≡ unhanded lanes → AreBooked names lanes earlier
     → ((m : List ℕ) → is_among names m ≡ true → (requests m later ≡ requests m earlier) × (is_closed m later ≡ is_closed m earlier)) → AreBooked names new later
 booked_same [] [] [] earlier later e b h = tt
 booked_same [] [] (x ∷ new) earlier later e b h = cc
@@ -178,7 +181,7 @@ booked_same (n ∷ names) (l ∷ lanes) (x ∷ new) earlier later e b h =
     let mine = h n (rw (name_itself n) refl) in
     (put ∙ (b.0 ∙ sym mine.0), closed ∙ (b.1 ∙ sym mine.1), booked_same names lanes new earlier later rest b.2 (λ m among. h m (rw among (or_true (bytes_eq m n)))))
 
-pub booked_at : (names : List (List ℕ)) (lanes : List Lane) (earlier : List (Reading Asked)) (c : ℕ) (n : List ℕ) (lane : Lane) → AreBooked names lanes earlier
+pub booked_at : (names : List (List ℕ)) (lanes : List Lane) (earlier : List (Reading Line)) (c : ℕ) (n : List ℕ) (lane : Lane) → AreBooked names lanes earlier
     → slice_get names c ≡ Some n → slice_get lanes c ≡ Some lane → (lane.put ≡ requests n earlier) × (lane.closed ≡ is_closed n earlier)
 booked_at [] lanes earlier c n lane b at la = cc
 booked_at (m ∷ names) [] earlier c n lane b at la = absurd b
@@ -188,7 +191,7 @@ booked_at (m ∷ names) (l ∷ lanes) earlier zero n lane b at la =
 booked_at (m ∷ names) (l ∷ lanes) earlier (suc c) n lane b at la = booked_at names lanes earlier c n lane b.2 at la
 
 -- one more name has a lane
-pub booked-name : (names : List (List ℕ)) (lanes : List Lane) (earlier : List (Reading Asked)) (n : List ℕ) → AreBooked names lanes earlier → length names < length lanes → IsStranger n earlier
+pub booked-name : (names : List (List ℕ)) (lanes : List Lane) (earlier : List (Reading Line)) (n : List ℕ) → AreBooked names lanes earlier → length names < length lanes → IsStranger n earlier
     → AreBooked (names ++ n ∷ []) lanes earlier
 booked-name [] [] earlier n b lt s = absurd (omega (arith, lt))
 booked-name [] (l ∷ lanes) earlier n b lt s = (b.0 ∙ sym s.0, b.1 ∙ sym s.1, b.2)
@@ -196,7 +199,7 @@ booked-name (m ∷ names) [] earlier n b lt s = absurd b
 booked-name (m ∷ names) (l ∷ lanes) earlier n b lt s = (b.0, b.1, booked-name names lanes earlier n b.2 (omega (arith, lt)) s)
 
 -- one lane changed so that it is booked by more lines, and no other name has more by these
-pub booked-set : (names : List (List ℕ)) (lanes new : List Lane) (earlier later : List (Reading Asked)) (c : ℕ) (n : List ℕ) (lane : Lane) → AreDistinct names → AreBooked names lanes earlier
+pub booked-set : (names : List (List ℕ)) (lanes new : List Lane) (earlier later : List (Reading Line)) (c : ℕ) (n : List ℕ) (lane : Lane) → AreDistinct names → AreBooked names lanes earlier
     → slice_get names c ≡ Some n → unhanded new ≡ unhanded (slice_set lanes c lane)
     → lane.put ≡ requests n later → lane.closed ≡ is_closed n later
     → ((m : List ℕ) → bytes_eq n m ≡ false → (requests m later ≡ requests m earlier) × (is_closed m later ≡ is_closed m earlier)) → AreBooked names new later
@@ -238,7 +241,7 @@ drop_nothing h (x ∷ xs) e = cc
 pub due_nothing : (n : List ℕ) (lane : Lane) → lane.put ≡ [] → due n lane ≡ []
 due_nothing n lane e = due-whole n lane (drop_nothing lane.handed lane.put e)
 
-pub due_to_quiet : (m : List ℕ) (names : List (List ℕ)) (lanes : List Lane) (earlier : List (Reading Asked)) → AreBooked names lanes earlier → requests m earlier ≡ [] → due_to_name m names lanes ≡ []
+pub due_to_quiet : (m : List ℕ) (names : List (List ℕ)) (lanes : List Lane) (earlier : List (Reading Line)) → AreBooked names lanes earlier → requests m earlier ≡ [] → due_to_name m names lanes ≡ []
 due_to_quiet m [] lanes earlier b q = refl
 due_to_quiet m (n ∷ names) [] earlier b q = refl
 due_to_quiet m (n ∷ names) (l ∷ lanes) earlier b q = at (bytes_eq n m) refl (due_to_quiet m names lanes earlier b.2 q)
@@ -247,20 +250,20 @@ due_to_quiet m (n ∷ names) (l ∷ lanes) earlier b q = at (bytes_eq n m) refl 
     at true e rest = due_nothing n l (b.0 ∙ subst (λ k. requests k earlier ≡ []) (sym (same_name n m e)) q)
     at false e rest = rest
 
-either_way : (b : Bool) (es : List Entry) → (if b then es else es) ≡ es
+either_way : (b : Bool) (es : List Report) → (if b then es else es) ≡ es
 either_way true es = refl
 either_way false es = refl
 
-due_to_more : (m n : List ℕ) (names : List (List ℕ)) (lanes : List Lane) (earlier : List (Reading Asked)) → AreBooked names lanes earlier → due_to_name m (names ++ n ∷ []) lanes ≡ due_to_name m names lanes
+due_to_more : (m n : List ℕ) (names : List (List ℕ)) (lanes : List Lane) (earlier : List (Reading Line)) → AreBooked names lanes earlier → due_to_name m (names ++ n ∷ []) lanes ≡ due_to_name m names lanes
 due_to_more m n [] [] earlier b = refl
 due_to_more m n [] (l ∷ lanes) earlier b = rw (due_nothing n l b.0) (either_way (bytes_eq n m) [])
 due_to_more m n (k ∷ names) [] earlier b = refl
-due_to_more m n (k ∷ names) (l ∷ lanes) earlier b = ap (λ (t : List Entry). if bytes_eq k m then due k l else t) (due_to_more m n names lanes earlier b.2)
+due_to_more m n (k ∷ names) (l ∷ lanes) earlier b = ap (λ (t : List Report). if bytes_eq k m then due k l else t) (due_to_more m n names lanes earlier b.2)
 
--- ## How the front stands
+-- ## What stands between the lines
 
 -- some of what was owed is handed out
-pub stands_handed : (named earlier : List (Reading Asked)) (names : List (List ℕ)) (model : Option (List ℕ)) (lanes new : List Lane) (said more : List Entry)
+pub stands_handed : (named earlier : List (Reading Line)) (names : List (List ℕ)) (model : Option (List ℕ)) (lanes new : List Lane) (said more : List Report)
     → Stands named earlier names model lanes said → AreHanded names lanes new more → Stands named earlier names model new (said ++ more)
 stands_handed named earlier names model lanes new said more s h =
     let len : length new ≡ length lanes = length-unhanded new lanes h.lanes in
@@ -274,7 +277,7 @@ stands_handed named earlier names model lanes new said more s h =
     }
 
 -- The line was answered: what is owed and said is what is due.
-pub stands_answered : (reading : Reading Asked) (earlier : List (Reading Asked)) (names : List (List ℕ)) (model model' : Option (List ℕ)) (lanes new : List Lane) (said more : List Entry) (e : Entry)
+pub stands_answered : (reading : Reading Line) (earlier : List (Reading Line)) (names : List (List ℕ)) (model model' : Option (List ℕ)) (lanes new : List Lane) (said more : List Report) (e : Report)
     → Stands (reading ∷ earlier) earlier names model lanes said → answer (length lanes) earlier reading ≡ e ∷ []
     → ((who : Option (List ℕ)) → of_client who more ++ due_to who names new ≡ due_to who names lanes ++ of_client who (e ∷ []))
     → length new ≡ length lanes → model' ≡ in_force (reading ∷ earlier) → AreBooked names new (reading ∷ earlier)
@@ -293,7 +296,7 @@ stands_answered reading earlier names model model' lanes new said more e s is ow
 }
 
 -- The line's name got a lane, if there was one.
-named_at : (n : List ℕ) (reading : Reading Asked) (earlier : List (Reading Asked)) (names : List (List ℕ)) (model : Option (List ℕ)) (lanes : List Lane) (said : List Entry) (b c : Bool)
+named_at : (n : List ℕ) (reading : Reading Line) (earlier : List (Reading Line)) (names : List (List ℕ)) (model : Option (List ℕ)) (lanes : List Lane) (said : List Report) (b c : Bool)
     → Stands earlier earlier names model lanes said → is_among names n ≡ b → nat_le (length lanes) (length names) ≡ c
     → with_lane (length lanes) n names ≡ names_with_lanes (length lanes) (reading ∷ earlier)
     → Stands (reading ∷ earlier) earlier (if b || c then names else names ++ n ∷ []) model lanes said
@@ -314,10 +317,10 @@ named_at n reading earlier names model lanes said false false s eb ec same =
       distinct = distinct-push names n s.distinct eb;
       model = s.model;
       booked = booked-name names lanes earlier n s.booked (omega (arith, room)) (stranger n earlier new);
-      owed = elim [ None ↦ s.owed None | Some m ↦ ap (λ (t : List Entry). of_client (Some m) said ++ t) (due_to_more m n names lanes earlier s.booked) ∙ s.owed (Some m) ];
+      owed = elim [ None ↦ s.owed None | Some m ↦ ap (λ (t : List Report). of_client (Some m) said ++ t) (due_to_more m n names lanes earlier s.booked) ∙ s.owed (Some m) ];
     }
 
-pub stands_named : (n : List ℕ) (reading : Reading Asked) (earlier : List (Reading Asked)) (names names' : List (List ℕ)) (model : Option (List ℕ)) (lanes : List Lane) (said : List Entry)
+pub stands_named : (n : List ℕ) (reading : Reading Line) (earlier : List (Reading Line)) (names names' : List (List ℕ)) (model : Option (List ℕ)) (lanes : List Lane) (said : List Report)
     → Stands earlier earlier names model lanes said → callers (reading ∷ earlier) ≡ with_one n (callers earlier) → names' ≡ with_lane (length lanes) n names
     → Stands (reading ∷ earlier) earlier names' model lanes said
 stands_named n reading earlier names names' model lanes said s cs is =

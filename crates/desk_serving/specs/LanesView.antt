@@ -1,12 +1,11 @@
 -- Internal: the lanes as they are held.
 use Rattle.std.specs.Prelude.{◌≡◌, ℕ, zero, suc, List, ◌∷◌, Option, map, string_bytes}
-use Rattle.box_core.specs.declared.work.Work.{Ghosts}
 use Rattle.dmn_plan.specs.Request.{Request, request_result}
 use Rattle.feel_value.specs.declared.feel.Outcome.{Outcome}
+use Rattle.lanes.specs.Ends.{ClientEnd}
 use Rattle.lanes.specs.Clients.{came_to, client_links, mail_of}
 use Rattle.lanes.specs.Links.{Link}
 use Rattle.lanes.specs.Polls.{Polls}
-use Rattle.lanes.specs.declared.client.Client.{Client}
 use Rattle.desk_serving.specs.Owed.{Lane, lane_of}
 use Rattle.desk_serving.specs.declared.named_lanes.Lanes.{Lanes}
 
@@ -20,13 +19,12 @@ lanes_in lanes = map (λ client. lane_of client) lanes.clients.items
 abbrev pub links_in : Lanes → List (List Link)
 links_in lanes = map (λ client. client_links client) lanes.clients.items
 
-module _ {g : Ghosts Request Outcome} where
-  -- a client took in the answers that it found, and then handed out its next result, unless that had not come
-  abbrev pub IsPolled : Client Request Outcome g → Client Request Outcome g → Type 0
-  IsPolled old new = (reply : Option (ℕ × Outcome)) × Polls (λ (request : Request). request) request_result (came_to old) (came_to new) (mail_of old) (mail_of new) reply
+-- a client took in the answers that it found, and then handed out its next result, unless that had not come
+abbrev pub IsPolled : ClientEnd Request Outcome → ClientEnd Request Outcome → Type 0
+IsPolled old new = (reply : Option (ℕ × Outcome)) × Polls (λ (request : Request). request) request_result (came_to old) (came_to new) (mail_of old) (mail_of new) reply
 
-  -- each of the first so many clients did, and the others are as before
-  abbrev pub ArePolled : ℕ → List (Client Request Outcome g) → List (Client Request Outcome g) → Type 0
-  ArePolled zero old new = new ≡ old
-  ArePolled (suc n) (client ∷ old) (client' ∷ new) = IsPolled client client' × ArePolled n old new
-  ArePolled (suc n) old new = ⊥
+-- each of the first so many clients did, and the others are as before
+abbrev pub ArePolled : ℕ → List (ClientEnd Request Outcome) → List (ClientEnd Request Outcome) → Type 0
+ArePolled zero old new = new ≡ old
+ArePolled (suc n) (client ∷ old) (client' ∷ new) = IsPolled client client' × ArePolled n old new
+ArePolled (suc n) old new = ⊥

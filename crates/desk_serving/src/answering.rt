@@ -2,22 +2,22 @@
 ghost use Rattle.std.specs.Prelude.{◌≡◌, ◌<◌, ◌^◌, ℕ, List, false, length, IfOk, IfSome, OnOk};
 ghost use Rattle.serde_json.specs.Data.{Data};
 ghost use Rattle.serde_json.specs.View.{view};
-ghost use Rattle.desk_serving.specs.Asked.{Model, Request, Close, Resize};
-ghost use Rattle.desk_serving.specs.AskedView.{asked_view};
+ghost use Rattle.desk_serving.specs.Line.{Model, Request, Close, Resize};
+ghost use Rattle.desk_serving.specs.LineView.{line_view};
 ghost use Rattle.desk_serving.specs.LanesView.{links_in};
-ghost use Rattle.desk_reports.specs.Reading.{Says};
-ghost use Rattle.desk_serving.specs.Heard.{Asks, IsHeardAs};
+ghost use Rattle.desk_wire.specs.Reading.{Says};
+ghost use Rattle.desk_serving.specs.LineHeard.{IsLineOf};
+ghost use Rattle.desk_wire.specs.Heard.{IsHeardAs};
 ghost use Rattle.desk_serving.specs.Tasks.{IsTaskFor, IsTaskOf};
-ghost use Rattle.desk_serving.specs.Serving.{HasRoom, Hears, HearsText, model_of};
+ghost use Rattle.desk_serving.specs.StateView.{HasRoom, Hears, HearsText, model_of};
 
-use crate::hearing::{Heard, asked_by, hear, takes_long};
-use crate::line::Asked;
+use crate::line::{Line, line_heard};
 use crate::named_lanes::Until;
-use crate::reports::{close_line, refuse, refuse_line, say_resized};
-use crate::serving::Serving;
+use crate::reports::{close_told, resize_told};
+use crate::state::State;
 use crate::waiting::hand_out_until;
 use desk_lines::{Clerk, FrontFault, LineText, Sink, Unwritten};
-use desk_reports::{LineRefusal, model_word, refusal_of, report};
+use desk_wire::{Heard, Report, Told, Word, hear};
 use dmn_plan::{ModelFault, Plan, Task, TaskFault};
 use json_reader::JsonReader;
 use serde_json::Value;
@@ -25,7 +25,18 @@ use std::alloc::{AllocError, Global};
 use std::mem;
 use std::sync::{Arc, Wait};
 
-impl<'a, R: Wait> Serving<'a, R> {
+/// From so many bytes on a line takes long to read: about as long as it takes to wake a thread.
+const LARGE: usize = 4096;
+
+/// Whether a line takes long to read.
+fn takes_long(line: &LineText) -> bool {
+    match line.text() {
+        Some(bytes) => bytes.len() >= LARGE,
+        None => false,
+    }
+}
+
+impl<'a, R: Wait> State<'a, R> {
     /// The model on a line is in force from the next line on, or its fault is told.
     fn answer_model(
         &mut self,
@@ -40,11 +51,11 @@ impl<'a, R: Wait> Serving<'a, R> {
         match Plan::of(alloc, model) {
             Ok(plan) => {
                 self.plan = Some(Arc::new(alloc, plan)?);
-                report::loaded(alloc, number, text)
+                Report::Loaded(number).add_to(alloc, text)
             }
             Err(fault) => match fault {
                 ModelFault::Memory => Err(AllocError),
-                fault => report::faulty(alloc, number, model_word(fault), text),
+                fault => Report::Faulty(number, Word::of_fault(fault)).add_to(alloc, text),
             },
         }
     }
@@ -78,40 +89,40 @@ impl<'a, R: Wait> Serving<'a, R> {
     fn task_for(
         &self,
         alloc: Global,
-        asked: &Option<Asked<'_>>,
+        says: &Option<Line<'_>>,
     ) -> Result<Option<Result<Arc<Task>, TaskFault>>, AllocError>
-        ensures { IfOk result (λ task. IfSome asked.now (λ line. IsTaskFor (model_of self.now) line task)) }
+        ensures { IfOk result (λ task. IfSome says.now (λ line. IsTaskFor (model_of self.now) line task)) }
     {
-        let Some(asked) = asked else {
+        let Some(says) = says else {
             return Ok(None);
         };
-        match asked {
-            Asked::Request(_, service, inputs) => self.task_of(alloc, service, inputs),
-            Asked::Model(_) => Ok(None),
-            Asked::Close(_) => Ok(None),
-            Asked::Resize(_, _) => Ok(None),
+        match says {
+            Line::Request(_, service, inputs) => self.task_of(alloc, service, inputs),
+            Line::Model(_) => Ok(None),
+            Line::Close(_) => Ok(None),
+            Line::Resize(_, _) => Ok(None),
         }
     }
 
     /// What has to come before a line can be answered at once.
     fn turn_of(
         &self,
-        asked: &Option<Asked<'_>>,
+        says: &Option<Line<'_>>,
         task: &Option<Result<Arc<Task>, TaskFault>>,
     ) -> Until {
-        match asked {
-            Some(Asked::Request(name, _, _)) => match task {
+        match says {
+            Some(Line::Request(name, _, _)) => match task {
                 Some(Ok(_)) => self.lanes.until_room(name),
                 _ => self.lanes.until_whole(name),
             },
-            Some(Asked::Close(name)) => self.lanes.until_whole(name),
-            Some(Asked::Resize(name, _)) => self.lanes.until_whole(name),
+            Some(Line::Close(name)) => self.lanes.until_whole(name),
+            Some(Line::Resize(name, _)) => self.lanes.until_whole(name),
             _ => Until::Now,
         }
     }
 
     /// Has a worker woken while a line is read: for what waits, where reading takes long; or for the request that the line may
-    /// be, where all that was asked before is answered.
+    /// be, where all that was put before is answered.
     fn call_before(&self, line: &LineText, unwritten: &Unwritten) {
         if takes_long(line) {
             self.lanes.call_worker();
@@ -144,19 +155,19 @@ impl<'a, R: Wait> Serving<'a, R> {
             Hears self.old number (Says (Request name.now service inputs)) text.old.items text.new.items self.new) }
     {
         let Some(task) = task else {
-            return refuse(alloc, name, number, "model", text);
+            return Report::Of(name, number, Told::Refused(Word::Model)).add_to(alloc, text);
         };
         let Some(place) = self.lanes.place_for(alloc, name)? else {
-            return refuse(alloc, name, number, "clients", text);
+            return Report::Of(name, number, Told::Refused(Word::Clients)).add_to(alloc, text);
         };
         match task {
             Ok(work) => self
                 .lanes
                 .put_or_refuse(self.rt, alloc, number, name, place, work, text),
             Err(fault) => {
-                let word = refusal_of(fault).word();
+                let told = Told::Refused(Word::of_task_fault(fault));
                 self.lanes
-                    .refuse(self.rt, alloc, number, name, place, word, text)
+                    .report(self.rt, alloc, number, name, place, told, text)
             }
         }
     }
@@ -173,10 +184,11 @@ impl<'a, R: Wait> Serving<'a, R> {
         ensures hears { OnOk result (Hears self.old number (Says (Close name.now)) text.old.items text.new.items self.new) }
     {
         let Some(place) = self.lanes.place_for(alloc, name)? else {
-            return refuse(alloc, name, number, "clients", text);
+            return Report::Of(name, number, Told::Refused(Word::Clients)).add_to(alloc, text);
         };
-        let closed = close_line(alloc, name, number, self.lanes.close(place))?;
-        self.lanes.report(self.rt, alloc, place, &closed, text)
+        let told = close_told(self.lanes.close(place));
+        self.lanes
+            .report(self.rt, alloc, number, name, place, told, text)
     }
 
     /// A client's lane is given a capacity behind its earlier results, or the first refusal that applies is told there. As no
@@ -193,87 +205,87 @@ impl<'a, R: Wait> Serving<'a, R> {
         ensures hears { OnOk result (Hears self.old number (Says (Resize name.now capacity)) text.old.items text.new.items self.new) }
     {
         let Some(place) = self.lanes.place_for(alloc, name)? else {
-            return refuse(alloc, name, number, "clients", text);
+            return Report::Of(name, number, Told::Refused(Word::Clients)).add_to(alloc, text);
         };
         self.lanes.drain(self.rt, alloc, place, text)?;
         let why = self.lanes.resize(place, capacity)?;
-        say_resized(alloc, name, number, capacity, why, text)
+        Report::Of(name, number, resize_told(capacity, why)).add_to(alloc, text)
     }
 
     /// Answers a line of one of the forms, with its task where it is a request.
-    fn answer_asked(
+    fn answer_line(
         &mut self,
         alloc: Global,
         number: u64,
-        asked: &Asked<'_>,
+        says: &Line<'_>,
         task: Option<Result<Arc<Task>, TaskFault>>,
         text: &mut Vec<u8>,
     ) -> Result<(), AllocError>
         requires few { HasRoom self.old }
-        requires task { IsTaskFor (model_of self.old) asked.now task }
+        requires task { IsTaskFor (model_of self.old) says.now task }
         ensures same { links_in self.new.lanes ≡ links_in self.old.lanes }
-        ensures hears { OnOk result (Hears self.old number (Says (asked_view asked.now)) text.old.items text.new.items self.new) }
+        ensures hears { OnOk result (Hears self.old number (Says (line_view says.now)) text.old.items text.new.items self.new) }
     {
-        match asked {
-            Asked::Model(model) => self.answer_model(alloc, number, model, text),
-            Asked::Request(name, _, _) => self.answer_request(alloc, number, name, task, text),
-            Asked::Close(name) => self.answer_close(alloc, number, name, text),
-            Asked::Resize(name, capacity) => {
+        match says {
+            Line::Model(model) => self.answer_model(alloc, number, model, text),
+            Line::Request(name, _, _) => self.answer_request(alloc, number, name, task, text),
+            Line::Close(name) => self.answer_close(alloc, number, name, text),
+            Line::Resize(name, capacity) => {
                 self.answer_resize(alloc, number, name, *capacity, text)
             }
         }
     }
 
-    /// Answers a line that is heard so and asks this: nothing is said to one that is blank.
+    /// Answers a line that is heard so and says this: nothing is said to one that is blank.
     fn answer_heard(
         &mut self,
         alloc: Global,
         number: u64,
         heard: &Heard<'_>,
-        asked: &Option<Asked<'_>>,
+        says: &Option<Line<'_>>,
         task: Option<Result<Arc<Task>, TaskFault>>,
         text: &mut Vec<u8>,
     ) -> Result<(), AllocError>
         requires few { HasRoom self.old }
-        requires asks { Asks heard.now asked.now }
-        requires task { IfSome asked.now (λ line. IsTaskFor (model_of self.old) line task) }
+        requires says { IsLineOf heard.now says.now }
+        requires task { IfSome says.now (λ line. IsTaskFor (model_of self.old) line task) }
         ensures same { links_in self.new.lanes ≡ links_in self.old.lanes }
         ensures hears { OnOk result ((it : List ℕ) → IsHeardAs it heard.now → HearsText self.old number it text.old.items text.new.items self.new) }
     {
-        if let Some(asked) = asked {
-            return self.answer_asked(alloc, number, asked, task, text);
+        if let Some(says) = says {
+            return self.answer_line(alloc, number, says, task, text);
         }
         match heard {
-            Heard::Long => refuse_line(alloc, number, LineRefusal::Long, text),
+            Heard::Long => Report::Refused(number, Word::Long).add_to(alloc, text),
             Heard::Blank => Ok(()),
-            Heard::Syntax => refuse_line(alloc, number, LineRefusal::Syntax, text),
-            Heard::Other => refuse_line(alloc, number, LineRefusal::Shape, text),
-            Heard::Object(_) => refuse_line(alloc, number, LineRefusal::Shape, text),
+            Heard::Syntax => Report::Refused(number, Word::Syntax).add_to(alloc, text),
+            Heard::Other => Report::Refused(number, Word::Shape).add_to(alloc, text),
+            Heard::Object(_) => Report::Refused(number, Word::Shape).add_to(alloc, text),
         }
     }
 }
 
-impl<'a, R: Wait> Clerk for Serving<'a, R> {
+impl<'a, R: Wait> Clerk for State<'a, R> {
     ghost use Rattle.lanes.specs.Links.{Link};
     ghost use Rattle.desk_serving.specs.LanesView.{lanes_in, links_in, names_in};
     ghost use Rattle.desk_serving.specs.Owed.{due_to};
-    ghost use Rattle.desk_serving.specs.Served.{ServedInPart};
-    ghost use Rattle.desk_serving.specs.Serving.{After};
+    ghost use Rattle.desk_serving.specs.Script.{ServedInPart};
+    ghost use Rattle.desk_serving.specs.StateView.{After};
 
-    ghost Script = { λ serving. ServedInPart (length (lanes_in serving.lanes)) };
+    ghost Script = { λ state. ServedInPart (length (lanes_in state.lanes)) };
 
     ghost Kept = { List (List Link) };
 
-    ghost kept = { λ serving. links_in serving.lanes };
+    ghost kept = { λ state. links_in state.lanes };
 
     ghost After = { After };
 
-    ghost follows = { λ serving lines said a. record {
+    ghost follows = { λ state lines said a. record {
       readings = a.readings;
       read = a.read;
       said = a.said;
       output = a.output;
-      each = λ who. (due_to who (names_in serving.lanes) (lanes_in serving.lanes), a.stands.owed who);
+      each = λ who. (due_to who (names_in state.lanes) (lanes_in state.lanes), a.stands.owed who);
     } };
 
     /// Hands out results, each written as soon as no other is at hand, until the line can be answered at once. So no client's
@@ -291,13 +303,13 @@ impl<'a, R: Wait> Clerk for Serving<'a, R> {
         let mut texts = mem::replace(&mut self.texts, JsonReader::new());
         let text = {
             let heard = hear(alloc, &mut texts, line)?;
-            let asked = asked_by(&heard);
-            let task = self.task_for(alloc, &asked)?;
-            let until = self.turn_of(&asked, &task);
+            let says = line_heard(&heard);
+            let task = self.task_for(alloc, &says)?;
+            let until = self.turn_of(&says, &task);
             hand_out_until(self.rt, alloc, &mut self.lanes, until, writer, unwritten)?;
             let mut text = Vec::new(alloc);
             self.lanes.hand_out_some(alloc, until, &mut text)?;
-            self.answer_heard(alloc, number, &heard, &asked, task, &mut text)?;
+            self.answer_heard(alloc, number, &heard, &says, task, &mut text)?;
             text
         };
         self.texts = texts;

@@ -2,20 +2,20 @@
 ghost use Rattle.std.specs.Prelude.{◌≡◌, ◌≢◌, ◌<◌, ◌-◌, ◌^◌, ◌≤◌, [], ℕ, All, List, drop, length, map, slice_get, string_bytes, Err, IfErr, IfOk, OnOk, Some};
 ghost use Rattle.lanes.specs.Workers.{worker_links};
 ghost use Rattle.lanes.specs.Links.{AreOfOneCall};
-ghost use Rattle.serde_json.specs.Written.{compact_text};
 ghost use Rattle.desk_serving.specs.Ending.{IsReady, IsRun, IsWhole, ends_lanes};
 ghost use Rattle.desk_lines.specs.Gathers.{Gathers};
 ghost use Rattle.desk_serving.specs.LanesView.{lanes_in, links_in, names_in};
 ghost use Rattle.desk_lines.specs.Lines.{ended};
 ghost use Rattle.desk_serving.specs.Owed.{AreDistinct, AreFirst, AreFirstOwn, AreHanded, AreOwn, Lane, lane_in};
-ghost use Rattle.desk_reports.specs.Shown.{reply};
-ghost use Rattle.desk_serving.specs.Telling.{Tells, Told, ToldInPart};
+ghost use Rattle.desk_wire.specs.Reports as reports;
+ghost use Rattle.desk_wire.specs.Reports.{report_text};
+ghost use Rattle.desk_serving.specs.Telling.{Tells, TellsAll, TellsInPart};
 
 use crate::named_lanes::Lanes;
-use crate::reports::reply_line;
 use box_core::Reply;
 use crew::Crew;
 use desk_lines::{FrontFault, Sink, Unwritten, is_cut};
+use desk_wire::Report;
 use dmn_plan::Task;
 use lanes::{Settled, Worker, settle};
 use std::alloc::{AllocError, Global};
@@ -30,16 +30,16 @@ fn hand_out_beside<R: Wait, W: Sink>(
     writer: &mut W,
     unwritten: &mut Unwritten,
 ) -> Result<(), FrontFault>
-    requires counts { W.faults writer.old < 2 ^ 64 - 1 }
+    requires counts { (W.seen writer.old).faults < 2 ^ 64 - 1 }
     requires nothing_waits { unwritten.old.bytes.items ≡ [] }
     ensures same { links_in lanes.new ≡ links_in lanes.old }
     ensures names { names_in lanes.new ≡ names_in lanes.old }
-    ensures ok { OnOk result (Tells (AreHanded (names_in lanes.old) (lanes_in lanes.old) (lanes_in lanes.new)) (W.contents writer.old) (W.contents writer.new) [] unwritten.new.bytes.items) }
-    ensures write { (result ≡ Err FrontFault.Write) → (rest : List ℕ) × Tells (AreFirst (names_in lanes.old) (lanes_in lanes.old)) (W.contents writer.old) (W.contents writer.new) [] rest }
-    ensures memory { (result ≡ Err FrontFault.Memory) → Tells (AreFirst (names_in lanes.old) (lanes_in lanes.old)) (W.contents writer.old) (W.contents writer.new) [] unwritten.new.bytes.items }
+    ensures ok { OnOk result (Tells (AreHanded (names_in lanes.old) (lanes_in lanes.old) (lanes_in lanes.new)) (W.seen writer.old).contents (W.seen writer.new).contents [] unwritten.new.bytes.items) }
+    ensures write { (result ≡ Err FrontFault.Write) → (rest : List ℕ) × Tells (AreFirst (names_in lanes.old) (lanes_in lanes.old)) (W.seen writer.old).contents (W.seen writer.new).contents [] rest }
+    ensures memory { (result ≡ Err FrontFault.Memory) → Tells (AreFirst (names_in lanes.old) (lanes_in lanes.old)) (W.seen writer.old).contents (W.seen writer.new).contents [] unwritten.new.bytes.items }
     ensures only { IfErr result (λ e. (e ≢ FrontFault.Read) × (e ≢ FrontFault.Long)) }
-    ensures counts { (result ≢ Err FrontFault.Write) → W.faults writer.new ≡ W.faults writer.old }
-    ensures fault { (result ≡ Err FrontFault.Write) → W.faults writer.old < W.faults writer.new }
+    ensures counts { (result ≢ Err FrontFault.Write) → (W.seen writer.new).faults ≡ (W.seen writer.old).faults }
+    ensures fault { (result ≡ Err FrontFault.Write) → (W.seen writer.old).faults < (W.seen writer.new).faults }
 {
     let mut text = Vec::new(alloc);
     for _ in rt.forever() {
@@ -63,15 +63,15 @@ pub fn end_workers<R: Wait, W: Sink>(
     lanes: &mut Lanes,
     writer: &mut W,
 ) -> Result<(), FrontFault>
-    requires counts { W.faults writer.old < 2 ^ 64 - 1 }
+    requires counts { (W.seen writer.old).faults < 2 ^ 64 - 1 }
     ensures same { links_in lanes.new ≡ links_in lanes.old }
     ensures names { names_in lanes.new ≡ names_in lanes.old }
-    ensures ok { OnOk result (Told (AreHanded (names_in lanes.old) (lanes_in lanes.old) (lanes_in lanes.new)) (W.contents writer.old) (W.contents writer.new)) }
-    ensures write { (result ≡ Err FrontFault.Write) → ToldInPart (AreFirst (names_in lanes.old) (lanes_in lanes.old)) (W.contents writer.old) (W.contents writer.new) }
-    ensures memory { (result ≡ Err FrontFault.Memory) → Told (AreFirst (names_in lanes.old) (lanes_in lanes.old)) (W.contents writer.old) (W.contents writer.new) }
+    ensures ok { OnOk result (TellsAll (AreHanded (names_in lanes.old) (lanes_in lanes.old) (lanes_in lanes.new)) (W.seen writer.old).contents (W.seen writer.new).contents) }
+    ensures write { (result ≡ Err FrontFault.Write) → TellsInPart (AreFirst (names_in lanes.old) (lanes_in lanes.old)) (W.seen writer.old).contents (W.seen writer.new).contents }
+    ensures memory { (result ≡ Err FrontFault.Memory) → TellsAll (AreFirst (names_in lanes.old) (lanes_in lanes.old)) (W.seen writer.old).contents (W.seen writer.new).contents }
     ensures only { IfErr result (λ e. (e ≢ FrontFault.Read) × (e ≢ FrontFault.Long)) }
-    ensures counts { (result ≢ Err FrontFault.Write) → W.faults writer.new ≡ W.faults writer.old }
-    ensures fault { (result ≡ Err FrontFault.Write) → W.faults writer.old < W.faults writer.new }
+    ensures counts { (result ≢ Err FrontFault.Write) → (W.seen writer.new).faults ≡ (W.seen writer.old).faults }
+    ensures fault { (result ≡ Err FrontFault.Write) → (W.seen writer.old).faults < (W.seen writer.new).faults }
 {
     crew.stop();
     let mut unwritten = Unwritten::new(alloc);
@@ -108,15 +108,16 @@ fn say_reply<W: Sink>(
     writer: &mut W,
     unwritten: &mut Unwritten,
 ) -> Result<(), FrontFault>
-    requires counts { W.faults writer.old < 2 ^ 64 - 1 }
-    ensures said { OnOk result (Gathers (W.contents writer.old) (W.contents writer.new) unwritten.old.bytes.items (ended (compact_text (reply name.now handed.outcome handed.ticket))) unwritten.new.bytes.items) }
-    ensures part { (result ≡ Err FrontFault.Write) → (rest : List ℕ) × Gathers (W.contents writer.old) (W.contents writer.new) unwritten.old.bytes.items (ended (compact_text (reply name.now handed.outcome handed.ticket))) rest }
-    ensures memory { (result ≡ Err FrontFault.Memory) → Gathers (W.contents writer.old) (W.contents writer.new) unwritten.old.bytes.items [] unwritten.new.bytes.items }
+    requires counts { (W.seen writer.old).faults < 2 ^ 64 - 1 }
+    ensures said { OnOk result (Gathers (W.seen writer.old).contents (W.seen writer.new).contents unwritten.old.bytes.items (ended (report_text (reports.Reply name.now handed.ticket handed.outcome))) unwritten.new.bytes.items) }
+    ensures part { (result ≡ Err FrontFault.Write) → (rest : List ℕ) × Gathers (W.seen writer.old).contents (W.seen writer.new).contents unwritten.old.bytes.items (ended (report_text (reports.Reply name.now handed.ticket handed.outcome))) rest }
+    ensures memory { (result ≡ Err FrontFault.Memory) → Gathers (W.seen writer.old).contents (W.seen writer.new).contents unwritten.old.bytes.items [] unwritten.new.bytes.items }
     ensures only { IfErr result (λ e. (e ≢ FrontFault.Read) × (e ≢ FrontFault.Long)) }
-    ensures counts { (result ≢ Err FrontFault.Write) → W.faults writer.new ≡ W.faults writer.old }
-    ensures fault { (result ≡ Err FrontFault.Write) → W.faults writer.old < W.faults writer.new }
+    ensures counts { (result ≢ Err FrontFault.Write) → (W.seen writer.new).faults ≡ (W.seen writer.old).faults }
+    ensures fault { (result ≡ Err FrontFault.Write) → (W.seen writer.old).faults < (W.seen writer.new).faults }
 {
-    let text = reply_line(alloc, name, &handed)?;
+    let mut text = Vec::new(alloc);
+    Report::Reply(name, handed.ticket, &handed.outcome).add_to(alloc, &mut text)?;
     unwritten.add(writer, &text)
 }
 
@@ -129,14 +130,14 @@ fn hand_rest<W: Sink>(
     unwritten: &mut Unwritten,
 ) -> Result<(), FrontFault>
     requires run { IsRun end.old }
-    requires counts { W.faults writer.old < 2 ^ 64 - 1 }
+    requires counts { (W.seen writer.old).faults < 2 ^ 64 - 1 }
     ensures whole { OnOk result (IsWhole end.new) }
-    ensures ok { OnOk result (Tells (AreOwn name.now (lane_in end.old) (lane_in end.new)) (W.contents writer.old) (W.contents writer.new) unwritten.old.bytes.items unwritten.new.bytes.items) }
-    ensures write { (result ≡ Err FrontFault.Write) → (rest : List ℕ) × Tells (AreFirstOwn name.now (lane_in end.old)) (W.contents writer.old) (W.contents writer.new) unwritten.old.bytes.items rest }
-    ensures memory { (result ≡ Err FrontFault.Memory) → Tells (AreFirstOwn name.now (lane_in end.old)) (W.contents writer.old) (W.contents writer.new) unwritten.old.bytes.items unwritten.new.bytes.items }
+    ensures ok { OnOk result (Tells (AreOwn name.now (lane_in end.old) (lane_in end.new)) (W.seen writer.old).contents (W.seen writer.new).contents unwritten.old.bytes.items unwritten.new.bytes.items) }
+    ensures write { (result ≡ Err FrontFault.Write) → (rest : List ℕ) × Tells (AreFirstOwn name.now (lane_in end.old)) (W.seen writer.old).contents (W.seen writer.new).contents unwritten.old.bytes.items rest }
+    ensures memory { (result ≡ Err FrontFault.Memory) → Tells (AreFirstOwn name.now (lane_in end.old)) (W.seen writer.old).contents (W.seen writer.new).contents unwritten.old.bytes.items unwritten.new.bytes.items }
     ensures only { IfErr result (λ e. (e ≢ FrontFault.Read) × (e ≢ FrontFault.Long)) }
-    ensures counts { (result ≢ Err FrontFault.Write) → W.faults writer.new ≡ W.faults writer.old }
-    ensures fault { (result ≡ Err FrontFault.Write) → W.faults writer.old < W.faults writer.new }
+    ensures counts { (result ≢ Err FrontFault.Write) → (W.seen writer.new).faults ≡ (W.seen writer.old).faults }
+    ensures fault { (result ≡ Err FrontFault.Write) → (W.seen writer.old).faults < (W.seen writer.new).faults }
 {
     while let Some(reply) = end.release() {
         say_reply(alloc, reply, name, writer, unwritten)?;
@@ -153,14 +154,14 @@ fn hand_out_end<W: Sink>(
     unwritten: &mut Unwritten,
 ) -> Result<(), FrontFault>
     requires ready { IsReady end.old }
-    requires counts { W.faults writer.old < 2 ^ 64 - 1 }
+    requires counts { (W.seen writer.old).faults < 2 ^ 64 - 1 }
     ensures whole { OnOk result (IsWhole end.new) }
-    ensures ok { OnOk result (Tells (AreOwn name.now (lane_in end.old) (lane_in end.new)) (W.contents writer.old) (W.contents writer.new) unwritten.old.bytes.items unwritten.new.bytes.items) }
-    ensures write { (result ≡ Err FrontFault.Write) → (rest : List ℕ) × Tells (AreFirstOwn name.now (lane_in end.old)) (W.contents writer.old) (W.contents writer.new) unwritten.old.bytes.items rest }
-    ensures memory { (result ≡ Err FrontFault.Memory) → Tells (AreFirstOwn name.now (lane_in end.old)) (W.contents writer.old) (W.contents writer.new) unwritten.old.bytes.items unwritten.new.bytes.items }
+    ensures ok { OnOk result (Tells (AreOwn name.now (lane_in end.old) (lane_in end.new)) (W.seen writer.old).contents (W.seen writer.new).contents unwritten.old.bytes.items unwritten.new.bytes.items) }
+    ensures write { (result ≡ Err FrontFault.Write) → (rest : List ℕ) × Tells (AreFirstOwn name.now (lane_in end.old)) (W.seen writer.old).contents (W.seen writer.new).contents unwritten.old.bytes.items rest }
+    ensures memory { (result ≡ Err FrontFault.Memory) → Tells (AreFirstOwn name.now (lane_in end.old)) (W.seen writer.old).contents (W.seen writer.new).contents unwritten.old.bytes.items unwritten.new.bytes.items }
     ensures only { IfErr result (λ e. (e ≢ FrontFault.Read) × (e ≢ FrontFault.Long)) }
-    ensures counts { (result ≢ Err FrontFault.Write) → W.faults writer.new ≡ W.faults writer.old }
-    ensures fault { (result ≡ Err FrontFault.Write) → W.faults writer.old < W.faults writer.new }
+    ensures counts { (result ≢ Err FrontFault.Write) → (W.seen writer.new).faults ≡ (W.seen writer.old).faults }
+    ensures fault { (result ≡ Err FrontFault.Write) → (W.seen writer.old).faults < (W.seen writer.new).faults }
 {
     run_left(alloc, end)?;
     hand_rest(alloc, end, name, writer, unwritten)
@@ -177,16 +178,16 @@ fn hand_out_ends<W: Sink>(
     requires named { length names.now.items ≤ length ends.old.items }
     requires distinct { AreDistinct (map string_bytes names.now.items) }
     requires ready { All IsReady ends.old.items }
-    requires counts { W.faults writer.old < 2 ^ 64 - 1 }
+    requires counts { (W.seen writer.old).faults < 2 ^ 64 - 1 }
     requires nothing_waits { unwritten.old.bytes.items ≡ [] }
     ensures whole { OnOk result ((place : ℕ) (lane : Lane) → place < length names.now.items → slice_get (ends_lanes ends.new.items) place ≡ Some lane → drop lane.handed lane.put ≡ []) }
     ensures rest { OnOk result (drop (length names.now.items) ends.new.items ≡ drop (length names.now.items) ends.old.items) }
-    ensures ok { OnOk result (Tells (AreHanded (map string_bytes names.now.items) (ends_lanes ends.old.items) (ends_lanes ends.new.items)) (W.contents writer.old) (W.contents writer.new) [] unwritten.new.bytes.items) }
-    ensures write { (result ≡ Err FrontFault.Write) → (rest : List ℕ) × Tells (AreFirst (map string_bytes names.now.items) (ends_lanes ends.old.items)) (W.contents writer.old) (W.contents writer.new) [] rest }
-    ensures memory { (result ≡ Err FrontFault.Memory) → Tells (AreFirst (map string_bytes names.now.items) (ends_lanes ends.old.items)) (W.contents writer.old) (W.contents writer.new) [] unwritten.new.bytes.items }
+    ensures ok { OnOk result (Tells (AreHanded (map string_bytes names.now.items) (ends_lanes ends.old.items) (ends_lanes ends.new.items)) (W.seen writer.old).contents (W.seen writer.new).contents [] unwritten.new.bytes.items) }
+    ensures write { (result ≡ Err FrontFault.Write) → (rest : List ℕ) × Tells (AreFirst (map string_bytes names.now.items) (ends_lanes ends.old.items)) (W.seen writer.old).contents (W.seen writer.new).contents [] rest }
+    ensures memory { (result ≡ Err FrontFault.Memory) → Tells (AreFirst (map string_bytes names.now.items) (ends_lanes ends.old.items)) (W.seen writer.old).contents (W.seen writer.new).contents [] unwritten.new.bytes.items }
     ensures only { IfErr result (λ e. (e ≢ FrontFault.Read) × (e ≢ FrontFault.Long)) }
-    ensures counts { (result ≢ Err FrontFault.Write) → W.faults writer.new ≡ W.faults writer.old }
-    ensures fault { (result ≡ Err FrontFault.Write) → W.faults writer.old < W.faults writer.new }
+    ensures counts { (result ≢ Err FrontFault.Write) → (W.seen writer.new).faults ≡ (W.seen writer.old).faults }
+    ensures fault { (result ≡ Err FrontFault.Write) → (W.seen writer.old).faults < (W.seen writer.new).faults }
 {
     for place in 0..names.len() {
         hand_out_end(
@@ -210,15 +211,15 @@ fn hand_out_rest<W: Sink>(
     requires named { length names.now.items ≤ length ends.old.items }
     requires distinct { AreDistinct (map string_bytes names.now.items) }
     requires ready { All IsReady ends.old.items }
-    requires counts { W.faults writer.old < 2 ^ 64 - 1 }
+    requires counts { (W.seen writer.old).faults < 2 ^ 64 - 1 }
     ensures whole { OnOk result ((place : ℕ) (lane : Lane) → place < length names.now.items → slice_get (ends_lanes ends.new.items) place ≡ Some lane → drop lane.handed lane.put ≡ []) }
     ensures rest { OnOk result (drop (length names.now.items) ends.new.items ≡ drop (length names.now.items) ends.old.items) }
-    ensures ok { OnOk result (Told (AreHanded (map string_bytes names.now.items) (ends_lanes ends.old.items) (ends_lanes ends.new.items)) (W.contents writer.old) (W.contents writer.new)) }
-    ensures write { (result ≡ Err FrontFault.Write) → ToldInPart (AreFirst (map string_bytes names.now.items) (ends_lanes ends.old.items)) (W.contents writer.old) (W.contents writer.new) }
-    ensures memory { (result ≡ Err FrontFault.Memory) → Told (AreFirst (map string_bytes names.now.items) (ends_lanes ends.old.items)) (W.contents writer.old) (W.contents writer.new) }
+    ensures ok { OnOk result (TellsAll (AreHanded (map string_bytes names.now.items) (ends_lanes ends.old.items) (ends_lanes ends.new.items)) (W.seen writer.old).contents (W.seen writer.new).contents) }
+    ensures write { (result ≡ Err FrontFault.Write) → TellsInPart (AreFirst (map string_bytes names.now.items) (ends_lanes ends.old.items)) (W.seen writer.old).contents (W.seen writer.new).contents }
+    ensures memory { (result ≡ Err FrontFault.Memory) → TellsAll (AreFirst (map string_bytes names.now.items) (ends_lanes ends.old.items)) (W.seen writer.old).contents (W.seen writer.new).contents }
     ensures only { IfErr result (λ e. (e ≢ FrontFault.Read) × (e ≢ FrontFault.Long)) }
-    ensures counts { OnOk result (W.faults writer.new ≡ W.faults writer.old) }
-    ensures fault { (result ≡ Err FrontFault.Write) → W.faults writer.old < W.faults writer.new }
+    ensures counts { OnOk result ((W.seen writer.new).faults ≡ (W.seen writer.old).faults) }
+    ensures fault { (result ≡ Err FrontFault.Write) → (W.seen writer.old).faults < (W.seen writer.new).faults }
 {
     let mut unwritten = Unwritten::new(alloc);
     let handed = hand_out_ends(alloc, names, ends, writer, &mut unwritten);
@@ -239,14 +240,14 @@ pub fn end_lanes<W: Sink>(
     requires ends { AreOfOneCall (links_in lanes) (map worker_links workers.items) }
     // No request was put into a lane without a name.
     requires new { (place : ℕ) (lane : Lane) → length (names_in lanes) ≤ place → slice_get (lanes_in lanes) place ≡ Some lane → lane.put ≡ [] }
-    requires counts { W.faults writer.old < 2 ^ 64 - 1 }
-    ensures ok { IfOk result (λ ends. Told (AreHanded (names_in lanes) (lanes_in lanes) (ends_lanes ends.items)) (W.contents writer.old) (W.contents writer.new)) }
+    requires counts { (W.seen writer.old).faults < 2 ^ 64 - 1 }
+    ensures ok { IfOk result (λ ends. TellsAll (AreHanded (names_in lanes) (lanes_in lanes) (ends_lanes ends.items)) (W.seen writer.old).contents (W.seen writer.new).contents) }
     ensures whole { IfOk result (λ ends. All IsWhole ends.items) }
-    ensures write { (result ≡ Err FrontFault.Write) → ToldInPart (AreFirst (names_in lanes) (lanes_in lanes)) (W.contents writer.old) (W.contents writer.new) }
-    ensures memory { (result ≡ Err FrontFault.Memory) → Told (AreFirst (names_in lanes) (lanes_in lanes)) (W.contents writer.old) (W.contents writer.new) }
+    ensures write { (result ≡ Err FrontFault.Write) → TellsInPart (AreFirst (names_in lanes) (lanes_in lanes)) (W.seen writer.old).contents (W.seen writer.new).contents }
+    ensures memory { (result ≡ Err FrontFault.Memory) → TellsAll (AreFirst (names_in lanes) (lanes_in lanes)) (W.seen writer.old).contents (W.seen writer.new).contents }
     ensures only { IfErr result (λ e. (e ≢ FrontFault.Read) × (e ≢ FrontFault.Long)) }
-    ensures counts { OnOk result (W.faults writer.new ≡ W.faults writer.old) }
-    ensures fault { (result ≡ Err FrontFault.Write) → W.faults writer.old < W.faults writer.new }
+    ensures counts { OnOk result ((W.seen writer.new).faults ≡ (W.seen writer.old).faults) }
+    ensures fault { (result ≡ Err FrontFault.Write) → (W.seen writer.old).faults < (W.seen writer.new).faults }
 {
     let Lanes { names, clients, .. } = lanes;
     let Ok(mut ends) = settle(clients, workers) else {

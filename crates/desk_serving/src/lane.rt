@@ -10,7 +10,7 @@ ghost use Rattle.desk_serving.specs.Owed.{HandsOwn, lane_of, with_closed, with_h
 ghost use Rattle.desk_serving.specs.Submits.{Submits};
 
 use box_core::{Refusal, Reply};
-use desk_reports::report;
+use desk_wire::Report;
 use dmn_plan::Task;
 use lanes::Client;
 use std::alloc::{AllocError, Global};
@@ -71,7 +71,7 @@ pub fn hand_out(
     let Some(reply) = poll(client) else {
         return Ok(());
     };
-    report::handed(alloc, name, &reply.outcome, reply.ticket, text)
+    Report::Reply(name, reply.ticket, &reply.outcome).add_to(alloc, text)
 }
 
 /// Whether each request was handed its result.

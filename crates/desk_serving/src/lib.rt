@@ -3,17 +3,15 @@
 
 mod answering;
 mod ending;
-mod front;
-mod hearing;
 mod lane;
 mod line;
 mod named_lanes;
 mod options;
 mod reports;
-mod serving;
+mod run;
+mod state;
 mod waiting;
 
-pub use front::serve;
-pub use hearing::{Heard, asked_by, hear};
-pub use line::Asked;
+pub use line::{Line, line_heard};
 pub use options::Options;
+pub use run::serve;

@@ -2,19 +2,16 @@
 ghost use Rattle.std.specs.Bool.{OnFalse, OnTrue};
 ghost use Rattle.std.specs.Prelude.{◌≡◌, ◌<◌, ◌≤◌, ◌^◌, [], ℕ, List, drop, false, length, map, not, slice_get, slice_set, string_bytes, IfNone, IfOk, IfSome, Ok, OnOk, Some};
 ghost use Rattle.std.specs.Arc.{arc_value};
-ghost use Rattle.serde_json.specs.Data.{Data};
-ghost use Rattle.serde_json.specs.Written.{compact_text};
 ghost use Rattle.box_core.specs.Mail.{resize_refusal_by};
 ghost use Rattle.dmn_plan.specs.Request.{request_result};
-ghost use Rattle.desk_lines.specs.Lines.{ended};
 ghost use Rattle.desk_serving.specs.Owed.{AreDistinct, AreDistinct-prop, Hands, HandsThen, Lane, unhanded, with_closed, with_lane, with_put, with_put_if};
-ghost use Rattle.desk_serving.specs.Served.{of_name, task_answer};
+ghost use Rattle.desk_serving.specs.Due.{task_answer};
 ghost use Rattle.feel_value.specs.Distinct.{is_among};
-ghost use Rattle.desk_reports.specs.Shown.{named_refusal, reply};
+ghost use Rattle.desk_wire.specs.Reports.{Of, Reply};
 
 use crate::lane::{self, Submitted};
-use crate::reports::refuse;
 use box_core::Refusal;
+use desk_wire::{Report, Told, Word};
 use dmn_plan::Task;
 use lanes::Client;
 use std::alloc::{AllocError, Global};
@@ -321,47 +318,25 @@ impl Lanes {
         Ok(())
     }
 
-    /// Adds the line of a report of a client to the text, behind all earlier results of that client.
+    /// Tells what comes of a client's line, behind all earlier results of that client.
     pub fn report<R: Wait>(
-        &mut self,
-        rt: &R,
-        alloc: Global,
-        place: usize,
-        report: &[u8],
-        text: &mut Vec<u8>,
-    ) -> Result<(), AllocError>
-        requires place { place < length (names_in self.old) }
-        ensures same { links_in self.new ≡ links_in self.old }
-        ensures names { names_in self.new ≡ names_in self.old }
-        ensures lanes { OnOk result (unhanded (lanes_in self.new) ≡ unhanded (lanes_in self.old)) }
-        ensures hands { OnOk result ((name : List ℕ) (told : Data) → slice_get (names_in self.old) place ≡ Some name → report.now ≡ ended (compact_text told) →
-            HandsThen (names_in self.old) (lanes_in self.old) (lanes_in self.new) (of_name name told) text.old.items text.new.items) }
-    {
-        self.drain(rt, alloc, place, text)?;
-        text.extend_from_slice(report)?;
-        Ok(())
-    }
-
-    /// Refuses a line of a client behind all earlier results of that client.
-    pub fn refuse<R: Wait>(
         &mut self,
         rt: &R,
         alloc: Global,
         number: u64,
         name: &str,
         place: usize,
-        word: &str,
+        told: Told,
         text: &mut Vec<u8>,
     ) -> Result<(), AllocError>
         requires place { slice_get (names_in self.old) place ≡ Some name.now }
         ensures same { links_in self.new ≡ links_in self.old }
         ensures names { names_in self.new ≡ names_in self.old }
         ensures lanes { OnOk result (unhanded (lanes_in self.new) ≡ unhanded (lanes_in self.old)) }
-        ensures hands { OnOk result (HandsThen (names_in self.old) (lanes_in self.old) (lanes_in self.new) (of_name name.now (named_refusal name.now number word.now)) text.old.items text.new.items) }
+        ensures hands { OnOk result (HandsThen (names_in self.old) (lanes_in self.old) (lanes_in self.new) (Of name.now number told) text.old.items text.new.items) }
     {
-        let mut refused = Vec::new(alloc);
-        refuse(alloc, name, number, word, &mut refused)?;
-        self.report(rt, alloc, place, &refused, text)
+        self.drain(rt, alloc, place, text)?;
+        Report::Of(name, number, told).add_to(alloc, text)
     }
 
     /// Puts a request into a lane, once there is a place for it. Answers false where the lane is closed. Until then results
@@ -382,7 +357,7 @@ impl Lanes {
         ensures lanes { IfOk result (λ put. OnTrue put ((lane : Lane) → slice_get (lanes_in self.old) place ≡ Some lane →
             unhanded (lanes_in self.new) ≡ unhanded (slice_set (lanes_in self.old) place (with_put lane (arc_value work))))) }
         ensures put { IfOk result (λ put. OnTrue put ((name : List ℕ) (lane : Lane) → slice_get (names_in self.old) place ≡ Some name → slice_get (lanes_in self.old) place ≡ Some lane →
-            HandsThen (names_in self.old) (lanes_in self.old) (lanes_in self.new) (of_name name (reply name (request_result (arc_value work)) (length lane.put))) text.old.items text.new.items)) }
+            HandsThen (names_in self.old) (lanes_in self.old) (lanes_in self.new) (Reply name (length lane.put) (request_result (arc_value work))) text.old.items text.new.items)) }
         ensures closed { IfOk result (λ put. OnFalse put (Hands (names_in self.old) (lanes_in self.old) (lanes_in self.new) text.old.items text.new.items)) }
     {
         let mut work = work;
@@ -418,12 +393,13 @@ impl Lanes {
         ensures lanes { OnOk result ((lane : Lane) → slice_get (lanes_in self.old) place ≡ Some lane →
             unhanded (lanes_in self.new) ≡ unhanded (slice_set (lanes_in self.old) place (with_put_if lane (arc_value work)))) }
         ensures hands { OnOk result ((lane : Lane) → slice_get (lanes_in self.old) place ≡ Some lane →
-            HandsThen (names_in self.old) (lanes_in self.old) (lanes_in self.new) (of_name name.now (task_answer number name.now lane.closed (length lane.put) (Ok (arc_value work)))) text.old.items text.new.items) }
+            HandsThen (names_in self.old) (lanes_in self.old) (lanes_in self.new) (task_answer number name.now lane.closed (length lane.put) (Ok (arc_value work))) text.old.items text.new.items) }
     {
         if self.put(rt, alloc, place, work, text)? {
             return Ok(());
         }
-        self.refuse(rt, alloc, number, name, place, "closed", text)
+        let told = Told::Refused(Word::Closed);
+        self.report(rt, alloc, number, name, place, told, text)
     }
 
     /// Closes a lane, and answers whether it was open.

@@ -20,15 +20,15 @@ pub fn hand_out_until<R: Wait, W: Sink>(
     writer: &mut W,
     unwritten: &mut Unwritten,
 ) -> Result<(), FrontFault>
-    requires counts { W.faults writer.old < 2 ^ 64 - 1 }
+    requires counts { (W.seen writer.old).faults < 2 ^ 64 - 1 }
     ensures same { links_in lanes.new ≡ links_in lanes.old }
     ensures names { names_in lanes.new ≡ names_in lanes.old }
-    ensures ok { OnOk result (Tells (AreHanded (names_in lanes.old) (lanes_in lanes.old) (lanes_in lanes.new)) (W.contents writer.old) (W.contents writer.new) unwritten.old.bytes.items unwritten.new.bytes.items) }
-    ensures write { (result ≡ Err FrontFault.Write) → (rest : List ℕ) × Tells (AreFirst (names_in lanes.old) (lanes_in lanes.old)) (W.contents writer.old) (W.contents writer.new) unwritten.old.bytes.items rest }
-    ensures memory { (result ≡ Err FrontFault.Memory) → Tells (AreFirst (names_in lanes.old) (lanes_in lanes.old)) (W.contents writer.old) (W.contents writer.new) unwritten.old.bytes.items unwritten.new.bytes.items }
+    ensures ok { OnOk result (Tells (AreHanded (names_in lanes.old) (lanes_in lanes.old) (lanes_in lanes.new)) (W.seen writer.old).contents (W.seen writer.new).contents unwritten.old.bytes.items unwritten.new.bytes.items) }
+    ensures write { (result ≡ Err FrontFault.Write) → (rest : List ℕ) × Tells (AreFirst (names_in lanes.old) (lanes_in lanes.old)) (W.seen writer.old).contents (W.seen writer.new).contents unwritten.old.bytes.items rest }
+    ensures memory { (result ≡ Err FrontFault.Memory) → Tells (AreFirst (names_in lanes.old) (lanes_in lanes.old)) (W.seen writer.old).contents (W.seen writer.new).contents unwritten.old.bytes.items unwritten.new.bytes.items }
     ensures only { IfErr result (λ e. (e ≢ FrontFault.Read) × (e ≢ FrontFault.Long)) }
-    ensures counts { (result ≢ Err FrontFault.Write) → W.faults writer.new ≡ W.faults writer.old }
-    ensures fault { (result ≡ Err FrontFault.Write) → W.faults writer.old < W.faults writer.new }
+    ensures counts { (result ≢ Err FrontFault.Write) → (W.seen writer.new).faults ≡ (W.seen writer.old).faults }
+    ensures fault { (result ≡ Err FrontFault.Write) → (W.seen writer.old).faults < (W.seen writer.new).faults }
 {
     let mut text = Vec::new(alloc);
     for _ in rt.forever() {

@@ -1,3 +1,4 @@
 pub mod Reading
 pub mod Numbers
 pub mod Listing
+pub mod Putting

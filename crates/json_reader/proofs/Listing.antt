@@ -10,7 +10,7 @@ use Rattle.json.proofs.Grammar.{value_is}
 use Rattle.serde_json.specs.Data.{Num, Data, array, number, object, Items, Members, no_members, member, put}
 use Rattle.serde_json.specs.Read.{of_json, of_items, number_of, converted, read}
 use Rattle.serde_json.specs.declared.value.Value.{Value}
-use Rattle.json_fields.specs.Listed.{members_of}
+use Rattle.json_reader.specs.Members.{members_of}
 use Rattle.json_reader.specs.Listed.{IsNotFew, IsReadAs, count, most_listed}
 use Rattle.json_reader.specs.Listing.{Lists, ListsRead, ListsText}
 use Rattle.json_reader.specs.Reading.{value_read}

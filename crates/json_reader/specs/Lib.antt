@@ -1,3 +1,4 @@
+pub mod Members
 pub mod Listed
 pub mod Listing
 pub mod Reading

@@ -1,7 +1,7 @@
 -- What a text is, where the members of an object are listed if they are few.
 use Rattle.std.specs.Prelude.{◌≡◌, ◌≢◌, ◌⊎◌, ◌≤◌, ℕ, suc, List, Some, None}
 use Rattle.std.specs.Str.{IsUtf8}
-use Rattle.json_fields.specs.Listed.{members_of}
+use Rattle.json_reader.specs.Members.{members_of}
 use Rattle.json_reader.specs.declared.listed.Listed.{Listed}
 use Rattle.json_reader.specs.declared.listed.Listed.TheVariants.{Object, Other, Syntax}
 use Rattle.serde_json.specs.Data.{Data, object, Members, no_members, member}

@@ -2,7 +2,7 @@
 use Rattle.std.specs.Prelude.{◌≡◌, ◌<◌, ◌≤◌, ℕ, List, length, Option, Some, None}
 use Rattle.std.specs.Borrow.{Bor}
 use Rattle.json.specs.Token.{Token}
-use Rattle.json_fields.specs.Listed.{members_of}
+use Rattle.json_reader.specs.Members.{members_of}
 use Rattle.json_reader.specs.Listed.{IsNotFew, count, most_listed}
 use Rattle.json_reader.specs.declared.listed.Listed.{Listed}
 use Rattle.json_reader.specs.declared.listed.Listed.TheVariants.{Object, Other, Syntax}

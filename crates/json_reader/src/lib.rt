@@ -5,6 +5,7 @@
 #![tactic(auto)]
 
 mod listed;
+mod members;
 mod number;
 mod reader;
 mod value;

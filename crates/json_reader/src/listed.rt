@@ -9,10 +9,10 @@ ghost use Rattle.serde_json.specs.Data.{Members, put};
 ghost use Rattle.serde_json.specs.Read.{read};
 ghost use Rattle.serde_json.specs.View.{view};
 
+use crate::members::put_member;
 use crate::reader::MOST_DEPTH;
 use crate::value::{value_from, value_in};
 use json::{Reader, Scratch, Token};
-use json_fields::put_member;
 use serde_json::Value;
 use std::alloc::{AllocError, Global};
 

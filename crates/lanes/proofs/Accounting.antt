@@ -1,16 +1,16 @@
 -- The accounts of a client are kept by each call on its mailbox.
-use Rattle.std.proofs.Common.{◌≡◌, ◌≢◌, ℕ, zero, suc, ◌+◌, ◌-◌, ◌<◌, ◌≤◌, Bool, true, false, not, if◌then◌else◌, ◌⊎◌, inl, inr, ⊎_elim, All, List, [], ◌∷◌, ◌++◌, length, map, drop, slice_get, Option, Some, None, is_some, refl, ap, sym, ◌∙◌, subst, arith}
+use Rattle.std.proofs.Common.{◌≡◌, ◌≢◌, ℕ, zero, suc, ◌+◌, ◌-◌, ◌<◌, ◌≤◌, Bool, true, false, not, if◌then◌else◌, ⊎_elim, All, List, [], ◌∷◌, ◌++◌, length, map, drop, slice_get, Option, Some, None, is_some, refl, ap, sym, ◌∙◌, subst, arith}
 use Rattle.std.specs.Prelude.{IsPermutation}
 use Rattle.std.proofs.lemmas.Bool.{lt-ltb, le-ltb}
-use Rattle.std.proofs.lemmas.List.Elements.{All-cons, All-tail, All-head, All-append}
-use Rattle.std.proofs.lemmas.List.Sorted.{All-permutation, IsPermutation-sym, IsPermutation-middle, IsPermutation-trans, length_permutation}
+use Rattle.std.proofs.lemmas.List.Elements.{All-cons, All-tail, All-head}
+use Rattle.std.proofs.lemmas.List.Sorted.{All-permutation, IsPermutation-sym, IsPermutation-middle, length_permutation}
 use Rattle.std.proofs.lemmas.List.{drop-map, map-append}
 use mathlib.Core.Logic.{dite}
 use native.Mathlib.Decide.{ℕ_discrete}
 use lib.ListN.{length-append}
 use Rattle.box_core.specs.Answer.{Ticketed}
 use Rattle.box_core.specs.History.{Report, Kept, Strange, Repeated}
-use Rattle.box_core.specs.Mail.{Mail, Place, changed_at, accepted_in, open_in, status_in, status_by, next_in, with_request, with_kept, with_handed}
+use Rattle.box_core.specs.Mail.{Mail, Place, changed_at, accepted_in, status_in, status_by, next_in, with_request, with_kept, with_handed}
 use Rattle.box_core.specs.Table.{AnswerReport}
 use Rattle.lanes.specs.Books.{ticket_of, work_of, CountsFrom}
 use Rattle.lanes.specs.Accounts.{is_open, works_of, taken_of, all_true, kept_count, kept_or, results_of, kept_of, IsCredited, AreAccounted}

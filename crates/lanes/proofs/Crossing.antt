@@ -1,8 +1,9 @@
 -- The links of the ends of one call, as lanes are added and taken away.
-use Rattle.std.proofs.Common.{◌≡◌, ◌≢◌, ℕ, zero, suc, ◌+◌, ◌-◌, ◌<◌, ◌≤◌, All, List, [], ◌∷◌, ◌++◌, length, map, slice_get, Some, None, refl, ap, sym, ◌∙◌, subst, arith}
+use Rattle.std.proofs.Common.{◌≡◌, ℕ, zero, suc, ◌<◌, All, List, [], ◌∷◌, ◌++◌, length, map, slice_get, Some, refl, ap, sym, ◌∙◌, subst, arith}
 use Rattle.std.proofs.lemmas.List.Elements.{All-cons, All-tail, All-head, All-append}
 use lib.ListN.{length-append}
-use Rattle.lanes.specs.Links.{Link, empties, before_each, transposed, add_each, AreOfOneCall}
+use Rattle.lanes.specs.Identities.{add_each}
+use Rattle.lanes.specs.Links.{Link, empties, before_each, transposed, AreOfOneCall}
 use Rattle.lanes.specs.Settling.{column, one_or_none}
 
 pub none : {A : Type 0} (P : A → Type 0) → All P []

@@ -1,29 +1,26 @@
 -- What one lane comes to, once all its ends are in one thread.
-use Rattle.std.proofs.Common.{◌≡◌, ℕ, zero, suc, ◌+◌, ◌-◌, ◌<◌, ◌≤◌, All, List, [], ◌∷◌, ◌++◌, length, Option, Some, None, refl, ap, sym, ◌∙◌, subst, append_assoc, arith}
-use Rattle.std.specs.Prelude.{flat_map, IsPermutation, Contains}
-use Rattle.std.proofs.lemmas.List.Sorted.{IsPermutation-refl, IsPermutation-trans, IsPermutation-sym, IsPermutation-append_left, IsPermutation-append_right, IsPermutation-append_comm, IsPermutation-append, length_permutation}
+use Rattle.std.proofs.Common.{◌≡◌, ℕ, ◌+◌, ◌≤◌, All, List, [], ◌++◌, length, Some, ap, sym, ◌∙◌, subst, append_assoc, arith}
+use Rattle.std.specs.Prelude.{IsPermutation, Contains}
+use Rattle.std.proofs.lemmas.List.Sorted.{IsPermutation-trans, IsPermutation-sym, IsPermutation-append_left, IsPermutation-append_right, IsPermutation-append_comm, length_permutation}
 use lib.ListN.{length-append}
 use Rattle.std.specs.declared.alloc.Global.{Global}
 use Rattle.rtrb.specs.declared.consumer.Consumer.{Consumer}
 use Rattle.rtrb.specs.declared.AnyItems.{AnyItems}
 use Rattle.box_core.specs.Answer.{Ticketed}
 use Rattle.box_core.specs.Mail.{Mail, open_in}
-use Rattle.box_core.specs.declared.work.Work.{Ghosts}
+use Rattle.lanes.specs.Ends.{LaneEnd}
 use Rattle.lanes.specs.declared.book.Book.{Book}
-use Rattle.lanes.specs.declared.port.Port.{Port}
-use Rattle.lanes.specs.Books.{book}
-use Rattle.lanes.specs.Accounts.{kept_count}
-use Rattle.lanes.specs.Joined.{received_of, taken_by, sent_by, answers_by, jobs_by, Joins}
+use Rattle.lanes.specs.Joined.{received_of, Joins}
+use Rattle.lanes.specs.Settling.{taken_by, sent_by, answers_by, jobs_by}
 use Rattle.lanes.specs.Polls.{TakenIn}
 use Rattle.lanes.specs.Settling.{AllKept}
-use Rattle.lanes.proofs.Accounting
 use Rattle.lanes.proofs.Accounting.{Fits, Credits}
 use Rattle.lanes.proofs.Joining.{taken_parts}
-use Rattle.lanes.proofs.Settlement.{Ends, kept_all, all_are_open, open_is_left}
+use Rattle.lanes.proofs.Settlement.{kept_all, all_are_open, open_is_left}
 
-module _ {W R O : Type 0} (request : W → R) (result_of : R → O) {g : Ghosts W O} where
+module _ {W R O : Type 0} (request : W → R) (result_of : R → O) where
   -- there is room for what waits
-  pub room_left : (put : List (Ticketed W)) (mail : Mail W O) (ports : List (Port W O g)) (rings : List (Consumer (Ticketed W) Global AnyItems)) (v w : Book (Ticketed W)) (answers jobs left0 left1 : List (Ticketed W)) (capacity : ℕ)
+  pub room_left : (put : List (Ticketed W)) (mail : Mail W O) (ports : List (LaneEnd W O)) (rings : List (Consumer (Ticketed W) Global AnyItems)) (v w : Book (Ticketed W)) (answers jobs left0 left1 : List (Ticketed W)) (capacity : ℕ)
       → Fits request result_of put mail → Credits request result_of put mail (received_of rings) → v.put ≡ put → v.taken ≡ [] → Joins ports rings v w answers jobs
       → left0 ≡ [] → left1 ≡ left0 ++ jobs → length mail.outstanding ≤ capacity → length left1 + length w.put ≤ capacity + length w.taken
   room_left put mail ports rings v w answers jobs left0 left1 capacity f c put_is fresh h empty left_is room =
@@ -53,7 +50,7 @@ module _ {W R O : Type 0} (request : W → R) (result_of : R → O) {g : Ghosts 
         length-append (answers_by ports) (jobs_by ports),
       )
 
-  pub record Lane (put : List (Ticketed W)) (mail mail' : Mail W O) (came : List (Ticketed W)) (ports : List (Port W O g)) (answers waiting left : List (Ticketed W)) : Type 0 where
+  pub record Lane (put : List (Ticketed W)) (mail mail' : Mail W O) (came : List (Ticketed W)) (ports : List (LaneEnd W O)) (answers waiting left : List (Ticketed W)) : Type 0 where
     pub carried : IsPermutation put (waiting ++ taken_by ports)
     pub kept : AllKept request result_of mail answers mail'
     pub fits : Fits request result_of put mail'
@@ -62,7 +59,7 @@ module _ {W R O : Type 0} (request : W → R) (result_of : R → O) {g : Ghosts 
     pub unanswered : All (λ job. open_in mail' job.ticket ≡ Some job.work) left
     pub all_left : (ticket : ℕ) (work : W) → open_in mail' ticket ≡ Some work → Contains left (record { ticket = ticket; work = work })
 
-  pub lane : (put : List (Ticketed W)) (mail mail' : Mail W O) (ports : List (Port W O g)) (rings : List (Consumer (Ticketed W) Global AnyItems)) (v w : Book (Ticketed W)) (answers jobs left0 left1 left2 waiting : List (Ticketed W))
+  pub lane : (put : List (Ticketed W)) (mail mail' : Mail W O) (ports : List (LaneEnd W O)) (rings : List (Consumer (Ticketed W) Global AnyItems)) (v w : Book (Ticketed W)) (answers jobs left0 left1 left2 waiting : List (Ticketed W))
       → Fits request result_of put mail → Credits request result_of put mail (received_of rings) → v.put ≡ put → v.taken ≡ [] → Joins ports rings v w answers jobs → TakenIn request result_of mail answers mail'
       → left0 ≡ [] → left1 ≡ left0 ++ jobs → left2 ≡ left1 ++ waiting → IsPermutation w.put (w.taken ++ waiting)
       → Lane put mail mail' (received_of rings) ports answers waiting left2

@@ -1,22 +1,10 @@
 -- What becomes of a client's tickets as its mailbox changes.
-use Rattle.std.proofs.Common.{◌≡◌, ◌≢◌, ℕ, zero, suc, ◌+◌, ◌-◌, ◌<◌, ◌≤◌, nat_lt, Bool, true, false, not, if◌then◌else◌, ◌⊎◌, inl, inr, ⊎_elim, All, List, [], ◌∷◌, ◌++◌, length, map, drop, slice_get, Option, Some, None, is_some, refl, ap, sym, ◌∙◌, subst, arith}
-use Rattle.std.specs.Prelude.{IsPermutation}
+use Rattle.std.proofs.Common.{◌≡◌, ◌≢◌, ℕ, zero, suc, ◌+◌, ◌-◌, ◌<◌, ◌≤◌, false, not, if◌then◌else◌, ◌⊎◌, ⊎_elim, List, [], ◌∷◌, ◌++◌, length, map, drop, slice_get, Option, Some, None, is_some, refl, ap, sym, ◌∙◌, subst, arith}
 use Rattle.std.proofs.lemmas.Bool.{lt-ltb, le-ltb}
-use Rattle.std.proofs.lemmas.List.Elements.{All-cons, All-tail, All-head, All-append}
-use Rattle.std.proofs.lemmas.List.Sorted.{All-permutation, IsPermutation-sym, length_permutation}
-use Rattle.std.proofs.lemmas.List.{drop-map}
 use mathlib.Core.Logic.{dite}
 use native.Mathlib.Decide.{ℕ_discrete}
-use lib.ListN.{length-append}
-use Rattle.std.proofs.lemmas.List.{map-append}
-use Rattle.box_core.specs.Answer.{Ticketed}
-use Rattle.box_core.specs.History.{Report, Kept, Strange, Repeated}
-use Rattle.box_core.specs.Mail.{Mail, Place, changed_at, accepted_in, open_in, open_of_place, status_in, status_by, status_of_place, next_in, with_request, with_kept, with_handed, with_close, with_capacity}
-use Rattle.box_core.specs.Table.{AnswerReport}
-use Rattle.lanes.specs.Books.{ticket_of, work_of, CountsFrom}
-use Rattle.lanes.specs.Accounts.{is_open, works_of, taken_of, all_true, kept_count, kept_or, results_of, kept_of, IsCredited, AreAccounted}
-use Rattle.lanes.specs.Polls.{left_by, TakenIn}
-use Rattle.lanes.proofs.Carried.{counts_more}
+use Rattle.box_core.specs.Mail.{Mail, Place, changed_at, status_in, status_by, with_kept}
+use Rattle.lanes.specs.Accounts.{is_open, kept_count, kept_or}
 
 pub option_case : {A P : Type 0} (o : Option A) → (o ≡ None → P) → ((x : A) → o ≡ Some x → P) → P
 option_case None f g = f refl

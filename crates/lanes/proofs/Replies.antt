@@ -1,7 +1,6 @@
 -- What a release and an answer leave of a client's accounts.
-use Rattle.std.proofs.Common.{◌≡◌, ◌≢◌, ℕ, ◌+◌, ◌-◌, Bool, true, false, not, ◌⊎◌, inl, inr, List, [], ◌∷◌, length, slice_get, Option, Some, None, is_some, IfSome, IfNone, refl, ap, sym, ◌∙◌, subst, arith}
+use Rattle.std.proofs.Common.{◌≡◌, ◌≢◌, ℕ, ◌+◌, ◌-◌, Bool, true, not, ◌⊎◌, inl, inr, List, [], ◌∷◌, length, slice_get, Option, Some, None, is_some, IfSome, IfNone, refl, ap, sym, ◌∙◌, subst, arith}
 use Rattle.box_core.specs.Answer.{Ticketed}
-use Rattle.box_core.specs.History.{Kept}
 use Rattle.box_core.specs.Mail.{Mail, Place, accepted_in, status_in, next_in, with_kept, with_handed}
 use Rattle.box_core.specs.Table.{AnswerReport}
 use Rattle.box_core.specs.Views.{answered_report}

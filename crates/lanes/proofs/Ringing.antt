@@ -1,8 +1,8 @@
 -- The rings are looked into, one after another.
-use Rattle.std.proofs.Common.{◌≡◌, ◌≢◌, ℕ, zero, suc, ◌+◌, ◌<◌, ◌≤◌, All, List, [], ◌∷◌, ◌++◌, length, map, get_or, set, refl, ap, sym, ◌∙◌, subst, append_assoc, arith}
-use Rattle.std.specs.Prelude.{flat_map, IsPermutation}
+use Rattle.std.proofs.Common.{◌≡◌, ℕ, zero, suc, ◌<◌, All, List, [], ◌∷◌, ◌++◌, length, get_or, set, refl, ap, sym, ◌∙◌, subst, append_assoc, arith}
+use Rattle.std.specs.Prelude.{IsPermutation}
 use Rattle.std.proofs.lemmas.List.Elements.{All-append}
-use Rattle.std.proofs.lemmas.List.Sorted.{IsPermutation-refl, IsPermutation-trans, IsPermutation-sym, IsPermutation-append_left, IsPermutation-append_right, IsPermutation-append_comm}
+use Rattle.std.proofs.lemmas.List.Sorted.{IsPermutation-refl, IsPermutation-trans, IsPermutation-append_right}
 use Rattle.std.specs.declared.alloc.Global.{Global}
 use Rattle.rtrb.specs.Ring.{received, SameConsumer}
 use Rattle.rtrb.specs.declared.consumer.Consumer.{Consumer}
@@ -10,7 +10,7 @@ use Rattle.rtrb.specs.declared.AnyItems.{AnyItems}
 use Rattle.box_core.specs.Answer.{Ticketed}
 use Rattle.box_core.specs.Mail.{Mail, accepted_in}
 use Rattle.lanes.specs.Joined.{received_of}
-use Rattle.lanes.specs.Links.{ring_of, ring_links}
+use Rattle.lanes.specs.Identities.{ring_of, ring_links}
 use Rattle.lanes.specs.Polls.{TakenIn}
 use Rattle.lanes.proofs.Carried.{over}
 use Rattle.lanes.proofs.Crossing.{none}

@@ -5,14 +5,13 @@ use Rattle.std.specs.Prelude.{sum_by, map}
 use mathlib.Core.Logic.{dite}
 use native.Mathlib.Decide.{ℕ_discrete}
 use Rattle.std.proofs.lemmas.List.Sums.{sum_by-cons, get_or-le-sum_by}
+use Rattle.lanes.specs.Ends.{LaneEnd}
 use Rattle.lanes.specs.Workers.{port_link, port_links}
 use Rattle.box_core.specs.Answer.{Ticketed}
-use Rattle.box_core.specs.declared.work.Work.{Ghosts}
 use Rattle.lanes.specs.declared.gate.Stepped.{Stepped}
 use Rattle.lanes.specs.declared.gate.Stepped.TheVariants as stepped
 use Rattle.lanes.specs.declared.port.Held.{Held}
 use Rattle.lanes.specs.declared.port.Held.TheVariants as held
-use Rattle.lanes.specs.declared.port.Port.{Port}
 use Rattle.lanes.specs.Held.{held_in, answers_in, HoldsJob}
 use Rattle.lanes.specs.Ports.{taken_at, sent_at, held_at, SamePort, SameBooks, Finishes}
 use Rattle.lanes.specs.Steps.{Holds, Rests, HoldNothing, Unchanged, Ends, Serves, ServesOne, Steps, keeps}
@@ -37,18 +36,18 @@ same_default [] i d e h = absurd (omega arith)
 same_default (x ∷ xs) zero d e h = refl
 same_default (x ∷ xs) (suc i) d e h = same_default xs i d e (omega arith)
 
-module _ {W O : Type 0} {g : Ghosts W O} where
-  same_port : (p q r : Port W O g) → SamePort p q → SamePort q r → SamePort p r
-  same_port p q r a b = (b.0 ∙ a.0, b.1 ∙ a.1, ((b.2.0.0 ∙ a.2.0.0, b.2.0.1 ∙ a.2.0.1, b.2.0.2 ∙ a.2.0.2, b.2.0.3 ∙ a.2.0.3), b.2.1 ∙ a.2.1))
+module _ {W O : Type 0} where
+  same_port : (p q r : LaneEnd W O) → SamePort p q → SamePort q r → SamePort p r
+  same_port p q r a b = (b.0 ∙ a.0, b.1 ∙ a.1)
 
-  ends_of : (result : Stepped) (p0 p q : Port W O g) (hand : List (Ticketed W)) → Finishes p result q → HoldsJob p.held → held_at p0 ≡ [] → sent_at p ≡ sent_at p0 → hand ≡ held_at p → Ends hand p0 result q
+  ends_of : (result : Stepped) (p0 p q : LaneEnd W O) (hand : List (Ticketed W)) → Finishes p result q → HoldsJob p.held → held_at p0 ≡ [] → sent_at p ≡ sent_at p0 → hand ≡ held_at p → Ends hand p0 result q
   ends_of stepped.Answered p0 p q hand f j n s h = (f.0 ∙ (λ i. s i ++ sym h i), f.1)
   ends_of stepped.Idle p0 p q hand f j n s h = let n = holds_one p.held j in let e : length (held_in p.held) ≡ 0 = ap length f.1 in absurd (omega arith)
   ends_of stepped.Again p0 p q hand f j n s h = absurd f
   ends_of stepped.NoMemory p0 p q hand f j n s h = (f.0.1 ∙ s, f.0.2 ∙ sym h, f.2, no_answer p0.held n)
   ends_of stepped.RingFull p0 p q hand f j n s h = (f.0.1 ∙ s, f.0.2 ∙ sym h, f.1)
 
-  steps_of : (result : Stepped) (p q : Port W O g) (old new : List (Port W O g)) → Finishes p result q → HoldsJob p.held → ServesOne old result new → Steps old result new
+  steps_of : (result : Stepped) (p q : LaneEnd W O) (old new : List (LaneEnd W O)) → Finishes p result q → HoldsJob p.held → ServesOne old result new → Steps old result new
   steps_of stepped.Answered p q old new f j s = s
   steps_of stepped.Idle p q old new f j s = let n = holds_one p.held j in let e : length (held_in p.held) ≡ 0 = ap length f.1 in absurd (omega arith)
   steps_of stepped.Again p q old new f j s = absurd f
@@ -56,14 +55,14 @@ module _ {W O : Type 0} {g : Ghosts W O} where
   steps_of stepped.RingFull p q old new f j s = s
 
   -- no port changed before the first was looked at
-  pub unchanged : (ports : List (Port W O g)) → Unchanged ports ports
+  pub unchanged : (ports : List (LaneEnd W O)) → Unchanged ports ports
   unchanged ports = record {
     count = refl;
-    rests = λ c d h. ((refl, refl, ((refl, refl, refl, refl), refl)), (refl, refl, refl));
+    rests = λ c d h. ((refl, refl), (refl, refl, refl));
   }
 
   -- a port of which no book changed stands in its place again
-  pub rested : (old ports : List (Port W O g)) (lane : ℕ) (p q : Port W O g) → Unchanged old ports → lane < length ports → p ≡ get_or ports lane p → SamePort p q → SameBooks p q → Unchanged old (set ports lane q)
+  pub rested : (old ports : List (LaneEnd W O)) (lane : ℕ) (p q : LaneEnd W O) → Unchanged old ports → lane < length ports → p ≡ get_or ports lane p → SamePort p q → SameBooks p q → Unchanged old (set ports lane q)
   rested old ports lane p q un within is same books = record {
     count = length-set ports lane q ∙ un.count;
     rests = λ c d h. dite (ℕ_discrete c lane)
@@ -71,28 +70,28 @@ module _ {W O : Type 0} {g : Ghosts W O} where
         (λ apart. subst (λ x. Rests (get_or old c d) x) (sym (get_or-set_other ports lane c q d apart)) (un.rests c d h));
   }
     where
-      here : (d : Port W O g) → Rests (get_or old lane d) (get_or (set ports lane q) lane d)
+      here : (d : LaneEnd W O) → Rests (get_or old lane d) (get_or (set ports lane q) lane d)
       here d =
           let n : length ports ≡ length old = un.count in
-          let p0 : Port W O g = get_or old lane d in
+          let p0 : LaneEnd W O = get_or old lane d in
           let was : get_or ports lane d ≡ p = same_default ports lane d p within ∙ sym is in
           let before : Rests p0 p = subst (λ x. Rests p0 x) was (un.rests lane d (omega arith)) in
           let after : Rests p0 q = (same_port p0 p q before.0 same, (books.0 ∙ before.1.0, books.1 ∙ before.1.1, books.2 ∙ before.1.2)) in
           subst (λ x. Rests p0 x) (sym (get_or-set_same ports lane q d within)) after
 
-  pub served : (old ports : List (Port W O g)) (lane : ℕ) (p p1 q : Port W O g) (result : Stepped) → HoldNothing old → Unchanged old ports → lane < length ports → p ≡ get_or ports lane p
+  pub served : (old ports : List (LaneEnd W O)) (lane : ℕ) (p p1 q : LaneEnd W O) (result : Stepped) → HoldNothing old → Unchanged old ports → lane < length ports → p ≡ get_or ports lane p
       → SamePort p p1 → sent_at p1 ≡ sent_at p → HoldsJob p1.held → taken_at p1 ≡ taken_at p ++ held_at p1
       → SamePort p1 q → taken_at q ≡ taken_at p1 → Finishes p1 result q
       → Steps old result (set ports lane q)
   served old ports lane p p1 q result nothing un within is same1 sent1 job taken1 same2 taken2 fin =
-      let new : List (Port W O g) = set ports lane q in
+      let new : List (LaneEnd W O) = set ports lane q in
       let n : length ports ≡ length old = un.count in
       steps_of result p1 q old new fin job (record {
         count = length-set ports lane q ∙ un.count;
         lane = lane;
         within = omega arith;
         serves = λ d.
-            let p0 : Port W O g = get_or old lane d in
+            let p0 : LaneEnd W O = get_or old lane d in
             let here : get_or new lane d ≡ q = get_or-set_same ports lane q d within in
             let was : get_or ports lane d ≡ p = same_default ports lane d p within ∙ sym is in
             let rests : Rests p0 p = subst (λ x. Rests p0 x) was (un.rests lane d (omega arith)) in
@@ -155,15 +154,15 @@ most_held held.Nothing = omega arith
 most_held (held.Job job) = omega arith
 most_held (held.Done done) = omega arith
 
-module _ {W O : Type 0} {g : Ghosts W O} where
-  held_ends : (result : Stepped) (p q : Port W O g) → Finishes p result q → length (held_at p) ≡ 1 → Ends (held_at p ++ []) p result q
+module _ {W O : Type 0} where
+  held_ends : (result : Stepped) (p q : LaneEnd W O) → Finishes p result q → length (held_at p) ≡ 1 → Ends (held_at p ++ []) p result q
   held_ends stepped.Answered p q f one = (f.0 ∙ ap (λ l. sent_at p ++ l) (sym (append-nil (held_at p))), f.1)
   held_ends stepped.Idle p q f one = let e : length (held_at p) ≡ 0 = ap length f.1 in absurd (omega (arith, e, one))
   held_ends stepped.Again p q f one = absurd f
   held_ends stepped.NoMemory p q f one = (f.0.1, f.0.2 ∙ sym (append-nil (held_at p)), f.2, job_alone p.held f.1)
   held_ends stepped.RingFull p q f one = (f.0.1, f.0.2 ∙ sym (append-nil (held_at p)), f.1)
 
-  held_steps : (result : Stepped) (p q : Port W O g) (old new : List (Port W O g)) → Finishes p result q → length (held_at p) ≡ 1 → ServesOne old result new → Steps old result new
+  held_steps : (result : Stepped) (p q : LaneEnd W O) (old new : List (LaneEnd W O)) → Finishes p result q → length (held_at p) ≡ 1 → ServesOne old result new → Steps old result new
   held_steps stepped.Answered p q old new f one s = s
   held_steps stepped.Idle p q old new f one s = let e : length (held_at p) ≡ 0 = ap length f.1 in absurd (omega (arith, e, one))
   held_steps stepped.Again p q old new f one s = absurd f
@@ -171,10 +170,10 @@ module _ {W O : Type 0} {g : Ghosts W O} where
   held_steps stepped.RingFull p q old new f one s = s
 
   -- what is held is tried again, and is the whole step
-  pub served_held : (ports : List (Port W O g)) (lane : ℕ) (p q : Port W O g) (result : Stepped) → lane < length ports → p ≡ get_or ports lane p → Holds ports lane → sum_by (λ p. length (held_at p)) ports ≤ 1
+  pub served_held : (ports : List (LaneEnd W O)) (lane : ℕ) (p q : LaneEnd W O) (result : Stepped) → lane < length ports → p ≡ get_or ports lane p → Holds ports lane → sum_by (λ p. length (held_at p)) ports ≤ 1
       → SamePort p q → taken_at q ≡ taken_at p → Finishes p result q → Steps ports result (set ports lane q)
   served_held ports lane p q result within is holds most same taken fin =
-      let one : length (held_at p) ≡ 1 = ap (λ (x : Port W O g). length (held_at x)) is ∙ holds p in
+      let one : length (held_at p) ≡ 1 = ap (λ (x : LaneEnd W O). length (held_at x)) is ∙ holds p in
       held_steps result p q ports (set ports lane q) fin one (record {
         count = length-set ports lane q;
         lane = lane;
@@ -194,25 +193,25 @@ module _ {W O : Type 0} {g : Ghosts W O} where
             let there : get_or (set ports lane q) c d ≡ get_or ports c d = get_or-set_other ports lane c q d apart in
             subst (λ x. Rests (get_or ports c d) x) (sym there) (still (get_or ports c d));
         first = λ c d h apart. nothing_is (held_at (get_or ports c d))
-            (let b = two_of (λ (x : Port W O g). length (held_at x)) ports lane c d d apart within h in let o = holds d in omega (arith, b, o, most));
+            (let b = two_of (λ (x : LaneEnd W O). length (held_at x)) ports lane c d d apart within h in let o = holds d in omega (arith, b, o, most));
       })
     where
-      still : (x : Port W O g) → Rests x x
-      still x = ((refl, refl, ((refl, refl, refl, refl), refl)), (refl, refl, refl))
+      still : (x : LaneEnd W O) → Rests x x
+      still x = ((refl, refl), (refl, refl, refl))
 
-  link_same : (p q : Port W O g) → SamePort p q → port_link q ≡ port_link p
-  link_same p q s = λ i. record { deque = s.0 i; ring = (s.2.0.0 i, (s.2.0.1 i, (s.2.0.2 i, s.2.0.3 i))) }
+  link_same : (p q : LaneEnd W O) → SamePort p q → port_link q ≡ port_link p
+  link_same p q s = s.0
 
-  serves_links : (old new : List (Port W O g)) (result : Stepped) → ServesOne old result new → port_links new ≡ port_links old
-  serves_links old new result s = same_map (λ (p : Port W O g). port_link p) old new s.count (λ c d h. dite (ℕ_discrete c s.lane)
+  serves_links : (old new : List (LaneEnd W O)) (result : Stepped) → ServesOne old result new → port_links new ≡ port_links old
+  serves_links old new result s = same_map (λ (p : LaneEnd W O). port_link p) old new s.count (λ c d h. dite (ℕ_discrete c s.lane)
       (λ (e : c ≡ s.lane). subst (λ k. port_link (get_or new k d) ≡ port_link (get_or old k d)) (sym e) (link_same (get_or old s.lane d) (get_or new s.lane d) (s.serves d).same))
       (λ ne. link_same (get_or old c d) (get_or new c d) (s.rests c d h ne).0))
 
-  unchanged_links : (old new : List (Port W O g)) → Unchanged old new → port_links new ≡ port_links old
-  unchanged_links old new u = same_map (λ (p : Port W O g). port_link p) old new u.count (λ c d h. link_same (get_or old c d) (get_or new c d) (u.rests c d h).0)
+  unchanged_links : (old new : List (LaneEnd W O)) → Unchanged old new → port_links new ≡ port_links old
+  unchanged_links old new u = same_map (λ (p : LaneEnd W O). port_link p) old new u.count (λ c d h. link_same (get_or old c d) (get_or new c d) (u.rests c d h).0)
 
   -- a step leaves the end the same
-  pub steps_links : (result : Stepped) (old new : List (Port W O g)) → Steps old result new → port_links new ≡ port_links old
+  pub steps_links : (result : Stepped) (old new : List (LaneEnd W O)) → Steps old result new → port_links new ≡ port_links old
   steps_links stepped.Answered old new s = serves_links old new stepped.Answered s
   steps_links stepped.Idle old new s = unchanged_links old new s.1
   steps_links stepped.Again old new s = unchanged_links old new s.1
@@ -220,26 +219,26 @@ module _ {W O : Type 0} {g : Ghosts W O} where
   steps_links stepped.RingFull old new s = serves_links old new stepped.RingFull s
 
   -- what is held for the lane that was served is all that is held
-  served_all : (old new : List (Port W O g)) (result : Stepped) (d : Port W O g) (s : ServesOne old result new) → sum_by (λ p. length (held_at p)) new ≡ length (held_at (get_or new s.lane d))
+  served_all : (old new : List (LaneEnd W O)) (result : Stepped) (d : LaneEnd W O) (s : ServesOne old result new) → sum_by (λ p. length (held_at p)) new ≡ length (held_at (get_or new s.lane d))
   served_all old new result d s =
-      one_of (λ (p : Port W O g). length (held_at p)) new s.lane d (let w = s.within in let n = s.count in omega (arith, w, n))
+      one_of (λ (p : LaneEnd W O). length (held_at p)) new s.lane d (let w = s.within in let n = s.count in omega (arith, w, n))
       (λ c e h ne. let k : c < length old = (let n = s.count in omega (arith, n, h)) in
       ap length ((s.rests c e k ne).1.2 ∙ s.first c e k ne))
 
-  serves_one : (old new : List (Port W O g)) (result : Stepped) → ServesOne old result new → sum_by (λ p. length (held_at p)) new ≤ 1
+  serves_one : (old new : List (LaneEnd W O)) (result : Stepped) → ServesOne old result new → sum_by (λ p. length (held_at p)) new ≤ 1
   serves_one [] new result s = let w = s.within in absurd (omega (arith, w))
   serves_one (x ∷ xs) new result s =
       let all = served_all (x ∷ xs) new result x s in let most = most_held (get_or new s.lane x).held in omega (arith, all, most)
 
-  unchanged_one : (old new : List (Port W O g)) → Unchanged old new → sum_by (λ p. length (held_at p)) old ≤ 1 → sum_by (λ p. length (held_at p)) new ≤ 1
-  unchanged_one old new u most = let e = same_sum (λ (p : Port W O g). length (held_at p)) old new u.count (λ c d h. ap length (u.rests c d h).1.2) in omega (arith, e, most)
+  unchanged_one : (old new : List (LaneEnd W O)) → Unchanged old new → sum_by (λ p. length (held_at p)) old ≤ 1 → sum_by (λ p. length (held_at p)) new ≤ 1
+  unchanged_one old new u most = let e = same_sum (λ (p : LaneEnd W O). length (held_at p)) old new u.count (λ c d h. ap length (u.rests c d h).1.2) in omega (arith, e, most)
 
-  unchanged_free : (old new : List (Port W O g)) → HoldNothing old → Unchanged old new → sum_by (λ p. length (held_at p)) new ≡ 0
+  unchanged_free : (old new : List (LaneEnd W O)) → HoldNothing old → Unchanged old new → sum_by (λ p. length (held_at p)) new ≡ 0
   unchanged_free old new nothing u =
-      all_zero (λ (p : Port W O g). length (held_at p)) new (λ c d h. let k : c < length old = (let n = u.count in omega (arith, n, h)) in ap length ((u.rests c d k).1.2 ∙ nothing c d k))
+      all_zero (λ (p : LaneEnd W O). length (held_at p)) new (λ c d h. let k : c < length old = (let n = u.count in omega (arith, n, h)) in ap length ((u.rests c d k).1.2 ∙ nothing c d k))
 
   -- and leaves it holding at most one
-  pub steps_one : (result : Stepped) (old new : List (Port W O g)) → Steps old result new → sum_by (λ p. length (held_at p)) old ≤ 1 → sum_by (λ p. length (held_at p)) new ≤ 1
+  pub steps_one : (result : Stepped) (old new : List (LaneEnd W O)) → Steps old result new → sum_by (λ p. length (held_at p)) old ≤ 1 → sum_by (λ p. length (held_at p)) new ≤ 1
   steps_one stepped.Answered old new s most = serves_one old new stepped.Answered s
   steps_one stepped.Idle old new s most = unchanged_one old new s.1 most
   steps_one stepped.Again old new s most = unchanged_one old new s.1 most
@@ -247,7 +246,7 @@ module _ {W O : Type 0} {g : Ghosts W O} where
   steps_one stepped.RingFull old new s most = serves_one old new stepped.RingFull s
 
   -- where it leaves nothing held, all hold nothing
-  pub steps_free : (result : Stepped) (old new : List (Port W O g)) → Steps old result new → keeps result ≡ false → sum_by (λ p. length (held_at p)) new ≡ 0
+  pub steps_free : (result : Stepped) (old new : List (LaneEnd W O)) → Steps old result new → keeps result ≡ false → sum_by (λ p. length (held_at p)) new ≡ 0
   steps_free stepped.Answered [] new s frees = let w = s.within in absurd (omega (arith, w))
   steps_free stepped.Answered (x ∷ xs) new s frees =
       let all = served_all (x ∷ xs) new stepped.Answered x s in let none = ap length (s.serves x).ends.1 in omega (arith, all, none)
@@ -256,7 +255,7 @@ module _ {W O : Type 0} {g : Ghosts W O} where
   steps_free stepped.NoMemory old new s frees = absurd (true≢false frees)
   steps_free stepped.RingFull old new s frees = absurd (true≢false frees)
 
-  pub steps_length : (result : Stepped) (old new : List (Port W O g)) → Steps old result new → length new ≡ length old
+  pub steps_length : (result : Stepped) (old new : List (LaneEnd W O)) → Steps old result new → length new ≡ length old
   steps_length stepped.Answered old new s = s.count
   steps_length stepped.Idle old new s = s.1.count
   steps_length stepped.Again old new s = s.1.count
@@ -264,8 +263,8 @@ module _ {W O : Type 0} {g : Ghosts W O} where
   steps_length stepped.RingFull old new s = s.count
 
   -- one lane more for which nothing is held
-  pub none_held : (ports : List (Port W O g)) (lane : ℕ) (p : Port W O g) → ((k : ℕ) (d : Port W O g) → k < lane → held_at (get_or ports k d) ≡ []) → lane < length ports → p ≡ get_or ports lane p → p.held ≡ held.Nothing
-      → (k : ℕ) (d : Port W O g) → k < lane + 1 → held_at (get_or ports k d) ≡ []
+  pub none_held : (ports : List (LaneEnd W O)) (lane : ℕ) (p : LaneEnd W O) → ((k : ℕ) (d : LaneEnd W O) → k < lane → held_at (get_or ports k d) ≡ []) → lane < length ports → p ≡ get_or ports lane p → p.held ≡ held.Nothing
+      → (k : ℕ) (d : LaneEnd W O) → k < lane + 1 → held_at (get_or ports k d) ≡ []
   none_held ports lane p before inside is nothing k d below = dite (ℕ_discrete k lane)
-      (λ (e : k ≡ lane). ap (λ j. held_at (get_or ports j d)) e ∙ ap (λ (x : Port W O g). held_at x) (same_default ports lane d p inside ∙ sym is) ∙ ap (λ h. held_in h) nothing)
+      (λ (e : k ≡ lane). ap (λ j. held_at (get_or ports j d)) e ∙ ap (λ (x : LaneEnd W O). held_at x) (same_default ports lane d p inside ∙ sym is) ∙ ap (λ h. held_in h) nothing)
       (λ ne. before k d (omega (arith, below, ne)))

@@ -1,17 +1,16 @@
 -- What a lane comes to, once all passes are in and what waited is popped.
-use Rattle.std.proofs.Common.{◌≡◌, ◌≢◌, ℕ, zero, suc, ◌+◌, ◌-◌, ◌<◌, ◌≤◌, Bool, true, false, not, ◌⊎◌, inl, inr, ⊎_elim, All, List, [], ◌∷◌, ◌++◌, length, get_or, slice_get, Option, Some, None, is_some, refl, ap, sym, ◌∙◌, subst, append_assoc, arith}
-use Rattle.std.specs.Prelude.{flat_map, IsPermutation, Contains}
+use Rattle.std.proofs.Common.{◌≡◌, ◌≢◌, ℕ, zero, suc, ◌+◌, ◌-◌, ◌<◌, ◌≤◌, true, false, not, ⊎_elim, All, List, [], ◌∷◌, ◌++◌, length, get_or, slice_get, Option, Some, None, is_some, refl, ap, sym, ◌∙◌, subst, arith}
+use Rattle.std.specs.Prelude.{IsPermutation, Contains}
 use Rattle.std.proofs.lemmas.Bool.{lt-ltb, le-ltb}
-use Rattle.std.proofs.lemmas.List.Elements.{All-contains_itself, All-contains, Contains-append_cases, Contains-append_left, Contains-append_right}
-use Rattle.std.proofs.lemmas.List.Sorted.{IsPermutation-refl, IsPermutation-trans, IsPermutation-sym, IsPermutation-append_left, IsPermutation-append_right, IsPermutation-append_comm, IsPermutation-append, IsPermutation-middle, Contains-permutation, length_permutation}
-use lib.ListN.{length-append}
+use Rattle.std.proofs.lemmas.List.Elements.{All-contains_itself, All-contains, Contains-append_cases, Contains-append_right}
+use Rattle.std.proofs.lemmas.List.Sorted.{IsPermutation-trans, IsPermutation-middle, Contains-permutation}
 use Rattle.box_core.specs.Answer.{Ticketed}
-use Rattle.box_core.specs.History.{Report, Kept, Strange, Repeated}
-use Rattle.box_core.specs.Mail.{Mail, Place, accepted_in, open_in, open_of_place, status_in, status_by, with_kept}
+use Rattle.box_core.specs.History.{Report, Kept, Strange}
+use Rattle.box_core.specs.Mail.{Mail, Place, open_in, open_of_place, status_in, status_by, with_kept}
 use Rattle.box_core.specs.Table.{AnswerReport}
 use Rattle.box_core.proofs.Small.{bool_case}
 use Rattle.lanes.specs.Books.{ticket_of}
-use Rattle.lanes.specs.Accounts.{is_open, IsCredited, AreAccounted}
+use Rattle.lanes.specs.Accounts.{is_open, IsCredited}
 use Rattle.lanes.specs.Polls.{left_by, TakenIn}
 use Rattle.lanes.specs.Settling.{AllKept}
 use Rattle.lanes.proofs.Accounting.{Fits, Credits, Answers, answered, put_at, taken_at}

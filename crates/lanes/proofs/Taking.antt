@@ -1,16 +1,12 @@
 -- Answers are taken in, one after another.
-use Rattle.std.proofs.Common.{◌≡◌, ◌≢◌, ℕ, ◌+◌, ◌-◌, ◌<◌, ◌≤◌, All, List, [], ◌∷◌, ◌++◌, length, Some, refl, ap, sym, ◌∙◌, subst, arith}
-use Rattle.std.proofs.lemmas.List.Elements.{All-cons, All-append}
+use Rattle.std.proofs.Common.{◌≡◌, ◌≢◌, ℕ, ◌-◌, ◌<◌, List, [], ◌∷◌, ◌++◌, Some, refl, ap, ◌∙◌, subst, arith}
 use Rattle.box_core.specs.Answer.{Ticketed}
 use Rattle.box_core.specs.History.{Report, Kept, Strange, Repeated}
-use Rattle.box_core.specs.Mail.{Mail, accepted_in, changed_at, status_in, with_kept}
+use Rattle.box_core.specs.Mail.{Mail, accepted_in, status_in, with_kept}
 use Rattle.box_core.specs.Table.{AnswerReport}
 use Rattle.box_core.specs.Views.{answered_report}
 use Rattle.box_core.specs.declared.faults.Answered.{Answered}
 use Rattle.box_core.specs.declared.faults.Answered.TheVariants as answered
-use Rattle.lanes.specs.Held.{answers_in}
-use Rattle.lanes.specs.declared.port.Held.{Held}
-use Rattle.lanes.specs.declared.port.Held.TheVariants as held
 use Rattle.lanes.specs.Polls.{left_by, TakenIn}
 use Rattle.lanes.proofs.Mails
 use mathlib.Core.List.{IsPrefix}

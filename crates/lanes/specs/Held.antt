@@ -1,5 +1,5 @@
 -- What a worker holds of one lane.
-use Rattle.std.specs.Prelude.{ℕ, List, [], ◌∷◌}
+use Rattle.std.specs.Prelude.{List, [], ◌∷◌}
 use Rattle.box_core.specs.Answer.{Ticketed}
 use Rattle.lanes.specs.declared.port.Held.{Held}
 use Rattle.lanes.specs.declared.port.Held.TheVariants as held

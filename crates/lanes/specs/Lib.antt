@@ -1,7 +1,9 @@
 pub mod Accounts
 pub mod Books
 pub mod Clients
+pub mod Ends
 pub mod Held
+pub mod Identities
 pub mod Joined
 pub mod Links
 pub mod Made

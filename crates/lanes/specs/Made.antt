@@ -1,9 +1,7 @@
 -- Which ends `lanes` makes, and when it is refused.
-use Rattle.std.specs.Prelude.{◌≡◌, ℕ, Bool, ◌||◌, ◌==◌, nat_lt, if◌then◌else◌, All, List, [], Option, Some, None}
-use Rattle.box_core.specs.declared.work.Work.{Ghosts}
+use Rattle.std.specs.Prelude.{◌≡◌, ℕ, ◌||◌, ◌==◌, nat_lt, if◌then◌else◌, All, List, [], Option, Some, None}
 use Rattle.box_core.specs.Mail.{fresh, is_no_capacity}
-use Rattle.lanes.specs.declared.client.Client.{Client}
-use Rattle.lanes.specs.declared.worker.Worker.{Worker}
+use Rattle.lanes.specs.Ends.{ClientEnd, WorkerEnd}
 use Rattle.lanes.specs.declared.fault.LaneFault.{LaneFault}
 use Rattle.lanes.specs.declared.fault.LaneFault.TheVariants as fault
 use Rattle.lanes.specs.Clients.{put_of, mail_of, came_to}
@@ -17,11 +15,11 @@ fault_in clients workers capacity =
     else (if is_no_capacity capacity then Some fault.Capacity
     else None)
 
-module _ {W O : Type 0} {g : Ghosts W O} where
+module _ {W O : Type 0} where
   -- clients that put nothing and got no answer
-  abbrev pub AreNew : ℕ → List (Client W O g) → Type 0
+  abbrev pub AreNew : ℕ → List (ClientEnd W O) → Type 0
   AreNew capacity clients = All (λ c. (put_of c ≡ []) × (came_to c ≡ []) × (mail_of c ≡ fresh 0 capacity)) clients
 
   -- workers that took nothing, so hold nothing and sent nothing
-  abbrev pub AreIdle : List (Worker W O g) → Type 0
+  abbrev pub AreIdle : List (WorkerEnd W O) → Type 0
   AreIdle workers = All (λ w. All (λ p. (taken_at p ≡ []) × (held_at p ≡ [])) (ports_of w)) workers

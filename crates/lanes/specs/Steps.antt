@@ -1,10 +1,9 @@
 -- What a clause says of a worker's step: of its ports before and after.
 use Rattle.std.specs.Prelude.{◌≡◌, ◌≢◌, ℕ, ◌+◌, ◌<◌, Bool, true, false, All, List, [], ◌++◌, length, slice_index_or}
 use Rattle.box_core.specs.Answer.{Ticketed}
-use Rattle.box_core.specs.declared.work.Work.{Ghosts}
+use Rattle.lanes.specs.Ends.{LaneEnd}
 use Rattle.lanes.specs.declared.gate.Stepped.{Stepped}
 use Rattle.lanes.specs.declared.gate.Stepped.TheVariants as stepped
-use Rattle.lanes.specs.declared.port.Port.{Port}
 use Rattle.lanes.specs.Held.{HoldsJob, HoldsAnswer, answers_in}
 use Rattle.lanes.specs.Ports.{taken_at, sent_at, held_at, SamePort, SameBooks}
 
@@ -16,25 +15,25 @@ keeps stepped.Again = false
 keeps stepped.NoMemory = true
 keeps stepped.RingFull = true
 
-module _ {W O : Type 0} {g : Ghosts W O} where
+module _ {W O : Type 0} where
   -- the same port, and no book of it changed
-  abbrev pub Rests : Port W O g → Port W O g → Type 0
+  abbrev pub Rests : LaneEnd W O → LaneEnd W O → Type 0
   Rests p q = SamePort p q × SameBooks p q
 
-  abbrev pub HoldNothing : List (Port W O g) → Type 0
+  abbrev pub HoldNothing : List (LaneEnd W O) → Type 0
   HoldNothing ports = All (λ p. held_at p ≡ []) ports
 
   -- something is held for this lane
-  abbrev pub Holds : List (Port W O g) → ℕ → Type 0
-  Holds ports lane = (d : Port W O g) → length (held_at (slice_index_or ports lane d)) ≡ 1
+  abbrev pub Holds : List (LaneEnd W O) → ℕ → Type 0
+  Holds ports lane = (d : LaneEnd W O) → length (held_at (slice_index_or ports lane d)) ≡ 1
 
   -- no port changed
-  pub record Unchanged (old new : List (Port W O g)) : Type 0 where
+  pub record Unchanged (old new : List (LaneEnd W O)) : Type 0 where
     pub count : length new ≡ length old
-    pub rests : (c : ℕ) (d : Port W O g) → c < length old → Rests (slice_index_or old c d) (slice_index_or new c d)
+    pub rests : (c : ℕ) (d : LaneEnd W O) → c < length old → Rests (slice_index_or old c d) (slice_index_or new c d)
 
   -- what became of the one job or answer that was at hand: where memory was refused, it was no answer before
-  abbrev pub Ends : List (Ticketed W) → Port W O g → Stepped → Port W O g → Type 0
+  abbrev pub Ends : List (Ticketed W) → LaneEnd W O → Stepped → LaneEnd W O → Type 0
   Ends hand p stepped.Answered q = (sent_at q ≡ sent_at p ++ hand) × (held_at q ≡ [])
   Ends hand p stepped.Idle q = ⊥
   Ends hand p stepped.Again q = ⊥
@@ -42,7 +41,7 @@ module _ {W O : Type 0} {g : Ghosts W O} where
   Ends hand p stepped.RingFull q = (sent_at q ≡ sent_at p) × (held_at q ≡ hand) × HoldsAnswer q.held
 
   -- One lane was served: what was held for it, or else one job that was taken from it.
-  pub record Serves (p : Port W O g) (result : Stepped) (q : Port W O g) : Type 0 where
+  pub record Serves (p : LaneEnd W O) (result : Stepped) (q : LaneEnd W O) : Type 0 where
     pub same : SamePort p q
     pub new : List (Ticketed W)
     pub taken : taken_at q ≡ taken_at p ++ new
@@ -50,16 +49,16 @@ module _ {W O : Type 0} {g : Ghosts W O} where
     pub ends : Ends (held_at p ++ new) p result q
 
   -- One port was served, and the others rested: what is held is served before anything else is taken.
-  pub record ServesOne (old : List (Port W O g)) (result : Stepped) (new : List (Port W O g)) : Type 0 where
+  pub record ServesOne (old : List (LaneEnd W O)) (result : Stepped) (new : List (LaneEnd W O)) : Type 0 where
     pub count : length new ≡ length old
     pub lane : ℕ
     pub within : lane < length old
-    pub serves : (d : Port W O g) → Serves (slice_index_or old lane d) result (slice_index_or new lane d)
-    pub rests : (c : ℕ) (d : Port W O g) → c < length old → c ≢ lane → Rests (slice_index_or old c d) (slice_index_or new c d)
-    pub first : (c : ℕ) (d : Port W O g) → c < length old → c ≢ lane → held_at (slice_index_or old c d) ≡ []
+    pub serves : (d : LaneEnd W O) → Serves (slice_index_or old lane d) result (slice_index_or new lane d)
+    pub rests : (c : ℕ) (d : LaneEnd W O) → c < length old → c ≢ lane → Rests (slice_index_or old c d) (slice_index_or new c d)
+    pub first : (c : ℕ) (d : LaneEnd W O) → c < length old → c ≢ lane → held_at (slice_index_or old c d) ≡ []
 
   -- A step: `Idle` and `Again` come where nothing was held, and change no port.
-  abbrev pub Steps : List (Port W O g) → Stepped → List (Port W O g) → Type 0
+  abbrev pub Steps : List (LaneEnd W O) → Stepped → List (LaneEnd W O) → Type 0
   Steps old stepped.Answered new = ServesOne old stepped.Answered new
   Steps old stepped.Idle new = HoldNothing old × Unchanged old new
   Steps old stepped.Again new = HoldNothing old × Unchanged old new

@@ -1,27 +1,24 @@
 -- What a clause says of a worker's end.
 use Rattle.std.specs.Prelude.{◌≡◌, ℕ, ◌<◌, List, length, map, slice_index_or}
-use Rattle.box_core.specs.declared.work.Work.{Ghosts}
-use Rattle.crossbeam_deque.specs.Handles.{stealer_deque}
-use Rattle.lanes.specs.declared.port.Port.{Port}
-use Rattle.lanes.specs.declared.worker.Worker.{Worker}
+use Rattle.lanes.specs.Ends.{LaneEnd, WorkerEnd}
 use Rattle.lanes.specs.Links.{Link}
 
-module _ {W O : Type 0} {g : Ghosts W O} where
-  -- the worker's ports, one for each lane, in the clients' order
-  abbrev pub ports_of : Worker W O g → List (Port W O g)
-  ports_of w = w.ports.items
+module _ {W O : Type 0} where
+  -- the worker's ends of the lanes, in the clients' order
+  abbrev pub ports_of : WorkerEnd W O → List (LaneEnd W O)
+  ports_of worker = worker.lanes
 
-  abbrev pub port_link : Port W O g → Link
-  port_link p = record { deque = stealer_deque p.thief; ring = (p.sender.end.words, (p.sender.end.slots, (p.sender.end.names, p.sender.end.heap))) }
+  abbrev pub port_link : LaneEnd W O → Link
+  port_link p = p.link
 
-  abbrev pub port_links : List (Port W O g) → List Link
+  abbrev pub port_links : List (LaneEnd W O) → List Link
   port_links ports = map (λ p. port_link p) ports
 
   -- which end it is: its links to the clients, in their order
-  abbrev pub worker_links : Worker W O g → List Link
-  worker_links w = port_links w.ports.items
+  abbrev pub worker_links : WorkerEnd W O → List Link
+  worker_links worker = port_links worker.lanes
 
   -- the same ends, in the same order
-  pub record SameEnds (old new : List (Worker W O g)) : Type 0 where
+  pub record SameEnds (old new : List (WorkerEnd W O)) : Type 0 where
     pub count : length new ≡ length old
-    pub links : (i : ℕ) (d : Worker W O g) → i < length old → worker_links (slice_index_or new i d) ≡ worker_links (slice_index_or old i d)
+    pub links : (i : ℕ) (d : WorkerEnd W O) → i < length old → worker_links (slice_index_or new i d) ≡ worker_links (slice_index_or old i d)

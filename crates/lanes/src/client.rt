@@ -10,6 +10,7 @@ use crate::book::{Owner, Puts};
 use crate::signals::Signals;
 use box_core::{Done, Job, Mailbox, Refusal, Reply, Work};
 use rtrb::Consumer;
+use std::marker::Model;
 use std::sync::Arc;
 
 /// A client's end of its lane: it submits requests, and hands out their results in the order of the requests.
@@ -37,6 +38,18 @@ pub struct Client<W: Work> {
     ghost credited: { All (IsCredited W.request (worker_view owner).put mailbox) (received_of rings.items) },
     ghost accounted: { AreAccounted (worker_view owner).put mailbox (received_of rings.items) },
     ghost few: { mailbox.handed + kept_count mailbox.outstanding ≤ length (received_of rings.items) },
+}
+
+impl<W: Work> Model for Client<W> {
+    ghost use Rattle.std.specs.Prelude.{map};
+    ghost use Rattle.crossbeam_deque.specs.Handles.{worker_deque, worker_view};
+    ghost use Rattle.rtrb.specs.Ring.{received};
+    ghost use Rattle.lanes.specs.Ends.{ClientEnd};
+    ghost use Rattle.lanes.specs.Identities.{links_of};
+
+    ghost Value = { ClientEnd W W.Out };
+
+    ghost view = { λ client. record { put = (worker_view client.owner).put; came = map (λ ring. received ring) client.rings.items; mail = client.mailbox; links = links_of (worker_deque client.owner) client.rings.items; count = client.count } };
 }
 
 impl<W: Work> Client<W> {
@@ -148,7 +161,7 @@ ghost use Rattle.box_core.specs.Mail.{refusal_in, with_request};
 ghost use Rattle.box_core.specs.Answer.{Ticketed};
 ghost use Rattle.rtrb.specs.Ring.{received, SameConsumer};
 ghost use Rattle.lanes.specs.Polls.{TakenIn};
-ghost use Rattle.lanes.specs.Links.{ring_links};
+ghost use Rattle.lanes.specs.Identities.{ring_links};
 
 // Accepts a request that is not refused.
 fn accept<W: Work>(mailbox: &mut Mailbox<W>, work: Arc<W>) -> u64

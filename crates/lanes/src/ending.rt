@@ -1,15 +1,15 @@
 //! One lane on its way to being settled.
 ghost use Rattle.std.specs.Prelude.{◌≡◌, ◌+◌, ◌-◌, ◌≤◌, List, [], ◌∷◌, ◌++◌, length, max, vec_len, vec_capacity, IsPermutation};
-ghost use Rattle.crossbeam_deque.specs.Handles.{worker_deque, stealer_deque, worker_port, worker_view, worker_flavor, SameWorker};
+ghost use Rattle.crossbeam_deque.specs.Handles.{worker_deque, worker_port, worker_view, worker_flavor, SameWorker};
 ghost use Rattle.rtrb.specs.Ring.{sent, received, IsPair};
 ghost use Rattle.box_core.specs.Answer.{Ticketed};
 ghost use Rattle.lanes.specs.Books.{book};
 ghost use Rattle.lanes.specs.Clients.{client_links, mail_of};
 ghost use Rattle.lanes.specs.Held.{jobs_in, answers_in};
 ghost use Rattle.lanes.specs.Joined.{Joins};
-ghost use Rattle.lanes.specs.Links.{links_of};
+ghost use Rattle.lanes.specs.Identities.{link, links_of, sender_ring, IsOfLane};
 ghost use Rattle.lanes.specs.Polls.{TakenIn};
-ghost use Rattle.lanes.specs.Ports.{taken_at};
+ghost use Rattle.lanes.specs.Ports.{taken_at, sent_at};
 ghost use Rattle.lanes.specs.Settling.{Settles};
 ghost use Rattle.lanes.specs.Workers.{port_links};
 
@@ -76,10 +76,10 @@ fn join_ports<W: Work>(
 
 // Takes a worker's pass in, and gives the rest of its port.
 fn join_port<W: Work>(owner: &mut Owner<W>, port: Port<W>) -> (Producer<Done<W>>, Held<W>)
-    requires lane { (stealer_deque port.thief ≡ worker_deque owner.old) × (worker_port owner.old ≡ 0) }
+    requires lane { IsOfLane (worker_deque owner.old) port.link × (worker_port owner.old ≡ 0) }
     ensures same { SameWorker owner.old owner.new }
     ensures joined { worker_view owner.new ≡ book (worker_view owner.old).live ((worker_view owner.old).out - 1) (worker_view owner.old).put ((worker_view owner.old).taken ++ taken_at port) }
-    ensures rest { (result.0 ≡ port.sender) × (result.1 ≡ port.held) }
+    ensures rest { (port.link ≡ link (worker_deque owner.old) (sender_ring result.0)) × (sent result.0 ≡ sent_at port) × (result.1 ≡ port.held) }
 {
     let Port {
         thief: _,

@@ -6,7 +6,8 @@ ghost use Rattle.box_core.specs.Mail.{fresh, IsCapacity};
 ghost use Rattle.lanes.specs.Books.{book};
 ghost use Rattle.lanes.specs.Clients.{put_of, mail_of, came_to, client_links};
 ghost use Rattle.lanes.specs.Joined.{received_of};
-ghost use Rattle.lanes.specs.Links.{AreOfOneCall, add_each, empties, links_of, ring_of};
+ghost use Rattle.lanes.specs.Identities.{add_each, links_of, ring_of, link};
+ghost use Rattle.lanes.specs.Links.{AreOfOneCall, empties};
 ghost use Rattle.lanes.specs.Made.{fault_in, AreNew, AreIdle};
 ghost use Rattle.lanes.specs.Ports.{taken_at, held_at};
 ghost use Rattle.lanes.specs.Workers.{worker_links, ports_of, port_link};
@@ -167,7 +168,7 @@ fn open_port<W: Work>(
     requires { worker_port owner.old ≡ 0 }
     ensures same { SameWorker owner.old owner.new }
     ensures split { IfOk result (λ r. worker_view owner.new ≡ book (worker_view owner.old).live ((worker_view owner.old).out + 1) (worker_view owner.old).put (worker_view owner.old).taken) }
-    ensures link { IfOk result (λ r. port_link r.0 ≡ record { deque = worker_deque owner.old; ring = ring_of r.1 }) }
+    ensures link { IfOk result (λ r. port_link r.0 ≡ link (worker_deque owner.old) (ring_of r.1)) }
     ensures fresh { IfOk result (λ r. (taken_at r.0 ≡ []) × (held_at r.0 ≡ []) × (received r.1 ≡ [])) }
 {
     let (sender, ring) = RingBuffer::new(alloc, ANSWERS)?;

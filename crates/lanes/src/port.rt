@@ -1,6 +1,6 @@
 //! What one worker has of one lane.
 ghost use Rattle.std.specs.Prelude.{◌≡◌, ◌++◌, MatchResult};
-ghost use Rattle.crossbeam_deque.specs.Handles.{view, IsPassOf, stealer_deque};
+ghost use Rattle.crossbeam_deque.specs.Handles.{view as pass_view, IsPassOf, stealer_deque};
 ghost use Rattle.rtrb.specs.Ring.{sent};
 ghost use Rattle.lanes.specs.Books.{ticket_of, Rises, Rises-prop};
 ghost use Rattle.lanes.specs.Held.{held_in};
@@ -12,6 +12,7 @@ use box_core::{Done, Job, Work};
 use crossbeam_deque::Steal;
 use rtrb::{Producer, PushError};
 use std::alloc::Global;
+use std::marker::Model;
 use std::mem;
 
 /// What a worker has yet to do for a lane.
@@ -30,9 +31,20 @@ pub struct Port<W: Work> {
     pub(crate) sender: Producer<Done<W>>,
     pub(crate) held: Held<W>,
     ghost seated: { IsPassOf (stealer_deque thief) seat },
-    ghost live: { (view seat).live ≡ 1 },
-    ghost rises: { Rises ticket_of (view seat).taken } by { Rises-prop ticket_of (view seat).taken },
-    ghost carried: { sent sender ++ held_in held ≡ (view seat).taken },
+    ghost live: { (pass_view seat).live ≡ 1 },
+    ghost rises: { Rises ticket_of (pass_view seat).taken } by { Rises-prop ticket_of (pass_view seat).taken },
+    ghost carried: { sent sender ++ held_in held ≡ (pass_view seat).taken },
+}
+
+impl<W: Work> Model for Port<W> {
+    ghost use Rattle.crossbeam_deque.specs.Handles.{view as pass_view, stealer_deque};
+    ghost use Rattle.rtrb.specs.Ring.{sent};
+    ghost use Rattle.lanes.specs.Ends.{LaneEnd};
+    ghost use Rattle.lanes.specs.Identities.{sender_ring, link};
+
+    ghost Value = { LaneEnd W W.Out };
+
+    ghost view = { λ port. record { link = link (stealer_deque port.thief) (sender_ring port.sender); number = port.seat.id; taken = (pass_view port.seat).taken; sent = sent port.sender; held = port.held; carried = port.carried } };
 }
 
 impl<W: Work> Port<W> {

@@ -7,6 +7,7 @@ ghost use Rattle.lanes.specs.Books.{ticket_of, work_of, CountsFrom, CountsFrom-p
 
 use crate::book::Owner;
 use box_core::{Answered, Done, Job, Mailbox, Reply, Work};
+use std::marker::Model;
 
 /// A client's end, once all ends are in one thread again: it gives the jobs that were left, takes their answers in, and
 /// hands out the rest of the results. No call of it takes memory.
@@ -23,6 +24,15 @@ pub struct Settled<W: Work> {
     // Each of these counts as taken, and an outcome that is kept is the result.
     ghost running: { taken_of mailbox.outstanding ≡ all_true mailbox.outstanding },
     ghost due: { kept_of W.request W.result_of mailbox.outstanding ≡ results_of W.request W.result_of mailbox.outstanding },
+}
+
+impl<W: Work> Model for Settled<W> {
+    ghost use Rattle.crossbeam_deque.specs.Handles.{worker_view};
+    ghost use Rattle.lanes.specs.Ends.{SettledEnd};
+
+    ghost Value = { SettledEnd W W.Out };
+
+    ghost view = { λ settled. record { put = (worker_view settled.owner).put; mail = settled.mailbox; left = settled.left.items; count = settled.count; running = settled.running } };
 }
 
 impl<W: Work> Settled<W> {

@@ -1,7 +1,8 @@
 //! All ends come together.
 ghost use Rattle.std.specs.Prelude.{◌≡◌, ◌≤◌, List, [], ◌∷◌, ◌++◌, length, map, vec_len, vec_capacity, IfOk, IfErr};
 ghost use Rattle.lanes.specs.Clients.{client_links};
-ghost use Rattle.lanes.specs.Links.{AreOfOneCall, add_each};
+ghost use Rattle.lanes.specs.Identities.{add_each};
+ghost use Rattle.lanes.specs.Links.{AreOfOneCall};
 ghost use Rattle.lanes.specs.Rooms.{HasRoom, AllHaveRoom, HavePorts};
 ghost use Rattle.lanes.specs.Settling.{AllSettle};
 ghost use Rattle.lanes.specs.Workers.{worker_links, ports_of};

@@ -8,6 +8,7 @@ use crate::signals::Signals;
 use box_core::Work;
 use crossbeam_deque::Steal;
 use std::alloc::{AllocError, Global};
+use std::marker::Model;
 use std::sync::Arc;
 
 /// A worker's end of every lane: it takes jobs, runs them, and sends their answers.
@@ -28,8 +29,16 @@ pub struct Worker<W: Work> {
     ghost free: { holds ≡ false → sum_by (λ p. length (held_at p)) ports.items ≡ 0 },
 }
 
+impl<W: Work> Model for Worker<W> {
+    ghost use Rattle.lanes.specs.Ends.{WorkerEnd};
+
+    ghost Value = { WorkerEnd W W.Out };
+
+    ghost view = { λ worker. record { lanes = worker.ports.items } };
+}
+
 impl<W: Work> Worker<W> {
-    ghost use Rattle.std.specs.Prelude.{◌≡◌, ◌<◌, ◌++◌, [], ◌∷◌, vec_len, IfOk, IfSome, IfNone};
+    ghost use Rattle.std.specs.Prelude.{◌≡◌, ◌<◌, ◌++◌, [], ◌∷◌, length, IfOk, IfSome, IfNone};
     ghost use Rattle.lanes.specs.Ports.{held_at};
     ghost use Rattle.lanes.specs.Steps.{Steps, HoldNothing, Holds};
     ghost use Rattle.lanes.specs.Watched.{Watches};
@@ -50,7 +59,7 @@ impl<W: Work> Worker<W> {
 
     // One lane more.
     pub(crate) fn add(&mut self, port: Port<W>) -> Result<(), AllocError>
-        requires few { vec_len self.old.ports < 64 }
+        requires few { length (ports_of self.old) < 64 }
         requires free { held_at port ≡ [] }
         ensures { IfOk result (λ _. ports_of self.new ≡ ports_of self.old ++ port ∷ []) }
     {
@@ -112,7 +121,7 @@ impl<W: Work> Worker<W> {
 
     // The lane for which something is held.
     fn held_lane(&self) -> Option<usize>
-        ensures found { IfSome result (λ lane. (lane < vec_len self.now.ports) × Holds (ports_of self.now) lane) }
+        ensures found { IfSome result (λ lane. (lane < length (ports_of self.now)) × Holds (ports_of self.now) lane) }
         ensures none { IfNone result (HoldNothing (ports_of self.now)) }
     {
         if !self.holds {
@@ -133,7 +142,8 @@ fn first_held<W: Work>(ports: &Vec<Port<W>>) -> Option<usize>
     ensures none { IfNone result (HoldNothing ports.now.items) }
 {
     for lane in 0..ports.len() {
-        match ports[lane].held {
+        let port = &ports[lane];
+        match port.held {
             Held::Nothing => {}
             _ => return Some(lane),
         }

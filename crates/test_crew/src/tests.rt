@@ -4,7 +4,7 @@ ghost use Rattle.lanes.specs.Links.{AreOfOneCall};
 ghost use Rattle.lanes.specs.Workers.{worker_links};
 
 use box_core::Work;
-use crew::{Crew, Front, beside};
+use crew::{Crew, Host, beside};
 use lanes::{Client, OpenGate, Settled, Worker, lanes, settle};
 use std::alloc::{AllocError, Global};
 use std::sync::{Arc, Wait};
@@ -43,7 +43,7 @@ impl Work for Task {
     }
 }
 
-/// When a front that put its requests ends.
+/// When a host that put its requests ends.
 #[derive(Clone, Copy, Drop, PartialEq, Eq)]
 enum Until {
     /// Each client was handed all its results.
@@ -162,7 +162,7 @@ impl Asking {
     }
 }
 
-impl Front for Asking {
+impl Host for Asking {
     type Out = Result<(), AllocError>;
 
     ghost ready = { λ _. Unit {0} };
@@ -232,14 +232,14 @@ fn answered_to<R: Threads + Wait + Sync>(
     until: Until,
 ) -> Result<Handed, AllocError> {
     let (clients, workers) = ends_of(alloc, 2, 4, capacity)?;
-    let mut front = Asking::of(alloc, clients, until)?;
-    let (ran, workers) = beside(rt, &OpenGate, workers, &mut front)?;
+    let mut host = Asking::of(alloc, clients, until)?;
+    let (ran, workers) = beside(rt, &OpenGate, workers, &mut host)?;
     ran?;
     let Asking {
         mut clients,
         outcomes,
         ..
-    } = front;
+    } = host;
     let late = late_in(&mut clients);
     match settle(clients, workers) {
         Ok(ends) => Ok(Handed {
@@ -372,14 +372,14 @@ fn a_job_that_never_fits_keeps_no_other_client(rt: HostRuntime) -> Result<(), Fa
     Ok(())
 }
 
-/// How long a front gives the workers to fall asleep, in milliseconds.
+/// How long a host gives the workers to fall asleep, in milliseconds.
 const ASLEEP: u64 = 20;
 
 /// Stops the workers while they sleep, and waits until they have ended.
 #[derive(Drop)]
 struct Stopping;
 
-impl Front for Stopping {
+impl Host for Stopping {
     type Out = ();
 
     ghost ready = { λ _. Unit {0} };

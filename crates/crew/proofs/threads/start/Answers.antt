@@ -9,7 +9,7 @@ loop-worker-preserved g c =
     let stays = c.loop-worker.invariant in
     let pushed = c.push_reserved.ensures in
     let steps = c.in-Some.ensures.steps in
-    let same : worker_links c.in-Ok.handle.promise.0.value ≡ worker_links c.in-Some.worker = ap (λ (p : SameEnd _ _ _). worker_links p.0.value) c.in-Ok.ensures.ok ∙ ap worker_links c.of.ensures in
+    let same : worker_links c.in-Ok.handle.promise.0.value ≡ worker_links c.in-Some.worker = ap (λ (p : SameEnd _ _). worker_links p.0.value) c.in-Ok.ensures.ok ∙ ap worker_links c.of.ensures in
     record {
       room = omega (arith, stays.room, pushed.len, pushed.capacity, steps.1);
       count = omega (arith, stays.count, pushed.len, steps.1);

@@ -1,4 +1,4 @@
-use Rattle.std.proofs.Common.{arith, ◌∙◌, sym, ap, List, length, get_or, ℕ, ◌≡◌}
+use Rattle.std.proofs.Common.{arith, ◌∙◌, sym, length}
 use Rattle.std.proofs.lemmas.List.Sums.{prefix_len_is}
 use Rattle.desk_checking.specs.Input.{goes_on}
 use Rattle.desk_checking.proofs.cut.line_length.Goals as goal

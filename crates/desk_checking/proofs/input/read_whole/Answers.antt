@@ -14,7 +14,7 @@ filled n xs zs e = ap (λ k. take k (xs ++ zs)) (sym e) ∙ take_front xs zs
 
 pub loop-text-init : goal.loop-text-init
 loop-text-init g c =
-    let r = g.R.Source.remaining c.args.reader.now in
+    let r = (g.R.Source.seen c.args.reader.now).remaining in
     record {
       room = c.in_ok-buffer.ensures.len;
       within = omega (arith, c.new-text.ensures.len);
@@ -24,8 +24,8 @@ loop-text-init g c =
 
 pub returns-then-n-eq0-clause-whole : goal.returns-then-n-eq0-clause-whole
 returns-then-n-eq0-clause-whole g c =
-    let old = g.R.Source.remaining c.args.reader.now in
-    let new = g.R.Source.remaining c.read_piece.new.reader in
+    let old = (g.R.Source.seen c.args.reader.now).remaining in
+    let new = (g.R.Source.seen c.read_piece.new.reader).remaining in
     let xs = c.loop-text.text.items in
     let buffer = c.read_piece.new.buffer in
     let none : c.in_ok-n.n ≡ 0 = omega (arith, c.if-n-eq0.true) in
@@ -35,16 +35,16 @@ returns-then-n-eq0-clause-whole g c =
     )
 
 pub returns-then-n-len-clause-long : goal.returns-then-n-len-clause-long
-returns-then-n-len-clause-long g c = λ _. (
-  c.loop-text.text.items ++ take c.in_ok-n.n c.read_piece.new.buffer,
-  Consumes-then _ _ _ _ _ c.loop-text.invariant.taken c.in_ok-n.ensures.bytes,
-  omega (arith, length-append c.loop-text.text.items (take c.in_ok-n.n c.read_piece.new.buffer), length-take {A = ℕ}, c.if-n-len.true, c.len.ensures, c.in_ok-n.ensures.bound, c.loop-text.invariant.within, c.loop-text.text.ok.0),
-)
+returns-then-n-len-clause-long g c = λ _. record {
+  text = c.loop-text.text.items ++ take c.in_ok-n.n c.read_piece.new.buffer;
+  read = Consumes-then _ _ _ _ _ c.loop-text.invariant.taken c.in_ok-n.ensures.bytes;
+  too_long = omega (arith, length-append c.loop-text.text.items (take c.in_ok-n.n c.read_piece.new.buffer), length-take {A = ℕ}, c.if-n-len.true, c.len.ensures, c.in_ok-n.ensures.bound, c.loop-text.invariant.within, c.loop-text.text.ok.0);
+}
 
 pub loop-text-preserved : goal.loop-text-preserved
 loop-text-preserved g c =
-    let old = g.R.Source.remaining c.args.reader.now in
-    let new = g.R.Source.remaining c.read_piece.new.reader in
+    let old = (g.R.Source.seen c.args.reader.now).remaining in
+    let new = (g.R.Source.seen c.read_piece.new.reader).remaining in
     let piece : List ℕ = take c.in_ok-n.n c.read_piece.new.buffer in
     let grown : c.add.new.text.items ≡ c.loop-text.text.items ++ piece =
     c.in_ok-add.ensures ∙ ap (λ (b : List ℕ). c.loop-text.text.items ++ take c.in_ok-n.n b) (c.deref.ensures.value ∙ filled c.loop-text.buffer.len c.read_piece.new.buffer _ (omega (arith, c.in_ok-n.ensures.len, c.deref_mut.ensures.len))) in

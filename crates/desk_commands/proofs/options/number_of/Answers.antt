@@ -1,4 +1,4 @@
-use Rattle.std.proofs.Common.{rules, arith, ◌≤◌, ◌<◌, ◌≡◌, ◌∙◌, ◌^◌, max, min, ap, sym, subst, ℕ, Option, Some, None, option_map, Bor}
+use Rattle.std.proofs.Common.{arith, ◌≤◌, ◌<◌, ◌≡◌, ◌∙◌, ◌^◌, max, min, ap, sym, subst, ℕ, Option, Some, None, option_map}
 use Rattle.std.proofs.Math.Nat.{le-max_left, max-le, max-eq_right, min-le_right, min-eq_left, lt_of_le_of_lt}
 use Rattle.std.proofs.lemmas.Result.{OkIff-at_ok, OkIff-at_err}
 use Rattle.std.specs.Str.Parse.{digits_value, without_leading_plus}

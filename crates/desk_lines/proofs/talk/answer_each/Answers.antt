@@ -51,7 +51,7 @@ returns-in_err-answer_line-in-Line-clause-fault g c =
     let e = err_from_is_err_and c.from_residual-in_err-answer_line-in-Line.result c.from_residual-in_err-answer_line-in-Line.ensures.1 in
     rw (e.1, e.2) (λ n.
     progress_refused_by (g.C.Clerk.Script c.args.clerk.now) _ p took.0 _ c.in_err-answer_line-in-Line.field-0.0 took.1
-    (first_line p (g.R.Source.remaining c.next_line.new.source) took.0 _ _ took.2)
+    (first_line p (g.R.Source.seen c.next_line.new.source).remaining took.0 _ _ took.2)
     told.only n (λ e. part_weaker (g.C.Clerk.After c.before_read.new.clerk) (g.C.Clerk.Script c.before_read.new.clerk) (g.C.Clerk.Script c.args.clerk.now) (λ lines said a. c.lines.invariant.keeps lines said (c.in_ok-before_read.ensures.keeps lines said a)) (told.memory (ap Err e))))
 
 pub returns-in_err-answer_line-in-Line-clause-cut : goal.returns-in_err-answer_line-in-Line-clause-cut
@@ -61,7 +61,7 @@ returns-in_err-answer_line-in-Line-clause-cut g c = λ h.
     let p = progress_caught {After' = g.C.Clerk.After c.before_read.new.clerk} c.lines.invariant.progress c.in_ok-before_read.ensures.said in
     let e = err_from_is_err_and c.from_residual-in_err-answer_line-in-Line.result c.from_residual-in_err-answer_line-in-Line.ensures.1 in
     progress_refused (g.C.Clerk.Script c.args.clerk.now) p took.0 _ took.1
-    (first_line p (g.R.Source.remaining c.next_line.new.source) took.0 _ _ took.2)
+    (first_line p (g.R.Source.seen c.next_line.new.source).remaining took.0 _ _ took.2)
     (part_weaker (g.C.Clerk.After c.before_read.new.clerk) (g.C.Clerk.Script c.before_read.new.clerk) (g.C.Clerk.Script c.args.clerk.now) (λ lines said a. c.lines.invariant.keeps lines said (c.in_ok-before_read.ensures.keeps lines said a)) (told.write (ap Err (sym e.2) ∙ sym e.1 ∙ h)).1)
 
 pub returns-in-Last-clause-ok : goal.returns-in-Last-clause-ok

@@ -6,11 +6,11 @@ use Rattle.desk_lines.proofs.talk.answer_each.Given as goal
 
 abbrev pub invariant-lines : goal.invariant-lines
 invariant-lines g l = record {
-  progress : Progress (g.C.Clerk.After l.clerk) (g.R.Source.remaining l.initial.reader) (g.R.Source.remaining l.reader)
-      (g.W.Sink.contents l.initial.writer) (g.W.Sink.contents l.writer) l.lines.came (waiting l.lines) l.unwritten.bytes.items l.number;
-  reads : g.R.Source.faults l.reader ≡ g.R.Source.faults l.initial.reader;
-  writes : g.W.Sink.faults l.writer ≡ g.W.Sink.faults l.initial.writer;
-  in_step : IsInStep (g.R.Source.came l.initial.reader) (g.R.Source.came l.reader) l.lines.came;
+  progress : Progress (g.C.Clerk.After l.clerk) (g.R.Source.seen l.initial.reader).remaining (g.R.Source.seen l.reader).remaining
+      (g.W.Sink.seen l.initial.writer).contents (g.W.Sink.seen l.writer).contents l.lines.came (waiting l.lines) l.unwritten.bytes.items l.number;
+  reads : (g.R.Source.seen l.reader).faults ≡ (g.R.Source.seen l.initial.reader).faults;
+  writes : (g.W.Sink.seen l.writer).faults ≡ (g.W.Sink.seen l.initial.writer).faults;
+  in_step : IsInStep (g.R.Source.seen l.initial.reader).came (g.R.Source.seen l.reader).came l.lines.came;
   same : g.C.Clerk.kept l.clerk ≡ g.C.Clerk.kept l.initial.clerk;
   keeps : (lines said : List (List ℕ)) → g.C.Clerk.Script l.clerk lines said → g.C.Clerk.Script l.initial.clerk lines said;
 }

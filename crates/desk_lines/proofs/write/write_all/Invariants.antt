@@ -5,8 +5,8 @@ use Rattle.desk_lines.proofs.write.write_all.Given as goal
 abbrev pub invariant-pieces : goal.invariant-pieces
 invariant-pieces g l = record {
   within : l.at ≤ length l.bytes;
-  written : Appends (g.W.Sink.contents l.initial.writer) (g.W.Sink.contents l.writer) (take l.at l.bytes);
-  counts : g.W.Sink.faults l.writer ≡ g.W.Sink.faults l.initial.writer;
+  written : Appends (g.W.Sink.seen l.initial.writer).contents (g.W.Sink.seen l.writer).contents (take l.at l.bytes);
+  counts : (g.W.Sink.seen l.writer).faults ≡ (g.W.Sink.seen l.initial.writer).faults;
 }
 
 abbrev pub decreases-pieces : goal.decreases-pieces

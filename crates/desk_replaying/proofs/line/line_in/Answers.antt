@@ -1,7 +1,7 @@
 use Rattle.std.proofs.Common.{rules, ◌≡◌, ℕ, List, Some, IfNone, MatchOption, true≢false, codes, bytes_eq, ap, sym, ◌∙◌}
 use Rattle.serde_json.specs.Data.{Data, object}
-use Rattle.json_fields.specs.Listed.{members_of}
-use Rattle.json_fields.proofs.FirstKey.{first_key, first_is, neither}
+use Rattle.json_reader.specs.Members.{members_of}
+use Rattle.desk_wire.proofs.FirstKey.{first_key, first_is, neither}
 use Rattle.desk_replaying.specs.Line.{Line, Open, Answer, AnswerWith, Resize, IsLine}
 use Rattle.desk_replaying.proofs.line.line_in.Goals as goal
 

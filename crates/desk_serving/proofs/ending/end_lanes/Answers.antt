@@ -4,7 +4,7 @@ use Rattle.std.proofs.lemmas.Result.{err_from_is_err_and}
 use Rattle.desk_serving.specs.Ending.{ends_lanes}
 use Rattle.desk_serving.specs.LanesView.{names_in}
 use Rattle.desk_serving.specs.Owed.{AreFirst, AreHanded, Lane}
-use Rattle.desk_serving.specs.Telling.{Told, ToldInPart}
+use Rattle.desk_serving.specs.Telling.{TellsAll, TellsInPart}
 use Rattle.desk_lines.specs.declared.fault.FrontFault.TheVariants.{Memory, Write}
 use Rattle.desk_serving.proofs.EndingLanes.{settled_lanes, settled_ready, settled_count, all_whole}
 use Rattle.desk_serving.proofs.ending.end_lanes.Goals as goal
@@ -21,7 +21,7 @@ returns-in_err-hand_out_rest-clause-write g c = λ h.
     let is = err_from_is_err_and c.from_residual.result c.from_residual.ensures.1 in
     let both = sym is.1 ∙ h in
     let same : is.0 ≡ Write = cc in
-    subst (λ (ls : List Lane). ToldInPart (AreFirst (names_in c.args.lanes) ls) (g.W.Sink.contents c.args.writer.now) (g.W.Sink.contents c.hand_out_rest.new.writer))
+    subst (λ (ls : List Lane). TellsInPart (AreFirst (names_in c.args.lanes) ls) (g.W.Sink.seen c.args.writer.now).contents (g.W.Sink.seen c.hand_out_rest.new.writer).contents)
     (settled_lanes 0 _ _ _ c.in-Ok.ensures.settled) (c.in_err-hand_out_rest.ensures.write (ap Err (sym is.2 ∙ same)))
 
 pub returns-in_err-hand_out_rest-clause-memory : goal.returns-in_err-hand_out_rest-clause-memory
@@ -29,12 +29,12 @@ returns-in_err-hand_out_rest-clause-memory g c = λ h.
     let is = err_from_is_err_and c.from_residual.result c.from_residual.ensures.1 in
     let both = sym is.1 ∙ h in
     let same : is.0 ≡ Memory = cc in
-    subst (λ (ls : List Lane). Told (AreFirst (names_in c.args.lanes) ls) (g.W.Sink.contents c.args.writer.now) (g.W.Sink.contents c.hand_out_rest.new.writer))
+    subst (λ (ls : List Lane). TellsAll (AreFirst (names_in c.args.lanes) ls) (g.W.Sink.seen c.args.writer.now).contents (g.W.Sink.seen c.hand_out_rest.new.writer).contents)
     (settled_lanes 0 _ _ _ c.in-Ok.ensures.settled) (c.in_err-hand_out_rest.ensures.memory (ap Err (sym is.2 ∙ same)))
 
 pub returns-clause-ok : goal.returns-clause-ok
 returns-clause-ok g c =
-    subst (λ (ls : List Lane). Told (AreHanded (names_in c.args.lanes) ls (ends_lanes c.hand_out_rest.new.ends.items)) (g.W.Sink.contents c.args.writer.now) (g.W.Sink.contents c.hand_out_rest.new.writer))
+    subst (λ (ls : List Lane). TellsAll (AreHanded (names_in c.args.lanes) ls (ends_lanes c.hand_out_rest.new.ends.items)) (g.W.Sink.seen c.args.writer.now).contents (g.W.Sink.seen c.hand_out_rest.new.writer).contents)
     (settled_lanes 0 _ _ _ c.in-Ok.ensures.settled) c.in_ok-hand_out_rest.ensures.ok
 
 pub returns-clause-whole : goal.returns-clause-whole

@@ -2,8 +2,7 @@ use Rattle.std.proofs.Common.{◌∷◌, ◌++◌, [], refl, sym, ap, ◌∙◌,
 use Rattle.std.proofs.lemmas.Result.{err_from_is_err_and}
 use Rattle.lanes.specs.Rest.{mail_in}
 use Rattle.desk_serving.specs.Owed.{AreOwn, AreFirstOwn, lane_in}
-use Rattle.desk_serving.specs.Served.{Entry, of_name}
-use Rattle.desk_reports.specs.Shown.{reply}
+use Rattle.desk_wire.specs.Reports.{Report, Reply}
 use Rattle.desk_serving.proofs.EndingLanes.{own_none, own_then, own_begun, own_released, run_handed}
 use Rattle.desk_serving.proofs.Saying.{tells_none, tells_one, tells_quiet, tells_weaker}
 use Rattle.desk_serving.proofs.ending.hand_rest.Goals as goal
@@ -14,7 +13,7 @@ loop-reply-init g c = record { run = c.requires.run; counts = refl; tells = tell
 pub loop-reply-preserved : goal.loop-reply-preserved
 loop-reply-preserved g c =
     let n = c.args.name.now in let first = lane_in c.args.end.now in let old = c.loop-reply.end in let new = c.release.new.self in
-    let e : Entry = of_name n (reply n c.in-Some.reply.outcome c.in-Some.reply.ticket) in
+    let e : Report = Reply n c.in-Some.reply.ticket c.in-Some.reply.outcome in
     let own = own_released n old new c.in-Some.reply.ticket c.in-Some.reply.outcome c.in-Some.ensures.handed c.in-Some.ensures.right c.in-Some.ensures.rest.0 in
     record {
       run = run_handed (mail_in old) (mail_in new) c.loop-reply.invariant.run c.in-Some.ensures.handed.2;
@@ -26,7 +25,7 @@ loop-reply-preserved g c =
 pub returns-in_err-say_reply-clause-write : goal.returns-in_err-say_reply-clause-write
 returns-in_err-say_reply-clause-write g c = λ h.
     let n = c.args.name.now in let first = lane_in c.args.end.now in let old = c.loop-reply.end in let new = c.release.new.self in
-    let e : Entry = of_name n (reply n c.in-Some.reply.outcome c.in-Some.reply.ticket) in
+    let e : Report = Reply n c.in-Some.reply.ticket c.in-Some.reply.outcome in
     let own = own_released n old new c.in-Some.reply.ticket c.in-Some.reply.outcome c.in-Some.ensures.handed c.in-Some.ensures.right c.in-Some.ensures.rest.0 in
     let is = err_from_is_err_and c.from_residual.result c.from_residual.ensures.1 in
     let part = c.in_err-say_reply.ensures.part (ap Err (sym is.2) ∙ sym is.1 ∙ h) in (

@@ -8,8 +8,8 @@ use Rattle.desk_serving.proofs.ending.hand_rest.Given as goal
 abbrev pub invariant-loop-reply : goal.invariant-loop-reply
 invariant-loop-reply g l = record {
   run : IsRun l.end;
-  counts : g.W.Sink.faults l.writer ≡ g.W.Sink.faults l.initial.writer;
-  tells : Tells (AreOwn l.name (lane_in l.initial.end) (lane_in l.end)) (g.W.Sink.contents l.initial.writer) (g.W.Sink.contents l.writer) l.initial.unwritten.bytes.items l.unwritten.bytes.items;
+  counts : (g.W.Sink.seen l.writer).faults ≡ (g.W.Sink.seen l.initial.writer).faults;
+  tells : Tells (AreOwn l.name (lane_in l.initial.end) (lane_in l.end)) (g.W.Sink.seen l.initial.writer).contents (g.W.Sink.seen l.writer).contents l.initial.unwritten.bytes.items l.unwritten.bytes.items;
 }
 
 abbrev pub decreases-loop-reply : goal.decreases-loop-reply

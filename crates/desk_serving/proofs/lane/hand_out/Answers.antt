@@ -1,9 +1,8 @@
-use Rattle.std.proofs.Common.{◌≡◌, None}
+use Rattle.std.proofs.Common.{None}
 use Rattle.std.proofs.lemmas.Result.{on_ok_weaker}
 use Rattle.dmn_plan.specs.Request.{Request, request_result}
 use Rattle.lanes.specs.Clients.{came_to, mail_of, reply_of}
 use Rattle.desk_serving.specs.Owed.{lane_of}
-use Rattle.desk_reports.specs.Shown.{reply}
 use Rattle.desk_serving.proofs.Laning.{own_one, unpolled}
 use Rattle.desk_serving.proofs.lane.hand_out.Goals as goal
 
@@ -11,9 +10,9 @@ pub returns-clause-hands : goal.returns-clause-hands
 returns-clause-hands c =
     let h = c.in-Some.ensures.handed in let r = c.in-Some.ensures.right in
     let old = lane_of c.args.client.now in
-    let same : reply c.args.name.now c.in-Some.reply.outcome c.in-Some.reply.ticket ≡ reply c.args.name.now (request_result r.0) old.handed =
-    (λ i. reply c.args.name.now (r.2 i) (h.0 i)) in
-    on_ok_weaker c.handed.result (λ is. own_one c.args.name.now old (lane_of c.poll.new.client) r.0 _ c.args.text.now.items c.handed.new.text.items r.1 h.1 same is) c.handed.ensures
+    on_ok_weaker c.add_to.result
+    (λ is. own_one c.args.name.now old (lane_of c.poll.new.client) r.0 c.in-Some.reply.ticket c.in-Some.reply.outcome c.args.text.now.items c.add_to.new.text.items r.1 h.1 h.0 r.2 is)
+    c.add_to.ensures
 
 pub returns-clause-polled : goal.returns-clause-polled
 returns-clause-polled c = (reply_of c.poll.result, c.poll.ensures.polls)

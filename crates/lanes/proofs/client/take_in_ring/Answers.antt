@@ -1,4 +1,4 @@
-use Rattle.std.proofs.Common.{◌≡◌, ◌∷◌, [], ◌++◌, ◌<◌, refl, sym, ap, ◌∙◌, subst, append_assoc, arith, rules, append-nil}
+use Rattle.std.proofs.Common.{◌∷◌, [], ◌++◌, ◌<◌, refl, sym, ap, ◌∙◌, append_assoc, rules, append-nil}
 use Rattle.std.proofs.lemmas.List.Elements.{All-cons, All-append}
 use Rattle.box_core.specs.Mail.{accepted_in}
 use Rattle.rtrb.specs.Ring.{received, known_items}

@@ -1,4 +1,4 @@
-use Rattle.std.proofs.Common.{[], refl, arith, rules, ◌<◌, length}
+use Rattle.std.proofs.Common.{[], refl, arith, ◌<◌}
 use Rattle.std.proofs.lemmas.List.Sorted.{IsPermutation-refl}
 use Rattle.box_core.specs.Mail.{accepted_in}
 use Rattle.lanes.specs.Joined.{received_of}

@@ -1,4 +1,4 @@
-use Rattle.std.proofs.Common.{◌≡◌, ◌∷◌, [], ◌++◌, refl, sym, ap, ◌∙◌, subst, append_assoc, arith, rules}
+use Rattle.std.proofs.Common.{◌∷◌, [], ◌++◌, sym, ap, ◌∙◌, append_assoc}
 use Rattle.rtrb.specs.Ring.{received, known_items}
 use Rattle.lanes.proofs.Taking.{taken_more}
 use Rattle.lanes.proofs.ending.drain.Goals as goal

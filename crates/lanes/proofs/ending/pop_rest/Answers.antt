@@ -1,5 +1,5 @@
 use Rattle.crossbeam_deque.specs.Handles.{worker_view}
-use Rattle.std.proofs.Common.{◌∙◌, ◌≡◌, ◌∷◌, [], ◌++◌, length, append-nil, append_assoc, IsPermutation, ap, sym, refl, subst, arith, rules, length-append}
+use Rattle.std.proofs.Common.{◌∙◌, ◌∷◌, [], ◌++◌, length, append-nil, append_assoc, IsPermutation, ap, sym, refl, subst, arith, rules, length-append}
 use Rattle.lanes.specs.Books.{ticket_of, book}
 use Rattle.lanes.proofs.Carried.{leaves_at, finds_at}
 use Rattle.lanes.proofs.ending.pop_rest.Goals as goal

@@ -12,18 +12,7 @@ invariant_of-result g c =
     let owner = c.open_ports.new.owner in let mailbox = c.in_ok-mailbox.mailbox in let rings = c.in_ok-rings.rings in
     let fits = fits_new g.W.Work.request g.W.Work.result_of (worker_view owner).put mailbox c.args.capacity put c.in_ok-mailbox.ensures in
     let credits = credits_new g.W.Work.request g.W.Work.result_of (worker_view owner).put mailbox (received_of rings.items) c.args.capacity put c.in_ok-mailbox.ensures made.rings.1 in
-    record {
-      owns = (made.owner.0, made.owner.1);
-      lent = (ap (λ b. b.out) view, ap (λ b. b.taken) view);
-      numbered = fits.numbered;
-      count = fits.count;
-      works = fits.works;
-      running = fits.running;
-      due = fits.due;
-      credited = credits.credited;
-      accounted = credits.accounted;
-      few = credits.few;
-    }
+    ((made.owner.0, made.owner.1), ((ap (λ b. b.out) view, ap (λ b. b.taken) view), (fits.numbered, (fits.count, (fits.works, (fits.running, (fits.due, (credits.credited, (credits.accounted, (credits.few, tt))))))))))
 
 pub returns-clause-new : goal.returns-clause-new
 returns-clause-new g c = (ap (λ b. b.put) c.in_ok-rings.ensures.owner.2, c.in_ok-rings.ensures.rings.1, c.in_ok-mailbox.ensures)

@@ -1,11 +1,10 @@
 use Rattle.std.proofs.lemmas.Result.{err_from_is_err_and}
 use Rattle.std.proofs.Common.{◌≡◌, ◌<◌, map, length, set, refl, sym, ap, ◌∙◌, subst, arith, rules, get_or-set_other}
 use Rattle.crossbeam_deque.specs.Handles.{worker_deque}
-use Rattle.rtrb.specs.Ring.{received}
-use Rattle.lanes.specs.Links.{add_each, links_of}
+use Rattle.lanes.specs.Identities.{add_each, links_of}
 use Rattle.lanes.specs.Workers.{ports_of, worker_links}
 use Rattle.lanes.specs.Joined.{received_of}
-use Rattle.lanes.proofs.Making.{add_empty, few_at, flat_snoc, crew_linked, crew_idle}
+use Rattle.lanes.proofs.Making.{add_empty, few_at, received_snoc, crew_linked, crew_idle}
 use Rattle.lanes.proofs.open.open_ports.Goals as goal
 
 pub loop-index-init : goal.loop-index-init
@@ -24,7 +23,7 @@ add-requires-clause-few g c =
     let inv = c.loop-index.invariant in let w = c.index_mut.result.now in
     let f = inv.few c.loop-index.index w (omega (arith, c.loop-index-test.true, c.len-index-end.ensures, inv.crew)) (omega arith) in
     let e = ap (λ x. length (ports_of x)) c.index_mut.ensures.value in
-    omega (arith, f, e, w.ports.ok.0)
+    omega (arith, f, e)
 
 pub loop-index-preserved : goal.loop-index-preserved
 loop-index-preserved g c =
@@ -35,7 +34,7 @@ loop-index-preserved g c =
       links = subst (λ l. map worker_links (set c.loop-index.crew.items c.loop-index.index c.add.new.self) ≡ add_each (map worker_links c.args.crew.now.items) (links_of (worker_deque c.open_port.new.owner) l)) (sym pushed.items)
           (crew_linked c.loop-index.crew.items c.args.crew.now.items (worker_deque c.loop-index.owner) (worker_deque c.open_port.new.owner) c.loop-index.rings.items c.in_ok-port.ring c.loop-index.index c.index_mut.result.now c.add.new.self c.in_ok-port.port
           inv.links opened.same.0 (omega (arith, inv.rings.0, c.loop-index.rings.ok.0)) inside (omega (arith, inv.crew, c.loop-index.crew.ok.0, c.args.crew.now.ok.0)) c.index_mut.ensures.value added opened.link);
-      rings = (search rules, ap (λ l. received_of l) pushed.items ∙ flat_snoc (λ r. received r) c.loop-index.rings.items c.in_ok-port.ring inv.rings.1 opened.fresh.2, pushed.capacity ∙ inv.rings.2);
+      rings = (search rules, ap (λ l. received_of l) pushed.items ∙ received_snoc c.loop-index.rings.items c.in_ok-port.ring inv.rings.1 opened.fresh.2, pushed.capacity ∙ inv.rings.2);
       crew = inv.crew;
       few = λ k d h le. subst (λ w. length (ports_of w) < 64) (sym (get_or-set_other c.loop-index.crew.items c.loop-index.index k c.add.new.self d (λ e. omega (arith, e, le)))) (inv.few k d h (omega (arith, le)));
       idle = λ i. crew_idle c.loop-index.crew.items c.loop-index.index c.index_mut.result.now c.add.new.self c.in_ok-port.port (inv.idle i) inside c.index_mut.ensures.value added (opened.fresh.0, opened.fresh.1);

@@ -2,7 +2,7 @@ use Rattle.std.proofs.Common.{◌≡◌, ℕ, ◌<◌, ◌≤◌, [], map, lengt
 use Rattle.crossbeam_deque.specs.Handles.{worker_deque, worker_port, worker_flavor, worker_view}
 use Rattle.lanes.specs.Books.{book}
 use Rattle.lanes.specs.Joined.{received_of}
-use Rattle.lanes.specs.Links.{add_each, links_of}
+use Rattle.lanes.specs.Identities.{add_each, links_of}
 use Rattle.lanes.specs.Made.{AreIdle}
 use Rattle.lanes.specs.Workers.{ports_of, worker_links}
 use Rattle.lanes.proofs.open.open_ports.Given as goal

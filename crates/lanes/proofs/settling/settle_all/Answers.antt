@@ -1,5 +1,5 @@
-use Rattle.std.proofs.Common.{◌≡◌, ◌<◌, length, vec_len, refl, sym, ap, ◌∙◌, subst, arith, rules}
-use Rattle.lanes.proofs.Columns.{settling_none, settling_all, settling_step, last_lane, have_ports, room_last, room_length}
+use Rattle.std.proofs.Common.{◌≡◌, length, vec_len, refl, sym, ap, ◌∙◌, arith}
+use Rattle.lanes.proofs.Columns.{settling_none, settling_step, last_lane, have_ports, room_last, room_length}
 use Rattle.lanes.proofs.settling.settle_all.Goals as goal
 
 pub loop-client-init : goal.loop-client-init

@@ -1,5 +1,4 @@
-use Rattle.std.proofs.Common.{◌≡◌, ℕ, ◌+◌, ◌<◌, ◌≤◌, List, [], ◌++◌, map, vec_len, vec_capacity}
-use Rattle.std.specs.Prelude.{reverse}
+use Rattle.std.proofs.Common.{◌≡◌, ◌+◌, ◌≤◌, [], map, vec_len, vec_capacity}
 use Rattle.lanes.specs.Clients.{client_links}
 use Rattle.lanes.specs.Links.{AreOfOneCall}
 use Rattle.lanes.specs.Rooms.{AllHaveRoom}

@@ -1,5 +1,5 @@
-use Rattle.std.proofs.Common.{◌≡◌, ◌∷◌, [], ◌++◌, ◌+◌, ◌<◌, map, length, set, refl, sym, ap, ◌∙◌, subst, arith, rules, get_or-set_other}
-use Rattle.lanes.specs.Links.{add_each}
+use Rattle.std.proofs.Common.{◌≡◌, [], map, length, set, refl, sym, ap, ◌∙◌, subst, arith, rules, get_or-set_other}
+use Rattle.lanes.specs.Identities.{add_each}
 use Rattle.lanes.specs.Workers.{ports_of}
 use Rattle.lanes.proofs.Making.{add_empty, column_taken}
 use Rattle.lanes.proofs.settling.take_column.Goals as goal

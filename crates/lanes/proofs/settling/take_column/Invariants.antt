@@ -1,5 +1,5 @@
-use Rattle.std.proofs.Common.{◌≡◌, ◌≢◌, ℕ, ◌+◌, ◌<◌, ◌≤◌, List, [], ◌++◌, length, map, get_or, take, vec_len, vec_capacity}
-use Rattle.lanes.specs.Links.{add_each}
+use Rattle.std.proofs.Common.{◌≡◌, ◌≢◌, ℕ, ◌<◌, ◌≤◌, [], map, get_or, vec_len, vec_capacity}
+use Rattle.lanes.specs.Identities.{add_each}
 use Rattle.lanes.specs.Workers.{ports_of}
 use Rattle.lanes.proofs.settling.take_column.Given as goal
 

@@ -1,6 +1,4 @@
 use Rattle.std.proofs.Common.{◌≡◌, ℕ, ◌<◌, [], get_or}
-use Rattle.box_core.specs.declared.work.Work.{Ghosts}
-use Rattle.lanes.specs.declared.port.Port.{Port}
 use Rattle.lanes.specs.Ports.{held_at}
 use Rattle.lanes.proofs.worker.first_held.Given as goal
 

@@ -6,9 +6,9 @@ use Rattle.desk_lines.proofs.lines.LineReader.next_line.Given as goal
 
 abbrev pub invariant-pieces : goal.invariant-pieces
 invariant-pieces g l = record {
-  partway : Partway (g.R.Source.remaining l.initial.source) (g.R.Source.remaining l.source) l.initial.self.came l.self.came (waiting l.initial.self) (waiting l.self) l.line;
-  counts : g.R.Source.faults l.source ≡ g.R.Source.faults l.initial.source;
-  in_step : StaysInStep (g.R.Source.came l.initial.source) (g.R.Source.came l.source) l.initial.self.came l.self.came;
+  partway : Partway (g.R.Source.seen l.initial.source).remaining (g.R.Source.seen l.source).remaining l.initial.self.came l.self.came (waiting l.initial.self) (waiting l.self) l.line;
+  counts : (g.R.Source.seen l.source).faults ≡ (g.R.Source.seen l.initial.source).faults;
+  in_step : StaysInStep (g.R.Source.seen l.initial.source).came (g.R.Source.seen l.source).came l.initial.self.came l.self.came;
 }
 
 abbrev pub decreases-pieces : goal.decreases-pieces

@@ -5,8 +5,7 @@ use Rattle.lanes.proofs.Making.{links_kept}
 use Rattle.lanes.specs.Clients.{client_links}
 use Rattle.desk_serving.specs.LanesView.{lanes_in, names_in}
 use Rattle.desk_serving.specs.Owed.{Lane, Hands, HandsThen, lane_of, unhanded, with_put}
-use Rattle.desk_serving.specs.Served.{of_name}
-use Rattle.desk_reports.specs.Shown.{reply}
+use Rattle.desk_wire.specs.Reports.{Reply}
 use Rattle.desk_serving.proofs.Laning.{handed_within}
 use Rattle.desk_serving.proofs.Owing.{hands_then}
 use Rattle.desk_serving.proofs.Putting.{lane_at, lanes_inside, lanes_set, put_then, put_unhanded, same_at, there_at}
@@ -55,7 +54,7 @@ returns-in-Accepted-clause-put g c = λ name lane named at.
     let told = rw c.in-Accepted.is at c.in_ok-submit.ensures.submits in
     let all : map (λ client. lane_of client) (slice_set self.clients.items place c.submit.new.client) ≡ slice_set (lanes_in self) place (with_put (lane_of old) (arc_value c.args.work)) =
     lanes_set self.clients.items place c.submit.new.client ∙ ap (λ (l : Lane). slice_set (lanes_in self) place l) (told.1 ∙ ap (λ (q : Request). with_put (lane_of old) q) inv.work) in
-    subst (λ (ls : List Lane). HandsThen (names_in was) (lanes_in was) ls (of_name name (reply name (request_result (arc_value c.args.work)) (length lane.put))) c.args.text.now.items c.loop.text.items)
+    subst (λ (ls : List Lane). HandsThen (names_in was) (lanes_in was) ls (Reply name (length lane.put) (request_result (arc_value c.args.work))) c.args.text.now.items c.loop.text.items)
     (sym all)
     (put_then (names_in was) (lanes_in was) (lanes_in self) place name (lane_of old) lane (arc_value c.args.work) c.args.text.now.items c.loop.text.items was.distinct named here at (handed_within old) inv.hands)
 

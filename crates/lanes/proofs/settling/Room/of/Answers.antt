@@ -1,5 +1,5 @@
 use Rattle.std.proofs.lemmas.Result.{err_from_is_err_and}
-use Rattle.std.proofs.Common.{◌≡◌, ◌∷◌, [], ◌++◌, ◌+◌, ◌<◌, take, length, get_or, sym, subst, refl, arith, rules, ap}
+use Rattle.std.proofs.Common.{◌+◌, take, length, sym, subst, arith, rules, ap}
 use Rattle.std.proofs.lemmas.List.{take_all}
 use Rattle.lanes.specs.Rooms.{AllHaveRoom}
 use Rattle.lanes.proofs.Columns.{room_next}

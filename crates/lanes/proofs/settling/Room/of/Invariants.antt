@@ -1,4 +1,4 @@
-use Rattle.std.proofs.Common.{◌≡◌, ◌≤◌, take, vec_len, vec_capacity}
+use Rattle.std.proofs.Common.{◌≡◌, take, vec_len, vec_capacity}
 use Rattle.lanes.specs.Rooms.{AllHaveRoom}
 use Rattle.lanes.proofs.settling.Room.of.Given as goal
 

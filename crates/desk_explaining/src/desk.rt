@@ -1,9 +1,0 @@
-//! What stands between the lines.
-use dmn_plan::Plan;
-use std::sync::Arc;
-
-/// What stands between the lines: the model in force. A model stays in force until another one is read.
-#[derive(Drop)]
-pub struct Desk {
-    pub(crate) plan: Option<Arc<Plan>>,
-}

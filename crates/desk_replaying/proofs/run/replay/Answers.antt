@@ -1,0 +1,5 @@
+use Rattle.desk_replaying.proofs.Turning.{at_start}
+use Rattle.desk_replaying.proofs.run.replay.Goals as goal
+
+pub answer_at_once-requires-clause-starts : goal.answer_at_once-requires-clause-starts
+answer_at_once-requires-clause-starts g c = at_start c.new.result c.new.ensures

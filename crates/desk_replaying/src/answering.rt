@@ -1,0 +1,259 @@
+//! What is done with each line, and said of it.
+ghost use Rattle.std.specs.Prelude.{◌≡◌, ℕ, List, [], IfOk, IfErr, Ok, OnOk, Some};
+ghost use Rattle.std.specs.Arc.{arc_value};
+ghost use Rattle.serde_json.specs.View.{view};
+ghost use Rattle.box_core.specs.History as broker;
+ghost use Rattle.box_core.specs.Views.{event_of, status_of_standing};
+ghost use Rattle.desk_replaying.specs.Due.{request_under, asks_with, Asks};
+ghost use Rattle.desk_replaying.specs.StateView.{HearsText, Stands, HasEffect, IsUnmade, LoadsModel, AsksFor, Answers, AnswersAt, AnswersBy, Opens, number_in, client_in, model_of};
+ghost use Rattle.json_reader.specs.Members.{members_of};
+ghost use Rattle.desk_wire.specs.Heard.{IsHeardAs};
+ghost use Rattle.desk_replaying.specs.LineView.{ReadsObject, line_view};
+
+use crate::line::{Line, line_in};
+use crate::reports::report_on;
+use crate::state::{Effect, State};
+use box_core::{Broker, Done, Event, Report as BrokerReport, Standing};
+use desk_wire::{Heard, Report, Word};
+use dmn_plan::{ModelFault, Plan, Task};
+use serde_json::Value;
+use std::alloc::{AllocError, Global};
+use std::sync::Arc;
+
+impl State {
+    /// A state at which nothing was said.
+    pub fn new(alloc: Global) -> State
+        ensures { Stands result [] }
+    {
+        State {
+            broker: Broker::new(alloc),
+            names: Vec::new(alloc),
+            plan: None,
+        }
+    }
+
+    /// The number of a name's client, if it was opened.
+    fn number_of(&self, name: &str) -> Option<u32>
+        ensures { result ≡ number_in self.now name.now }
+    {
+        for (number, opened) in self.names.iter().enumerate() {
+            if opened.as_str() == name {
+                return Some(number as u32);
+            }
+        }
+        None
+    }
+
+    /// The number of a name's client, or the first that is not given yet.
+    fn client_of(&self, name: &str) -> u32
+        ensures { result ≡ client_in self.now name.now }
+    {
+        match self.number_of(name) {
+            Some(client) => client,
+            None => self.names.len() as u32,
+        }
+    }
+
+    /// A work under the model in force.
+    fn work(&self, alloc: Global, service: &str, inputs: &Value) -> Result<Arc<Task>, Word>
+        ensures ok { IfOk result (λ work. request_under (model_of self.now) service.now (view inputs.now) ≡ Ok (arc_value work)) }
+        ensures err { IfErr result (IsUnmade (request_under (model_of self.now) service.now (view inputs.now))) }
+    {
+        let Some(plan) = &self.plan else {
+            return Err(Word::Model);
+        };
+        let Ok(plan) = Arc::try_clone(plan) else {
+            return Err(Word::Memory);
+        };
+        match Task::new(alloc, plan, service, inputs) {
+            Ok(task) => match Arc::new(alloc, task) {
+                Ok(work) => Ok(work),
+                Err(_) => Err(Word::Memory),
+            },
+            Err(fault) => Err(Word::of_task_fault(fault)),
+        }
+    }
+
+    /// Asks the broker.
+    fn ask(&mut self, event: Event<Task>) -> Effect
+        ensures { AsksFor self.old (event_of event) result self.new }
+    {
+        Effect::Reported(self.broker.apply(event))
+    }
+
+    fn load(&mut self, alloc: Global, model: &Value) -> Effect
+        ensures { LoadsModel self.old (view model.now) result self.new }
+    {
+        match Plan::of(alloc, model) {
+            Ok(plan) => {
+                let Ok(plan) = Arc::new(alloc, plan) else {
+                    return Effect::Refused(Word::Memory);
+                };
+                self.plan = Some(plan);
+                Effect::Loaded
+            }
+            Err(ModelFault::Memory) => Effect::Refused(Word::Memory),
+            Err(fault) => Effect::Faulty(fault),
+        }
+    }
+
+    fn open(&mut self, alloc: Global, name: &str, capacity: u32) -> Result<Effect, AllocError>
+        ensures { IfOk result (λ effect. Opens self.old name.now capacity effect self.new) }
+    {
+        if self.number_of(name).is_some() {
+            return Ok(Effect::Refused(Word::Present));
+        }
+        let report = self.broker.apply(Event::AddClient(capacity));
+        if let BrokerReport::Added(_) = report {
+            self.names.push(String::from_str(alloc, name)?)?;
+        }
+        Ok(Effect::Reported(report))
+    }
+
+    fn submit(&mut self, alloc: Global, name: &str, service: &str, inputs: &Value) -> Effect
+        ensures { Answers self.old (asks_with (request_under (model_of self.old) service.now (view inputs.now)) (broker.Submit (client_in self.old name.now))) result self.new }
+    {
+        match self.work(alloc, service, inputs) {
+            Ok(work) => self.ask(Event::Submit(self.client_of(name), work)),
+            Err(why) => Effect::Refused(why),
+        }
+    }
+
+    fn take(&mut self, name: &str, ticket: u64) -> Effect
+        ensures { AsksFor self.old (broker.Take (client_in self.old name.now) ticket) result self.new }
+    {
+        self.ask(Event::Take(self.client_of(name), ticket))
+    }
+
+    /// A work answers a ticket of a client.
+    fn answer_by(&mut self, alloc: Global, client: u32, ticket: u64, work: Arc<Task>) -> Effect
+        ensures { Answers self.old (Asks (broker.Answer client (record { ticket = ticket; work = arc_value work }))) result self.new }
+    {
+        match Done::of(alloc, ticket, work) {
+            Ok(done) => self.ask(Event::Answer(client, done)),
+            Err(_) => Effect::Refused(Word::Memory),
+        }
+    }
+
+    /// The work of a ticket that stands so answers it, if it was taken. An answer that was kept stays.
+    fn answer_standing(
+        &mut self,
+        alloc: Global,
+        client: u32,
+        ticket: u64,
+        standing: Standing<Task>,
+    ) -> Effect
+        ensures { AnswersAt self.old client ticket (Some (status_of_standing standing)) result self.new }
+    {
+        match standing {
+            Standing::Running(work) => self.answer_by(alloc, client, ticket, work),
+            Standing::Settled => Effect::Reported(BrokerReport::Repeated),
+            Standing::Waiting(_) => Effect::Refused(Word::Strange),
+            Standing::Unknown => Effect::Refused(Word::Strange),
+        }
+    }
+
+    fn answer(&mut self, alloc: Global, name: &str, ticket: u64) -> Effect
+        ensures { AnswersBy self.old ticket (number_in self.old name.now) result self.new }
+    {
+        let Some(client) = self.number_of(name) else {
+            return Effect::Refused(Word::NoClient);
+        };
+        let Ok(found) = self.broker.standing(client, ticket) else {
+            return Effect::Refused(Word::Memory);
+        };
+        let Some(standing) = found else {
+            return Effect::Refused(Word::Strange);
+        };
+        self.answer_standing(alloc, client, ticket, standing)
+    }
+
+    fn answer_with(
+        &mut self,
+        alloc: Global,
+        name: &str,
+        ticket: u64,
+        service: &str,
+        inputs: &Value,
+    ) -> Effect
+        ensures { Answers self.old (asks_with (request_under (model_of self.old) service.now (view inputs.now)) (λ request. broker.Answer (client_in self.old name.now) (record { ticket = ticket; work = request }))) result self.new }
+    {
+        match self.work(alloc, service, inputs) {
+            Ok(work) => self.answer_by(alloc, self.client_of(name), ticket, work),
+            Err(why) => Effect::Refused(why),
+        }
+    }
+
+    fn release(&mut self, name: &str) -> Effect
+        ensures { AsksFor self.old (broker.Release (client_in self.old name.now)) result self.new }
+    {
+        self.ask(Event::Release(self.client_of(name)))
+    }
+
+    fn close(&mut self, name: &str) -> Effect
+        ensures { AsksFor self.old (broker.Close (client_in self.old name.now)) result self.new }
+    {
+        self.ask(Event::Close(self.client_of(name)))
+    }
+
+    fn resize(&mut self, name: &str, capacity: u32) -> Effect
+        ensures { AsksFor self.old (broker.Resize (client_in self.old name.now) capacity) result self.new }
+    {
+        self.ask(Event::Resize(self.client_of(name), capacity))
+    }
+
+    /// Does what is due to a line, and tells what became of it. Where the state itself finds no memory it is of no more use.
+    pub fn hear(&mut self, alloc: Global, line: &Line<'_>) -> Result<Effect, AllocError>
+        ensures { IfOk result (λ effect. HasEffect self.old (line_view line.now) effect self.new) }
+    {
+        match line {
+            Line::Model(model) => Ok(self.load(alloc, model)),
+            Line::Open(name, capacity) => self.open(alloc, name, *capacity),
+            Line::Submit(name, service, inputs) => Ok(self.submit(alloc, name, service, inputs)),
+            Line::Take(name, ticket) => Ok(self.take(name, *ticket)),
+            Line::Answer(name, ticket) => Ok(self.answer(alloc, name, *ticket)),
+            Line::AnswerWith(name, ticket, service, inputs) => Ok(self.answer_with(
+                alloc, name, *ticket, service, inputs,
+            )),
+            Line::Release(name) => Ok(self.release(name)),
+            Line::Close(name) => Ok(self.close(name)),
+            Line::Resize(name, capacity) => Ok(self.resize(name, *capacity)),
+        }
+    }
+
+    /// Does what is due to the line that is the object of these members, and adds the report on it to a text.
+    fn answer_object(
+        &mut self,
+        alloc: Global,
+        number: u64,
+        members: &[(&str, Value)],
+        text: &mut Vec<u8>,
+    ) -> Result<(), AllocError>
+        ensures { OnOk result ((it : List ℕ) → ReadsObject it (members_of members.now) → HearsText self.old number it text.old.items text.new.items self.new) }
+    {
+        let Some(line) = line_in(members) else {
+            return Report::Refused(number, Word::Shape).add_to(alloc, text);
+        };
+        let effect = self.hear(alloc, &line)?;
+        report_on(number, &line, &effect).add_to(alloc, text)
+    }
+
+    /// Answers a line that is heard so: nothing is said to one that is blank.
+    pub fn answer_heard(
+        &mut self,
+        alloc: Global,
+        number: u64,
+        heard: &Heard<'_>,
+        text: &mut Vec<u8>,
+    ) -> Result<(), AllocError>
+        ensures { OnOk result ((it : List ℕ) → IsHeardAs it heard.now → HearsText self.old number it text.old.items text.new.items self.new) }
+    {
+        match heard {
+            Heard::Long => Report::Refused(number, Word::Long).add_to(alloc, text),
+            Heard::Blank => Ok(()),
+            Heard::Syntax => Report::Refused(number, Word::Syntax).add_to(alloc, text),
+            Heard::Other => Report::Refused(number, Word::Shape).add_to(alloc, text),
+            Heard::Object(members) => self.answer_object(alloc, number, members, text),
+        }
+    }
+}

@@ -1,4 +1,0 @@
-pub mod Quoting
-pub mod ReadOnce
-pub mod Floats
-pub mod Deciding

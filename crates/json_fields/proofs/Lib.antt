@@ -1,2 +1,0 @@
-pub mod FirstKey
-pub mod Listing
