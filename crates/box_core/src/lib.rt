@@ -14,6 +14,6 @@ pub use broker::Broker;
 pub use event::{Event, Report};
 pub use faults::{AddRefusal, Answered, BoxFault, Refusal};
 pub use job::Job;
-pub use mailbox::Mailbox;
+pub use mailbox::{LARGEST_CAPACITY, Mailbox};
 pub use standing::Standing;
 pub use work::{Done, Reply, Work};

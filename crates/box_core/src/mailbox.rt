@@ -18,7 +18,7 @@ use std::sync::Arc;
 /// The tickets that a client may be given.
 const TICKETS: u64 = 1 << 60;
 /// The most requests that may be outstanding in one mailbox.
-const LARGEST_CAPACITY: u32 = 4096;
+pub const LARGEST_CAPACITY: u32 = 4096;
 
 /// Whether a mailbox may have this capacity.
 pub(crate) fn is_capacity(capacity: u32) -> bool

@@ -15,8 +15,6 @@ mod sentence;
 mod shaped;
 mod subject;
 mod summary;
-#[cfg(test)]
-mod tests;
 mod told;
 mod warned;
 

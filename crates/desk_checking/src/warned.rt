@@ -22,21 +22,6 @@ fn kind_word(kind: OddityKind) -> &'static str {
     }
 }
 
-/// The kind of an oddity.
-fn kind_of(oddity: &Oddity) -> OddityKind {
-    match oddity {
-        Oddity::Unbound { .. } => OddityKind::Unbound,
-        Oddity::Unneeded { .. } => OddityKind::Unneeded,
-        Oddity::Unreached { .. } => OddityKind::Unreached,
-        Oddity::UnusedNeed { .. } => OddityKind::UnusedNeed,
-        Oddity::UnusedEntry { .. } => OddityKind::UnusedEntry,
-        Oddity::UngivenValue { .. } => OddityKind::UngivenValue,
-        Oddity::UnlistedValue { .. } => OddityKind::UnlistedValue,
-        Oddity::UnmetTests { .. } => OddityKind::UnmetTests,
-        Oddity::OtherKind { .. } => OddityKind::OtherKind,
-    }
-}
-
 fn kind_name(kind: LiteralKind) -> &'static str {
     match kind {
         LiteralKind::Boolean => "a boolean",
@@ -110,7 +95,7 @@ fn line_of(
     }
     let pointer = warning.place.pointer(alloc)?;
     let mut members = Members::new(alloc);
-    members.add_text("warning", kind_word(kind_of(&warning.oddity)))?;
+    members.add_text("warning", kind_word(warning.oddity.kind()))?;
     members.add_text("pointer", &pointer)?;
     members.add_text("place", &words)?;
     members.add_text("said", &said)?;

@@ -6,9 +6,11 @@ ghost use Rattle.desk_commands.specs.CommandLine.{check_app, explain_app, desk_c
 
 use crate::help;
 use crate::version::VERSION;
+use box_core::LARGEST_CAPACITY;
 use clap::builder::ValueParser;
 use clap::error::ErrorKind;
 use clap::{Arg, ArgAction, ArgMatches, Command, Error};
+use lanes::{MOST_CLIENTS, MOST_WORKERS};
 use std::alloc::{AllocError, Global};
 
 /// An option that is a number from 1 to `most`, and `usual` where it is left out.
@@ -16,7 +18,7 @@ fn number_option<'a>(
     alloc: Global,
     name: &'a str,
     usual: &'a str,
-    most: u64,
+    most: u32,
     help: &'a str,
 ) -> Arg<'a>
     ensures rule { rule_of result ≡ number_option name.entry.now usual.entry.now most }
@@ -28,7 +30,7 @@ fn number_option<'a>(
         .value_name("NUMBER")
         .action(ArgAction::Set)
         .default_value(usual)
-        .value_parser(ValueParser::unsigned(1, most))
+        .value_parser(ValueParser::unsigned(1, most as u64))
         .help(help)
 }
 
@@ -95,11 +97,17 @@ fn serve<'a>(alloc: Global) -> Result<Command<'a>, AllocError>
     let serve = Command::new(alloc, "serve")
         .about(help::SERVE_ABOUT)
         .after_help(help::SERVE);
-    let serve = with_option(serve, number_option(alloc, "clients", "8", 64, clients))?;
-    let serve = with_option(serve, number_option(alloc, "workers", "4", 8, workers))?;
+    let serve = with_option(
+        serve,
+        number_option(alloc, "clients", "8", MOST_CLIENTS, clients),
+    )?;
+    let serve = with_option(
+        serve,
+        number_option(alloc, "workers", "4", MOST_WORKERS, workers),
+    )?;
     with_option(
         serve,
-        number_option(alloc, "capacity", "64", 4096, capacity),
+        number_option(alloc, "capacity", "64", LARGEST_CAPACITY, capacity),
     )
 }
 

@@ -3,8 +3,10 @@ ghost use Rattle.std.specs.Prelude.{◌≡◌, ◌≤◌, codes};
 ghost use Rattle.clap.specs.Words.{first_of, found_of, rows_of};
 ghost use Rattle.desk_commands.specs.CommandLine.{AreCheckOptionsOf, AreOptionsOf, IsNumberOf, is_true};
 
+use box_core::LARGEST_CAPACITY;
 use clap::ArgMatches;
 use desk_front::{CheckOptions, Options};
+use lanes::{MOST_CLIENTS, MOST_WORKERS};
 
 /// The number that an option has. `clap` has refused all texts but those of the numbers from 1 to the most.
 fn number_of(matches: &ArgMatches<'_>, name: &str, most: u32) -> u32
@@ -25,9 +27,9 @@ pub fn options_of(matches: &ArgMatches<'_>) -> Options
     ensures { AreOptionsOf (rows_of (found_of matches.now)) result }
 {
     Options {
-        clients: number_of(matches, "clients", 64),
-        workers: number_of(matches, "workers", 8),
-        capacity: number_of(matches, "capacity", 4096),
+        clients: number_of(matches, "clients", MOST_CLIENTS),
+        workers: number_of(matches, "workers", MOST_WORKERS),
+        capacity: number_of(matches, "capacity", LARGEST_CAPACITY),
     }
 }
 

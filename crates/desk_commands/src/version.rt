@@ -5,5 +5,5 @@
 pub const VERSION: &str = concat!(
     "0.9.0\n",
     "proved with rattle-kit-13f logic dac8208d650f15bf\n",
-    "sources adf03ca41750739a28cd499ea2f7dea901eb3032318dfc274670012933e32d10",
+    "sources b7399542ed81d303e46d93d69907072c033159e9e968d1eea4ba26075f01d92b",
 );

@@ -18,6 +18,8 @@ use Rattle.desk_serving.specs.Line.{Line, Model, Request, Close, Resize, Reads}
 use Rattle.desk_serving.specs.LineView.{line_view}
 use Rattle.desk_serving.specs.LineHeard.{IsLineOf}
 use Rattle.desk_wire.specs.Heard.{IsHeardAs}
+use Rattle.desk_wire.specs.Listening.{refusal_text}
+use Rattle.desk_serving.proofs.Fewness.{no_line}
 use Rattle.desk_serving.specs.Script.{AreRead}
 use Rattle.desk_serving.specs.State.{in_force, model_after, number_after}
 use Rattle.desk_serving.specs.Due.{model_answer}
@@ -74,6 +76,15 @@ heard_said old new k heard.Blank line it text text' h asks f = absurd asks
 heard_said old new k heard.Syntax line it text text' h asks f = absurd asks
 heard_said old new k heard.Other line it text text' h asks f = absurd asks
 
+-- what is none of the lines
+pub heard_other : (state : State) (k : ℕ) (heard : Heard) (it text text' : List ℕ) → IsHeardAs it heard → IsLineOf heard None → text' ≡ text ++ refusal_text k heard
+    → HearsText state k it text text' state
+heard_other state k heard.Long it text text' h none is = heard_long state k it text text' h is
+heard_other state k heard.Blank it text text' h none is = subst (λ t. HearsText state k it text t state) (sym (is ∙ append-nil text)) (heard_blank state k it text h)
+heard_other state k heard.Syntax it text text' h none is = heard_syntax state k it text text' h is
+heard_other state k heard.Other it text text' h none is = heard_shape state k it text text' (h.0, h.1, h.2, (h.3.0, h.3.1, no_line h.3.0 h.3.2)) is
+heard_other state k (heard.Object members) it text text' h none is = heard_shape state k it text text' (h.0, h.1, h.2, (_, h.3, λ line lawful same. none line (same, lawful))) is
+
 -- ---- after the lines
 
 read-length : (lines : List (List ℕ)) (readings : List (Reading Line)) → AreRead lines readings → length readings ≡ length lines
@@ -86,9 +97,9 @@ read-length (l ∷ lines) (x ∷ readings) r = ap suc (read-length lines reading
 pub at_start : (state : State) → model_of state ≡ None → After state [] []
 at_start state none = record { script = record { readings = []; read = tt; said = refl }; model = none }
 
-pub after_line : (old new : State) (k : ℕ) (it text' : List ℕ) (lines said : List (List ℕ)) → After old lines said → k ≡ length lines + 1 → HearsText old k it [] text' new
-    → (more : List (List ℕ)) × After new (lines ++ it ∷ []) (said ++ more) × (text' ≡ flat_map ended more)
-after_line old new k it text' lines said a num heard =
+pub after_line : (old new : State) (k : ℕ) (it text text' : List ℕ) (lines said : List (List ℕ)) → After old lines said → k ≡ length lines + 1 → HearsText old k it text text' new
+    → (more : List (List ℕ)) × After new (lines ++ it ∷ []) (said ++ more) × (text' ≡ text ++ flat_map ended more)
+after_line old new k it text text' lines said a num heard =
     let before = a.script.readings in
     let h = heard.2 in
     let all : length before ≡ length lines = read-length (reverse lines) before a.script.read ∙ length-reverse lines in

@@ -1,15 +1,14 @@
 //! What is answered to each line.
-ghost use Rattle.std.specs.Prelude.{◌≡◌, ℕ, List, OnOk, codes};
+ghost use Rattle.std.specs.Prelude.{◌≡◌, OnOk};
 ghost use Rattle.serde_json.specs.View.{view};
 ghost use Rattle.desk_wire.specs.Reading.{Says};
 ghost use Rattle.desk_serving.specs.LineView.{line_view};
-ghost use Rattle.desk_wire.specs.Heard.{IsHeardAs};
-ghost use Rattle.desk_explaining.specs.StateView.{Adds, Hears, HearsText, Loads, Replies};
+ghost use Rattle.desk_explaining.specs.StateView.{Hears, Loads, Replies};
 
 use crate::explanation::add_explanation;
 use crate::state::State;
 use desk_serving::{Line, line_heard};
-use desk_wire::{Heard, Report, Told, Word};
+use desk_wire::{Heard, Listener, Report, Told, Word, add_refusal};
 use dmn_plan::{ModelFault, Plan, Task, TaskFault};
 use serde_json::Value;
 use std::alloc::{AllocError, Global};
@@ -89,26 +88,30 @@ impl State {
             },
         }
     }
+}
 
-    /// Answers a line that is heard so: nothing is said to one that is blank.
-    pub fn answer_heard(
+impl Listener for State {
+    ghost use Rattle.desk_explaining.specs.Script.{Script};
+    ghost use Rattle.desk_explaining.specs.StateView.{After};
+
+    const ROOM: usize = 512;
+
+    ghost Script = { Script };
+
+    ghost After = { After };
+
+    fn answer_heard(
         &mut self,
         alloc: Global,
         number: u64,
         heard: &Heard<'_>,
         text: &mut Vec<u8>,
-    ) -> Result<(), AllocError>
-        ensures { OnOk result ((it : List ℕ) → IsHeardAs it heard.now → HearsText self.old number it text.old.items text.new.items self.new) }
-    {
-        if let Some(says) = line_heard(heard) {
-            return self.answer_line(alloc, number, &says, text);
-        }
-        match heard {
-            Heard::Long => Report::Refused(number, Word::Long).add_to(alloc, text),
-            Heard::Blank => Ok(()),
-            Heard::Syntax => Report::Refused(number, Word::Syntax).add_to(alloc, text),
-            Heard::Other => Report::Refused(number, Word::Shape).add_to(alloc, text),
-            Heard::Object(_) => Report::Refused(number, Word::Shape).add_to(alloc, text),
-        }
+    ) -> Result<(), AllocError> {
+        let Some(says) = line_heard(heard) else {
+            return add_refusal(alloc, number, heard, text);
+        };
+        self.answer_line(alloc, number, &says, text)
     }
+
+    ghost follows = { λ state lines said a. a.script };
 }

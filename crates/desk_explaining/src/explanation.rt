@@ -1,25 +1,15 @@
 //! The line that explains an answer.
 ghost use Rattle.std.specs.Prelude.{◌≡◌, ◌++◌, OnOk, Ok};
-ghost use Rattle.json.specs.Print.{quoted};
 ghost use Rattle.serde_json.specs.Data.{Data};
 ghost use Rattle.desk_explaining.specs.StateView.{Adds};
 ghost use Rattle.desk_explaining.specs.Due.{IsTaskAnswer};
 ghost use Rattle.desk_explaining.specs.ExplainedLine.{begin_of, head_of, tail_of};
 
-use dmn_explain::{add_decisions, add_value};
+use dmn_explain::add_decisions;
 use dmn_plan::Task;
 use feel_value::Outcome;
-use itoa::Buffer;
-use serde_json::Value;
+use json_writer::{add_number, add_quoted, add_value};
 use std::alloc::{AllocError, Global};
-
-/// Adds a text in quotes.
-fn add_text(alloc: Global, text: &str, line: &mut Vec<u8>) -> Result<(), AllocError>
-    ensures { OnOk result (line.new.items ≡ line.old.items ++ quoted text.now) }
-{
-    let text = Value::try_from_str(alloc, text)?.to_string(alloc)?;
-    line.extend_from_slice(text.as_bytes())
-}
 
 /// Adds `{"client":name,"line":k`.
 #[tactic(auto, using(crate::proofs::Telling::pieces_4))]
@@ -27,9 +17,9 @@ fn add_begin(alloc: Global, name: &str, number: u64, line: &mut Vec<u8>) -> Resu
     ensures { OnOk result (line.new.items ≡ line.old.items ++ begin_of name.now number) }
 {
     line.extend_from_slice(b"{\"client\":")?;
-    add_text(alloc, name, line)?;
+    add_quoted(alloc, name, line)?;
     line.extend_from_slice(b",\"line\":")?;
-    line.extend_from_slice(Buffer::new().format(number).as_bytes())
+    add_number(number, line)
 }
 
 /// Adds `{"client":name,"line":k,"service":s,"decisions":`.
@@ -45,7 +35,7 @@ fn add_head(
 {
     add_begin(alloc, name, number, line)?;
     line.extend_from_slice(b",\"service\":")?;
-    add_text(alloc, service, line)?;
+    add_quoted(alloc, service, line)?;
     line.extend_from_slice(b",\"decisions\":")
 }
 

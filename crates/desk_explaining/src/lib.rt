@@ -6,8 +6,6 @@ mod explanation;
 mod printing;
 mod run;
 mod state;
-#[cfg(test)]
-mod tests;
 
 pub use printing::explain_in_text;
 pub use run::explain;

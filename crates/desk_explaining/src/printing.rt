@@ -1,27 +1,23 @@
 //! `explain --text`: the same answers as texts for people.
-ghost use Rattle.std.specs.Prelude.{◌≡◌, ◌<◌, ◌-◌, ◌^◌, ℕ, List, IfOk, string_bytes};
-ghost use Rattle.std.specs.List.{flat_map};
+ghost use Rattle.std.specs.Prelude.{◌≡◌, ◌<◌, ◌-◌, ◌^◌, ◌++◌, OnOk};
 ghost use Rattle.desk_lines.specs.Lines.{ended};
 ghost use Rattle.desk_lines.specs.Ran.{Ran};
 ghost use Rattle.desk_explaining.specs.Printed.{AnyLines};
 
 use crate::state::State;
-use desk_lines::{Answerer, FrontFault, LineText, Sink, Source, answer_at_once};
+use desk_lines::{FrontFault, Sink, Source, answer_at_once};
 use desk_serving::{Line, line_heard};
-use desk_wire::hear;
+use desk_wire::{Heard, Listener, Session};
 use dmn_form::{WrittenModel, read_form};
 use explanation_text::text_of;
-use json_reader::JsonReader;
 use serde_json::Value;
 use std::alloc::{AllocError, Global};
 
-/// What prints the answers to the lines of `explain`: what stands between them, the model in force as it is written, and the
-/// reader of their texts.
+/// What prints the answers to the lines of `explain`: what stands between them, and the model in force as it is written.
 #[derive(Drop)]
 struct Printer {
     state: State,
     model: Option<WrittenModel>,
-    texts: JsonReader,
 }
 
 /// The model in force as it is written.
@@ -55,60 +51,41 @@ fn printed(
     }
 }
 
-/// A text with the end of its last line.
-fn with_end(text: String) -> Result<Vec<u8>, AllocError>
-    ensures { IfOk result (λ v. v.items ≡ ended (string_bytes text)) }
+/// Adds a text to others, with the end of its last line.
+fn add_line(line: &str, text: &mut Vec<u8>) -> Result<(), AllocError>
+    ensures { OnOk result (text.new.items ≡ text.old.items ++ ended line.now) }
 {
-    let mut lines = text.into_bytes();
-    lines.push(b'\n')?;
-    Ok(lines)
+    text.extend_from_slice(line.as_bytes())?;
+    text.push(b'\n')?;
+    Ok(())
 }
 
-/// What is said to a line: nothing where it is blank.
-fn said_to(
-    alloc: Global,
-    texts: &mut JsonReader,
-    state: &mut State,
-    model: &mut Option<WrittenModel>,
-    number: u64,
-    line: &LineText,
-) -> Result<Vec<u8>, AllocError>
-    ensures { IfOk result (λ said. (more : List (List ℕ)) × (said.items ≡ flat_map ended more)) }
-{
-    let heard = hear(alloc, texts, line)?;
-    let mut answer = Vec::new(alloc);
-    state.answer_heard(alloc, number, &heard, &mut answer)?;
-    if let Some(Line::Model(_)) = line_heard(&heard) {
-        *model = written_model(alloc, state)?;
-    }
-    if answer.is_empty() {
-        return Ok(Vec::new(alloc));
-    }
-    let text = printed(alloc, model, answer)?;
-    with_end(text)
-}
-
-impl Answerer for Printer {
+impl Listener for Printer {
     ghost use Rattle.desk_explaining.specs.Printed.{AnyLines};
+
+    const ROOM: usize = 512;
 
     ghost Script = { AnyLines };
 
     ghost After = { λ _. AnyLines };
 
-    fn answer(
+    fn answer_heard(
         &mut self,
         alloc: Global,
         number: u64,
-        line: &LineText,
-    ) -> Result<Vec<u8>, AllocError> {
-        said_to(
-            alloc,
-            &mut self.texts,
-            &mut self.state,
-            &mut self.model,
-            number,
-            line,
-        )
+        heard: &Heard<'_>,
+        text: &mut Vec<u8>,
+    ) -> Result<(), AllocError> {
+        let mut answer = Vec::new(alloc);
+        self.state.answer_heard(alloc, number, heard, &mut answer)?;
+        if let Some(Line::Model(_)) = line_heard(heard) {
+            self.model = written_model(alloc, &self.state)?;
+        }
+        if answer.is_empty() {
+            return Ok(());
+        }
+        let printed = printed(alloc, &self.model, answer)?;
+        add_line(printed.as_str(), text)
     }
 
     ghost follows = { λ printer lines said a. a };
@@ -124,10 +101,9 @@ pub fn explain_in_text<R: Source, W: Sink>(
     requires write_counts { (W.seen writer.old).faults < 2 ^ 64 - 1 }
     ensures { Ran AnyLines AnyLines (R.seen reader.old) (R.seen reader.new) (W.seen writer.old) (W.seen writer.new) result }
 {
-    let mut printer = Printer {
+    let mut session = Session::new(Printer {
         state: State { plan: None },
         model: None,
-        texts: JsonReader::new(),
-    };
-    answer_at_once(alloc, &mut printer, reader, writer)
+    });
+    answer_at_once(alloc, &mut session, reader, writer)
 }

@@ -1,61 +1,12 @@
 //! `explain`: each line is answered before the next is read.
-ghost use Rattle.std.specs.Prelude.{◌≡◌, ◌<◌, ◌-◌, ◌^◌, [], ℕ, List, IfOk};
-ghost use Rattle.desk_lines.specs.Lines.{kept_line};
+ghost use Rattle.std.specs.Prelude.{◌<◌, ◌-◌, ◌^◌};
 ghost use Rattle.desk_lines.specs.Ran.{Ran};
-ghost use Rattle.desk_explaining.specs.StateView.{HearsText};
 ghost use Rattle.desk_explaining.specs.Script.{Script};
 
 use crate::state::State;
-use desk_lines::{Answerer, FrontFault, LineText, Sink, Source, answer_at_once};
-use desk_wire::hear;
-use json_reader::JsonReader;
-use std::alloc::{AllocError, Global};
-
-/// The bytes of most answers.
-const ROOM: usize = 512;
-
-/// What answers the lines of `explain`: what stands between them, and the reader of their texts.
-#[derive(Drop)]
-struct Session {
-    state: State,
-    texts: JsonReader,
-}
-
-/// What is said to a line: nothing where it is blank.
-fn answer_to(
-    alloc: Global,
-    texts: &mut JsonReader,
-    state: &mut State,
-    number: u64,
-    line: &LineText,
-) -> Result<Vec<u8>, AllocError>
-    ensures { IfOk result (λ said. (it : List ℕ) → line.now ≡ kept_line it → HearsText state.old number it [] said.items state.new) }
-{
-    let heard = hear(alloc, texts, line)?;
-    let mut said = Vec::with_capacity(alloc, ROOM)?;
-    state.answer_heard(alloc, number, &heard, &mut said)?;
-    Ok(said)
-}
-
-impl Answerer for Session {
-    ghost use Rattle.desk_explaining.specs.Script.{Script};
-    ghost use Rattle.desk_explaining.specs.StateView.{After};
-
-    ghost Script = { Script };
-
-    ghost After = { λ session. After session.state };
-
-    fn answer(
-        &mut self,
-        alloc: Global,
-        number: u64,
-        line: &LineText,
-    ) -> Result<Vec<u8>, AllocError> {
-        answer_to(alloc, &mut self.texts, &mut self.state, number, line)
-    }
-
-    ghost follows = { λ session lines said a. a.script };
-}
+use desk_lines::{FrontFault, Sink, Source, answer_at_once};
+use desk_wire::Session;
+use std::alloc::Global;
 
 /// Answers the lines of the reader to its end. They are those of `serve`, and each request's answer tells what every decision on the
 /// way came to. Lines that close or resize a client are skipped, with a note. Where memory is refused the run ends.
@@ -68,9 +19,6 @@ pub fn explain<R: Source, W: Sink>(
     requires write_counts { (W.seen writer.old).faults < 2 ^ 64 - 1 }
     ensures { Ran Script Script (R.seen reader.old) (R.seen reader.new) (W.seen writer.old) (W.seen writer.new) result }
 {
-    let mut session = Session {
-        state: State { plan: None },
-        texts: JsonReader::new(),
-    };
+    let mut session = Session::new(State { plan: None });
     answer_at_once(alloc, &mut session, reader, writer)
 }

@@ -1,20 +1,18 @@
 //! What is done with each line, and said of it.
-ghost use Rattle.std.specs.Prelude.{◌≡◌, ℕ, List, [], IfOk, IfErr, Ok, OnOk, Some};
+ghost use Rattle.std.specs.Prelude.{◌≡◌, [], IfOk, IfErr, Ok, Some};
 ghost use Rattle.std.specs.Arc.{arc_value};
 ghost use Rattle.serde_json.specs.View.{view};
 ghost use Rattle.box_core.specs.History as broker;
 ghost use Rattle.box_core.specs.Views.{event_of, status_of_standing};
 ghost use Rattle.desk_replaying.specs.Due.{request_under, asks_with, Asks};
-ghost use Rattle.desk_replaying.specs.StateView.{HearsText, Stands, HasEffect, IsUnmade, LoadsModel, AsksFor, Answers, AnswersAt, AnswersBy, Opens, number_in, client_in, model_of};
-ghost use Rattle.json_reader.specs.Members.{members_of};
-ghost use Rattle.desk_wire.specs.Heard.{IsHeardAs};
-ghost use Rattle.desk_replaying.specs.LineView.{ReadsObject, line_view};
+ghost use Rattle.desk_replaying.specs.StateView.{Stands, HasEffect, IsUnmade, LoadsModel, AsksFor, Answers, AnswersAt, AnswersBy, Opens, number_in, client_in, model_of};
+ghost use Rattle.desk_replaying.specs.LineView.{line_view};
 
 use crate::line::{Line, line_in};
 use crate::reports::report_on;
 use crate::state::{Effect, State};
 use box_core::{Broker, Done, Event, Report as BrokerReport, Standing};
-use desk_wire::{Heard, Report, Word};
+use desk_wire::{Heard, Listener, Word, add_refusal};
 use dmn_plan::{ModelFault, Plan, Task};
 use serde_json::Value;
 use std::alloc::{AllocError, Global};
@@ -220,40 +218,34 @@ impl State {
             Line::Resize(name, capacity) => Ok(self.resize(name, *capacity)),
         }
     }
+}
 
-    /// Does what is due to the line that is the object of these members, and adds the report on it to a text.
-    fn answer_object(
-        &mut self,
-        alloc: Global,
-        number: u64,
-        members: &[(&str, Value)],
-        text: &mut Vec<u8>,
-    ) -> Result<(), AllocError>
-        ensures { OnOk result ((it : List ℕ) → ReadsObject it (members_of members.now) → HearsText self.old number it text.old.items text.new.items self.new) }
-    {
-        let Some(line) = line_in(members) else {
-            return Report::Refused(number, Word::Shape).add_to(alloc, text);
-        };
-        let effect = self.hear(alloc, &line)?;
-        report_on(number, &line, &effect).add_to(alloc, text)
-    }
+impl Listener for State {
+    ghost use Rattle.desk_replaying.specs.Script.{Script};
+    ghost use Rattle.desk_replaying.specs.StateView.{After};
 
-    /// Answers a line that is heard so: nothing is said to one that is blank.
-    pub fn answer_heard(
+    const ROOM: usize = 128;
+
+    ghost Script = { Script };
+
+    ghost After = { After };
+
+    fn answer_heard(
         &mut self,
         alloc: Global,
         number: u64,
         heard: &Heard<'_>,
         text: &mut Vec<u8>,
-    ) -> Result<(), AllocError>
-        ensures { OnOk result ((it : List ℕ) → IsHeardAs it heard.now → HearsText self.old number it text.old.items text.new.items self.new) }
-    {
-        match heard {
-            Heard::Long => Report::Refused(number, Word::Long).add_to(alloc, text),
-            Heard::Blank => Ok(()),
-            Heard::Syntax => Report::Refused(number, Word::Syntax).add_to(alloc, text),
-            Heard::Other => Report::Refused(number, Word::Shape).add_to(alloc, text),
-            Heard::Object(members) => self.answer_object(alloc, number, members, text),
-        }
+    ) -> Result<(), AllocError> {
+        let Heard::Object(members) = heard else {
+            return add_refusal(alloc, number, heard, text);
+        };
+        let Some(line) = line_in(members) else {
+            return add_refusal(alloc, number, heard, text);
+        };
+        let effect = self.hear(alloc, &line)?;
+        report_on(number, &line, &effect).add_to(alloc, text)
     }
+
+    ghost follows = { λ state lines said a. a.script };
 }

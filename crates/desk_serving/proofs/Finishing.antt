@@ -1,5 +1,5 @@
 -- How `serve` ends, by how the lines and the rest were answered.
-use Rattle.std.proofs.Common.{◌≡◌, ◌≢◌, ◌+◌, ◌<◌, ◌≤◌, ℕ, List, ◌++◌, length, Option, Result, Ok, Err, OnOk, IfOk, IfErr, ap, sym, ◌∙◌, subst, inl, inr, Vec, Global}
+use Rattle.std.proofs.Common.{◌≡◌, ◌≢◌, ◌+◌, ◌<◌, ◌≤◌, ℕ, List, ◌++◌, length, Option, Result, Ok, Err, OnOk, IfOk, IfErr, ap, refl, sym, ◌∙◌, subst, inl, inr, Vec, Global}
 use Rattle.std.proofs.lemmas.List.{length-map}
 use Rattle.lanes.specs.Ends.{ClientEnd, SettledEnd}
 use Rattle.lanes.specs.Clients.{client_links}
@@ -11,6 +11,7 @@ use Rattle.desk_serving.specs.LanesView.{lanes_in, links_in, names_in}
 use Rattle.desk_serving.specs.Owed.{AreFirst, AreHanded, Lane, lane_of}
 use Rattle.desk_serving.specs.Script.{Served, ServedInPart, texts_of}
 use Rattle.desk_serving.specs.StateView.{After}
+use Rattle.desk_serving.specs.Telling.{TellsAll, TellsInPart}
 use Rattle.desk_lines.specs.Device.{Reader, Writer}
 use Rattle.desk_lines.specs.Lines.{max_input}
 use Rattle.desk_lines.specs.Ran.{Ran}
@@ -40,6 +41,14 @@ lanes_kept old new same =
 
 pub lanes_begun : (lanes : Lanes) (ends : Vec (ClientEnd Request Outcome) Global) (clients : ℕ) → lanes.clients ≡ ends → length ends.items ≡ clients → length (lanes_in lanes) ≡ clients
 lanes_begun lanes ends clients is count = length-map lanes.clients.items (λ client. lane_of client) ∙ ap (λ v. length v.items) is ∙ count
+
+-- the writer failed at the rest, or memory was refused for it
+pub finishes_by : (names : List (List ℕ)) (lanes : List Lane) (wrote wrote' : Option (List ℕ)) (ended : Result (Unit {0}) FrontFault) (fault : FrontFault) → GoesOn ended → (fault ≢ Read) × (fault ≢ Long)
+    → (fault ≡ Write → TellsInPart (AreFirst names lanes) wrote wrote') → (fault ≡ Memory → TellsAll (AreFirst names lanes) wrote wrote') → FinishesBy names lanes wrote wrote' ended fault
+finishes_by names lanes wrote wrote' ended Read goes only part all = absurd (only.0 refl)
+finishes_by names lanes wrote wrote' ended Long goes only part all = absurd (only.1 refl)
+finishes_by names lanes wrote wrote' ended Write goes only part all = inl (goes, refl, part refl)
+finishes_by names lanes wrote wrote' ended Memory goes only part all = inr (inl (goes, refl, all refl))
 
 -- where neither the writer failed nor memory was refused at the end, it was so before
 ended_before : (names : List (List ℕ)) (lanes : List Lane) (wrote wrote' : Option (List ℕ)) (ended : Result (Unit {0}) FrontFault) (fault : FrontFault) → FinishesBy names lanes wrote wrote' ended fault

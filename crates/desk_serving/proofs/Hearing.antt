@@ -1,5 +1,5 @@
 -- From what the calls promise to what a line that is heard comes to.
-use Rattle.std.proofs.Common.{◌≡◌, ◌≢◌, ◌+◌, ◌<◌, ◌≤◌, ◌^◌, ℕ, zero, suc, Bool, true, false, not, is_ok, List, [], ◌∷◌, ◌++◌, Option, Some, Result, Ok, Err, OnOk, length, drop, reverse, slice_get, slice_set, refl, sym, ap, ◌∙◌, arith, append_assoc, subst}
+use Rattle.std.proofs.Common.{◌≡◌, ◌≢◌, ◌+◌, ◌<◌, ◌≤◌, ◌^◌, ℕ, zero, suc, Bool, true, false, not, is_ok, List, [], ◌∷◌, ◌++◌, Option, Some, None, Result, Ok, Err, OnOk, length, drop, reverse, slice_get, slice_set, refl, sym, ap, ◌∙◌, arith, append_assoc, append-nil, subst}
 use Rattle.std.specs.List.{flat_map}
 use Rattle.std.specs.declared.sync.Arc.{Arc}
 use Rattle.std.proofs.lemmas.List.{map-append, reverse-append, length-map, length-reverse}
@@ -30,6 +30,8 @@ use Rattle.desk_serving.specs.Reports.{close_told, resize_told}
 use Rattle.desk_serving.specs.LineView.{line_view}
 use Rattle.desk_serving.specs.LineHeard.{IsLineOf}
 use Rattle.desk_wire.specs.Heard.{IsHeardAs}
+use Rattle.desk_wire.specs.Listening.{refusal_text}
+use Rattle.desk_serving.proofs.Fewness.{no_line}
 use Rattle.desk_serving.specs.Tasks.{IsTaskOf}
 use Rattle.desk_serving.specs.StateView.{After, HasRoom, Hears, HearsText, StandsAs, model_of}
 use Rattle.desk_wire.specs.declared.heard.Heard.{Heard}
@@ -158,6 +160,15 @@ module _ {R : Type 0} where
   heard_said old new k heard.Blank line it text text' h is f = absurd is
   heard_said old new k heard.Syntax line it text text' h is f = absurd is
   heard_said old new k heard.Other line it text text' h is f = absurd is
+
+  -- what is none of the lines
+  pub heard_other : (old : State R) (k : ℕ) (heard : Heard) (it text text' : List ℕ) → IsHeardAs it heard → IsLineOf heard None → text' ≡ text ++ refusal_text k heard
+      → HearsText old k it text text' old
+  heard_other old k heard.Long it text text' h none is = heard_long old k it text text' h is
+  heard_other old k heard.Blank it text text' h none is = subst (λ t. HearsText old k it text t old) (sym (is ∙ append-nil text)) (heard_skip old k it text h)
+  heard_other old k heard.Syntax it text text' h none is = heard_syntax old k it text text' h is
+  heard_other old k heard.Other it text text' h none is = heard_shape old k it text text' (h.0, h.1, h.2, (h.3.0, h.3.1, no_line h.3.0 h.3.2)) is
+  heard_other old k (heard.Object members) it text text' h none is = heard_shape old k it text text' (h.0, h.1, h.2, (_, h.3, λ line lawful same. none line (same, lawful))) is
 
   -- ## Lines that need a lane
 

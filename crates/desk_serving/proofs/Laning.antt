@@ -1,10 +1,10 @@
 -- What a lane's calls make of it, and what stays of a list of lanes.
-use Rattle.std.proofs.Common.{◌≡◌, ◌≢◌, ℕ, zero, suc, ◌+◌, ◌-◌, ◌<◌, ◌≤◌, ◌⊎◌, ⊎_elim, Bool, List, [], ◌∷◌, ◌++◌, Option, Some, None, IfSome, IfNone, length, map, drop, slice_get, refl, sym, ap, ◌∙◌, arith, append-nil}
+use Rattle.std.proofs.Common.{◌≡◌, ◌≢◌, ℕ, zero, suc, ◌+◌, ◌-◌, ◌<◌, ◌≤◌, ◌⊎◌, ⊎_elim, Bool, List, [], ◌∷◌, ◌++◌, Option, Some, None, IfSome, IfNone, length, map, drop, slice_get, refl, sym, ap, ◌∙◌, subst, arith, append-nil}
 use Rattle.std.proofs.lemmas.List.{length-map}
 use Rattle.std.proofs.lemmas.List.Sorted.{IsPermutation-refl}
 use Rattle.box_core.specs.Answer.{Ticketed}
 use Rattle.box_core.specs.History.{Report, Kept}
-use Rattle.box_core.specs.Mail.{Mail, Place, accepted_in, kept_of_place, resize_refusal_by}
+use Rattle.box_core.specs.Mail.{Mail, Place, accepted_in, kept_of_place, resize_refusal_by, resize_refusal_in, with_capacity, with_close}
 use Rattle.box_core.specs.declared.faults.Refusal.{Refusal}
 use Rattle.box_core.specs.declared.faults.Refusal.TheVariants as refusal
 use Rattle.box_core.specs.declared.work.Reply.{Reply}
@@ -16,7 +16,7 @@ use Rattle.lanes.specs.Clients.{put_of, mail_of, came_to, reply_of}
 use Rattle.lanes.specs.Polls.{Polls, TakenIn, left_by}
 use Rattle.lanes.proofs.Mails.{changed_length, got}
 use Rattle.desk_lines.specs.Lines.{ended}
-use Rattle.desk_serving.specs.Owed.{Lane, lane_of, due, HandsOwn, with_handed}
+use Rattle.desk_serving.specs.Owed.{Lane, lane_of, due, HandsOwn, with_closed, with_handed}
 use Rattle.desk_wire.specs.Reports as reports
 use Rattle.desk_serving.proofs.Owing.{due-next, name_itself, of_other, of_same}
 
@@ -176,3 +176,25 @@ pub whole_dropped : (client : ClientEnd Request Outcome) → accepted_in (mail_o
 whole_dropped client e =
     let n = put_length client in let h : length (lane_of client).put ≤ (lane_of client).handed = omega (arith, n, e) in
     all_dropped (lane_of client).handed (lane_of client).put h
+
+-- ## What a client's calls make of its lane
+
+-- nothing was put, and the mailbox was closed
+pub closed_lane : (old new : ClientEnd Request Outcome) → put_of new ≡ put_of old → mail_of new ≡ with_close (mail_of old) → lane_of new ≡ with_closed (lane_of old)
+closed_lane old new put mail = lane_is (lane_of new) (with_closed (lane_of old)) (ap (map work_of) put) (ap (λ m. m.handed) mail) (ap (λ m. m.closed) mail)
+
+-- it was given a capacity
+pub sized_lane : (old new : ClientEnd Request Outcome) (n : ℕ) → put_of new ≡ put_of old → mail_of new ≡ with_capacity n (mail_of old) → lane_of new ≡ lane_of old
+sized_lane old new n put mail = lane_is (lane_of new) (lane_of old) (ap (map work_of) put) (ap (λ m. m.handed) mail) (ap (λ m. m.closed) mail)
+
+-- it was left as it is
+pub kept_lane : (old new : ClientEnd Request Outcome) → put_of new ≡ put_of old → mail_of new ≡ mail_of old → lane_of new ≡ lane_of old
+kept_lane old new put mail = lane_is (lane_of new) (lane_of old) (ap (map work_of) put) (ap (λ m. m.handed) mail) (ap (λ m. m.closed) mail)
+
+-- why a whole lane is given no capacity, if so
+pub sized_whole : (client : ClientEnd Request Outcome) (lane : Lane) (n : ℕ) (due : Option Refusal) → lane_of client ≡ lane → drop lane.handed lane.put ≡ [] → resize_refusal_in (mail_of client) n ≡ due
+    → due ≡ resize_refusal_by lane.closed 0 0 n
+sized_whole client lane n due is whole told =
+    let mail = mail_of client in
+    let owes : drop (lane_of client).handed (lane_of client).put ≡ [] = subst (λ (l : Lane). drop l.handed l.put ≡ []) (sym is) whole in
+    sym told ∙ resize_whole mail.closed (accepted_in mail) mail.handed n (dropped_whole client owes) ∙ ap (λ (l : Lane). resize_refusal_by l.closed 0 0 n) is

@@ -4,6 +4,7 @@ pub mod Standing
 pub mod Replying
 pub mod Hearing
 pub mod Saying
+pub mod Outcomes
 pub mod EndingLanes
 pub mod Fronting
 pub mod CatchingUp

@@ -1,5 +1,5 @@
 -- Reports that are said, after those that were said before.
-use Rattle.std.proofs.Common.{◌≡◌, ◌≢◌, ℕ, List, [], ◌∷◌, ◌++◌, length, take, refl, ap, sym, ◌∙◌, append_assoc, append-nil, Option, Result, Ok, Err, OnOk, IfErr, inl, inr, ◌≤◌, subst}
+use Rattle.std.proofs.Common.{◌≡◌, ℕ, List, [], ◌∷◌, ◌++◌, length, take, refl, ap, sym, ◌∙◌, append_assoc, append-nil, Option, Result, Ok, Err, inl, inr, ◌≤◌, subst}
 use Rattle.std.specs.List.{flat_map}
 use Rattle.std.specs.Io.KnownBytes.{Appends, Consumes}
 use Rattle.std.proofs.lemmas.Grind.{flat_map-append}
@@ -33,46 +33,43 @@ tells_then A B C a b c r s t f x y = record {
 pub tells_weaker : (A B : List Report → Type 0) (a b : Option (List ℕ)) (r s : List ℕ) → ((m : List Report) → A m → B m) → Tells A a b r s → Tells B a b r s
 tells_weaker A B a b r s f x = record { more = x.more; are = f x.more x.are; gathers = x.gathers }
 
--- a text goes on its way
-pub tells_more : (A B : List Report → Type 0) (a b c : Option (List ℕ)) (r s t : List ℕ) (k : List Report) → ((m : List Report) → A m → B (m ++ k)) → Tells A a b r s → Gathers b c s (flat_map ended (texts_of k)) t → Tells B a c r t
-tells_more A B a b c r s t k f x g = record {
+-- a text of reports goes on its way
+pub tells_more : (A B : List Report → Type 0) (a b c : Option (List ℕ)) (r s t text : List ℕ) (k : List Report) → ((m : List Report) → A m → B (m ++ k)) → Tells A a b r s → text ≡ flat_map ended (texts_of k) → Gathers b c s text t → Tells B a c r t
+tells_more A B a b c r s t text k f x is g = record {
   more = x.more ++ k;
   are = f x.more x.are;
-  gathers = rw (lines-append x.more k) (gathers_then x.gathers g);
+  gathers = rw (lines-append x.more k) (gathers_then x.gathers (subst (λ v. Gathers b c s v t) is g));
 }
 
--- and a report, as a line
-pub tells_one : (A B : List Report → Type 0) (a b c : Option (List ℕ)) (r s t : List ℕ) (e : Report) → ((m : List Report) → A m → B (m ++ e ∷ [])) → Tells A a b r s → Gathers b c s (ended (report_text e)) t → Tells B a c r t
-tells_one A B a b c r s t e f x g = tells_more A B a b c r s t (e ∷ []) f x (subst (λ v. Gathers b c s v t) (sym (append-nil (ended (report_text e)))) g)
+-- a report alone, as a line in a text
+pub said_alone : (e : Report) (empty text piece : List ℕ) → empty ≡ [] → text ≡ empty ++ ended (report_text e) → piece ≡ text → piece ≡ flat_map ended (texts_of (e ∷ []))
+said_alone e empty text piece none is whole = whole ∙ is ∙ ap (λ v. v ++ ended (report_text e)) none ∙ sym (append-nil (ended (report_text e)))
 
 -- nothing more is said, though some of what waited may be written
 pub tells_quiet : (A : List Report → Type 0) (a b c : Option (List ℕ)) (r s t : List ℕ) → Tells A a b r s → Gathers b c s [] t → Tells A a c r t
 tells_quiet A a b c r s t x g = record { more = x.more; are = x.are; gathers = gathers_quiet x.gathers g }
 
--- what lanes hand out goes on its way
+-- what lanes hand out stands in a text
+pub hands_text : (names ns : List (List ℕ)) (x y z : List Lane) (empty text piece : List ℕ) → ns ≡ names → empty ≡ [] → piece ≡ text → Hands ns y z empty text
+    → (k : List Report) × (piece ≡ flat_map ended (texts_of k)) × ((m : List Report) → AreHanded names x y m → AreHanded names x z (m ++ k))
+hands_text names ns x y z empty text piece same none whole h = (
+  h.more,
+  whole ∙ h.is ∙ ap (λ v. v ++ flat_map ended (texts_of h.more)) none,
+  λ m p. handed_then names x y z m h.more p (subst (λ n. AreHanded n y z h.more) same h.handed),
+)
+
+-- and goes on its way
 pub hands_tell : (names ns : List (List ℕ)) (x y z : List Lane) (a b c : Option (List ℕ)) (r s t empty text piece : List ℕ) → ns ≡ names → empty ≡ [] → piece ≡ text
     → Tells (AreHanded names x y) a b r s → Hands ns y z empty text → Gathers b c s piece t → Tells (AreHanded names x z) a c r t
 hands_tell names ns x y z a b c r s t empty text piece same none whole told h g =
-    let is : piece ≡ flat_map ended (texts_of h.more) = whole ∙ h.is ∙ ap (λ v. v ++ flat_map ended (texts_of h.more)) none in
-    let handed : AreHanded names y z h.more = subst (λ n. AreHanded n y z h.more) same h.handed in
-    tells_more (AreHanded names x y) (AreHanded names x z) a b c r s t h.more (λ m p. handed_then names x y z m h.more p handed) told (subst (λ v. Gathers b c s v t) is g)
+    let out = hands_text names ns x y z empty text piece same none whole h in
+    tells_more (AreHanded names x y) (AreHanded names x z) a b c r s t piece out.0 out.2 told out.1 g
 
 -- what waits is written, or a beginning of it
 pub tells_cut : (A : List Report → Type 0) (a b c : Option (List ℕ)) (s t : List ℕ) → Tells A a b [] s → Gathers b c s [] t → TellsInPart A a c
 tells_cut A a b c s t x g =
     let all = gathers_quiet x.gathers g in
     record { more = x.more; are = x.are; text = all.out; unsaid = t; written = all.written; begins = all.is }
-
--- the same, of what lanes or ends handed out, unless the writer failed before
-
-module _ {X : Type 0} (A B : List Report → Type 0) (a b c : Option (List ℕ)) (s t : List ℕ) where
-  pub out_cut : (r : Result X FrontFault) → ((m : List Report) → A m → B m) → OnOk r (Tells A a b [] s) → (r ≡ Err Memory → Tells B a b [] s) → IfErr r (λ e. (e ≢ Read) × (e ≢ Long)) → r ≢ Err Write
-      → Gathers b c s [] t → TellsInPart B a c
-  out_cut (Ok x) f told memory only n g = tells_cut B a b c s t (tells_weaker A B a b [] s f told) g
-  out_cut (Err Read) f told memory only n g = absurd (only.0 refl)
-  out_cut (Err Long) f told memory only n g = absurd (only.1 refl)
-  out_cut (Err Write) f told memory only n g = absurd (n refl)
-  out_cut (Err Memory) f told memory only n g = tells_cut B a b c s t (memory refl) g
 
 -- ## After the lines that were heard
 

@@ -3,8 +3,8 @@ use Rattle.std.specs.Prelude.{◌≡◌, true, false}
 use Rattle.std.specs.Arc.{arc_value}
 use Rattle.dmn_plan.specs.Request.{Request}
 use Rattle.desk_serving.specs.Owed.{Lane, with_put}
-use Rattle.desk_serving.specs.declared.lane.Submitted.{Submitted}
-use Rattle.desk_serving.specs.declared.lane.Submitted.TheVariants.{Accepted, Closed, Full}
+use Rattle.desk_serving.specs.declared.named_lanes.Submitted.{Submitted}
+use Rattle.desk_serving.specs.declared.named_lanes.Submitted.TheVariants.{Accepted, Closed, Full}
 
 abbrev pub Submits : Lane → Request → Submitted → Lane → Type 0
 Submits old request Accepted new = (old.closed ≡ false) × (new ≡ with_put old request)

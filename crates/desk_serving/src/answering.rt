@@ -12,12 +12,12 @@ ghost use Rattle.desk_serving.specs.Tasks.{IsTaskFor, IsTaskOf};
 ghost use Rattle.desk_serving.specs.StateView.{HasRoom, Hears, HearsText, model_of};
 
 use crate::line::{Line, line_heard};
-use crate::named_lanes::Until;
 use crate::reports::{close_told, resize_told};
 use crate::state::State;
+use crate::until::Until;
 use crate::waiting::hand_out_until;
 use desk_lines::{Clerk, FrontFault, LineText, Sink, Unwritten};
-use desk_wire::{Heard, Report, Told, Word, hear};
+use desk_wire::{Heard, Report, Told, Word, add_refusal, hear};
 use dmn_plan::{ModelFault, Plan, Task, TaskFault};
 use json_reader::JsonReader;
 use serde_json::Value;
@@ -252,16 +252,10 @@ impl<'a, R: Wait> State<'a, R> {
         ensures same { links_in self.new.lanes ≡ links_in self.old.lanes }
         ensures hears { OnOk result ((it : List ℕ) → IsHeardAs it heard.now → HearsText self.old number it text.old.items text.new.items self.new) }
     {
-        if let Some(says) = says {
-            return self.answer_line(alloc, number, says, task, text);
-        }
-        match heard {
-            Heard::Long => Report::Refused(number, Word::Long).add_to(alloc, text),
-            Heard::Blank => Ok(()),
-            Heard::Syntax => Report::Refused(number, Word::Syntax).add_to(alloc, text),
-            Heard::Other => Report::Refused(number, Word::Shape).add_to(alloc, text),
-            Heard::Object(_) => Report::Refused(number, Word::Shape).add_to(alloc, text),
-        }
+        let Some(says) = says else {
+            return add_refusal(alloc, number, heard, text);
+        };
+        self.answer_line(alloc, number, says, task, text)
     }
 }
 

@@ -1,15 +1,14 @@
 //! What is left once the input ended: the workers end, and the rest of the results is handed out.
-ghost use Rattle.std.specs.Prelude.{◌≡◌, ◌≢◌, ◌<◌, ◌-◌, ◌^◌, ◌≤◌, [], ℕ, All, List, drop, length, map, slice_get, string_bytes, Err, IfErr, IfOk, OnOk, Some};
+ghost use Rattle.std.specs.Prelude.{◌≡◌, ◌<◌, ◌-◌, ◌^◌, ◌≤◌, ◌++◌, [], ℕ, All, drop, length, map, slice_get, string_bytes, IfOk, OnOk, Some};
 ghost use Rattle.lanes.specs.Workers.{worker_links};
 ghost use Rattle.lanes.specs.Links.{AreOfOneCall};
 ghost use Rattle.desk_serving.specs.Ending.{IsReady, IsRun, IsWhole, ends_lanes};
-ghost use Rattle.desk_lines.specs.Gathers.{Gathers};
 ghost use Rattle.desk_serving.specs.LanesView.{lanes_in, links_in, names_in};
 ghost use Rattle.desk_lines.specs.Lines.{ended};
 ghost use Rattle.desk_serving.specs.Owed.{AreDistinct, AreFirst, AreFirstOwn, AreHanded, AreOwn, Lane, lane_in};
 ghost use Rattle.desk_wire.specs.Reports as reports;
 ghost use Rattle.desk_wire.specs.Reports.{report_text};
-ghost use Rattle.desk_serving.specs.Telling.{Tells, TellsAll, TellsInPart};
+ghost use Rattle.desk_serving.specs.Telling.{HandsOut, WritesOut};
 
 use crate::named_lanes::Lanes;
 use box_core::Reply;
@@ -34,12 +33,8 @@ fn hand_out_beside<R: Wait, W: Sink>(
     requires nothing_waits { unwritten.old.bytes.items ≡ [] }
     ensures same { links_in lanes.new ≡ links_in lanes.old }
     ensures names { names_in lanes.new ≡ names_in lanes.old }
-    ensures ok { OnOk result (Tells (AreHanded (names_in lanes.old) (lanes_in lanes.old) (lanes_in lanes.new)) (W.seen writer.old).contents (W.seen writer.new).contents [] unwritten.new.bytes.items) }
-    ensures write { (result ≡ Err FrontFault.Write) → (rest : List ℕ) × Tells (AreFirst (names_in lanes.old) (lanes_in lanes.old)) (W.seen writer.old).contents (W.seen writer.new).contents [] rest }
-    ensures memory { (result ≡ Err FrontFault.Memory) → Tells (AreFirst (names_in lanes.old) (lanes_in lanes.old)) (W.seen writer.old).contents (W.seen writer.new).contents [] unwritten.new.bytes.items }
-    ensures only { IfErr result (λ e. (e ≢ FrontFault.Read) × (e ≢ FrontFault.Long)) }
-    ensures counts { (result ≢ Err FrontFault.Write) → (W.seen writer.new).faults ≡ (W.seen writer.old).faults }
-    ensures fault { (result ≡ Err FrontFault.Write) → (W.seen writer.old).faults < (W.seen writer.new).faults }
+    ensures handed { HandsOut (AreHanded (names_in lanes.old) (lanes_in lanes.old) (lanes_in lanes.new)) (AreFirst (names_in lanes.old) (lanes_in lanes.old))
+        (W.seen writer.old) (W.seen writer.new) [] unwritten.new.bytes.items result }
 {
     let mut text = Vec::new(alloc);
     for _ in rt.forever() {
@@ -66,12 +61,8 @@ pub fn end_workers<R: Wait, W: Sink>(
     requires counts { (W.seen writer.old).faults < 2 ^ 64 - 1 }
     ensures same { links_in lanes.new ≡ links_in lanes.old }
     ensures names { names_in lanes.new ≡ names_in lanes.old }
-    ensures ok { OnOk result (TellsAll (AreHanded (names_in lanes.old) (lanes_in lanes.old) (lanes_in lanes.new)) (W.seen writer.old).contents (W.seen writer.new).contents) }
-    ensures write { (result ≡ Err FrontFault.Write) → TellsInPart (AreFirst (names_in lanes.old) (lanes_in lanes.old)) (W.seen writer.old).contents (W.seen writer.new).contents }
-    ensures memory { (result ≡ Err FrontFault.Memory) → TellsAll (AreFirst (names_in lanes.old) (lanes_in lanes.old)) (W.seen writer.old).contents (W.seen writer.new).contents }
-    ensures only { IfErr result (λ e. (e ≢ FrontFault.Read) × (e ≢ FrontFault.Long)) }
-    ensures counts { (result ≢ Err FrontFault.Write) → (W.seen writer.new).faults ≡ (W.seen writer.old).faults }
-    ensures fault { (result ≡ Err FrontFault.Write) → (W.seen writer.old).faults < (W.seen writer.new).faults }
+    ensures written { WritesOut (λ _. AreHanded (names_in lanes.old) (lanes_in lanes.old) (lanes_in lanes.new)) (AreFirst (names_in lanes.old) (lanes_in lanes.old))
+        (W.seen writer.old) (W.seen writer.new) result }
 {
     crew.stop();
     let mut unwritten = Unwritten::new(alloc);
@@ -100,25 +91,16 @@ fn run_left(alloc: Global, end: &mut Settled<Task>) -> Result<(), AllocError>
     Ok(())
 }
 
-/// Says a reply, which may wait to be written.
-fn say_reply<W: Sink>(
+/// Says a reply, as a line at the end of a text.
+fn say_reply(
     alloc: Global,
     handed: Reply<Task>,
     name: &str,
-    writer: &mut W,
-    unwritten: &mut Unwritten,
-) -> Result<(), FrontFault>
-    requires counts { (W.seen writer.old).faults < 2 ^ 64 - 1 }
-    ensures said { OnOk result (Gathers (W.seen writer.old).contents (W.seen writer.new).contents unwritten.old.bytes.items (ended (report_text (reports.Reply name.now handed.ticket handed.outcome))) unwritten.new.bytes.items) }
-    ensures part { (result ≡ Err FrontFault.Write) → (rest : List ℕ) × Gathers (W.seen writer.old).contents (W.seen writer.new).contents unwritten.old.bytes.items (ended (report_text (reports.Reply name.now handed.ticket handed.outcome))) rest }
-    ensures memory { (result ≡ Err FrontFault.Memory) → Gathers (W.seen writer.old).contents (W.seen writer.new).contents unwritten.old.bytes.items [] unwritten.new.bytes.items }
-    ensures only { IfErr result (λ e. (e ≢ FrontFault.Read) × (e ≢ FrontFault.Long)) }
-    ensures counts { (result ≢ Err FrontFault.Write) → (W.seen writer.new).faults ≡ (W.seen writer.old).faults }
-    ensures fault { (result ≡ Err FrontFault.Write) → (W.seen writer.old).faults < (W.seen writer.new).faults }
+    text: &mut Vec<u8>,
+) -> Result<(), AllocError>
+    ensures { OnOk result (text.new.items ≡ text.old.items ++ ended (report_text (reports.Reply name.now handed.ticket handed.outcome))) }
 {
-    let mut text = Vec::new(alloc);
-    Report::Reply(name, handed.ticket, &handed.outcome).add_to(alloc, &mut text)?;
-    unwritten.add(writer, &text)
+    Report::Reply(name, handed.ticket, &handed.outcome).add_to(alloc, text)
 }
 
 /// Hands out the rest of a client's results. What is said last may wait to be written.
@@ -132,15 +114,14 @@ fn hand_rest<W: Sink>(
     requires run { IsRun end.old }
     requires counts { (W.seen writer.old).faults < 2 ^ 64 - 1 }
     ensures whole { OnOk result (IsWhole end.new) }
-    ensures ok { OnOk result (Tells (AreOwn name.now (lane_in end.old) (lane_in end.new)) (W.seen writer.old).contents (W.seen writer.new).contents unwritten.old.bytes.items unwritten.new.bytes.items) }
-    ensures write { (result ≡ Err FrontFault.Write) → (rest : List ℕ) × Tells (AreFirstOwn name.now (lane_in end.old)) (W.seen writer.old).contents (W.seen writer.new).contents unwritten.old.bytes.items rest }
-    ensures memory { (result ≡ Err FrontFault.Memory) → Tells (AreFirstOwn name.now (lane_in end.old)) (W.seen writer.old).contents (W.seen writer.new).contents unwritten.old.bytes.items unwritten.new.bytes.items }
-    ensures only { IfErr result (λ e. (e ≢ FrontFault.Read) × (e ≢ FrontFault.Long)) }
-    ensures counts { (result ≢ Err FrontFault.Write) → (W.seen writer.new).faults ≡ (W.seen writer.old).faults }
-    ensures fault { (result ≡ Err FrontFault.Write) → (W.seen writer.old).faults < (W.seen writer.new).faults }
+    ensures handed { HandsOut (AreOwn name.now (lane_in end.old) (lane_in end.new)) (AreFirstOwn name.now (lane_in end.old))
+        (W.seen writer.old) (W.seen writer.new) unwritten.old.bytes.items unwritten.new.bytes.items result }
 {
+    let mut text = Vec::new(alloc);
     while let Some(reply) = end.release() {
-        say_reply(alloc, reply, name, writer, unwritten)?;
+        text.clear();
+        say_reply(alloc, reply, name, &mut text)?;
+        unwritten.add(writer, &text)?;
     }
     Ok(())
 }
@@ -156,12 +137,8 @@ fn hand_out_end<W: Sink>(
     requires ready { IsReady end.old }
     requires counts { (W.seen writer.old).faults < 2 ^ 64 - 1 }
     ensures whole { OnOk result (IsWhole end.new) }
-    ensures ok { OnOk result (Tells (AreOwn name.now (lane_in end.old) (lane_in end.new)) (W.seen writer.old).contents (W.seen writer.new).contents unwritten.old.bytes.items unwritten.new.bytes.items) }
-    ensures write { (result ≡ Err FrontFault.Write) → (rest : List ℕ) × Tells (AreFirstOwn name.now (lane_in end.old)) (W.seen writer.old).contents (W.seen writer.new).contents unwritten.old.bytes.items rest }
-    ensures memory { (result ≡ Err FrontFault.Memory) → Tells (AreFirstOwn name.now (lane_in end.old)) (W.seen writer.old).contents (W.seen writer.new).contents unwritten.old.bytes.items unwritten.new.bytes.items }
-    ensures only { IfErr result (λ e. (e ≢ FrontFault.Read) × (e ≢ FrontFault.Long)) }
-    ensures counts { (result ≢ Err FrontFault.Write) → (W.seen writer.new).faults ≡ (W.seen writer.old).faults }
-    ensures fault { (result ≡ Err FrontFault.Write) → (W.seen writer.old).faults < (W.seen writer.new).faults }
+    ensures handed { HandsOut (AreOwn name.now (lane_in end.old) (lane_in end.new)) (AreFirstOwn name.now (lane_in end.old))
+        (W.seen writer.old) (W.seen writer.new) unwritten.old.bytes.items unwritten.new.bytes.items result }
 {
     run_left(alloc, end)?;
     hand_rest(alloc, end, name, writer, unwritten)
@@ -182,12 +159,8 @@ fn hand_out_ends<W: Sink>(
     requires nothing_waits { unwritten.old.bytes.items ≡ [] }
     ensures whole { OnOk result ((place : ℕ) (lane : Lane) → place < length names.now.items → slice_get (ends_lanes ends.new.items) place ≡ Some lane → drop lane.handed lane.put ≡ []) }
     ensures rest { OnOk result (drop (length names.now.items) ends.new.items ≡ drop (length names.now.items) ends.old.items) }
-    ensures ok { OnOk result (Tells (AreHanded (map string_bytes names.now.items) (ends_lanes ends.old.items) (ends_lanes ends.new.items)) (W.seen writer.old).contents (W.seen writer.new).contents [] unwritten.new.bytes.items) }
-    ensures write { (result ≡ Err FrontFault.Write) → (rest : List ℕ) × Tells (AreFirst (map string_bytes names.now.items) (ends_lanes ends.old.items)) (W.seen writer.old).contents (W.seen writer.new).contents [] rest }
-    ensures memory { (result ≡ Err FrontFault.Memory) → Tells (AreFirst (map string_bytes names.now.items) (ends_lanes ends.old.items)) (W.seen writer.old).contents (W.seen writer.new).contents [] unwritten.new.bytes.items }
-    ensures only { IfErr result (λ e. (e ≢ FrontFault.Read) × (e ≢ FrontFault.Long)) }
-    ensures counts { (result ≢ Err FrontFault.Write) → (W.seen writer.new).faults ≡ (W.seen writer.old).faults }
-    ensures fault { (result ≡ Err FrontFault.Write) → (W.seen writer.old).faults < (W.seen writer.new).faults }
+    ensures handed { HandsOut (AreHanded (map string_bytes names.now.items) (ends_lanes ends.old.items) (ends_lanes ends.new.items)) (AreFirst (map string_bytes names.now.items) (ends_lanes ends.old.items))
+        (W.seen writer.old) (W.seen writer.new) [] unwritten.new.bytes.items result }
 {
     for place in 0..names.len() {
         hand_out_end(
@@ -214,12 +187,8 @@ fn hand_out_rest<W: Sink>(
     requires counts { (W.seen writer.old).faults < 2 ^ 64 - 1 }
     ensures whole { OnOk result ((place : ℕ) (lane : Lane) → place < length names.now.items → slice_get (ends_lanes ends.new.items) place ≡ Some lane → drop lane.handed lane.put ≡ []) }
     ensures rest { OnOk result (drop (length names.now.items) ends.new.items ≡ drop (length names.now.items) ends.old.items) }
-    ensures ok { OnOk result (TellsAll (AreHanded (map string_bytes names.now.items) (ends_lanes ends.old.items) (ends_lanes ends.new.items)) (W.seen writer.old).contents (W.seen writer.new).contents) }
-    ensures write { (result ≡ Err FrontFault.Write) → TellsInPart (AreFirst (map string_bytes names.now.items) (ends_lanes ends.old.items)) (W.seen writer.old).contents (W.seen writer.new).contents }
-    ensures memory { (result ≡ Err FrontFault.Memory) → TellsAll (AreFirst (map string_bytes names.now.items) (ends_lanes ends.old.items)) (W.seen writer.old).contents (W.seen writer.new).contents }
-    ensures only { IfErr result (λ e. (e ≢ FrontFault.Read) × (e ≢ FrontFault.Long)) }
-    ensures counts { OnOk result ((W.seen writer.new).faults ≡ (W.seen writer.old).faults) }
-    ensures fault { (result ≡ Err FrontFault.Write) → (W.seen writer.old).faults < (W.seen writer.new).faults }
+    ensures written { WritesOut (λ _. AreHanded (map string_bytes names.now.items) (ends_lanes ends.old.items) (ends_lanes ends.new.items)) (AreFirst (map string_bytes names.now.items) (ends_lanes ends.old.items))
+        (W.seen writer.old) (W.seen writer.new) result }
 {
     let mut unwritten = Unwritten::new(alloc);
     let handed = hand_out_ends(alloc, names, ends, writer, &mut unwritten);
@@ -241,13 +210,9 @@ pub fn end_lanes<W: Sink>(
     // No request was put into a lane without a name.
     requires new { (place : ℕ) (lane : Lane) → length (names_in lanes) ≤ place → slice_get (lanes_in lanes) place ≡ Some lane → lane.put ≡ [] }
     requires counts { (W.seen writer.old).faults < 2 ^ 64 - 1 }
-    ensures ok { IfOk result (λ ends. TellsAll (AreHanded (names_in lanes) (lanes_in lanes) (ends_lanes ends.items)) (W.seen writer.old).contents (W.seen writer.new).contents) }
     ensures whole { IfOk result (λ ends. All IsWhole ends.items) }
-    ensures write { (result ≡ Err FrontFault.Write) → TellsInPart (AreFirst (names_in lanes) (lanes_in lanes)) (W.seen writer.old).contents (W.seen writer.new).contents }
-    ensures memory { (result ≡ Err FrontFault.Memory) → TellsAll (AreFirst (names_in lanes) (lanes_in lanes)) (W.seen writer.old).contents (W.seen writer.new).contents }
-    ensures only { IfErr result (λ e. (e ≢ FrontFault.Read) × (e ≢ FrontFault.Long)) }
-    ensures counts { OnOk result ((W.seen writer.new).faults ≡ (W.seen writer.old).faults) }
-    ensures fault { (result ≡ Err FrontFault.Write) → (W.seen writer.old).faults < (W.seen writer.new).faults }
+    ensures written { WritesOut (λ ends. AreHanded (names_in lanes) (lanes_in lanes) (ends_lanes ends.items)) (AreFirst (names_in lanes) (lanes_in lanes))
+        (W.seen writer.old) (W.seen writer.new) result }
 {
     let Lanes { names, clients, .. } = lanes;
     let Ok(mut ends) = settle(clients, workers) else {

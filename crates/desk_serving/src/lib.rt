@@ -3,13 +3,14 @@
 
 mod answering;
 mod ending;
-mod lane;
 mod line;
 mod named_lanes;
 mod options;
 mod reports;
+mod resting;
 mod run;
 mod state;
+mod until;
 mod waiting;
 
 pub use line::{Line, line_heard};

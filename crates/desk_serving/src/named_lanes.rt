@@ -4,45 +4,32 @@ ghost use Rattle.std.specs.Prelude.{◌≡◌, ◌<◌, ◌≤◌, ◌^◌, [], 
 ghost use Rattle.std.specs.Arc.{arc_value};
 ghost use Rattle.box_core.specs.Mail.{resize_refusal_by};
 ghost use Rattle.dmn_plan.specs.Request.{request_result};
-ghost use Rattle.desk_serving.specs.Owed.{AreDistinct, AreDistinct-prop, Hands, HandsThen, Lane, unhanded, with_closed, with_lane, with_put, with_put_if};
+ghost use Rattle.lanes.specs.Clients.{client_links};
+ghost use Rattle.desk_serving.specs.Owed.{AreDistinct, AreDistinct-prop, Hands, HandsOwn, HandsThen, Lane, lane_of, unhanded, with_closed, with_lane, with_put, with_put_if};
 ghost use Rattle.desk_serving.specs.Due.{task_answer};
 ghost use Rattle.feel_value.specs.Distinct.{is_among};
 ghost use Rattle.desk_wire.specs.Reports.{Of, Reply};
 
-use crate::lane::{self, Submitted};
+use crate::until::Until;
 use box_core::Refusal;
 use desk_wire::{Report, Told, Word};
 use dmn_plan::Task;
-use lanes::Client;
+use lanes::{Client, MOST_CLIENTS};
 use std::alloc::{AllocError, Global};
 use std::sync::{Arc, Wait};
 
 /// The most lanes.
-const MOST: usize = 64;
+const MOST: usize = MOST_CLIENTS as usize;
 
-/// What may have to come before the front goes on.
-#[derive(Clone, Copy)]
-pub enum Until {
-    /// Nothing.
-    Now,
-    /// A lane has a place for a request, or is whole.
-    Room(usize),
-    /// A lane is whole.
-    Whole(usize),
-    /// Each lane with a name is whole.
-    AllWhole,
-}
-
-impl Until {
-    /// Where the lane is that is waited for; past all lanes where it is no single one.
-    fn place(&self) -> usize {
-        match self {
-            Until::Room(place) => *place,
-            Until::Whole(place) => *place,
-            Until::Now => MOST,
-            Until::AllWhole => MOST,
-        }
-    }
+/// What became of a request that was put.
+#[derive(Drop)]
+pub enum Submitted {
+    /// It was accepted.
+    Accepted,
+    /// The lane is closed.
+    Closed,
+    /// There is no place for it, and it comes back.
+    Full(Arc<Task>),
 }
 
 /// The clients' ends of the lanes, and the names of the first of them: lane by lane.
@@ -56,6 +43,47 @@ pub struct Lanes {
     turn: usize,
     ghost named: { length names.items ≤ length clients.items },
     ghost distinct: { AreDistinct (map string_bytes names.items) } by { AreDistinct-prop (map string_bytes names.items) },
+}
+
+/// One client's lane.
+impl Lanes {
+    ghost use Rattle.desk_serving.specs.LanesView.{IsPolled};
+    ghost use Rattle.desk_serving.specs.Submits.{Submits};
+
+    /// Puts a request.
+    fn submit(client: &mut Client<Task>, work: Arc<Task>) -> Result<Submitted, AllocError>
+        requires few { length (lane_of client.old).put < 2 ^ 60 }
+        ensures same { client_links client.new ≡ client_links client.old }
+        ensures submits { IfOk result (λ submitted. Submits (lane_of client.old) (arc_value work) submitted (lane_of client.new)) }
+    {
+        match client.submit(work) {
+            Ok(_) => Ok(Submitted::Accepted),
+            Err((Refusal::Closed, _)) => Ok(Submitted::Closed),
+            Err((Refusal::Full, work)) => Ok(Submitted::Full(work)),
+            Err((Refusal::Memory, _)) => Err(AllocError),
+            Err(_) => unreachable!(),
+        }
+    }
+
+    /// Hands out the next result, if it is there, as a line at the end of the text. A whole lane costs a look at two numbers.
+    fn hand_out_next(
+        alloc: Global,
+        client: &mut Client<Task>,
+        name: &str,
+        text: &mut Vec<u8>,
+    ) -> Result<(), AllocError>
+        ensures same { client_links client.new ≡ client_links client.old }
+        ensures polled { IsPolled client.old client.new }
+        ensures hands { OnOk result (HandsOwn name.now (lane_of client.old) (lane_of client.new) text.old.items text.new.items) }
+    {
+        if client.is_whole() {
+            return Ok(());
+        }
+        let Some(reply) = client.poll() else {
+            return Ok(());
+        };
+        Report::Reply(name, reply.ticket, &reply.outcome).add_to(alloc, text)
+    }
 }
 
 impl Lanes {
@@ -74,7 +102,7 @@ impl Lanes {
     }
 
     /// The place of a name's lane, if it has one.
-    fn place_of(&self, name: &str) -> Option<usize>
+    pub fn place_of(&self, name: &str) -> Option<usize>
         ensures found { IfSome result (λ place. slice_get (names_in self.now) place ≡ Some name.now) }
         ensures none { IfNone result (is_among (names_in self.now) name.now ≡ false) }
     {
@@ -114,7 +142,7 @@ impl Lanes {
         ensures hands { OnOk result (Hands (names_in self.old) (lanes_in self.old) (lanes_in self.new) text.old.items text.new.items) }
     {
         for place in 0..self.names.len() {
-            lane::hand_out(
+            Lanes::hand_out_next(
                 alloc,
                 &mut self.clients[place],
                 self.names[place].as_str(),
@@ -155,7 +183,7 @@ impl Lanes {
         if place >= self.names.len() {
             return Ok(());
         }
-        lane::hand_out(
+        Lanes::hand_out_next(
             alloc,
             &mut self.clients[place],
             self.names[place].as_str(),
@@ -175,34 +203,8 @@ impl Lanes {
         turn
     }
 
-    /// What has to come before a request of this name finds a place.
-    pub fn until_room(&self, name: &str) -> Until {
-        match self.place_of(name) {
-            Some(place) => Until::Room(place),
-            None => Until::Now,
-        }
-    }
-
-    /// What has to come before all earlier results of this name are handed out.
-    pub fn until_whole(&self, name: &str) -> Until {
-        match self.place_of(name) {
-            Some(place) => Until::Whole(place),
-            None => Until::Now,
-        }
-    }
-
-    /// Whether it has come.
-    pub fn has_come(&self, until: Until) -> bool {
-        match until {
-            Until::Now => true,
-            Until::Room(place) => self.has_room(place),
-            Until::Whole(place) => self.is_whole_at(place),
-            Until::AllWhole => self.is_whole(),
-        }
-    }
-
     /// Whether a lane has a place for a request, or is whole.
-    fn has_room(&self, place: usize) -> bool {
+    pub fn has_room(&self, place: usize) -> bool {
         let Some(client) = self.clients.get(place) else {
             return true;
         };
@@ -213,14 +215,6 @@ impl Lanes {
         outstanding == 0 || outstanding < *room as u64
     }
 
-    /// Whether a lane is whole.
-    fn is_whole_at(&self, place: usize) -> bool {
-        match self.clients.get(place) {
-            Some(client) => client.is_whole(),
-            None => true,
-        }
-    }
-
     /// Notes how many requests of a lane may be outstanding.
     fn set_room(&mut self, place: usize, capacity: u32)
         ensures names { names_in self.new ≡ names_in self.old }
@@ -229,66 +223,6 @@ impl Lanes {
     {
         if let Some(room) = self.rooms.get_mut(place) {
             *room = capacity;
-        }
-    }
-
-    /// Whether each lane with a name is whole.
-    fn is_whole(&self) -> bool {
-        for place in 0..self.names.len() {
-            if !lane::is_whole(&self.clients[place]) {
-                return false;
-            }
-        }
-        true
-    }
-
-    /// How many answers were posted to the lanes so far.
-    pub fn answers(&self) -> u64 {
-        match self.clients.first() {
-            Some(client) => client.signals().answers(),
-            None => 0,
-        }
-    }
-
-    /// The front does something that takes long: where requests wait and no worker looks for them, one that sleeps is woken.
-    pub fn call_worker(&self) {
-        if let Some(client) = self.clients.first() {
-            client.signals().begin_to_wait();
-        }
-    }
-
-    /// A request may be put soon: a worker that sleeps is woken, so that it is awake by then.
-    pub fn expect_request(&self) {
-        if let Some(client) = self.clients.first() {
-            client.signals().expect_job();
-        }
-    }
-
-    /// Where nothing came since so many answers were posted, waits until there are more. It may return early.
-    pub fn rest<R: Wait>(&self, rt: &R, came: bool, seen: u64) {
-        if came {
-            return;
-        }
-        if let Some(client) = self.clients.first() {
-            client.signals().await_answer(rt, seen);
-        }
-    }
-
-    /// The same, but answers an error where nothing will come: where the workers have been refused memory for what they
-    /// hold again and again, and nothing was answered between.
-    pub fn rest_fed<R: Wait>(&self, rt: &R, came: bool, seen: u64) -> Result<(), AllocError> {
-        if !came && self.is_starved() {
-            return Err(AllocError);
-        }
-        self.rest(rt, came, seen);
-        Ok(())
-    }
-
-    /// Whether the workers find no memory for what they hold.
-    fn is_starved(&self) -> bool {
-        match self.clients.first() {
-            Some(client) => client.signals().is_starved(),
-            None => false,
         }
     }
 
@@ -307,7 +241,7 @@ impl Lanes {
         ensures whole { OnOk result ((lane : Lane) → slice_get (lanes_in self.new) place ≡ Some lane → drop lane.handed lane.put ≡ []) }
     {
         for _ in rt.forever() {
-            if lane::is_whole(&self.clients[place]) {
+            if self.clients[place].is_whole() {
                 break;
             }
             let seen = self.answers();
@@ -362,7 +296,7 @@ impl Lanes {
     {
         let mut work = work;
         for _ in rt.forever() {
-            match lane::submit(&mut self.clients[place], work)? {
+            match Lanes::submit(&mut self.clients[place], work)? {
                 Submitted::Accepted => return Ok(true),
                 Submitted::Closed => return Ok(false),
                 Submitted::Full(refused) => work = refused,
@@ -410,7 +344,7 @@ impl Lanes {
         ensures closes { (lane : Lane) → slice_get (lanes_in self.old) place ≡ Some lane →
             (result ≡ not lane.closed) × (lanes_in self.new ≡ slice_set (lanes_in self.old) place (with_closed lane)) }
     {
-        let was_open = lane::close(&mut self.clients[place]);
+        let was_open = self.clients[place].close();
         self.set_room(place, 0);
         was_open
     }
@@ -424,11 +358,13 @@ impl Lanes {
         ensures lanes { lanes_in self.new ≡ lanes_in self.old }
         ensures refused { IfOk result (λ refused. (lane : Lane) → slice_get (lanes_in self.old) place ≡ Some lane → refused ≡ resize_refusal_by lane.closed 0 0 capacity) }
     {
-        let refused = lane::resize(&mut self.clients[place], capacity)?;
-        if refused.is_some() {
-            return Ok(refused);
+        let Err(why) = self.clients[place].resize(capacity) else {
+            self.set_room(place, capacity);
+            return Ok(None);
+        };
+        match why {
+            Refusal::Memory => Err(AllocError),
+            why => Ok(Some(why)),
         }
-        self.set_room(place, capacity);
-        Ok(refused)
     }
 }

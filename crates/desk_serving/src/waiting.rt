@@ -1,10 +1,11 @@
 //! While the front waits for results, each is written as soon as no other is at hand.
-ghost use Rattle.std.specs.Prelude.{◌≡◌, ◌≢◌, ◌<◌, ◌-◌, ◌^◌, ℕ, List, Err, IfErr, OnOk};
+ghost use Rattle.std.specs.Prelude.{◌≡◌, ◌<◌, ◌-◌, ◌^◌};
 ghost use Rattle.desk_serving.specs.LanesView.{lanes_in, links_in, names_in};
 ghost use Rattle.desk_serving.specs.Owed.{AreFirst, AreHanded};
-ghost use Rattle.desk_serving.specs.Telling.{Tells};
+ghost use Rattle.desk_serving.specs.Telling.{HandsOut};
 
-use crate::named_lanes::{Lanes, Until};
+use crate::named_lanes::Lanes;
+use crate::until::Until;
 use desk_lines::{FrontFault, Sink, Unwritten};
 use std::alloc::Global;
 use std::sync::Wait;
@@ -23,12 +24,8 @@ pub fn hand_out_until<R: Wait, W: Sink>(
     requires counts { (W.seen writer.old).faults < 2 ^ 64 - 1 }
     ensures same { links_in lanes.new ≡ links_in lanes.old }
     ensures names { names_in lanes.new ≡ names_in lanes.old }
-    ensures ok { OnOk result (Tells (AreHanded (names_in lanes.old) (lanes_in lanes.old) (lanes_in lanes.new)) (W.seen writer.old).contents (W.seen writer.new).contents unwritten.old.bytes.items unwritten.new.bytes.items) }
-    ensures write { (result ≡ Err FrontFault.Write) → (rest : List ℕ) × Tells (AreFirst (names_in lanes.old) (lanes_in lanes.old)) (W.seen writer.old).contents (W.seen writer.new).contents unwritten.old.bytes.items rest }
-    ensures memory { (result ≡ Err FrontFault.Memory) → Tells (AreFirst (names_in lanes.old) (lanes_in lanes.old)) (W.seen writer.old).contents (W.seen writer.new).contents unwritten.old.bytes.items unwritten.new.bytes.items }
-    ensures only { IfErr result (λ e. (e ≢ FrontFault.Read) × (e ≢ FrontFault.Long)) }
-    ensures counts { (result ≢ Err FrontFault.Write) → (W.seen writer.new).faults ≡ (W.seen writer.old).faults }
-    ensures fault { (result ≡ Err FrontFault.Write) → (W.seen writer.old).faults < (W.seen writer.new).faults }
+    ensures handed { HandsOut (AreHanded (names_in lanes.old) (lanes_in lanes.old) (lanes_in lanes.new)) (AreFirst (names_in lanes.old) (lanes_in lanes.old))
+        (W.seen writer.old) (W.seen writer.new) unwritten.old.bytes.items unwritten.new.bytes.items result }
 {
     let mut text = Vec::new(alloc);
     for _ in rt.forever() {

@@ -1,6 +1,5 @@
-pub mod Quoting
+pub mod Lining
 pub mod ReadOnce
-pub mod Floats
 pub mod Deciding
 pub mod FirstKey
 pub mod Hearing

@@ -1,9 +1,9 @@
 -- Internal: the members of an object as a report gives them.
 use Rattle.std.specs.Prelude.{ℕ, List, [], ◌∷◌, ◌++◌, Bool, true, codes}
 use Rattle.json.specs.Print.{quoted}
-use Rattle.serde_json.specs.Data.{Data, Members, null, boolean, member, no_members, number, string, unsigned}
-use Rattle.serde_json.specs.Find.{of_integer}
+use Rattle.serde_json.specs.Data.{Data, Members, boolean, member, no_members, number, string, unsigned}
 use Rattle.serde_json.specs.Written.{comma_if, compact_text}
+use Rattle.feel_value.specs.Json.{json_of}
 use Rattle.desk_wire.specs.declared.key.Key.{Key}
 use Rattle.desk_wire.specs.declared.key.Key.TheVariants as key
 use Rattle.desk_wire.specs.declared.object.Held.{Held}
@@ -27,11 +27,10 @@ name_of key.Taken = codes "taken"
 name_of key.Ticket = codes "ticket"
 
 abbrev pub data_of : Held → Data
-data_of held.Null = null
 data_of (held.Bool b) = boolean b
 data_of (held.Number n) = number (unsigned n)
-data_of (held.Integer z) = number (of_integer z)
 data_of (held.Text text) = string text.now
+data_of (held.Value value) = json_of value.now
 
 abbrev pub members_of : List (Key × Held) → Members
 members_of [] = no_members

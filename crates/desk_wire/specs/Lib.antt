@@ -6,3 +6,4 @@ pub mod Reports
 pub mod ReportView
 pub mod Reading
 pub mod Heard
+pub mod Listening

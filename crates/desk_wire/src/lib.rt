@@ -6,12 +6,15 @@ mod key;
 mod members;
 mod object;
 mod parts;
-mod reply;
+mod refusal;
 mod report;
+mod session;
 mod word;
 
 pub use heard::{Heard, hear, is_blank};
 pub use members::{four_members, one_member, three_members, two_members};
 pub use parts::{capacity_in, name_in, ticket_in};
+pub use refusal::add_refusal;
 pub use report::{Report, Told};
+pub use session::{Listener, Session};
 pub use word::Word;

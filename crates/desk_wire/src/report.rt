@@ -2,12 +2,11 @@
 ghost use Rattle.std.specs.Prelude.{◌≡◌, ◌++◌, OnOk};
 ghost use Rattle.serde_json.specs.Written.{compact_text};
 ghost use Rattle.desk_lines.specs.Lines.{ended};
-ghost use Rattle.desk_wire.specs.Reports.{report_text, told_json};
+ghost use Rattle.desk_wire.specs.Reports.{Reply, report_text, told_json};
 ghost use Rattle.desk_wire.specs.ReportView.{report_view};
 
 use crate::key::Key;
 use crate::object::{Held, add_object};
-use crate::reply::add_reply;
 use crate::word::Word;
 use feel_value::Outcome;
 use std::alloc::{AllocError, Global};
@@ -92,6 +91,30 @@ fn add_told(
         Told::Taken(ticket) => {
             let taken = (Key::Taken, Held::Number(ticket));
             add_object(alloc, &[who, at, taken], text)
+        }
+    }
+}
+
+/// `{"client":name,"result":V,"ticket":t}`, or `{"client":name,"fault":"limit","ticket":t}` where a limit was broken.
+fn add_reply<'a>(
+    alloc: Global,
+    name: &'a str,
+    outcome: &'a Outcome,
+    ticket: u64,
+    text: &mut Vec<u8>,
+) -> Result<(), AllocError>
+    ensures { OnOk result (text.new.items ≡ text.old.items ++ ended (report_text (Reply name.now ticket outcome.now))) }
+{
+    let who = (Key::Client, Held::Text(name));
+    let ticket = (Key::Ticket, Held::Number(ticket));
+    match outcome {
+        Outcome::Is(value) => {
+            let result = (Key::Result, Held::Value(value));
+            add_object(alloc, &[who, result, ticket], text)
+        }
+        Outcome::Limit => {
+            let fault = (Key::Fault, Held::Text(Word::Limit.text()));
+            add_object(alloc, &[who, fault, ticket], text)
         }
     }
 }

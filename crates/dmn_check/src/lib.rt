@@ -9,15 +9,12 @@ mod large;
 mod laws;
 mod look;
 mod marks;
-mod named;
 mod names;
 mod notes;
 mod place;
 mod refused;
 mod rules;
 mod services;
-#[cfg(test)]
-mod tests;
 mod told;
 mod unknown;
 mod unread;

@@ -1,15 +1,13 @@
 //! Names that are not lawful, and names that stand twice.
 ghost use Rattle.std.specs.Prelude.{◌≡◌, ◌≤◌, OnOk, IfOk, map, string_bytes, length, nat_lt};
 ghost use Rattle.dmn_form.specs.FormView.{table_view};
-ghost use Rattle.dmn_form.specs.LogicView.{logic_view};
 ghost use Rattle.dmn_form.specs.ModelView.{decision_view, service_view, model_view};
 ghost use Rattle.dmn_names.specs.Names.{has_bad_name, has_name_twice};
 ghost use Rattle.dmn_names.specs.Parts.{output_names, value_names, service_names};
 ghost use Rattle.dmn_check.specs.declared.place.Step.TheVariants as step;
 ghost use Rattle.dmn_check.specs.declared.place.Key.TheVariants as key;
 ghost use Rattle.dmn_check.specs.Findings.{behind, each_of};
-ghost use Rattle.dmn_check.specs.NameFaults.{marks, in_named, under, names_look, of_values, of_heads, of_parts, within_decision, within_service, name_faults, unlawful_names as unlawful_names_in, repeated_names as repeated_names_in};
-ghost use Rattle.dmn_check.specs.Look.{logic_findings};
+ghost use Rattle.dmn_check.specs.NameFaults.{marks, in_named, under, of_values, of_heads, of_parts, within_decision, within_service, name_faults, unlawful_names as unlawful_names_in, repeated_names as repeated_names_in};
 ghost use Rattle.dmn_check.specs.Notes.{with_all};
 ghost use Rattle.dmn_check.specs.NotesView.{notes_view};
 ghost use Rattle.dmn_check.specs.Told.{first_of};
@@ -17,13 +15,12 @@ ghost use Rattle.dmn_check.specs.ToldView.{told_view};
 
 use crate::look::Look;
 use crate::marks::{NameFault, marks_of, note_named, note_texts};
-use crate::named::names_of_values;
 use crate::notes::Notes;
 use crate::place::{Key, Step};
 use crate::told::Told;
 use crate::walk::walk_logic;
 use dmn_form::{WrittenDecision, WrittenLogic, WrittenModel, WrittenService, WrittenTable};
-use dmn_names::Named;
+use dmn_names::{Named, names_of_values};
 use std::alloc::{AllocError, Global};
 
 /// Notes the names with the fault in the array of texts under a key.
@@ -72,80 +69,34 @@ fn note_outputs(
     Ok(())
 }
 
-/// Looks for names that are not lawful.
-struct UnlawfulNames;
-
-impl Look for UnlawfulNames {
+/// A fault of names looks for the names that have it.
+impl Look for NameFault {
     ghost use Rattle.dmn_check.specs.NameFaults.{names_look};
-    ghost use Rattle.dmn_check.specs.declared.marks.NameFault.TheVariants.{Unlawful};
 
-    ghost look = { names_look Unlawful };
+    ghost look = { names_look };
 
-    fn text(_alloc: Global, _notes: &mut Notes, _text: &str) -> Result<(), AllocError> {
+    fn text(&self, _alloc: Global, _notes: &mut Notes, _text: &str) -> Result<(), AllocError> {
         Ok(())
     }
 
-    fn table(alloc: Global, notes: &mut Notes, table: &WrittenTable) -> Result<(), AllocError> {
-        note_outputs(alloc, notes, NameFault::Unlawful, table)?;
+    fn table(
+        &self,
+        alloc: Global,
+        notes: &mut Notes,
+        table: &WrittenTable,
+    ) -> Result<(), AllocError> {
+        note_outputs(alloc, notes, *self, table)?;
         Ok(())
     }
 
     fn entries(
+        &self,
         alloc: Global,
         notes: &mut Notes,
         entries: &[(String, WrittenLogic)],
     ) -> Result<(), AllocError> {
-        note_objects(alloc, notes, NameFault::Unlawful, entries)?;
+        note_objects(alloc, notes, *self, entries)?;
         Ok(())
-    }
-}
-
-/// Looks for names that stand twice.
-struct RepeatedNames;
-
-impl Look for RepeatedNames {
-    ghost use Rattle.dmn_check.specs.NameFaults.{names_look};
-    ghost use Rattle.dmn_check.specs.declared.marks.NameFault.TheVariants.{Repeated};
-
-    ghost look = { names_look Repeated };
-
-    fn text(_alloc: Global, _notes: &mut Notes, _text: &str) -> Result<(), AllocError> {
-        Ok(())
-    }
-
-    fn table(alloc: Global, notes: &mut Notes, table: &WrittenTable) -> Result<(), AllocError> {
-        note_outputs(alloc, notes, NameFault::Repeated, table)?;
-        Ok(())
-    }
-
-    fn entries(
-        alloc: Global,
-        notes: &mut Notes,
-        entries: &[(String, WrittenLogic)],
-    ) -> Result<(), AllocError> {
-        note_objects(alloc, notes, NameFault::Repeated, entries)?;
-        Ok(())
-    }
-}
-
-/// Notes the names with the fault within a boxed expression.
-fn note_logic(
-    alloc: Global,
-    notes: &mut Notes,
-    fault: NameFault,
-    logic: &WrittenLogic,
-) -> Result<(), AllocError>
-    ensures { OnOk result (with_all (notes_view notes.old) (logic_findings (names_look fault) (logic_view logic.now)) ≡ notes_view notes.new) }
-{
-    match fault {
-        NameFault::Unlawful => {
-            walk_logic::<UnlawfulNames>(alloc, notes, logic)?;
-            Ok(())
-        }
-        NameFault::Repeated => {
-            walk_logic::<RepeatedNames>(alloc, notes, logic)?;
-            Ok(())
-        }
     }
 }
 
@@ -160,7 +111,7 @@ fn note_decision(
 {
     note_under(alloc, notes, fault, Key::Needs, &decision.needs)?;
     notes.enter(Step::Key(Key::Expr))?;
-    note_logic(alloc, notes, fault, &decision.logic)?;
+    walk_logic(alloc, notes, &fault, &decision.logic)?;
     notes.leave();
     Ok(())
 }

@@ -4,7 +4,6 @@ ghost use Rattle.std.specs.List.{list_all};
 ghost use Rattle.dmn_table.specs.Faults.{policy_of, is_operator as makes_a_number, fits_columns, columns_fit as columns_fit_of, table_fault};
 ghost use Rattle.dmn_form.specs.FormView.{column_view, rule_view, table_view};
 ghost use Rattle.dmn_form.specs.ModelView.{model_view};
-ghost use Rattle.dmn_names.specs.Names.{have_twice as twice_among};
 ghost use Rattle.dmn_logic.specs.Faults.{has_refused_table};
 ghost use Rattle.dmn_check.specs.Notes.{with_all};
 ghost use Rattle.dmn_check.specs.NotesView.{notes_view};
@@ -17,10 +16,10 @@ use crate::look::Look;
 use crate::notes::Notes;
 use crate::told::Told;
 use crate::walk::walk_decisions;
-use dmn_form::{WrittenColumn, WrittenLogic, WrittenModel, WrittenRule, WrittenTable};
+use dmn_form::{WrittenLogic, WrittenModel, WrittenRule, WrittenTable};
+use dmn_names::have_twice;
 use dmn_table::TableFault;
 use std::alloc::{AllocError, Global};
-use std::collections::BTreeSet;
 
 /// Whether a hit policy makes one number of the outputs; None where the text is none of the eleven.
 fn is_operator(hit: &str) -> Option<bool>
@@ -31,20 +30,6 @@ fn is_operator(hit: &str) -> Option<bool>
         "C+" | "C<" | "C>" | "C#" => Some(true),
         _ => None,
     }
-}
-
-/// Whether two output columns have one name.
-fn have_twice(alloc: Global, columns: &[WrittenColumn]) -> Result<bool, AllocError>
-    ensures { IfOk result (λ b. b ≡ twice_among (map (λ c. string_bytes c.name) columns.now)) }
-{
-    let mut seen = BTreeSet::new(alloc);
-    for column in columns {
-        let is_new = seen.insert(column.name.as_str())?;
-        if !is_new {
-            return Ok(true);
-        }
-    }
-    Ok(false)
 }
 
 /// Whether a rule has an entry for each of these numbers of columns.
@@ -102,18 +87,24 @@ fn fault_of(alloc: Global, table: &WrittenTable) -> Result<Option<TableFault>, A
 }
 
 /// Looks for tables that are refused.
-pub(crate) struct RefusedTables;
+#[derive(Drop)]
+struct RefusedTables;
 
 impl Look for RefusedTables {
     ghost use Rattle.dmn_check.specs.Refused.{refused_look};
 
-    ghost look = { refused_look };
+    ghost look = { λ _. refused_look };
 
-    fn text(_alloc: Global, _notes: &mut Notes, _text: &str) -> Result<(), AllocError> {
+    fn text(&self, _alloc: Global, _notes: &mut Notes, _text: &str) -> Result<(), AllocError> {
         Ok(())
     }
 
-    fn table(alloc: Global, notes: &mut Notes, table: &WrittenTable) -> Result<(), AllocError> {
+    fn table(
+        &self,
+        alloc: Global,
+        notes: &mut Notes,
+        table: &WrittenTable,
+    ) -> Result<(), AllocError> {
         let Some(fault) = fault_of(alloc, table)? else {
             return Ok(());
         };
@@ -122,6 +113,7 @@ impl Look for RefusedTables {
     }
 
     fn entries(
+        &self,
         _alloc: Global,
         _notes: &mut Notes,
         _entries: &[(String, WrittenLogic)],
@@ -136,6 +128,6 @@ pub fn refused_tables(alloc: Global, model: &WrittenModel) -> Result<Told, Alloc
     ensures fault { IfOk result (λ t. nat_lt 0 t.count ≡ has_refused_table (model_view model.now).decisions) }
 {
     let mut notes = Notes::new(alloc);
-    walk_decisions::<RefusedTables>(alloc, &mut notes, &model.decisions)?;
+    walk_decisions(alloc, &mut notes, &RefusedTables, &model.decisions)?;
     Ok(Told::of(notes))
 }

@@ -70,23 +70,30 @@ fn note_table(notes: &mut Notes, table: &WrittenTable) -> Result<(), AllocError>
 }
 
 /// Looks for rules that don't fit.
+#[derive(Drop)]
 struct UnfitRules;
 
 impl Look for UnfitRules {
     ghost use Rattle.dmn_check.specs.Rules.{rules_look};
 
-    ghost look = { rules_look };
+    ghost look = { λ _. rules_look };
 
-    fn text(_alloc: Global, _notes: &mut Notes, _text: &str) -> Result<(), AllocError> {
+    fn text(&self, _alloc: Global, _notes: &mut Notes, _text: &str) -> Result<(), AllocError> {
         Ok(())
     }
 
-    fn table(_alloc: Global, notes: &mut Notes, table: &WrittenTable) -> Result<(), AllocError> {
+    fn table(
+        &self,
+        _alloc: Global,
+        notes: &mut Notes,
+        table: &WrittenTable,
+    ) -> Result<(), AllocError> {
         note_table(notes, table)?;
         Ok(())
     }
 
     fn entries(
+        &self,
         _alloc: Global,
         _notes: &mut Notes,
         _entries: &[(String, WrittenLogic)],
@@ -101,6 +108,6 @@ pub fn unfit_rules(alloc: Global, model: &WrittenModel) -> Result<Told, AllocErr
     ensures fault { IfOk result (λ t. nat_lt 0 t.count ≡ true → has_refused_table (model_view model.now).decisions ≡ true) }
 {
     let mut notes = Notes::new(alloc);
-    walk_decisions::<UnfitRules>(alloc, &mut notes, &model.decisions)?;
+    walk_decisions(alloc, &mut notes, &UnfitRules, &model.decisions)?;
     Ok(Told::of(notes))
 }

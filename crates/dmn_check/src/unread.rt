@@ -187,24 +187,31 @@ fn note_table(alloc: Global, notes: &mut Notes, table: &WrittenTable) -> Result<
 }
 
 /// Looks for texts without a reading.
-pub(crate) struct UnreadTexts;
+#[derive(Drop)]
+struct UnreadTexts;
 
 impl Look for UnreadTexts {
     ghost use Rattle.dmn_check.specs.Unread.{unread_look};
 
-    ghost look = { unread_look };
+    ghost look = { λ _. unread_look };
 
-    fn text(alloc: Global, notes: &mut Notes, text: &str) -> Result<(), AllocError> {
+    fn text(&self, alloc: Global, notes: &mut Notes, text: &str) -> Result<(), AllocError> {
         note_text(alloc, notes, TextKind::Expression, text)?;
         Ok(())
     }
 
-    fn table(alloc: Global, notes: &mut Notes, table: &WrittenTable) -> Result<(), AllocError> {
+    fn table(
+        &self,
+        alloc: Global,
+        notes: &mut Notes,
+        table: &WrittenTable,
+    ) -> Result<(), AllocError> {
         note_table(alloc, notes, table)?;
         Ok(())
     }
 
     fn entries(
+        &self,
         _alloc: Global,
         _notes: &mut Notes,
         _entries: &[(String, WrittenLogic)],
@@ -219,6 +226,6 @@ pub fn unread_texts(alloc: Global, model: &WrittenModel) -> Result<Told, AllocEr
     ensures fault { IfOk result (λ t. nat_lt 0 t.count ≡ has_unread_text (model_view model.now).decisions) }
 {
     let mut notes = Notes::new(alloc);
-    walk_decisions::<UnreadTexts>(alloc, &mut notes, &model.decisions)?;
+    walk_decisions(alloc, &mut notes, &UnreadTexts, &model.decisions)?;
     Ok(Told::of(notes))
 }

@@ -19,35 +19,36 @@ use std::alloc::{AllocError, Global};
 pub(crate) fn walk_logic<L: Look>(
     alloc: Global,
     notes: &mut Notes,
+    look: &L,
     logic: &WrittenLogic,
 ) -> Result<(), AllocError>
-    ensures { OnOk result (with_all (notes_view notes.old) (logic_findings L.look (logic_view logic.now)) ≡ notes_view notes.new) }
+    ensures { OnOk result (with_all (notes_view notes.old) (logic_findings (L.look look.now) (logic_view logic.now)) ≡ notes_view notes.new) }
 {
     match logic {
         WrittenLogic::Expression(text) => {
-            L::text(alloc, notes, text.as_str())?;
+            look.text(alloc, notes, text.as_str())?;
             Ok(())
         }
         WrittenLogic::Table(table) => {
             notes.enter(Step::Key(Key::Table))?;
-            L::table(alloc, notes, table)?;
+            look.table(alloc, notes, table)?;
             notes.leave();
             Ok(())
         }
         WrittenLogic::List(members) => {
             notes.enter(Step::Key(Key::List))?;
-            walk_members::<L>(alloc, notes, members)?;
+            walk_members(alloc, notes, look, members)?;
             notes.leave();
             Ok(())
         }
         WrittenLogic::Context(entries) => {
-            walk_context::<L>(alloc, notes, entries)?;
+            walk_context(alloc, notes, look, entries)?;
             Ok(())
         }
         WrittenLogic::ContextWith(entries, last) => {
-            walk_context::<L>(alloc, notes, entries)?;
+            walk_context(alloc, notes, look, entries)?;
             notes.enter(Step::Key(Key::Result))?;
-            walk_logic::<L>(alloc, notes, last)?;
+            walk_logic(alloc, notes, look, last)?;
             notes.leave();
             Ok(())
         }
@@ -59,13 +60,14 @@ pub(crate) fn walk_logic<L: Look>(
 fn walk_members<L: Look>(
     alloc: Global,
     notes: &mut Notes,
+    look: &L,
     members: &[WrittenLogic],
 ) -> Result<(), AllocError>
-    ensures { OnOk result (with_all (notes_view notes.old) (members_findings_view L.look 0 members.now) ≡ notes_view notes.new) }
+    ensures { OnOk result (with_all (notes_view notes.old) (members_findings_view (L.look look.now) 0 members.now) ≡ notes_view notes.new) }
 {
     for (index, member) in members.iter().enumerate() {
         notes.enter(Step::Index(index))?;
-        walk_logic::<L>(alloc, notes, member)?;
+        walk_logic(alloc, notes, look, member)?;
         notes.leave();
     }
     Ok(())
@@ -76,13 +78,14 @@ fn walk_members<L: Look>(
 fn walk_context<L: Look>(
     alloc: Global,
     notes: &mut Notes,
+    look: &L,
     entries: &[(String, WrittenLogic)],
 ) -> Result<(), AllocError>
-    ensures { OnOk result (with_all (notes_view notes.old) (context_findings_view L.look entries.now) ≡ notes_view notes.new) }
+    ensures { OnOk result (with_all (notes_view notes.old) (context_findings_view (L.look look.now) entries.now) ≡ notes_view notes.new) }
 {
     notes.enter(Step::Key(Key::Context))?;
-    L::entries(alloc, notes, entries)?;
-    walk_entries::<L>(alloc, notes, entries)?;
+    look.entries(alloc, notes, entries)?;
+    walk_entries(alloc, notes, look, entries)?;
     notes.leave();
     Ok(())
 }
@@ -91,14 +94,15 @@ fn walk_context<L: Look>(
 fn walk_entries<L: Look>(
     alloc: Global,
     notes: &mut Notes,
+    look: &L,
     entries: &[(String, WrittenLogic)],
 ) -> Result<(), AllocError>
-    ensures { OnOk result (with_all (notes_view notes.old) (entries_findings_view L.look 0 entries.now) ≡ notes_view notes.new) }
+    ensures { OnOk result (with_all (notes_view notes.old) (entries_findings_view (L.look look.now) 0 entries.now) ≡ notes_view notes.new) }
 {
     for (index, (_, logic)) in entries.iter().enumerate() {
         notes.enter(Step::Index(index))?;
         notes.enter(Step::Key(Key::Expr))?;
-        walk_logic::<L>(alloc, notes, logic)?;
+        walk_logic(alloc, notes, look, logic)?;
         notes.leave();
         notes.leave();
     }
@@ -109,12 +113,13 @@ fn walk_entries<L: Look>(
 pub(crate) fn walk_decision<L: Look>(
     alloc: Global,
     notes: &mut Notes,
+    look: &L,
     decision: &WrittenDecision,
 ) -> Result<(), AllocError>
-    ensures { OnOk result (with_all (notes_view notes.old) (decision_findings L.look (decision_view decision.now)) ≡ notes_view notes.new) }
+    ensures { OnOk result (with_all (notes_view notes.old) (decision_findings (L.look look.now) (decision_view decision.now)) ≡ notes_view notes.new) }
 {
     notes.enter(Step::Key(Key::Expr))?;
-    walk_logic::<L>(alloc, notes, &decision.logic)?;
+    walk_logic(alloc, notes, look, &decision.logic)?;
     notes.leave();
     Ok(())
 }
@@ -122,13 +127,14 @@ pub(crate) fn walk_decision<L: Look>(
 fn walk_each_decision<L: Look>(
     alloc: Global,
     notes: &mut Notes,
+    look: &L,
     decisions: &[WrittenDecision],
 ) -> Result<(), AllocError>
-    ensures { OnOk result (with_all (notes_view notes.old) (each_of (decision_findings L.look) (map decision_view decisions.now)) ≡ notes_view notes.new) }
+    ensures { OnOk result (with_all (notes_view notes.old) (each_of (decision_findings (L.look look.now)) (map decision_view decisions.now)) ≡ notes_view notes.new) }
 {
     for (index, decision) in decisions.iter().enumerate() {
         notes.enter(Step::Index(index))?;
-        walk_decision::<L>(alloc, notes, decision)?;
+        walk_decision(alloc, notes, look, decision)?;
         notes.leave();
     }
     Ok(())
@@ -138,12 +144,13 @@ fn walk_each_decision<L: Look>(
 pub(crate) fn walk_decisions<L: Look>(
     alloc: Global,
     notes: &mut Notes,
+    look: &L,
     decisions: &[WrittenDecision],
 ) -> Result<(), AllocError>
-    ensures { OnOk result (with_all (notes_view notes.old) (decisions_findings L.look (map decision_view decisions.now)) ≡ notes_view notes.new) }
+    ensures { OnOk result (with_all (notes_view notes.old) (decisions_findings (L.look look.now) (map decision_view decisions.now)) ≡ notes_view notes.new) }
 {
     notes.enter(Step::Key(Key::Decisions))?;
-    walk_each_decision::<L>(alloc, notes, decisions)?;
+    walk_each_decision(alloc, notes, look, decisions)?;
     notes.leave();
     Ok(())
 }

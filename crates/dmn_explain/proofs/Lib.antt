@@ -1,5 +1,3 @@
-pub mod Floats
-pub mod Quoting
 pub mod Pieces
 pub mod Rows
 pub mod Telling

@@ -7,9 +7,6 @@ mod key;
 mod named;
 mod output;
 mod table;
-#[cfg(test)]
-mod tests;
 mod value;
 
 pub use decisions::add_decisions;
-pub use value::add_value;

@@ -3,7 +3,7 @@ ghost use Rattle.std.specs.Prelude.{◌≡◌, ◌++◌, OnOk};
 ghost use Rattle.dmn_explain.specs.Text.{name_text};
 
 use crate::key::{Key, add_key};
-use crate::value::add_quoted;
+use json_writer::add_quoted;
 use std::alloc::{AllocError, Global};
 
 /// Begins an object with its name.

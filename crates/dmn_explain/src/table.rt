@@ -11,11 +11,11 @@ ghost use Rattle.dmn_explain.specs.Numbered.{hit_view, hits_from};
 
 use crate::key::{Key, add_comma, add_key};
 use crate::output::{has_no_default, output_of, values_of};
-use crate::value::{add_value, add_valued};
+use crate::value::add_valued;
 use dmn_table::{Output, Rule, Table};
 use feel_lang::{Env, Held, holds};
 use feel_value::Feel;
-use itoa::Buffer;
+use json_writer::{add_number, add_value};
 use std::alloc::{AllocError, Global};
 
 /// A rule that hits, with its number, which counts from 1 on.
@@ -100,7 +100,7 @@ fn add_hit(
     let output = output_of(alloc, hit.rule, outputs, env)?;
     text.push(b'{')?;
     add_key(false, Key::Rule, text)?;
-    text.extend_from_slice(Buffer::new().format(hit.number).as_bytes())?;
+    add_number(hit.number as u64, text)?;
     add_valued(alloc, true, Key::Value, output.value(), text)?;
     text.push(b'}')?;
     Ok(())

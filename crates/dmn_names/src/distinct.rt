@@ -1,16 +1,14 @@
 //! Whether a name stands twice where it may stand once.
-ghost use Rattle.std.specs.Prelude.{◌≡◌, IfOk, map, string_bytes};
-ghost use Rattle.std.specs.List.{list_any, flat_map};
-ghost use Rattle.dmn_form.specs.LogicView.{logic_view};
-ghost use Rattle.dmn_form.specs.ModelView.{decision_view, service_view, model_view};
+ghost use Rattle.std.specs.Prelude.{◌≡◌, IfOk, map};
+ghost use Rattle.dmn_form.specs.ModelView.{model_view};
 ghost use Rattle.feel_value.specs.Distinct.{is_among};
 ghost use Rattle.dmn_names.specs.Rising.{are_rising as names_rise};
 ghost use Rattle.dmn_names.specs.Names.{have_twice as twice_among, has_name_twice as name_twice_in};
-ghost use Rattle.dmn_names.specs.Parts.{lists_in, decision_lists, service_lists, value_names, service_names, part_lists};
-ghost use Rattle.dmn_names.specs.Views.{member_lists_view, entry_lists_view, context_lists_view};
+ghost use Rattle.dmn_names.specs.Parts.{value_names};
 
-use crate::named::Named;
-use dmn_form::{WrittenDecision, WrittenLogic, WrittenModel, WrittenService};
+use crate::named::{Named, names_of_values};
+use crate::walk::{Question, is_in_model};
+use dmn_form::WrittenModel;
 use feel_lang::compare_names;
 use std::alloc::{AllocError, Global};
 use std::collections::BTreeSet;
@@ -76,7 +74,7 @@ fn many_have_twice<T: Named>(alloc: Global, items: &[T]) -> Result<bool, AllocEr
 }
 
 /// Whether two of these have one name.
-fn have_twice<T: Named>(alloc: Global, items: &[T]) -> Result<bool, AllocError>
+pub fn have_twice<T: Named>(alloc: Global, items: &[T]) -> Result<bool, AllocError>
     ensures { IfOk result (λ b. b ≡ twice_among (map T.name_of items.now)) }
 {
     if are_rising(items) {
@@ -89,131 +87,23 @@ fn have_twice<T: Named>(alloc: Global, items: &[T]) -> Result<bool, AllocError>
     Ok(is_twice)
 }
 
-/// Whether a name stands twice in a context or a table within the boxed expression.
-#[cycle(twice)]
-fn logic_has_twice(alloc: Global, logic: &WrittenLogic) -> Result<bool, AllocError>
-    ensures { IfOk result (λ b. b ≡ list_any twice_among (lists_in (logic_view logic.now))) }
-{
-    match logic {
-        WrittenLogic::Expression(_) => Ok(false),
-        WrittenLogic::Table(table) => {
-            let is_twice = have_twice(alloc, &table.outputs)?;
-            Ok(is_twice)
-        }
-        WrittenLogic::List(members) => {
-            let is_twice = members_have_twice(alloc, members)?;
-            Ok(is_twice)
-        }
-        WrittenLogic::Context(entries) => {
-            let is_twice = context_has_twice(alloc, entries)?;
-            Ok(is_twice)
-        }
-        WrittenLogic::ContextWith(entries, result) => {
-            if context_has_twice(alloc, entries)? {
-                return Ok(true);
-            }
-            let is_twice = logic_has_twice(alloc, result)?;
-            Ok(is_twice)
-        }
-    }
+/// Whether a name stands twice in a list.
+#[derive(Drop)]
+struct HasTwice {
+    alloc: Global,
 }
 
-#[cycle(twice)]
-fn members_have_twice(alloc: Global, members: &[WrittenLogic]) -> Result<bool, AllocError>
-    ensures { IfOk result (λ b. b ≡ list_any twice_among (member_lists_view members.now)) }
-{
-    for member in members {
-        if logic_has_twice(alloc, member)? {
-            return Ok(true);
-        }
-    }
-    Ok(false)
-}
+impl Question for HasTwice {
+    type Error = AllocError;
 
-/// Whether a name stands twice among the entries, or within one of them.
-#[cycle(twice)]
-fn context_has_twice(alloc: Global, entries: &[(String, WrittenLogic)]) -> Result<bool, AllocError>
-    ensures { IfOk result (λ b. b ≡ list_any twice_among (context_lists_view entries.now)) }
-{
-    if have_twice(alloc, entries)? {
-        return Ok(true);
-    }
-    let is_twice = entries_have_twice(alloc, entries)?;
-    Ok(is_twice)
-}
+    ghost use Rattle.dmn_names.specs.Names.{have_twice as twice_among};
 
-#[cycle(twice)]
-fn entries_have_twice(alloc: Global, entries: &[(String, WrittenLogic)]) -> Result<bool, AllocError>
-    ensures { IfOk result (λ b. b ≡ list_any twice_among (entry_lists_view entries.now)) }
-{
-    for (_, logic) in entries {
-        if logic_has_twice(alloc, logic)? {
-            return Ok(true);
-        }
-    }
-    Ok(false)
-}
+    ghost is_so = { twice_among };
 
-fn decision_has_twice(alloc: Global, decision: &WrittenDecision) -> Result<bool, AllocError>
-    ensures { IfOk result (λ b. b ≡ list_any twice_among (decision_lists (decision_view decision.now))) }
-{
-    if have_twice(alloc, &decision.needs)? {
-        return Ok(true);
+    fn is_so_of<T: Named>(&self, items: &[T]) -> Result<bool, AllocError> {
+        let is_twice = have_twice(self.alloc, items)?;
+        Ok(is_twice)
     }
-    let is_twice = logic_has_twice(alloc, &decision.logic)?;
-    Ok(is_twice)
-}
-
-fn decisions_have_twice(alloc: Global, decisions: &[WrittenDecision]) -> Result<bool, AllocError>
-    ensures { IfOk result (λ b. b ≡ list_any twice_among (flat_map decision_lists (map decision_view decisions.now))) }
-{
-    for decision in decisions {
-        if decision_has_twice(alloc, decision)? {
-            return Ok(true);
-        }
-    }
-    Ok(false)
-}
-
-fn service_has_twice(alloc: Global, service: &WrittenService) -> Result<bool, AllocError>
-    ensures { IfOk result (λ b. b ≡ list_any twice_among (service_lists (service_view service.now))) }
-{
-    if have_twice(alloc, &service.outputs)? {
-        return Ok(true);
-    }
-    if have_twice(alloc, &service.encapsulated)? {
-        return Ok(true);
-    }
-    if have_twice(alloc, &service.input_decisions)? {
-        return Ok(true);
-    }
-    let is_twice = have_twice(alloc, &service.input_data)?;
-    Ok(is_twice)
-}
-
-fn services_have_twice(alloc: Global, services: &[WrittenService]) -> Result<bool, AllocError>
-    ensures { IfOk result (λ b. b ≡ list_any twice_among (flat_map service_lists (map service_view services.now))) }
-{
-    for service in services {
-        if service_has_twice(alloc, service)? {
-            return Ok(true);
-        }
-    }
-    Ok(false)
-}
-
-/// The names of the inputs and of the decisions.
-fn names_of_values(alloc: Global, model: &WrittenModel) -> Result<Vec<&str>, AllocError>
-    ensures { IfOk result (λ v. map (λ n. n.now) v.items ≡ value_names (model_view model.now)) }
-{
-    let mut names = Vec::new(alloc);
-    for input in &model.inputs {
-        names.push(input.as_str())?;
-    }
-    for decision in &model.decisions {
-        names.push(decision.name.as_str())?;
-    }
-    Ok(names)
 }
 
 /// Whether two inputs, two decisions, or an input and a decision have one name.
@@ -222,25 +112,6 @@ fn values_have_twice(alloc: Global, model: &WrittenModel) -> Result<bool, AllocE
 {
     let names = names_of_values(alloc, model)?;
     let is_twice = have_twice(alloc, &names)?;
-    Ok(is_twice)
-}
-
-#[tactic(auto, using(crate::proofs::Walks::service_names_view))]
-fn service_names_have_twice(alloc: Global, model: &WrittenModel) -> Result<bool, AllocError>
-    ensures { IfOk result (λ b. b ≡ twice_among (service_names (model_view model.now))) }
-{
-    let is_twice = have_twice(alloc, &model.services)?;
-    Ok(is_twice)
-}
-
-#[tactic(auto, using(crate::proofs::Walks::any_of_both))]
-fn parts_have_twice(alloc: Global, model: &WrittenModel) -> Result<bool, AllocError>
-    ensures { IfOk result (λ b. b ≡ list_any twice_among (part_lists (model_view model.now))) }
-{
-    if decisions_have_twice(alloc, &model.decisions)? {
-        return Ok(true);
-    }
-    let is_twice = services_have_twice(alloc, &model.services)?;
     Ok(is_twice)
 }
 
@@ -253,9 +124,6 @@ pub fn has_name_twice(alloc: Global, model: &WrittenModel) -> Result<bool, Alloc
     if values_have_twice(alloc, model)? {
         return Ok(true);
     }
-    if service_names_have_twice(alloc, model)? {
-        return Ok(true);
-    }
-    let is_twice = parts_have_twice(alloc, model)?;
+    let is_twice = is_in_model(&HasTwice { alloc }, model)?;
     Ok(is_twice)
 }

@@ -8,9 +8,10 @@ mod lawful;
 mod named;
 mod places;
 mod size;
+mod walk;
 
-pub use distinct::has_name_twice;
+pub use distinct::{has_name_twice, have_twice};
 pub use lawful::has_bad_name;
-pub use named::Named;
+pub use named::{Named, names_of_values};
 pub use places::{Places, ServicePlaces};
 pub use size::is_large;

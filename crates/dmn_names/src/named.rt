@@ -1,7 +1,10 @@
-//! What has a name.
-ghost use Rattle.std.specs.Prelude.{◌≡◌, ℕ, List, string_bytes};
+//! What has a name, and the names of what has a value.
+ghost use Rattle.std.specs.Prelude.{◌≡◌, ℕ, List, IfOk, map, string_bytes};
+ghost use Rattle.dmn_form.specs.ModelView.{model_view};
+ghost use Rattle.dmn_names.specs.Parts.{value_names};
 
-use dmn_form::{WrittenColumn, WrittenDecision, WrittenLogic, WrittenService};
+use dmn_form::{WrittenColumn, WrittenDecision, WrittenLogic, WrittenModel, WrittenService};
+use std::alloc::{AllocError, Global};
 
 /// What has a name.
 pub trait Named {
@@ -59,4 +62,18 @@ impl Named for WrittenService {
     fn name(&self) -> &str {
         self.name.as_str()
     }
+}
+
+/// The names of the inputs, and then of the decisions.
+pub fn names_of_values(alloc: Global, model: &WrittenModel) -> Result<Vec<&str>, AllocError>
+    ensures { IfOk result (λ v. map (λ n. n.now) v.items ≡ value_names (model_view model.now)) }
+{
+    let mut names = Vec::new(alloc);
+    for input in &model.inputs {
+        names.push(input.as_str())?;
+    }
+    for decision in &model.decisions {
+        names.push(decision.name.as_str())?;
+    }
+    Ok(names)
 }

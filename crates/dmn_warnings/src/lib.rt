@@ -14,8 +14,6 @@ mod reached;
 mod scope;
 mod shape;
 mod shape_book;
-#[cfg(test)]
-mod tests;
 mod trail;
 mod unbound;
 mod value_names;

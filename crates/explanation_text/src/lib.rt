@@ -6,7 +6,5 @@ mod grid;
 mod logic;
 mod shown;
 mod table;
-#[cfg(test)]
-mod tests;
 
 pub use decisions::text_of;

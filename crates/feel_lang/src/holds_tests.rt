@@ -1,5 +1,5 @@
 //! Whether a value meets unary tests.
-ghost use Rattle.std.specs.Prelude.{◌≡◌, IfOk};
+ghost use Rattle.std.specs.Prelude.{◌≡◌, IfOk, IsTrue, Some, option_map};
 ghost use Rattle.feel_value.specs.Logic.{and_of, or_of, decided as decided_of};
 ghost use Rattle.feel_value.specs.View.{datum_of};
 ghost use Rattle.feel_lang.specs.Meaning.{den};
@@ -25,7 +25,7 @@ pub enum Held {
     Limit,
 }
 
-/// Whether the value meets the tests. All of them are evaluated, whatever the first ones answer. The only error is that memory was
+/// Whether the value meets the tests. All of them count, whatever the first ones answer. The only error is that memory was
 /// refused.
 #[inline(never)]
 pub(crate) fn holds(
@@ -48,16 +48,47 @@ pub(crate) fn holds(
     })
 }
 
-// The `or` of all tests; None where a limit is broken, here and below. All of them are evaluated.
+// The `or` of all tests; None where a limit is broken, here and below. All of them are evaluated, but one that is the same as the
+// one before it: its answer is in the `or` already.
 fn any(alloc: Global, tests: &[Test], value: &Feel, env: &Env) -> Result<Option<Truth>, AllocError>
     ensures { IfOk result (λ a. answer_of a ≡ tested_any (test_views tests.now) value.now env.now) }
 {
     let mut answer = Some(Truth::No);
+    let mut last = None;
     for test in tests {
+        if is_again(last, test) {
+            continue;
+        }
         let next = one(alloc, test, value, env)?;
         answer = either(answer, next);
+        last = Some(test);
     }
     Ok(answer)
+}
+
+// Whether a test is known to be the same as the last one. False says nothing.
+fn is_again(last: Option<&Test>, test: &Test) -> bool
+    ensures { IsTrue result → option_map (λ t. test_view t.now) last.entry ≡ Some (test_view test.now) }
+{
+    match (last, test) {
+        (Some(Test::Equals(last)), Test::Equals(expr)) => is_same_name(last, expr),
+        _ => false,
+    }
+}
+
+// Whether two expressions are known to be the same: a name, in parentheses or not, or a path from one. False says nothing.
+#[cycle(is_same_name)]
+fn is_same_name(expr: &Tree, other: &Tree) -> bool
+    ensures { IsTrue result → view expr.now ≡ view other.now }
+{
+    match (expr, other) {
+        (Tree::Name(name), Tree::Name(other)) => name.name.is(&other.name),
+        (Tree::Group(inner), Tree::Group(other)) => is_same_name(inner, other),
+        (Tree::Path(inner, name), Tree::Path(other, other_name)) => {
+            is_same_name(inner, other) && name.as_str() == other_name.as_str()
+        }
+        _ => false,
+    }
 }
 
 fn either(first: Option<Truth>, second: Option<Truth>) -> Option<Truth>

@@ -18,7 +18,7 @@ mod worker;
 pub use client::Client;
 pub use fault::LaneFault;
 pub use gate::{AtGate, Gate, OpenGate, Stepped, Watch};
-pub use open::lanes;
+pub use open::{MOST_CLIENTS, MOST_WORKERS, lanes};
 pub use settled::Settled;
 pub use settling::settle;
 pub use signals::Signals;

@@ -18,17 +18,15 @@ use crate::fault::LaneFault;
 use crate::port::{Held, Port};
 use crate::signals::Signals;
 use crate::worker::Worker;
-use box_core::{Done, Mailbox, Work};
+use box_core::{Done, LARGEST_CAPACITY, Mailbox, Work};
 use rtrb::{Consumer, RingBuffer};
 use std::alloc::{AllocError, Global};
 use std::sync::Arc;
 
-/// The clients and the workers that there may be.
-const CLIENTS: u32 = 64;
-
-const WORKERS: u32 = 8;
-/// The requests that may be outstanding in one lane.
-const LARGEST_CAPACITY: u32 = 4096;
+/// The most clients that there may be.
+pub const MOST_CLIENTS: u32 = 64;
+/// The most workers that there may be.
+pub const MOST_WORKERS: u32 = 8;
 /// The answers that the ring of one worker and one client has room for.
 const ANSWERS: usize = 16;
 /// The jobs that a lane's deque has room for before it grows.
@@ -48,7 +46,7 @@ pub fn lanes<W: Work>(
     ensures one_call { IfOk result (λ ends. AreOfOneCall (map client_links ends.0.items) (map worker_links ends.1.items)) }
     ensures new { IfOk result (λ ends. AreNew capacity ends.0.items × AreIdle ends.1.items) }
 {
-    if clients == 0 || clients > CLIENTS || workers == 0 || workers > WORKERS {
+    if clients == 0 || clients > MOST_CLIENTS || workers == 0 || workers > MOST_WORKERS {
         return Err(LaneFault::Count);
     }
     if capacity == 0 || capacity > LARGEST_CAPACITY {

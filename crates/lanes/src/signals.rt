@@ -107,8 +107,12 @@ impl Bell {
 /// A worker looks for a job, or runs one, or sleeps. A job that is put wakes a sleeper only where no worker looks and many
 /// jobs wait; for fewer one is woken once the front waits, or finds a mailbox full, or before that where a job may be put
 /// soon. Who looks reads the count of jobs again before it sleeps, and wakes a sleeper where it takes a job as the last that
-/// looked and more jobs wait. So a job is seen by one that looks, or by one that is woken for it; or all workers run jobs,
-/// and each looks again after that.
+/// looked and many more wait, or any more while the front is away: while it waits, or does what takes long. So a job is seen
+/// by one that looks, or by one that is woken for it; or few wait, and the front puts others next, or goes away and wakes one
+/// before; or all workers run jobs, and each looks again after that.
+///
+/// The front says that it is away before it reads whether a worker looks. A worker that takes a job counts itself out before
+/// it reads whether the front is away. So where jobs wait, one of the two sees the other, and wakes a worker.
 ///
 /// A front that waits while many jobs are out sleeps until there are many answers, or a worker finds no job, or no place for
 /// its answer, or a millisecond has passed: no answer lies longer while others are slow. It counts as a sleeper before it
@@ -132,6 +136,8 @@ pub struct Signals {
     called: AtomicU64,
     // How many jobs were put.
     put: AtomicU64,
+    // Whether the front is away since the last job was put: 1 where it is.
+    away: AtomicU64,
     answers: Bell,
     // From how many answers on the front wants to be woken.
     wanted: AtomicU64,
@@ -153,6 +159,7 @@ impl Signals {
             looking: AtomicU64::new(0),
             called: AtomicU64::new(0),
             put: AtomicU64::new(0),
+            away: AtomicU64::new(0),
             answers: Bell::new(),
             wanted: AtomicU64::new(0),
             refusals: AtomicU64::new(0),
@@ -167,8 +174,16 @@ impl Signals {
     /// A job was put.
     pub fn add_job(&self) {
         self.put.fetch_add(1, Ordering::SeqCst);
+        if self.is_away() {
+            self.away.store(0, Ordering::SeqCst);
+        }
         self.jobs.add();
         self.call_worker_for(MANY);
+    }
+
+    // Whether the front puts no jobs for now.
+    fn is_away(&self) -> bool {
+        self.away.load(Ordering::SeqCst) > 0
     }
 
     /// The lanes that may hold a job: a bit for each, the lowest for the first.
@@ -198,8 +213,10 @@ impl Signals {
         self.marks.mark_all();
     }
 
-    /// Jobs may wait, and no other is put before some are run: a worker is woken for them where none looks.
+    /// Jobs may wait, and no other is put before some are run: a worker is woken for them where none looks, and each that
+    /// takes one wakes another while more wait.
     pub fn begin_to_wait(&self) {
+        self.away.store(1, Ordering::SeqCst);
         self.call_worker_for(1);
     }
 
@@ -255,11 +272,13 @@ impl Signals {
         self.looking.fetch_sub(1, Ordering::SeqCst);
     }
 
-    /// One worker less looks for jobs, since it took one: the last wakes another in its place where more wait.
+    /// One worker less looks for jobs, since it took one: the last wakes another in its place where many more wait, or any
+    /// while the front is away.
     pub fn take_job(&self) {
         let taken = self.taken.fetch_add(1, Ordering::SeqCst);
         let looked = self.looking.fetch_sub(1, Ordering::SeqCst);
-        if looked <= 1 && self.jobs().saturating_sub(taken) > 1 {
+        let more = self.jobs().saturating_sub(taken).saturating_sub(1);
+        if looked <= 1 && (more >= MANY || more > 0 && self.is_away()) {
             self.call_worker();
         }
     }

@@ -8,8 +8,6 @@ mod name;
 mod ring;
 mod rule;
 mod service;
-#[cfg(test)]
-mod tests;
 
 pub use hint::ModelHint;
 pub use name::{name_hint, near_hint};

@@ -6,8 +6,6 @@
 mod line;
 mod note;
 mod service;
-#[cfg(test)]
-mod tests;
 
 pub use line::notes_of;
 pub use note::{Note, ValueReason};

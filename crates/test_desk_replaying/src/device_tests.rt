@@ -5,67 +5,7 @@ use std::io;
 use std::process::Abort;
 use std::sync::atomic::{AtomicU64, Ordering};
 use std::test::Fail;
-
-/// Gives a text in pieces of at most so many bytes, and fails at one call, counted from 1.
-#[derive(Drop)]
-struct Pieces<'a> {
-    text: &'a [u8],
-    most: usize,
-    calls: u64,
-    fails_at: u64,
-}
-
-impl io::Read for Pieces<'_> {
-    fn read(&mut self, buf: &mut [u8]) -> io::Result<usize> {
-        self.calls = self.calls.saturating_add(1);
-        if self.calls == self.fails_at {
-            return Err(io::Error::from(io::ErrorKind::Other));
-        }
-        let n = self.text.len().min(self.most).min(buf.len());
-        buf[..n].copy_from_slice(&self.text[..n]);
-        self.text = &self.text[n..];
-        Ok(n)
-    }
-}
-
-/// Takes at most so many bytes at a call, and fails at one call, counted from 1.
-#[derive(Drop)]
-struct Sips {
-    taken: Vec<u8>,
-    most: usize,
-    calls: u64,
-    fails_at: u64,
-}
-
-impl io::Write for Sips {
-    fn write(&mut self, buf: &[u8]) -> io::Result<usize> {
-        self.calls = self.calls.saturating_add(1);
-        if self.calls == self.fails_at {
-            return Err(io::Error::from(io::ErrorKind::Other));
-        }
-        let n = buf.len().min(self.most);
-        if self.taken.extend_from_slice(&buf[..n]).is_err() {
-            return Err(io::Error::from(io::ErrorKind::OutOfMemory));
-        }
-        Ok(n)
-    }
-
-    fn flush(&mut self) -> io::Result<()> {
-        Ok(())
-    }
-}
-
-/// How a device gives or takes: the most bytes at a call, and the call at which it fails, if not 0.
-#[derive(Clone, Copy)]
-struct Way {
-    most: usize,
-    fails_at: u64,
-}
-
-const WELL: Way = Way {
-    most: 10_000,
-    fails_at: 0,
-};
+use test_devices::{ONE_BYTE, Pieces, Sips, WELL, Way, lines_in};
 
 /// What was written, and how it ended.
 #[derive(Drop)]
@@ -75,27 +15,13 @@ struct Ending {
 }
 
 fn replayed(alloc: Global, text: &[u8], reads: Way, writes: Way) -> Ending {
-    let mut reader = Counted::new(Pieces {
-        text,
-        most: reads.most,
-        calls: 0,
-        fails_at: reads.fails_at,
-    });
-    let mut writer = Counted::new(Sips {
-        taken: Vec::new(alloc),
-        most: writes.most,
-        calls: 0,
-        fails_at: writes.fails_at,
-    });
+    let mut reader = Counted::new(Pieces::new(text, reads));
+    let mut writer = Counted::new(Sips::new(alloc, writes));
     let ended = replay(alloc, &mut reader, &mut writer);
     Ending {
         output: writer.inner.taken,
         ended,
     }
-}
-
-fn lines_in(text: &[u8]) -> usize {
-    text.iter().filter(|b| **b == b'\n').count()
 }
 
 /// Two requests that are answered in the order against that of their tickets.
@@ -247,11 +173,6 @@ const AFTER_THIRTY_BYTES: Way = Way {
 
 const NOTHING: Way = Way {
     most: 0,
-    fails_at: 0,
-};
-
-const ONE_BYTE: Way = Way {
-    most: 1,
     fails_at: 0,
 };
 

@@ -1,9 +1,10 @@
 //! Runs in which a request for memory is refused, whichever it is.
-use crate::script::{ANSWERS, LINES, Page, is_lawful};
+use crate::script::{ANSWERS, LINES, is_lawful};
 use desk_lines::Counted;
 use desk_replaying::replay;
 use std::alloc::{AllocError, Global};
 use std::test::Fail;
+use test_devices::Page;
 
 /// Runs once, and answers whether the run was lawful, and whether it met no refusal.
 fn run_once(alloc: Global) -> Result<(bool, bool), AllocError> {

@@ -1,6 +1,6 @@
 //! The tests of `feel_lang` through its public interface, for what no line of the program shows: trees, bindings, texts of a
-//! megabyte and a full heap. What texts give, and which are none, stands in the program's stored run. They stand in a crate
-//! of their own, so that the library's proofs are not made once more for them.
+//! megabyte, tests that stand again and a full heap. What texts give, and which are none, stands in the program's stored
+//! run. They stand in a crate of their own, so that the library's proofs are not made once more for them.
 #![tactic(auto)]
 
 #[cfg(test)]
@@ -11,5 +11,7 @@ mod reader_tests;
 mod refused_readings;
 #[cfg(test)]
 mod refused_tests;
+#[cfg(test)]
+mod repeated_tests;
 #[cfg(test)]
 mod value_tests;

@@ -1,79 +1,13 @@
 //! Devices that give and take bytes in pieces, or fail at some call.
-use crate::runs::{Ended, FEW, is_begun, is_due, lines_in, serve_once, with_model};
+use crate::runs::{Ended, FEW, is_begun, is_due, serve_once, with_model};
 use desk_front::FrontFault;
 use lanes::OpenGate;
 use std::alloc::Global;
-use std::io;
 use std::process::Abort;
 use std::sync::Wait;
 use std::test::Fail;
 use std::thread::Threads;
-
-/// Gives a text in pieces of at most so many bytes, and fails at one call, counted from 1.
-#[derive(Drop)]
-struct Pieces<'a> {
-    text: &'a [u8],
-    most: usize,
-    calls: u64,
-    fails_at: u64,
-}
-
-impl io::Read for Pieces<'_> {
-    fn read(&mut self, buf: &mut [u8]) -> io::Result<usize> {
-        self.calls = self.calls.saturating_add(1);
-        if self.calls == self.fails_at {
-            return Err(io::Error::from(io::ErrorKind::Other));
-        }
-        let n = self.text.len().min(self.most).min(buf.len());
-        buf[..n].copy_from_slice(&self.text[..n]);
-        self.text = &self.text[n..];
-        Ok(n)
-    }
-}
-
-/// Takes at most so many bytes at a call, and fails at one call, counted from 1.
-#[derive(Drop)]
-struct Sips {
-    taken: Vec<u8>,
-    most: usize,
-    calls: u64,
-    fails_at: u64,
-}
-
-impl io::Write for Sips {
-    fn write(&mut self, buf: &[u8]) -> io::Result<usize> {
-        self.calls = self.calls.saturating_add(1);
-        if self.calls == self.fails_at {
-            return Err(io::Error::from(io::ErrorKind::Other));
-        }
-        let n = buf.len().min(self.most);
-        if self.taken.extend_from_slice(&buf[..n]).is_err() {
-            return Err(io::Error::from(io::ErrorKind::OutOfMemory));
-        }
-        Ok(n)
-    }
-
-    fn flush(&mut self) -> io::Result<()> {
-        Ok(())
-    }
-}
-
-/// How a device gives or takes: the most bytes at a call, and the call at which it fails, if not 0.
-#[derive(Clone, Copy)]
-struct Way {
-    most: usize,
-    fails_at: u64,
-}
-
-const WELL: Way = Way {
-    most: 10_000,
-    fails_at: 0,
-};
-
-const ONE_BYTE: Way = Way {
-    most: 1,
-    fails_at: 0,
-};
+use test_devices::{ONE_BYTE, Pieces, Sips, WELL, Way, lines_in};
 
 /// Lines behind the model, each of which has one answer.
 const TWO_LINES: &str = r#"{"client":"a","service":"s","inputs":{"a":1}}
@@ -139,18 +73,8 @@ fn served_by<T: Threads + Wait + Sync>(
     reads: Way,
     writes: Way,
 ) -> (Ended, Vec<u8>) {
-    let reader = Pieces {
-        text,
-        most: reads.most,
-        calls: 0,
-        fails_at: reads.fails_at,
-    };
-    let writer = Sips {
-        taken: Vec::new(alloc),
-        most: writes.most,
-        calls: 0,
-        fails_at: writes.fails_at,
-    };
+    let reader = Pieces::new(text, reads);
+    let writer = Sips::new(alloc, writes);
     let (ended, writer) = serve_once(alloc, rt, reader, writer, &OpenGate, FEW);
     (ended, writer.taken)
 }

@@ -4,7 +4,6 @@ ghost use Rattle.std.specs.Prelude.{◌≡◌, None};
 ghost use Rattle.lanes.specs.Made.{fault_in};
 
 use crate::gate_tests::{Holding, requests};
-use crate::refused_tests::Page;
 use crate::runs::{Ended, MODEL, is_begun, is_due, serve_once, with_model};
 use desk_front::{FrontFault, Options};
 use full_heap::FullHeap;
@@ -14,6 +13,7 @@ use std::process::Abort;
 use std::sync::Wait;
 use std::test::Fail;
 use std::thread::Threads;
+use test_devices::Page;
 
 /// The least room, in bytes. It grows by a half from run to run.
 const LEAST: usize = 256;

@@ -4,50 +4,10 @@ use desk_front::{FrontFault, Options};
 use full_heap::FullHeap;
 use lanes::OpenGate;
 use std::alloc::Global;
-use std::io;
 use std::sync::Wait;
 use std::test::Fail;
 use std::thread::Threads;
-
-/// A writer with room for so many bytes that takes no memory.
-#[derive(Drop)]
-pub struct Page {
-    bytes: [u8; 1_000],
-    used: usize,
-}
-
-impl io::Write for Page {
-    fn write(&mut self, buf: &[u8]) -> io::Result<usize> {
-        if self.used > self.bytes.len() {
-            return Ok(0);
-        }
-        let rest = &mut self.bytes[self.used..];
-        let n = buf.len().min(rest.len());
-        rest[..n].copy_from_slice(&buf[..n]);
-        self.used += n;
-        Ok(n)
-    }
-
-    fn flush(&mut self) -> io::Result<()> {
-        Ok(())
-    }
-}
-
-impl Page {
-    pub fn empty() -> Page {
-        Page {
-            bytes: [0; 1_000],
-            used: 0,
-        }
-    }
-
-    pub fn text(&self) -> &[u8] {
-        if self.used > self.bytes.len() {
-            return &self.bytes;
-        }
-        &self.bytes[..self.used]
-    }
-}
+use test_devices::Page;
 
 /// Lines behind the model.
 const LINES: &str = r#"{"client":"a","service":"s","inputs":{"a":1}}
@@ -123,7 +83,7 @@ fn a_full_heap_ends_a_run(rt: HostRuntime) -> Result<(), Fail> {
     let (ended, page) = serve_once(alloc, &rt, MODEL.as_bytes(), Page::empty(), &OpenGate, TWO);
     drop(full);
     assert_eq!(rt; ended, Ended::Failed(FrontFault::Memory));
-    assert_eq!(rt; page.used, 0);
+    assert!(rt; page.text().is_empty());
     Ok(())
 }
 

@@ -97,11 +97,6 @@ fn rest_of<'a>(output: &[u8], name: &str, due: &'a str) -> Option<&'a [u8]> {
     Some(rest)
 }
 
-/// How many lines a text has.
-pub fn lines_in(text: &[u8]) -> usize {
-    text.iter().filter(|byte| **byte == b'\n').count()
-}
-
 /// Where the last whole line ends.
 fn end_of_lines(output: &[u8]) -> usize {
     match output.iter().rposition(|byte| *byte == b'\n') {

@@ -1,12 +1,13 @@
-use Rattle.std.proofs.Common.{◌≡◌, List, arith, subst, sym, ap, ◌∙◌, length, string_bytes, Err}
+use Rattle.std.proofs.Common.{List, arith, subst, length, string_bytes, refl}
 use Rattle.std.proofs.lemmas.List.{length-map}
 use Rattle.std.proofs.lemmas.Result.{err_from_is_err_and}
 use Rattle.desk_serving.specs.Ending.{ends_lanes}
-use Rattle.desk_serving.specs.LanesView.{names_in}
-use Rattle.desk_serving.specs.Owed.{AreFirst, AreHanded, Lane}
-use Rattle.desk_serving.specs.Telling.{TellsAll, TellsInPart}
-use Rattle.desk_lines.specs.declared.fault.FrontFault.TheVariants.{Memory, Write}
+use Rattle.desk_serving.specs.LanesView.{lanes_in, names_in}
+use Rattle.desk_serving.specs.Owed.{AreFirst, AreHanded, Lane, due_to}
+use Rattle.desk_serving.specs.Telling.{WritesOut}
 use Rattle.desk_serving.proofs.EndingLanes.{settled_lanes, settled_ready, settled_count, all_whole}
+use Rattle.desk_serving.proofs.Outcomes.{went, written_err, written_none, written_ok}
+use Rattle.desk_serving.proofs.Running.{failed}
 use Rattle.desk_serving.proofs.ending.end_lanes.Goals as goal
 
 pub hand_out_rest-requires-clause-named : goal.hand_out_rest-requires-clause-named
@@ -16,26 +17,26 @@ hand_out_rest-requires-clause-named g c =
 pub hand_out_rest-requires-clause-ready : goal.hand_out_rest-requires-clause-ready
 hand_out_rest-requires-clause-ready g c = settled_ready 0 _ _ _ c.in-Ok.ensures.settled
 
-pub returns-in_err-hand_out_rest-clause-write : goal.returns-in_err-hand_out_rest-clause-write
-returns-in_err-hand_out_rest-clause-write g c = λ h.
-    let is = err_from_is_err_and c.from_residual.result c.from_residual.ensures.1 in
-    let both = sym is.1 ∙ h in
-    let same : is.0 ≡ Write = cc in
-    subst (λ (ls : List Lane). TellsInPart (AreFirst (names_in c.args.lanes) ls) (g.W.Sink.seen c.args.writer.now).contents (g.W.Sink.seen c.hand_out_rest.new.writer).contents)
-    (settled_lanes 0 _ _ _ c.in-Ok.ensures.settled) (c.in_err-hand_out_rest.ensures.write (ap Err (sym is.2 ∙ same)))
+pub returns-in_default-clause-written : goal.returns-in_default-clause-written
+returns-in_default-clause-written g c =
+    let names = names_in c.args.lanes in let lanes = lanes_in c.args.lanes in
+    written_none _ (AreFirst names lanes) _ (λ who. (due_to who names lanes, refl))
 
-pub returns-in_err-hand_out_rest-clause-memory : goal.returns-in_err-hand_out_rest-clause-memory
-returns-in_err-hand_out_rest-clause-memory g c = λ h.
+pub returns-in_err-hand_out_rest-clause-written : goal.returns-in_err-hand_out_rest-clause-written
+returns-in_err-hand_out_rest-clause-written g c =
+    let names = names_in c.args.lanes in let ends = ends_lanes c.hand_out_rest.new.ends.items in let fault = c.in_err-hand_out_rest.field-0.0 in
     let is = err_from_is_err_and c.from_residual.result c.from_residual.ensures.1 in
-    let both = sym is.1 ∙ h in
-    let same : is.0 ≡ Memory = cc in
-    subst (λ (ls : List Lane). TellsAll (AreFirst (names_in c.args.lanes) ls) (g.W.Sink.seen c.args.writer.now).contents (g.W.Sink.seen c.hand_out_rest.new.writer).contents)
-    (settled_lanes 0 _ _ _ c.in-Ok.ensures.settled) (c.in_err-hand_out_rest.ensures.memory (ap Err (sym is.2 ∙ same)))
+    rw (is.1, is.2)
+    (written_err (λ (x : Unit {0}). AreHanded names (lanes_in c.args.lanes) ends) _ (AreFirst names (lanes_in c.args.lanes)) _ _ fault
+    (subst (λ (ls : List Lane). WritesOut (λ (x : Unit {0}). AreHanded names ls ends) (AreFirst names ls) (g.W.Sink.seen c.args.writer.now) (g.W.Sink.seen c.hand_out_rest.new.writer) (failed (Unit {0}) fault))
+    (settled_lanes 0 _ _ _ c.in-Ok.ensures.settled) c.in_err-hand_out_rest.ensures.written))
 
-pub returns-clause-ok : goal.returns-clause-ok
-returns-clause-ok g c =
-    subst (λ (ls : List Lane). TellsAll (AreHanded (names_in c.args.lanes) ls (ends_lanes c.hand_out_rest.new.ends.items)) (g.W.Sink.seen c.args.writer.now).contents (g.W.Sink.seen c.hand_out_rest.new.writer).contents)
-    (settled_lanes 0 _ _ _ c.in-Ok.ensures.settled) c.in_ok-hand_out_rest.ensures.ok
+pub returns-clause-written : goal.returns-clause-written
+returns-clause-written g c =
+    let names = names_in c.args.lanes in let ends = ends_lanes c.hand_out_rest.new.ends.items in
+    written_ok (λ (x : Unit {0}). AreHanded names (lanes_in c.args.lanes) ends) _ (AreFirst names (lanes_in c.args.lanes)) _ _ tt c.hand_out_rest.new.ends (λ m p. p)
+    (subst (λ (ls : List Lane). WritesOut (λ (x : Unit {0}). AreHanded names ls ends) (AreFirst names ls) (g.W.Sink.seen c.args.writer.now) (g.W.Sink.seen c.hand_out_rest.new.writer) (went (Unit {0}) tt))
+    (settled_lanes 0 _ _ _ c.in-Ok.ensures.settled) c.in_ok-hand_out_rest.ensures.written)
 
 pub returns-clause-whole : goal.returns-clause-whole
 returns-clause-whole g c =

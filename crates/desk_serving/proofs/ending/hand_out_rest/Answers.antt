@@ -1,21 +1,25 @@
-use Rattle.std.proofs.Common.{map, string_bytes, ◌∙◌}
+use Rattle.std.proofs.Common.{map, string_bytes}
+use Rattle.std.proofs.lemmas.Result.{err_from_is_err_and}
 use Rattle.desk_serving.specs.Ending.{ends_lanes}
-use Rattle.desk_serving.specs.Owed.{AreFirst, AreHanded}
 use Rattle.desk_serving.proofs.Owing.{handed_first}
-use Rattle.desk_serving.proofs.Saying.{out_cut}
-use Rattle.desk_lines.proofs.Talking.{not_so, on_ok}
+use Rattle.desk_serving.proofs.Outcomes.{out_cut, out_cut_off, out_written}
+use Rattle.desk_lines.proofs.Talking.{not_so}
 use Rattle.desk_serving.proofs.ending.hand_out_rest.Goals as goal
 
-pub returns-in_err-write_out-clause-write : goal.returns-in_err-write_out-clause-write
-returns-in_err-write_out-clause-write g c = λ h.
+pub returns-then-is_cut-clause-written : goal.returns-then-is_cut-clause-written
+returns-then-is_cut-clause-written g c = out_cut_off _ _ _ _ _ c.hand_out_ends-handed.result (c.is_cut.ensures.0 c.if-is_cut.true) c.hand_out_ends-handed.ensures.handed
+
+pub returns-in_err-write_out-clause-written : goal.returns-in_err-write_out-clause-written
+returns-in_err-write_out-clause-written g c =
     let names = map string_bytes c.args.names.now.items in let old = ends_lanes c.args.ends.now.items in let new = ends_lanes c.hand_out_ends-handed.new.ends.items in
-    let handed = c.hand_out_ends-handed.ensures in
-    out_cut (AreHanded names old new) (AreFirst names old) _ _ _ _ _ c.hand_out_ends-handed.result (λ m p. handed_first names old new m p) handed.ok handed.memory handed.only
-    (not_so _ _ c.is_cut.ensures c.if-is_cut.false) c.in_err-write_out.ensures.part.1
+    let told = c.in_err-write_out.ensures in
+    let is = err_from_is_err_and c.from_residual.result c.from_residual.ensures.1 in
+    rw (is.1, is.2, told.fault.0)
+    (out_cut _ _ _ (g.W.Sink.seen c.hand_out_ends-handed.new.writer) (g.W.Sink.seen c.write_out.new.writer) _ _ c.hand_out_ends-handed.result (λ m p. handed_first names old new m p)
+    (not_so _ _ c.is_cut.ensures c.if-is_cut.false) c.hand_out_ends-handed.ensures.handed told.part.1 told.fault.1)
 
-pub returns-then-is_cut-clause-counts : goal.returns-then-is_cut-clause-counts
-returns-then-is_cut-clause-counts g c = rw (c.is_cut.ensures.0 c.if-is_cut.true) tt
-
-pub returns-clause-counts : goal.returns-clause-counts
-returns-clause-counts g c =
-    on_ok c.hand_out_ends-handed.result _ (λ x e. c.in_ok-write_out.ensures.counts ∙ c.hand_out_ends-handed.ensures.counts (λ h. cc))
+pub returns-clause-written : goal.returns-clause-written
+returns-clause-written g c =
+    let told = c.in_ok-write_out.ensures in
+    out_written _ _ _ (g.W.Sink.seen c.hand_out_ends-handed.new.writer) (g.W.Sink.seen c.write_out.new.writer) _ _ c.hand_out_ends-handed.result (not_so _ _ c.is_cut.ensures c.if-is_cut.false)
+    c.hand_out_ends-handed.ensures.handed told.all told.nothing_waits told.counts

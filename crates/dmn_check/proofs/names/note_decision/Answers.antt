@@ -19,5 +19,5 @@ returns c =
     (along (λ xs. under f key.Needs (map string_bytes xs)) d.needs.items c.deref.result.now (notes_view c.args.notes.now) (notes_view c.note_under.new.notes)
     c.deref.ensures.value c.in_ok-note_under.ensures)
     (through (step.Key key.Expr) within
-    (notes_view c.note_under.new.notes) (notes_view c.enter.new.self) (notes_view c.note_logic.new.notes) (notes_view c.leave.new.self)
-    c.in_ok-enter.ensures c.in_ok-note_logic.ensures c.leave.ensures)
+    (notes_view c.note_under.new.notes) (notes_view c.enter.new.self) (notes_view c.walk_logic.new.notes) (notes_view c.leave.new.self)
+    c.in_ok-enter.ensures c.in_ok-walk_logic.ensures c.leave.ensures)

@@ -8,5 +8,5 @@ use Rattle.dmn_check.proofs.walk.walk_each_decision.Given as goal
 
 abbrev pub invariant-loop-index : goal.invariant-loop-index
 invariant-loop-index g l =
-    with_all (notes_view l.initial.notes) (each_from (decision_findings g.L.Look.look) 0 (map decision_view l.decisions))
-    ≡ with_all (notes_view l.notes) (each_from (decision_findings g.L.Look.look) l.index (map decision_view (drop l.index l.decisions)))
+    with_all (notes_view l.initial.notes) (each_from (decision_findings (g.L.Look.look l.look)) 0 (map decision_view l.decisions))
+    ≡ with_all (notes_view l.notes) (each_from (decision_findings (g.L.Look.look l.look)) l.index (map decision_view (drop l.index l.decisions)))

@@ -1,4 +1,4 @@
-use Rattle.std.proofs.Common.{ap, ◌∙◌, ◌++◌, List, ℕ, true, false, map, Option}
+use Rattle.std.proofs.Common.{ap, ◌∙◌, ◌++◌, true, false, map, Option}
 use Rattle.std.specs.Prelude.{codes}
 use Rattle.serde_json.specs.Data.{number, unsigned, member, no_members}
 use Rattle.feel_value.specs.Datum.{Datum}
@@ -16,12 +16,12 @@ returns c =
     let o : Option Datum = output_value (map column_view c.args.outputs.now) c.args.env.now hit.1 in
     let t1 = c.push.new.self.items in
     let t2 = c.add_key.new.text.items in
-    let t3 = c.extend_from_slice.new.self.items in
+    let t3 = c.add_number.new.text.items in
     let t4 = c.add_valued.new.text.items in
     let t5 = c.push-2.new.self.items in
     object_begun c.args.text.now.items t1 t5 (member (codes "rule") (number (unsigned hit.0)) (valued (codes "value") o no_members)) c.in_ok-push.ensures.items
     (member_added_by t1 t2 t3 t5 false (codes "rule") (number (unsigned hit.0)) (valued (codes "value") o no_members) c.in_ok-add_key.ensures
-    (c.in_ok-extend_from_slice.ensures.items ∙ ap (λ (s : List ℕ). t2 ++ s) (c.as_bytes.ensures.value ∙ c.format.ensures.text))
+    c.in_ok-add_number.ensures
     (valued_ended_by t3 t4 t5 true (codes "value") o
     (c.in_ok-add_valued.ensures ∙ ap (λ (p : Option Datum). t3 ++ valued_text true (codes "value") p) (c.value.ensures ∙ ap value_of c.in_ok-output.ensures))
     c.in_ok-push-2.ensures.items))

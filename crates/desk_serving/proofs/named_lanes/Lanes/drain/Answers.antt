@@ -1,6 +1,7 @@
 use Rattle.std.proofs.Common.{◌≡◌, ◌<◌, [], ℕ, List, drop, length, subst, sym, ◌∙◌, rules}
 use Rattle.desk_serving.specs.LanesView.{lanes_in, names_in}
 use Rattle.desk_serving.specs.Owed.{Lane, Hands, lane_of}
+use Rattle.desk_serving.proofs.Laning.{whole_dropped}
 use Rattle.desk_serving.proofs.Owing.{hands_then}
 use Rattle.desk_serving.proofs.Putting.{lane_at, lanes_inside, some_same}
 use Rattle.desk_serving.proofs.named_lanes.Lanes.drain.Goals as goal
@@ -25,5 +26,5 @@ returns-clause-whole g c = λ lane at.
       | in-Some+then-is_whole w ↦
           let old = w.index.result.now in
           let is : lane_of old ≡ lane = some_same _ (lane_of old) lane (lane_at self.clients.items c.args.place old (lanes_inside self c.args.place few).0 w.index.ensures) at in
-          subst (λ (l : Lane). drop l.handed l.put ≡ []) is (w.is_whole.ensures.0 w.if-is_whole.true)
+          subst (λ (l : Lane). drop l.handed l.put ≡ []) is (whole_dropped old (w.is_whole.ensures.0 w.if-is_whole.true))
     ]

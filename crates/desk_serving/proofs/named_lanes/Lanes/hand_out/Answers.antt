@@ -8,9 +8,9 @@ use Rattle.desk_serving.proofs.Owing.{get_at, hands_then}
 use Rattle.desk_serving.proofs.Putting.{client_hands, lanes_inside, polled_next}
 use Rattle.desk_serving.proofs.named_lanes.Lanes.hand_out.Goals as goal
 
-pub returns-in_err-hand_out-clause-same : goal.returns-in_err-hand_out-clause-same
-returns-in_err-hand_out-clause-same c =
-    links_kept client_links c.loop-place.self.clients.items c.loop-place.place c.index_mut.result.now c.hand_out.new.client c.index_mut.ensures.value c.hand_out.ensures.same
+pub returns-in_err-hand_out_next-clause-same : goal.returns-in_err-hand_out_next-clause-same
+returns-in_err-hand_out_next-clause-same c =
+    links_kept client_links c.loop-place.self.clients.items c.loop-place.place c.index_mut.result.now c.hand_out_next.new.client c.index_mut.ensures.value c.hand_out_next.ensures.same
     ∙ c.loop-place.invariant.links
 
 pub loop-place-preserved : goal.loop-place-preserved
@@ -25,10 +25,10 @@ loop-place-preserved c =
     ap (λ (xs : List (List ℕ)). slice_get xs place) (sym inv.names) ∙ get_map string_bytes self.names.items place c.index.result.now (get_at self.names.items place c.index.result.now own c.index.ensures) in
     let name : string_bytes c.index.result.now ≡ c.as_str.result.now = cc (c.as_str.ensures.value) in
     record {
-      links = links_kept client_links self.clients.items place c.index_mut.result.now c.hand_out.new.client c.index_mut.ensures.value c.hand_out.ensures.same ∙ inv.links;
+      links = links_kept client_links self.clients.items place c.index_mut.result.now c.hand_out_next.new.client c.index_mut.ensures.value c.hand_out_next.ensures.same ∙ inv.links;
       names = inv.names;
-      polled = polled_next place was.clients.items self.clients.items c.index_mut.result.now c.hand_out.new.client (lanes_inside self place few).0 c.index_mut.ensures.value c.hand_out.ensures.polled inv.polled;
-      hands = hands_then ns (lanes_in was) (lanes_in self) _ c.args.text.now.items c.loop-place.text.items c.hand_out.new.text.items inv.hands
-          (client_hands ns self.clients.items place c.as_str.result.now c.index_mut.result.now c.hand_out.new.client c.loop-place.text.items c.hand_out.new.text.items
-          was.distinct (at ∙ ap (λ (n : List ℕ). Some n) name) (lanes_inside self place few).0 c.index_mut.ensures.value c.in_ok-hand_out.ensures.hands);
+      polled = polled_next place was.clients.items self.clients.items c.index_mut.result.now c.hand_out_next.new.client (lanes_inside self place few).0 c.index_mut.ensures.value c.hand_out_next.ensures.polled inv.polled;
+      hands = hands_then ns (lanes_in was) (lanes_in self) _ c.args.text.now.items c.loop-place.text.items c.hand_out_next.new.text.items inv.hands
+          (client_hands ns self.clients.items place c.as_str.result.now c.index_mut.result.now c.hand_out_next.new.client c.loop-place.text.items c.hand_out_next.new.text.items
+          was.distinct (at ∙ ap (λ (n : List ℕ). Some n) name) (lanes_inside self place few).0 c.index_mut.ensures.value c.in_ok-hand_out_next.ensures.hands);
     }

@@ -11,7 +11,7 @@ use Rattle.desk_serving.proofs.named_lanes.Lanes.hand_out_at.Goals as goal
 
 pub returns-clause-same : goal.returns-clause-same
 returns-clause-same c =
-    links_kept client_links c.args.self.now.clients.items c.args.place c.index_mut.result.now c.hand_out.new.client c.index_mut.ensures.value c.hand_out.ensures.same
+    links_kept client_links c.args.self.now.clients.items c.args.place c.index_mut.result.now c.hand_out_next.new.client c.index_mut.ensures.value c.hand_out_next.ensures.same
 
 pub returns-clause-hands : goal.returns-clause-hands
 returns-clause-hands c =
@@ -21,7 +21,7 @@ returns-clause-hands c =
     let at : slice_get ns place ≡ Some (string_bytes c.index.result.now) =
     get_map string_bytes was.names.items place c.index.result.now (get_at was.names.items place c.index.result.now own c.index.ensures) in
     let name : string_bytes c.index.result.now ≡ c.as_str.result.now = cc (c.as_str.ensures.value) in
-    on_ok_weaker c.hand_out.result
-    (λ h. client_hands ns was.clients.items place c.as_str.result.now c.index_mut.result.now c.hand_out.new.client c.args.text.now.items c.hand_out.new.text.items
+    on_ok_weaker c.hand_out_next.result
+    (λ h. client_hands ns was.clients.items place c.as_str.result.now c.index_mut.result.now c.hand_out_next.new.client c.args.text.now.items c.hand_out_next.new.text.items
     was.distinct (at ∙ ap (λ (n : List ℕ). Some n) name) (lanes_inside was place few).0 c.index_mut.ensures.value h)
-    c.hand_out.ensures.hands
+    c.hand_out_next.ensures.hands

@@ -15,25 +15,25 @@ returns-else-goes_on g c = let a = c.answer_lines-ended.ensures in record { ran 
 pub returns-in_ok-end_workers : goal.returns-in_ok-end_workers
 returns-in_ok-end_workers g c =
     let a = c.answer_lines-ended.ensures in
-    let e = c.in_ok-end_workers.ensures in
+    let e = c.in_ok-end_workers.ensures in let written = e.written in
     let result = c.answer_lines-ended.result in
     let goes = c.goes_on.ensures.0 c.if-goes_on.true in
     let mid = c.answer_lines-ended.new.clerk in
     let ends = ends_more _ _ _ _ _ _ _ (AreHanded (names_in mid.lanes) (lanes_in mid.lanes) (lanes_in c.end_workers.new.lanes)) _
     (λ lines said more x h. after_more mid (record { rt = mid.rt; lanes = c.end_workers.new.lanes; plan = mid.plan; texts = mid.texts }) lines said more x e.names refl h)
-    result goes (ends_of _ _ _ _ _ _ result a.ran.ok a.ran.fault) e.ok in
+    result goes (ends_of _ _ _ _ _ _ result a.ran.ok a.ran.fault) written.ok in
     record {
       ran = record {
         ok = ok_of _ _ _ _ _ _ result ends;
         fault = fault_of _ _ _ _ _ _ result ends;
         read_only_at_fault = a.ran.read_only_at_fault;
         write_only_at_fault = λ h. absurd ((goes_without result goes).0 h);
-        ok_without_fault = on_ok_weaker result (λ h. (h.0, e.counts (λ k. cc) ∙ h.1)) a.ran.ok_without_fault;
+        ok_without_fault = on_ok_weaker result (λ h. (h.0, written.counts (λ k. cc) ∙ h.1)) a.ran.ok_without_fault;
         long_only_past_limit = a.ran.long_only_past_limit;
         ok_within_limit = a.ran.ok_within_limit;
         read_within_limit = a.ran.read_within_limit;
       };
-      writes = λ n. e.counts (λ h. cc) ∙ a.writes n;
+      writes = λ n. written.counts (λ h. cc) ∙ a.writes n;
       links = e.same ∙ a.same;
       reader = refl;
       writer = refl;
@@ -42,7 +42,7 @@ returns-in_ok-end_workers g c =
 pub returns-in_err-end_workers : goal.returns-in_err-end_workers
 returns-in_err-end_workers g c =
     let a = c.answer_lines-ended.ensures in
-    let told = c.in_err-end_workers.ensures in
+    let same = c.in_err-end_workers.ensures.same in let told = c.in_err-end_workers.ensures.written in
     let result = c.answer_lines-ended.result in
     let fault = c.in_err-end_workers.field-0.0 in
     let goes = c.goes_on.ensures.0 c.if-goes_on.true in
@@ -68,7 +68,7 @@ returns-in_err-end_workers g c =
         read_within_limit = λ h. absurd (told.only.0 (err_is fault _ h));
       };
       writes = λ n. told.counts n ∙ a.writes others.0;
-      links = told.same ∙ a.same;
+      links = same ∙ a.same;
       reader = refl;
       writer = refl;
     })

@@ -1,0 +1,73 @@
+//! What has to come before the front goes on.
+use crate::named_lanes::Lanes;
+
+/// What may have to come before the front goes on.
+#[derive(Clone, Copy)]
+pub enum Until {
+    /// Nothing.
+    Now,
+    /// A lane has a place for a request, or is whole.
+    Room(usize),
+    /// A lane is whole.
+    Whole(usize),
+    /// Each lane with a name is whole.
+    AllWhole,
+}
+
+impl Until {
+    /// Where the lane is that is waited for; past all lanes where it is no single one.
+    pub fn place(&self) -> usize {
+        match self {
+            Until::Room(place) => *place,
+            Until::Whole(place) => *place,
+            Until::Now => usize::MAX,
+            Until::AllWhole => usize::MAX,
+        }
+    }
+}
+
+impl Lanes {
+    /// What has to come before a request of this name finds a place.
+    pub fn until_room(&self, name: &str) -> Until {
+        match self.place_of(name) {
+            Some(place) => Until::Room(place),
+            None => Until::Now,
+        }
+    }
+
+    /// What has to come before all earlier results of this name are handed out.
+    pub fn until_whole(&self, name: &str) -> Until {
+        match self.place_of(name) {
+            Some(place) => Until::Whole(place),
+            None => Until::Now,
+        }
+    }
+
+    /// Whether it has come.
+    pub fn has_come(&self, until: Until) -> bool {
+        match until {
+            Until::Now => true,
+            Until::Room(place) => self.has_room(place),
+            Until::Whole(place) => self.is_whole_at(place),
+            Until::AllWhole => self.is_whole(),
+        }
+    }
+
+    /// Whether a lane is whole.
+    fn is_whole_at(&self, place: usize) -> bool {
+        match self.clients.get(place) {
+            Some(client) => client.is_whole(),
+            None => true,
+        }
+    }
+
+    /// Whether each lane with a name is whole.
+    fn is_whole(&self) -> bool {
+        for place in 0..self.names.len() {
+            if !self.clients[place].is_whole() {
+                return false;
+            }
+        }
+        true
+    }
+}

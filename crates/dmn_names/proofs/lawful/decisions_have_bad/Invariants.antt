@@ -1,9 +1,0 @@
-use Rattle.std.proofs.Common.{◌≡◌, map, drop}
-use Rattle.std.specs.List.{list_any, flat_map}
-use Rattle.dmn_form.specs.ModelView.{decision_view}
-use Rattle.dmn_names.specs.Names.{have_bad}
-use Rattle.dmn_names.specs.Parts.{decision_lists}
-use Rattle.dmn_names.proofs.lawful.decisions_have_bad.Given as goal
-
-abbrev pub invariant-loop-decision : goal.invariant-loop-decision
-invariant-loop-decision l = list_any have_bad (flat_map decision_lists (map decision_view l.decisions)) ≡ list_any have_bad (flat_map decision_lists (map decision_view (drop l.decision-index l.decisions)))

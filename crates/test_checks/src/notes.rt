@@ -1,0 +1,64 @@
+//! What is odd in requests.
+use crate::form::form_of;
+use dmn_form::WrittenModel;
+use request_notes::notes_of;
+use std::alloc::{AllocError, Global};
+use std::test::Fail;
+
+const MODEL: &str =
+    r#"{"inputs":["requested","age"],"decisions":[{"name":"d","needs":["age"],"expr":"1"}],
+ "services":[{"name":"limit","outputs":["d"],"encapsulated":[],"inputDecisions":[],"inputData":["requested","age"]}]}"#;
+
+/// Lines, with what is said of each.
+const LINES: &[(&str, &str)] = &[
+    (
+        r#"{"client":"a","service":"limit","inputs":{"requested":1,"age":null}}"#,
+        "",
+    ),
+    (r#"{"client":"a","close":true}"#, ""),
+    (r#"{"resize":"a","capacity":1}"#, ""),
+    (
+        r#"{"client":"a","service":"limit","inputs":{"requsted":1,"age":2}}"#,
+        "\"requsted\" is no parameter of limit: requested?|the parameter requested of limit is missing, so it is null|",
+    ),
+    (
+        r#"{"client":"a","service":"limits","inputs":{}}"#,
+        "\"limits\" is no service: limit?|",
+    ),
+    (
+        r#"{"client":"a","service":"x","inputs":{}}"#,
+        "\"x\" is no service|",
+    ),
+    (
+        r#"{"client":"a","service":"limit","inputs":{"requested":1.5,"age":9223372036854775808}}"#,
+        "what stands under requested is no value: a number in it has a point or an exponent, and numbers are whole|what stands under age is no value: a number in it is not from -9223372036854775807 to 9223372036854775807|",
+    ),
+    (
+        r#"{"client":"a","service":"limit","inputs":{"requested":[{"x":1e2}],"age":1,"x":1.5}}"#,
+        "\"x\" is no parameter of limit|what stands under requested is no value: a number in it has a point or an exponent, and numbers are whole|",
+    ),
+    (
+        r#"{"service":"limit"}"#,
+        "no request: it has a service and an object of inputs|",
+    ),
+    ("{", "no JSON text|"),
+];
+
+/// What is said of a line.
+fn said(alloc: Global, model: &WrittenModel, line: &str) -> Result<String, AllocError> {
+    let mut told = String::new(alloc);
+    for note in &notes_of(alloc, model, line.as_bytes())? {
+        write!(told, "{note}|")?;
+    }
+    Ok(told)
+}
+
+#[test]
+fn each_line_has_its_notes(rt: HostRuntime) -> Result<(), Fail> {
+    let model = form_of(rt.alloc(), MODEL)?;
+    for (line, due) in LINES {
+        let told = said(rt.alloc(), &model, line)?;
+        assert_eq!(rt; told.as_str(), *due, "{line}");
+    }
+    Ok(())
+}
