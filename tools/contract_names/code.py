@@ -20,6 +20,8 @@ CLAUSE = re.compile(r"^\s*(?:(?:requires|ensures)\*?(?: \w+)?|ghost \w+(?::| =))
 GHOST_FIELD = re.compile(r"^    ghost \w+: (\{.*?\})(?: by \{.*?\})?,$", re.M | re.S)
 # Traits of the library whose members no clause of a caller names.
 CONVERSIONS = {"From", "TryFrom"}
+# What a model has for the prover alone: its code, and why a type that has itself as a part comes to an end.
+NOT_READ = {"coded", "size", "size_decreases"}
 # Texts, comments and attributes, in which brackets count for nothing.
 ASIDE = re.compile(r'"(?:\\.|[^"\\])*"|b?\'(?:\\.|[^\'\\])\'|//.*|#\[.*\]')
 
@@ -206,7 +208,7 @@ class CodeFile:
                 self.add_contract(Item((self.file, f"{name}::{method}"), numbers, names), is_public)
 
     def read_instance(self, trait: str, name: str, scope: Scope, lines: Span) -> None:
-        """A model of a type, or what a trait's ghost members are at a type. No clause reads its code."""
+        """A model of a type, or what a trait's ghost members are at a type. No clause reads some of a model's members."""
         first, start, end = lines
         head = self.numbers(first, start + 1)
         item = Item((self.file, f"{trait} for {name}"), head, self.types_in(self.lines[start]))
@@ -216,7 +218,7 @@ class CodeFile:
             names = self.ghost_names(self.text(at, last), scope)
             if member == "invariant":
                 item.kept |= names
-            elif member != "coded":
+            elif member not in NOT_READ:
                 item.refs |= names
         if not members:
             return

@@ -57,7 +57,8 @@ comment and its signature, without blank lines and without the `use` lines of th
 - What the library's functions and types are is trusted with the toolchain, and of its words only those are listed that
   the repository's definitions name. A value of the library may carry a list of what was done with it, as a lane's deque
   does (`worker_view`): by which calls that list grew isn't followed.
-- Codes (`coded`) are left out. Each is proved to give its value back, and no clause reads one.
+- Codes (`coded`) are left out. Each is proved to give its value back, and no clause reads one. So are the numbers by
+  which a type that has itself as a part is seen to end (`size`, `size_decreases`).
 
 **Marks.** A file of specs/ that no public contract reaches, of any function of the libraries, begins with the line
 `-- Internal: ..`; the facts that types keep don't count here. Exceptions are named: `-- Internal but for ..: ..`. A

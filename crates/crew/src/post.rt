@@ -1,7 +1,7 @@
 //! One worker's thread, as the others see it.
 use crate::crew::Crew;
 use box_core::{Done, Job, Work};
-use lanes::{Signals, Stepped, Watch};
+use lanes::{Signals, Stepped, Watch, Woken};
 use std::hint;
 use std::sync::Wait;
 use std::thread::Parker;
@@ -9,9 +9,9 @@ use std::time::Duration;
 
 /// For how many turns a worker that has nothing to do, or can't get rid of what it holds, stays awake.
 const TURNS: u32 = 200;
-/// For how many turns one that was woken, and finds nothing yet, stays awake: longer than it takes to read a small request,
-/// for which it may have been woken before the job was put.
-const CALLED_TURNS: u32 = 10_000;
+/// For how many turns one that was woken before a job was put, and finds nothing yet, stays awake: longer than it takes to read
+/// a small request.
+const EARLY_TURNS: u32 = 10_000;
 /// How many turns pass between two tries to get rid of what it holds.
 const BETWEEN: u32 = 50;
 /// The first and the longest pause, in microseconds, of a worker that holds what it can't get rid of.
@@ -95,16 +95,10 @@ impl<'a, V> Post<'a, V> {
     fn rest<R: Wait>(&mut self, rt: &R, seen: u64) {
         self.signals.end_to_post();
         if self.turns == 0 {
-            self.signals.await_job(rt, seen);
-            self.turns = self.turns_since(seen);
+            self.turns = turns_after(self.signals.await_job(rt, seen));
         } else {
             self.turns = self.signals.watch_jobs(seen, self.turns - 1);
         }
-    }
-
-    // For how many turns it stays awake after a sleep: for none where it was not called, but woke by itself.
-    fn turns_since(&self, seen: u64) -> u32 {
-        if self.jobs() == seen { 0 } else { CALLED_TURNS }
     }
 
     // It holds what it can't get rid of: it tries again after a few turns, and later after pauses that grow.
@@ -126,6 +120,15 @@ impl<'a, V> Post<'a, V> {
         if self.does == Does::Looks {
             self.signals.end_to_look();
         }
+    }
+}
+
+// For how many turns a worker stays awake after a sleep.
+fn turns_after(woken: Woken) -> u32 {
+    match woken {
+        Woken::ByItself => 0,
+        Woken::ForJobs => TURNS,
+        Woken::BeforeAJob => EARLY_TURNS,
     }
 }
 

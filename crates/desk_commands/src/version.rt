@@ -5,5 +5,5 @@
 pub const VERSION: &str = concat!(
     "0.9.0\n",
     "proved with rattle-kit-13f logic dac8208d650f15bf\n",
-    "sources b7399542ed81d303e46d93d69907072c033159e9e968d1eea4ba26075f01d92b",
+    "sources 7561405e615daaa7bf7ee534a2cf880d229d62dfebebd2e0401623223dc33a0c",
 );

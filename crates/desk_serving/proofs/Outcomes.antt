@@ -42,6 +42,28 @@ module _ (Whole Part : List Report → Type 0) (old new : Writer) (r t : List �
     fault = λ e. let wrong : ⊥ = cc in absurd wrong;
   }
 
+-- A fault is told in the same way whatever would have been answered without it.
+module _ (Whole Part : List Report → Type 0) (old new : Writer) (r t : List ℕ) {X Y : Type 0} where
+  pub out_failed : (fault : FrontFault) → HandsOut Whole Part old new r t (failed X fault) → HandsOut Whole Part old new r t (failed Y fault)
+  out_failed Read h = absurd (h.only.0 refl)
+  out_failed Long h = absurd (h.only.1 refl)
+  out_failed Write h = record {
+    ok = tt;
+    write = λ e. h.write refl;
+    memory = λ e. let wrong : ⊥ = cc in absurd wrong;
+    only = h.only;
+    counts = λ n. absurd (n refl);
+    fault = λ e. h.fault refl;
+  }
+  out_failed Memory h = record {
+    ok = tt;
+    write = λ e. let wrong : ⊥ = cc in absurd wrong;
+    memory = λ e. h.memory refl;
+    only = h.only;
+    counts = λ n. h.counts (λ e. cc);
+    fault = λ e. let wrong : ⊥ = cc in absurd wrong;
+  }
+
 -- ## One after the other
 
 module _ (A B C Whole Part : List Report → Type 0) (old mid new : Writer) (r s t : List ℕ) {X : Type 0} where

@@ -1,6 +1,7 @@
 -- What may cross threads.
 use denote.Param.Send.{IsSend, IsSync, sendable, view_send, view_sync}
-use denote.Param.SendFields.{declared_send, declared_sync}
+use denote.Param.SendFields.{as_row_send, as_row_sync, declared_send, declared_sync}
+use denote.RattleType.{RattleType}
 use Rattle.std.proofs.Crossing.{crosses, Vec-send, Vec-sync, Arc-send, Arc-sync}
 use Rattle.std.proofs.MapsCrossing as maps
 use Rattle.std.proofs.option.Option.TheSendSync as option
@@ -9,9 +10,11 @@ use Rattle.feel_lang.proofs.expr.Function.TheSendSync as function
 use Rattle.feel_lang.proofs.unary.Bound.TheSendSync as bound
 use Rattle.dmn_table.proofs.hit_policy.HitPolicy.TheSendSync as policy
 use Rattle.feel_value.proofs.size.Size.TheSendSync as size
-use Rattle.feel_value.proofs.value.Value.TheLaws.TheKnot as ValueKnot
+use Rattle.feel_value.proofs.value.ValueContext.TheLaws.TheKnot as ValueKnot
+use Rattle.feel_value.specs.contracts.value.ValueContext.TheKnot as knot
 use Rattle.feel_lang.proofs.expr.Tree.TheLaws.TheKnot as TreeKnot
 use Rattle.feel_value.specs.contracts.feel.Feel as Feel
+use Rattle.feel_value.specs.contracts.feel.Feel.TheInside as FeelInside
 use Rattle.feel_lang.specs.contracts.constant.Constant as Constant
 use Rattle.feel_lang.specs.contracts.constant.Constant.TheInside as ConstantInside
 use Rattle.feel_lang.specs.contracts.expression.Expr as Expr
@@ -31,9 +34,9 @@ use Rattle.dmn_table.specs.contracts.table.Output as Output
 use Rattle.dmn_table.specs.contracts.table.Rule as Rule
 use Rattle.dmn_table.specs.contracts.table.Table as Table
 use Rattle.dmn_table.specs.contracts.table.Table.TheInside as TableInside
-use denote.Param.SendFields.{as_row_send, as_row_sync}
 use Rattle.std.specs.contracts.alloc.Global as Heap
 use Rattle.std.specs.contracts.impls.GlobalAllocator.TheImpl.{ghosts}
+use Rattle.std.specs.contracts.sync.Arc as Arc
 use Rattle.std.specs.contracts.sync.ArcStr as ArcStr
 use Rattle.dmn_logic.specs.contracts.logic.Logic as Logic
 use Rattle.dmn_logic.proofs.logic.Logic.TheLaws.TheKnot as LogicKnot
@@ -50,11 +53,43 @@ Text-send = search (maps.String-send, maps.String-sync, Arc-send, sendable) dept
 pub Text-sync : IsSync (ArcStr.the_row Heap.the_row ghosts)
 Text-sync = search (maps.String-send, maps.String-sync, Arc-sync, sendable) depth 20
 
-pub Feel-send : IsSend Feel.the_row
-Feel-send = search (Text-send, Text-sync, Vec-send, Vec-sync, Arc-send, Arc-sync, size.the_field_send, ValueKnot.crosses_both, sendable) depth 60 fits 200000
+Text-field-send : IsSend (ArcStr.the_field Heap.the_row ghosts).row
+Text-field-send = search (maps.String-send, maps.String-sync, Arc-send, sendable) depth 20
+
+Text-field-sync : IsSync (ArcStr.the_field Heap.the_row ghosts).row
+Text-field-sync = search (maps.String-send, maps.String-sync, Arc-sync, sendable) depth 20
+
+Arc-field-send : (T : RattleType) → IsSend T → IsSync T → IsSend (Arc.the_field T Heap.the_row ghosts).row
+Arc-field-send T s y = Arc-send T s y
+
+Arc-field-sync : (T : RattleType) → IsSend T → IsSync T → IsSync (Arc.the_field T Heap.the_row ghosts).row
+Arc-field-sync T s y = Arc-sync T s y
+
+ValueList-send : IsSend knot.hole-ValueList
+ValueList-send = search (Text-send, Text-sync, Vec-send, Vec-sync, Arc-send, Arc-sync, option.the_field_send, option.the_field_sync, size.the_send, size.the_sync, as_row_send, as_row_sync, ValueKnot.both_send-ValueList, sendable) depth 40 fits 200000
+
+ValueList-sync : IsSync knot.hole-ValueList
+ValueList-sync = search (Text-send, Text-sync, Vec-send, Vec-sync, Arc-send, Arc-sync, option.the_field_send, option.the_field_sync, size.the_send, size.the_sync, as_row_send, as_row_sync, ValueKnot.both_sync-ValueList, sendable) depth 40 fits 200000
+
+ValueContext-send : IsSend knot.hole-ValueContext
+ValueContext-send = search (Text-send, Text-sync, Vec-send, Vec-sync, Arc-send, Arc-sync, option.the_field_send, option.the_field_sync, size.the_send, size.the_sync, as_row_send, as_row_sync, ValueKnot.both_send-ValueContext, sendable) depth 40 fits 200000
+
+ValueContext-sync : IsSync knot.hole-ValueContext
+ValueContext-sync = search (Text-send, Text-sync, Vec-send, Vec-sync, Arc-send, Arc-sync, option.the_field_send, option.the_field_sync, size.the_send, size.the_sync, as_row_send, as_row_sync, ValueKnot.both_sync-ValueContext, sendable) depth 40 fits 200000
 
 pub Value-send : IsSend Value.the_row
-Value-send = search (Text-send, Text-sync, Vec-send, Vec-sync, Arc-send, Arc-sync, ValueKnot.crosses_both, sendable) depth 60 fits 200000
+Value-send = as_row_send Value.the_field
+    (ValueKnot.both_send-Value (search sendable depth 20) (search sendable depth 20) Text-field-send (λ h s y. Arc-field-send h s y) ValueList-send ValueList-sync (λ h s y. Arc-field-send h s y) ValueContext-send ValueContext-sync)
+
+pub Value-sync : IsSync Value.the_row
+Value-sync = as_row_sync Value.the_field
+    (ValueKnot.both_sync-Value (search sendable depth 20) (search sendable depth 20) Text-field-sync (λ h s y. Arc-field-sync h s y) ValueList-send ValueList-sync (λ h s y. Arc-field-sync h s y) ValueContext-send ValueContext-sync)
+
+pub Feel-send : IsSend Feel.the_row
+Feel-send = view_send _ _ _ _ _ (declared_send FeelInside.the_type (Value-send, tt))
+
+pub Feel-sync : IsSync Feel.the_row
+Feel-sync = view_sync _ _ _ _ _ (declared_sync FeelInside.the_type (Value-sync, tt))
 
 pub ConstantInside-send : IsSend ConstantInside.the_row
 ConstantInside-send = declared_send ConstantInside.the_type (Feel-send, tt)
@@ -94,12 +129,6 @@ TableInside-send = declared_send TableInside.the_type (policy.the_send, (Vec-sen
 
 pub Table-send : IsSend Table.the_row
 Table-send = view_send _ _ _ _ _ TableInside-send
-
-pub Feel-sync : IsSync Feel.the_row
-Feel-sync = search (Text-send, Text-sync, Vec-send, Vec-sync, Arc-send, Arc-sync, size.the_field_sync, ValueKnot.crosses_both, sendable) depth 60 fits 200000
-
-pub Value-sync : IsSync Value.the_row
-Value-sync = search (Text-send, Text-sync, Vec-send, Vec-sync, Arc-send, Arc-sync, ValueKnot.crosses_both, sendable) depth 60 fits 200000
 
 pub ConstantInside-sync : IsSync ConstantInside.the_row
 ConstantInside-sync = declared_sync ConstantInside.the_type (Feel-sync, tt)

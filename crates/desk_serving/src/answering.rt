@@ -121,11 +121,11 @@ impl<'a, R: Wait> State<'a, R> {
         }
     }
 
-    /// Has a worker woken while a line is read: for what waits, where reading takes long; or for the request that the line may
+    /// Has workers woken while a line is read: for what waits, where reading takes long; or one for the request that the line may
     /// be, where all that was put before is answered.
     fn call_before(&self, line: &LineText, unwritten: &Unwritten) {
         if takes_long(line) {
-            self.lanes.call_worker();
+            self.lanes.call_workers();
             return;
         }
         if unwritten.is_empty() && self.lanes.has_come(Until::AllWhole) {
@@ -133,10 +133,10 @@ impl<'a, R: Wait> State<'a, R> {
         }
     }
 
-    /// Has a worker woken for what waits where the answer's text is written next, since that may take long.
+    /// Has workers woken for what waits where the answer's text is written next, since that may take long.
     fn call_behind(&self, text: &[u8], unwritten: &Unwritten) {
         if unwritten.is_full_with(text) {
-            self.lanes.call_worker();
+            self.lanes.call_workers();
         }
     }
 

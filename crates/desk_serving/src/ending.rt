@@ -11,6 +11,7 @@ ghost use Rattle.desk_wire.specs.Reports.{report_text};
 ghost use Rattle.desk_serving.specs.Telling.{HandsOut, WritesOut};
 
 use crate::named_lanes::Lanes;
+use crate::waiting::hand_out_round;
 use box_core::Reply;
 use crew::Crew;
 use desk_lines::{FrontFault, Sink, Unwritten, is_cut};
@@ -20,7 +21,7 @@ use lanes::{Settled, Worker, settle};
 use std::alloc::{AllocError, Global};
 use std::sync::Wait;
 
-/// Hands out results while workers run. What is said last may wait to be written.
+/// Hands out results, round by round, while workers run. What is said last may wait to be written.
 fn hand_out_beside<R: Wait, W: Sink>(
     rt: &R,
     alloc: Global,
@@ -36,16 +37,13 @@ fn hand_out_beside<R: Wait, W: Sink>(
     ensures handed { HandsOut (AreHanded (names_in lanes.old) (lanes_in lanes.old) (lanes_in lanes.new)) (AreFirst (names_in lanes.old) (lanes_in lanes.old))
         (W.seen writer.old) (W.seen writer.new) [] unwritten.new.bytes.items result }
 {
-    let mut text = Vec::new(alloc);
     for _ in rt.forever() {
         let seen = lanes.answers();
         if crew.has_ended() {
             break;
         }
-        text.clear();
-        lanes.hand_out(alloc, &mut text)?;
-        unwritten.add(writer, &text)?;
-        lanes.rest(rt, !text.is_empty(), seen);
+        let came = hand_out_round(alloc, lanes, writer, unwritten)?;
+        lanes.rest(rt, came, seen);
     }
     Ok(())
 }

@@ -12,10 +12,17 @@ impl Lanes {
         }
     }
 
-    /// The front does something that takes long: where requests wait and no worker looks for them, one that sleeps is woken.
+    /// Where requests wait and no worker looks for them, one that sleeps is woken.
     pub fn call_worker(&self) {
         if let Some(client) = self.clients.first() {
-            client.signals().begin_to_wait();
+            client.signals().call_for_jobs();
+        }
+    }
+
+    /// The front does something that takes long: workers are woken until one looks, or no request waits.
+    pub fn call_workers(&self) {
+        if let Some(client) = self.clients.first() {
+            client.signals().go_away();
         }
     }
 

@@ -10,8 +10,28 @@ use desk_lines::{FrontFault, Sink, Unwritten};
 use std::alloc::Global;
 use std::sync::Wait;
 
-/// Hands out results until it has come. Where a round finds nothing more, all that waits is written. As that may take long, a
-/// worker is woken before for what waits in the lanes. Where nothing comes since the workers find no memory for what they hold,
+/// Hands out at most one result from each lane, and tells whether there was one. Where there was none, all that waits is written.
+/// As that may take long, a worker is woken before for what waits in the lanes.
+pub fn hand_out_round<W: Sink>(
+    alloc: Global,
+    lanes: &mut Lanes,
+    writer: &mut W,
+    unwritten: &mut Unwritten,
+) -> Result<bool, FrontFault>
+    requires counts { (W.seen writer.old).faults < 2 ^ 64 - 1 }
+    ensures same { links_in lanes.new ≡ links_in lanes.old }
+    ensures names { names_in lanes.new ≡ names_in lanes.old }
+    ensures handed { HandsOut (AreHanded (names_in lanes.old) (lanes_in lanes.old) (lanes_in lanes.new)) (AreFirst (names_in lanes.old) (lanes_in lanes.old))
+        (W.seen writer.old) (W.seen writer.new) unwritten.old.bytes.items unwritten.new.bytes.items result }
+{
+    let mut text = Vec::new(alloc);
+    lanes.hand_out(alloc, &mut text)?;
+    lanes.call_worker();
+    unwritten.pass_on(writer, &text)?;
+    Ok(!text.is_empty())
+}
+
+/// Hands out results, round by round, until it has come. Where nothing comes since the workers find no memory for what they hold,
 /// that is the end.
 pub fn hand_out_until<R: Wait, W: Sink>(
     rt: &R,
@@ -27,17 +47,13 @@ pub fn hand_out_until<R: Wait, W: Sink>(
     ensures handed { HandsOut (AreHanded (names_in lanes.old) (lanes_in lanes.old) (lanes_in lanes.new)) (AreFirst (names_in lanes.old) (lanes_in lanes.old))
         (W.seen writer.old) (W.seen writer.new) unwritten.old.bytes.items unwritten.new.bytes.items result }
 {
-    let mut text = Vec::new(alloc);
     for _ in rt.forever() {
         if lanes.has_come(until) {
             break;
         }
         let seen = lanes.answers();
-        text.clear();
-        lanes.hand_out(alloc, &mut text)?;
-        lanes.call_worker();
-        unwritten.pass_on(writer, &text)?;
-        lanes.rest_fed(rt, !text.is_empty(), seen)?;
+        let came = hand_out_round(alloc, lanes, writer, unwritten)?;
+        lanes.rest_fed(rt, came, seen)?;
     }
     Ok(())
 }

@@ -1,25 +1,21 @@
 -- A decision needs itself where its place does.
-use Rattle.std.proofs.Common.{◌≡◌, inl, inr, ℕ, zero, suc, ◌+◌, ◌<◌, ◌≤◌, List, [], ◌∷◌, ◌++◌, map, length, get_or, Some, refl, sym, ap, subst, ◌∙◌, Bool, true, false, not, if◌then◌else◌, nat_lt, arith}
-use Rattle.std.specs.Prelude.{bytes_eq}
-use Rattle.std.proofs.lemmas.Slice.Eq.{bytes_eq-Decides}
+use Rattle.std.proofs.Common.{◌≡◌, inl, inr, ℕ, zero, suc, ◌+◌, ◌<◌, ◌≤◌, List, [], ◌∷◌, map, length, get_or, Some, sym, ap, subst, ◌∙◌, Bool, false, nat_lt, arith}
 use Rattle.std.proofs.lemmas.List.{length-map, length-append, get_or-append-add}
-use Rattle.dmn_form.specs.Model.{Name}
-use Rattle.dmn_form.specs.Draft.{Written, Draft}
+use Rattle.dmn_form.specs.Draft.{Draft}
 use Rattle.dmn_form.specs.ModelView.{decision_view}
 use Rattle.dmn_form.specs.declared.written.WrittenDecision.{WrittenDecision}
 use Rattle.dmn_graph.specs.Reach.{reached}
 use Rattle.dmn_graph.specs.Members.{IsIn}
 use Rattle.dmn_graph.specs.Needs as graph
-use Rattle.dmn_graph.proofs.Members.{not_in}
-use Rattle.dmn_graph.proofs.Renaming.{cycle_named}
 use Rattle.dmn_names.specs.Parts.{decision_names, value_names}
 use Rattle.dmn_names.specs.Names.{has_name_twice}
-use Rattle.feel_value.specs.Distinct.{is_among, are_distinct}
+use Rattle.feel_value.specs.Distinct.{is_among}
 use Rattle.dmn_names.specs.Places.{needs_by_place}
-use Rattle.dmn_names.proofs.NamesBack.{both, not_so, distinct_values}
+use Rattle.dmn_names.proofs.NamesBack.{distinct_values}
 use Rattle.dmn_plan.specs.Faults.{needs_of, needs_itself, has_cycle}
 use Rattle.dmn_plan.specs.Plans.{place_name}
-use Rattle.dmn_plan.proofs.ServicesByName.{as_many_places, inside, tells, fits, few_need}
+use Rattle.dmn_plan.proofs.RequirementCycles.{cycle_by_name, later_distinct, needs_of_one}
+use Rattle.dmn_plan.proofs.ServicesByName.{as_many_places, few_need}
 use Rattle.dmn_check.specs.declared.place.Step.TheVariants as step
 use Rattle.dmn_check.specs.declared.place.Key.TheVariants as key
 use Rattle.dmn_check.specs.declared.finding.Mistake.TheVariants as mistake
@@ -28,31 +24,6 @@ use Rattle.dmn_check.specs.Findings.{each_of}
 use Rattle.dmn_check.specs.Told.{have_any, capped}
 use Rattle.dmn_check.proofs.Presence.{any-here, any-inside, any-each_of}
 use Rattle.dmn_check.proofs.ToldLaws.{some_told}
-
-in_names : (ds : List Written) (d : Written) → IsIn d ds → IsIn d.name (map (λ x. x.name) ds)
-in_names [] d h = absurd h
-in_names (x ∷ ds) d (inl e) = inl (ap (λ (y : Written). y.name) e)
-in_names (x ∷ ds) d (inr h) = inr (in_names ds d h)
-
-differs : (ns : List Name) (n x : Name) → is_among ns x ≡ false → IsIn n ns → (b : Bool) → bytes_eq n x ≡ b → b ≡ false
-differs ns n x e h true f = absurd (not_in bytes_eq bytes_eq-Decides x ns e (subst (λ y. IsIn y ns) ((bytes_eq-Decides n x).0 f) h))
-differs ns n x e h false f = refl
-
-later_distinct : (xs ys : List Name) → are_distinct (xs ++ ys) ≡ true → are_distinct ys ≡ true
-later_distinct [] ys u = u
-later_distinct (x ∷ xs) ys u = later_distinct xs ys ((both (not (is_among (xs ++ ys) x)) (are_distinct (xs ++ ys)) u).1)
-
--- a decision of the model needs what stands there
-needs_of_one : (ds : List Written) (d : Written) → are_distinct (map (λ x. x.name) ds) ≡ true → IsIn d ds → needs_of ds d.name ≡ d.needs
-needs_of_one [] d u h = absurd h
-needs_of_one (x ∷ ds) d u (inl e) =
-    ap (λ b. if b then x.needs else needs_of ds d.name) ((bytes_eq-Decides d.name x.name).1 (ap (λ (y : Written). y.name) e))
-    ∙ ap (λ (y : Written). y.needs) (sym e)
-needs_of_one (x ∷ ds) d u (inr h) =
-    let parts = both (not (is_among (map (λ y. y.name) ds) x.name)) (are_distinct (map (λ y. y.name) ds)) u in
-    ap (λ b. if b then x.needs else needs_of ds d.name)
-    (differs (map (λ y. y.name) ds) d.name x.name (not_so (is_among (map (λ y. y.name) ds) x.name) parts.0) (in_names ds d h) (bytes_eq d.name x.name) refl)
-    ∙ needs_of_one ds d parts.1 h
 
 -- what stands at an index of what is shown
 at_in : (ds : List WrittenDecision) (i : ℕ) (d : WrittenDecision) → i < length ds → d ≡ get_or ds i d → IsIn (decision_view d) (map decision_view ds)
@@ -66,12 +37,6 @@ name_at (x ∷ ds) zero d l e = ap (λ y. (decision_view y).name) (sym e)
 name_at (x ∷ ds) (suc i) d l e = name_at ds i d (omega arith) e
 
 module _ (m : Draft) (needs : List (List ℕ)) (ds : List WrittenDecision) (shown : map decision_view ds ≡ m.decisions) (distinct : has_name_twice m ≡ false) (known : needs_by_place m ≡ Some needs) where
-  by_place : (steps x : ℕ) → x < length (value_names m)
-      → is_among (reached steps (needs_of m.decisions) (needs_of m.decisions (place_name m x))) (place_name m x) ≡ graph.needs_itself steps needs x
-  by_place steps x l =
-      cycle_named bytes_eq bytes_eq-Decides (length (value_names m)) needs (place_name m) (needs_of m.decisions) (λ x y l i. inside m needs (distinct_values m distinct) known x y i) (tells m (distinct_values m distinct))
-      (fits m needs (distinct_values m distinct) known) steps x l
-
   many : length (value_names m) ≡ length m.inputs + length ds
   many = length-append m.inputs (decision_names m) ∙ ap (λ k. length m.inputs + k) (length-map m.decisions (λ d. d.name) ∙ sym (ap length shown) ∙ length-map ds decision_view)
 
@@ -90,7 +55,7 @@ module _ (m : Draft) (needs : List (List ℕ)) (ds : List WrittenDecision) (show
       needs_of_one m.decisions (decision_view d) (later_distinct m.inputs (decision_names m) (distinct_values m distinct)) (subst (λ xs. IsIn (decision_view d) xs) shown (at_in ds i d l e))
       in
       found steps (few_need m needs (distinct_values m distinct) known)
-      ∙ sym (by_place steps (length m.inputs + i) (omega (arith, many)))
+      ∙ sym (cycle_by_name m needs distinct known steps (length m.inputs + i) (omega (arith, many)))
       ∙ ap (λ n. is_among (reached steps (needs_of m.decisions) (needs_of m.decisions n)) n) at
       ∙ ap (λ ns. is_among (reached steps (needs_of m.decisions) ns) (decision_view d).name) one
 

@@ -5,7 +5,6 @@ mod boxed;
 mod decisions;
 mod key;
 mod named;
-mod output;
 mod table;
 mod value;
 

@@ -3,18 +3,18 @@ ghost use Rattle.std.specs.Prelude.{◌≡◌, ◌++◌, OnOk, IfOk, map, option
 ghost use Rattle.serde_json.specs.Data.{array, boolean, object};
 ghost use Rattle.serde_json.specs.Written.{compact_text, members_text};
 ghost use Rattle.feel_value.specs.Datum.{list, items_of};
+ghost use Rattle.feel_value.specs.Found.{outcome_from};
 ghost use Rattle.feel_value.specs.Json.{json_of};
-ghost use Rattle.dmn_table.specs.Hits.{does_hit as does_hit_of};
+ghost use Rattle.dmn_table.specs.Hits.{output_of as output_from, values_of};
 ghost use Rattle.dmn_table.specs.Parts.{column_view, rule_view};
 ghost use Rattle.dmn_explain.specs.How.{hit_told, hits_told, hits_and_defaults, table_told, takes_defaults};
 ghost use Rattle.dmn_explain.specs.Numbered.{hit_view, hits_from};
 
 use crate::key::{Key, add_comma, add_key};
-use crate::output::{has_no_default, output_of, values_of};
 use crate::value::add_valued;
-use dmn_table::{Output, Rule, Table};
-use feel_lang::{Env, Held, holds};
-use feel_value::Feel;
+use dmn_table::{Output, Rule, Table, does_hit, evaluated, has_no_default, one_or_context};
+use feel_lang::Env;
+use feel_value::{Feel, Outcome};
 use json_writer::{add_number, add_value};
 use std::alloc::{AllocError, Global};
 
@@ -23,30 +23,6 @@ use std::alloc::{AllocError, Global};
 pub(crate) struct Hit<'a> {
     number: usize,
     rule: &'a Rule,
-}
-
-/// Whether the rule hits, for these values of the input expressions; None where an entry breaks a limit. All entries are
-/// evaluated but those after a miss that are known to break no limit, since these change nothing.
-fn does_hit(
-    alloc: Global,
-    rule: &Rule,
-    values: &[Feel],
-    env: &Env,
-) -> Result<Option<bool>, AllocError>
-    ensures { IfOk result (λ hit. hit ≡ does_hit_of env.now values.now (rule_view rule.now)) }
-{
-    let mut hit = true;
-    for (tests, value) in rule.tests.iter().zip(values) {
-        if !hit && tests.keep_limits() {
-            continue;
-        }
-        match holds(alloc, tests, value, env)? {
-            Held::Yes => {}
-            Held::No => hit = false,
-            Held::Limit => return Ok(None),
-        }
-    }
-    Ok(Some(hit))
 }
 
 /// The rules that hit, in their order and with their numbers; None where an entry breaks a limit. Each rule is asked.
@@ -85,6 +61,21 @@ fn add_values(alloc: Global, values: &[Feel], text: &mut Vec<u8>) -> Result<(), 
     }
     text.push(b']')?;
     Ok(())
+}
+
+/// The output of a rule.
+fn output_of(
+    alloc: Global,
+    rule: &Rule,
+    outputs: &[Output],
+    env: &Env,
+) -> Result<Outcome, AllocError>
+    ensures { IfOk result (λ o. o ≡ outcome_from (output_from (map column_view outputs.now)) (values_of env.now (rule_view rule.now).gives)) }
+{
+    match evaluated(alloc, &rule.gives, env)? {
+        Some(values) => one_or_context(alloc, outputs, values),
+        None => Ok(Outcome::Limit),
+    }
 }
 
 /// Adds a rule that hit, with its output.
@@ -174,7 +165,7 @@ pub(crate) fn add_table(
     ensures { OnOk result (text.new.items ≡ text.old.items ++ compact_text (object (table_told table.now env.now))) }
 {
     text.push(b'{')?;
-    let Some(values) = values_of(alloc, table.inputs(), env)? else {
+    let Some(values) = evaluated(alloc, table.inputs(), env)? else {
         text.push(b'}')?;
         return Ok(());
     };

@@ -28,12 +28,12 @@ differs : (ns : List Name) (n x : Name) → is_among ns x ≡ false → IsIn n n
 differs ns n x e h true f = absurd (not_in bytes_eq bytes_eq-Decides x ns e (subst (λ y. IsIn y ns) ((bytes_eq-Decides n x).0 f) h))
 differs ns n x e h false f = refl
 
-later_distinct : (xs ys : List Name) → are_distinct (xs ++ ys) ≡ true → are_distinct ys ≡ true
+pub later_distinct : (xs ys : List Name) → are_distinct (xs ++ ys) ≡ true → are_distinct ys ≡ true
 later_distinct [] ys u = u
 later_distinct (x ∷ xs) ys u = later_distinct xs ys ((both (not (is_among (xs ++ ys) x)) (are_distinct (xs ++ ys)) u).1)
 
 -- a decision of the model needs what stands there
-needs_of_one : (ds : List Written) (d : Written) → are_distinct (map (λ x. x.name) ds) ≡ true → IsIn d ds → needs_of ds d.name ≡ d.needs
+pub needs_of_one : (ds : List Written) (d : Written) → are_distinct (map (λ x. x.name) ds) ≡ true → IsIn d ds → needs_of ds d.name ≡ d.needs
 needs_of_one [] d u h = absurd h
 needs_of_one (x ∷ ds) d u (inl e) =
     ap (λ b. if b then x.needs else needs_of ds d.name) ((bytes_eq-Decides d.name x.name).1 (ap (λ (y : Written). y.name) e))
@@ -73,7 +73,7 @@ place_of (k ∷ ns) n (inl e) = (0, omega arith, sym e)
 place_of (k ∷ ns) n (inr h) = let w = place_of ns n h in let l : w.0 < length ns = w.1 in (suc w.0, omega arith, w.2)
 
 module _ (m : Draft) (needs : List (List ℕ)) (distinct : has_name_twice m ≡ false) (known : needs_by_place m ≡ Some needs) where
-  cycle_by_name : (steps x : ℕ) → x < length (value_names m)
+  pub cycle_by_name : (steps x : ℕ) → x < length (value_names m)
       → is_among (reached steps (needs_of m.decisions) (needs_of m.decisions (place_name m x))) (place_name m x) ≡ graph.needs_itself steps needs x
   cycle_by_name steps x l =
       cycle_named bytes_eq bytes_eq-Decides (length (value_names m)) needs (place_name m) (needs_of m.decisions) (λ x y l i. inside m needs (distinct_values m distinct) known x y i) (tells m (distinct_values m distinct))

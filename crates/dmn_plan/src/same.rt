@@ -31,8 +31,8 @@ pub(crate) fn same_value(a: &Value, b: &Value) -> bool
         (Value::Bool(x), Value::Bool(y)) => *x == *y,
         (Value::Number(x), Value::Number(y)) => *x == *y,
         (Value::Text(x), Value::Text(y)) => x.as_str() == y.as_str(),
-        (Value::List(x), Value::List(y)) => same_items(x, y),
-        (Value::Context(x), Value::Context(y)) => same_entries(x, y),
+        (Value::List(x), Value::List(y)) => same_items(x.values(), y.values()),
+        (Value::Context(x), Value::Context(y)) => same_entries(x.entries(), y.entries()),
         _ => false,
     }
 }

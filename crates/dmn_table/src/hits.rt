@@ -23,7 +23,7 @@ use std::alloc::{AllocError, Global};
 /// Whether the rule hits, for these values of the input expressions; None where an entry breaks a limit. All entries are
 /// evaluated but those after a miss that are known to break no limit, since these change nothing: where all are known to
 /// (`keeps_limits`), a miss is the end.
-fn does_hit(
+fn is_matched(
     alloc: Global,
     rule: &Rule,
     keeps_limits: bool,
@@ -46,6 +46,19 @@ fn does_hit(
         }
     }
     Ok(Some(hit))
+}
+
+/// Whether the rule hits, for these values of the input expressions of its table; None where an entry breaks a limit. All its
+/// input entries are evaluated but those after a miss that are known to break no limit.
+pub fn does_hit(
+    alloc: Global,
+    rule: &Rule,
+    values: &[Feel],
+    env: &Env,
+) -> Result<Option<bool>, AllocError>
+    ensures { IfOk result (λ hit. hit ≡ does_hit_of env.now values.now (rule_view rule.now)) }
+{
+    is_matched(alloc, rule, false, values, env)
 }
 
 /// Adds those of these rules that hit; false where an entry breaks a limit. A rule whose bit is not set is known to miss and is
@@ -72,7 +85,7 @@ fn add_hits<'a>(
             continue;
         }
         let rule = &rules[i];
-        let Some(is_hit) = does_hit(alloc, rule, keep_limits, values, env)? else {
+        let Some(is_hit) = is_matched(alloc, rule, keep_limits, values, env)? else {
             return Ok(false);
         };
         if is_hit {
@@ -127,7 +140,7 @@ fn hits_by_scan<'a>(
 {
     let mut hits = Vec::new(alloc);
     for rule in rules {
-        let Some(hit) = does_hit(alloc, rule, keep_limits, values, env)? else {
+        let Some(hit) = is_matched(alloc, rule, keep_limits, values, env)? else {
             return Ok(None);
         };
         if hit {

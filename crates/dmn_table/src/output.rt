@@ -41,8 +41,8 @@ fn evaluate(
     Ok(true)
 }
 
-/// The values of the expressions; None where one breaks a limit.
-pub(crate) fn evaluated(
+/// The values of the expressions, in their order; None where one breaks a limit.
+pub fn evaluated(
     alloc: Global,
     expressions: &[Expr],
     env: &Env,
@@ -170,8 +170,9 @@ pub(crate) fn default_values(
     Ok(Some(values))
 }
 
-/// The values of the output columns as one value: the only one itself, otherwise a context.
-pub(crate) fn one_or_context(
+/// The values of the output columns as one value: the only one itself, otherwise a context of them under the columns' names.
+/// `Limit` where that context would be no value.
+pub fn one_or_context(
     alloc: Global,
     outputs: &[Output],
     values: Vec<Feel>,
@@ -198,7 +199,7 @@ fn only(values: Vec<Feel>) -> Outcome
 }
 
 /// Whether no column has a default.
-pub(crate) fn has_no_default(outputs: &[Output]) -> bool
+pub fn has_no_default(outputs: &[Output]) -> bool
     ensures { result ≡ list_all (λ c. is_none c.fallback) (map column_view outputs.now) }
 {
     for output in outputs {

@@ -5,7 +5,8 @@ use Rattle.feel_value.specs.Datum.{Datum, Items, item, list, no_items, items_of,
 use Rattle.feel_value.specs.Limits.{is_value}
 use Rattle.feel_value.specs.Outcome.{held}
 use Rattle.feel_value.specs.View.{datum_of, items_view}
-use Rattle.feel_value.specs.declared.value.Value.{Value, Number}
+use Rattle.feel_value.specs.declared.value.Value.{Value}
+use Rattle.feel_value.specs.declared.value.Value.TheVariants.{Number}
 use Rattle.feel_value.proofs.Views.{datum_of-Number}
 use Rattle.feel_value.proofs.Entries.{items_from}
 use Rattle.feel_value.specs.declared.feel.Outcome.{Outcome}

@@ -49,7 +49,7 @@ fn count(value: &Value) -> Outcome
     ensures { result ≡ held (count_of (datum_of value.now)) }
 {
     match value {
-        Value::List(items) => length_of(items),
+        Value::List(list) => length_of(list.values()),
         _ => null(),
     }
 }
@@ -65,7 +65,7 @@ fn sum(value: &Value) -> Outcome
     ensures { result ≡ held (fold_of (λ x y. x +ℤ y) (datum_of value.now)) }
 {
     match value {
-        Value::List(items) => sum_of(items),
+        Value::List(list) => sum_of(list.values()),
         _ => null(),
     }
 }
@@ -91,7 +91,7 @@ fn minimum(value: &Value) -> Outcome
     ensures { result ≡ held (fold_of least (datum_of value.now)) }
 {
     match value {
-        Value::List(items) => least_of(items),
+        Value::List(list) => least_of(list.values()),
         _ => null(),
     }
 }
@@ -119,7 +119,7 @@ fn maximum(value: &Value) -> Outcome
     ensures { result ≡ held (fold_of greatest (datum_of value.now)) }
 {
     match value {
-        Value::List(items) => greatest_of(items),
+        Value::List(list) => greatest_of(list.values()),
         _ => null(),
     }
 }

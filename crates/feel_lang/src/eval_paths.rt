@@ -8,7 +8,6 @@ ghost use Rattle.feel_lang.specs.Operands.{operand_value, outcome_of};
 use crate::operands::{Operand, formed};
 use feel_value::{Outcome, Part, Value};
 use std::alloc::{AllocError, Global};
-use std::sync::Arc;
 
 // The entry of that name; of a list the list of its members' entries; otherwise null.
 #[cycle(path)]
@@ -20,7 +19,10 @@ pub(crate) fn path(alloc: Global, value: &Value, name: &str) -> Result<Value, Al
             Some(entry) => entry.try_clone(),
             None => Ok(Value::Null),
         },
-        Value::List(items) => Ok(Value::List(Arc::new(alloc, paths(alloc, items, name)?)?)),
+        Value::List(list) => {
+            let value = Value::list(alloc, paths(alloc, list.values(), name)?)?;
+            Ok(value)
+        }
         _ => Ok(Value::Null),
     }
 }

@@ -185,7 +185,7 @@ fn listed(input: &Value, value: &Value) -> bool
     ensures { result ≡ is_listed (datum_of input.now) (datum_of value.now) }
 {
     match value {
-        Value::List(items) => contains(items, input),
+        Value::List(list) => contains(list.values(), input),
         _ => false,
     }
 }

@@ -1,5 +1,5 @@
 -- A list and a context that take one part more: whether they still keep the limits, and their size.
-use Rattle.std.proofs.Common.{◌≡◌, ℕ, ◌+◌, ◌≤◌, max, Bool, true, false, ◌&&◌, nat_le, List, [], ◌∷◌, ◌++◌, map, refl, sym, ap, ap₂, ◌∙◌, subst, arith}
+use Rattle.std.proofs.Common.{◌≡◌, ℕ, ◌+◌, max, Bool, true, false, ◌&&◌, nat_le, List, [], ◌∷◌, ◌++◌, map, refl, sym, ap, ap₂, ◌∙◌, arith}
 use Rattle.std.proofs.lemmas.Bool.Decides.{nat_tests}
 use Rattle.feel_value.specs.Datum.{Datum, list, context, items_of, entries_of}
 use Rattle.feel_value.specs.Limits.{nodes, items_nodes, entries_nodes, depth, items_depth, entries_depth, numbers_in_range, items_in_range, entries_in_range, keeps_limits, is_value, names_distinct, names_differ, items_distinct, entries_distinct}
@@ -77,20 +77,8 @@ in_range d v = (both_true (numbers_in_range d) _ (both_true (keeps_limits d) (na
 distinct : (d : Datum) → is_value d ≡ true → names_distinct d ≡ true
 distinct d v = (both_true (keeps_limits d) (names_distinct d) v).1
 
-size_more : (s t : Size) (d : Datum) (x m : ℕ) → s.nodes ≡ 1 + m → 1 + x ≤ s.levels → IsGrown s d t → (t.nodes ≡ 1 + (m + nodes d)) × (1 + max x (depth d) ≤ t.levels)
-size_more s t d x m h g e = (omega (arith, h, e.0), omega (arith, g, e.1.0, e.1.1))
-
-small : (r : Bool) (x m n : ℕ) → kept r x m ≡ true → n ≡ 1 + m → n ≤ 10000
-small true x m n h e = grind (arith, nat_tests)
-small false x m n h e = cc
-
-pub list_small : (ds : List Datum) (s : Size) → IsList ds s → s.nodes ≤ 10000
-list_small ds s h =
-    let xs = items_of ds in
-    small (items_in_range xs) (items_depth xs) (items_nodes xs) s.nodes (both_true (keeps_limits (list xs)) (items_distinct xs) h.0).0 h.1.0
-
-pub context_small : (es : Pairs) (s : Size) → IsContext es s → s.nodes ≤ 10000
-context_small es s h = small (entries_in_range (entries_of es)) (entries_depth (entries_of es)) (entries_nodes (entries_of es)) s.nodes h.0 h.1.1.0
+size_more : (s t : Size) (d : Datum) (x m : ℕ) → s ≡ record { nodes = 1 + m; levels = 1 + x } → IsGrown s d t → t ≡ record { nodes = 1 + (m + nodes d); levels = 1 + max x (depth d) }
+size_more s t d x m h e = grind (arith, h, e)
 
 -- a list
 list_limits : (ds : List Datum) (d : Datum) → keeps_limits (list (items_of (ds ++ d ∷ []))) ≡ kept (items_in_range (items_of ds) && numbers_in_range d) (max (items_depth (items_of ds)) (depth d)) (items_nodes (items_of ds) + nodes d)
@@ -103,14 +91,14 @@ list_kept ds d s h v =
     let ys = items_of (ds ++ d ∷ []) in
     let p = both_true (keeps_limits (list xs)) (items_distinct xs) h.0 in
     let differ : items_distinct ys ≡ true = more_distinct ds d ∙ ap₂ (λ a b. a && b) p.1 (distinct d v) in
-    ap (λ k. nat_le (1 + depth d) 100 && nat_le (k + nodes d) 10000) h.1.0
+    ap (λ z. nat_le (1 + depth d) 100 && nat_le (z.nodes + nodes d) 10000) h.1
     ∙ kept_more (items_in_range xs) (numbers_in_range d) (items_depth xs) (depth d) (items_nodes xs) (nodes d) p.0 (in_range d v)
     ∙ sym (list_limits ds d) ∙ sym (ap (λ b. keeps_limits (list ys) && b) differ ∙ and_true (keeps_limits (list ys)))
 
 pub list_grown : (ds : List Datum) (d : Datum) (s t : Size) → IsList ds s → is_value (list (items_of (ds ++ d ∷ []))) ≡ true → IsGrown s d t → IsList (ds ++ d ∷ []) t
 list_grown ds d s t h w g =
-    let q = size_more s t d (items_depth (items_of ds)) (items_nodes (items_of ds)) h.1.0 h.1.1 g in
-    (w, (q.0 ∙ ap (λ n. 1 + n) (sym (more_nodes ds d)), subst (λ n. 1 + n ≤ t.levels) (sym (more_depth ds d)) q.1))
+    let whole = size_more s t d (items_depth (items_of ds)) (items_nodes (items_of ds)) h.1 g in
+    (w, whole ∙ ap₂ (λ m x. record { nodes = 1 + m; levels = 1 + x }) (sym (more_nodes ds d)) (sym (more_depth ds d)))
 
 -- a context
 context_limits : (es : Pairs) (n : List ℕ) (d : Datum)
@@ -121,7 +109,7 @@ pub context_kept : (es : Pairs) (n : List ℕ) (d : Datum) (s : Size) → IsCont
     → (nat_le (1 + depth d) 100 && nat_le (s.nodes + nodes d) 10000) ≡ keeps_limits (context (entries_of (es ++ (n, d) ∷ [])))
 context_kept es n d s h v =
     let xs = entries_of es in
-    ap (λ k. nat_le (1 + depth d) 100 && nat_le (k + nodes d) 10000) h.1.1.0
+    ap (λ z. nat_le (1 + depth d) 100 && nat_le (z.nodes + nodes d) 10000) h.1.1
     ∙ kept_more (entries_in_range xs) (numbers_in_range d) (entries_depth xs) (depth d) (entries_nodes xs) (nodes d) h.0 (in_range d v)
     ∙ sym (context_limits es n d)
 
@@ -129,9 +117,9 @@ pub context_grown : (es : Pairs) (n : List ℕ) (d : Datum) (s t : Size) → IsC
     → IsContext (es ++ (n, d) ∷ []) t
 context_grown es n d s t h v w g =
     let xs = entries_of es in
-    let q = size_more s t d (entries_depth xs) (entries_nodes xs) h.1.1.0 h.1.1.1 g in
+    let whole = size_more s t d (entries_depth xs) (entries_nodes xs) h.1.1 g in
     let differ = more_entry_distinct es n d ∙ ap₂ (λ a b. a && b) h.1.0 (distinct d v) in
-    (w, (differ, (q.0 ∙ ap (λ k. 1 + k) (sym (more_entry_nodes es n d)), subst (λ k. 1 + k ≤ t.levels) (sym (more_entry_depth es n d)) q.1)))
+    (w, (differ, whole ∙ ap₂ (λ m x. record { nodes = 1 + m; levels = 1 + x }) (sym (more_entry_nodes es n d)) (sym (more_entry_depth es n d))))
 
 by_names : (es : Pairs) (s : Size) → IsContext es s → is_value (context (entries_of es)) ≡ names_differ (entries_of es)
 by_names es s h = ap₂ (λ a b. a && (names_differ (entries_of es) && b)) h.0 h.1.0 ∙ and_true (names_differ (entries_of es))

@@ -3,6 +3,7 @@ pub mod Entries
 pub mod Places
 pub mod Room
 pub mod ContextRoom
+pub mod Sums
 pub mod Growth
 pub mod Booleans
 pub mod DistinctNames

@@ -3,7 +3,26 @@ use Rattle.std.proofs.Common.{◌≡◌, ℕ, ◌+◌, ◌-◌, ◌<◌, max, Bo
 use Rattle.std.proofs.lemmas.Bool.Decides.{nat_tests}
 use Rattle.feel_value.specs.Datum.{Datum, list, context, Items, item, Entries, entry}
 use Rattle.feel_value.specs.Limits.{nodes, depth, items_nodes, items_depth, entries_nodes, entries_depth, numbers_in_range, items_in_range, entries_in_range}
-use Rattle.feel_value.specs.Places.{left_of, items_left_of, entries_left_of}
+
+-- Whether its numbers are in range, it is at most `levels` deep and has at most `places` nodes.
+abbrev pub fits : Datum → ℕ → ℕ → Bool
+fits d levels places = numbers_in_range d && (nat_le (depth d) levels && nat_le (nodes d) places)
+
+abbrev pub items_fit : Items → ℕ → ℕ → Bool
+items_fit ds levels places = items_in_range ds && (nat_le (items_depth ds) levels && nat_le (items_nodes ds) places)
+
+abbrev pub entries_fit : Entries → ℕ → ℕ → Bool
+entries_fit es levels places = entries_in_range es && (nat_le (entries_depth es) levels && nat_le (entries_nodes es) places)
+
+-- The places that are left of `places` where it fits.
+abbrev pub left_of : Datum → ℕ → ℕ → Option ℕ
+left_of d levels places = if fits d levels places then Some (places - nodes d) else None
+
+abbrev pub items_left_of : Items → ℕ → ℕ → Option ℕ
+items_left_of ds levels places = if items_fit ds levels places then Some (places - items_nodes ds) else None
+
+abbrev pub entries_left_of : Entries → ℕ → ℕ → Option ℕ
+entries_left_of es levels places = if entries_fit es levels places then Some (places - entries_nodes es) else None
 
 le_max : (x y l : ℕ) → nat_le (max x y) l ≡ (nat_le x l && nat_le y l)
 le_max x y l = grind (arith, nat_tests)

@@ -3,8 +3,7 @@ use Rattle.std.proofs.Common.{◌≡◌, ℕ, ◌-◌, Bool, true, false, ◌&&�
 use Rattle.std.proofs.lemmas.Bool.Decides.{nat_tests}
 use Rattle.feel_value.specs.Datum.{Datum, list, Items, no_items, item, items_of}
 use Rattle.feel_value.specs.Limits.{keeps_limits, is_value, names_distinct, items_distinct}
-use Rattle.feel_value.specs.Places.{fits, left_of, items_left_of}
-use Rattle.feel_value.proofs.Places.{items_left_of-item, left_of-list}
+use Rattle.feel_value.proofs.Places.{fits, left_of, items_left_of, items_left_of-item, left_of-list}
 
 -- these members before the others
 abbrev pub behind : List Datum → Items → Items

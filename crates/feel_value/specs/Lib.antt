@@ -1,8 +1,8 @@
 pub mod Datum
 pub mod View
 pub mod Code
+pub mod Falls
 pub mod Limits
-pub mod Places
 pub mod Sizes
 pub mod Names
 pub mod Logic

@@ -54,8 +54,10 @@ pub(crate) fn same_value(a: &Value, b: &Value) -> Truth
         (Value::Bool(x), Value::Bool(y)) => decided(*x == *y),
         (Value::Number(x), Value::Number(y)) => decided(*x == *y),
         (Value::Text(x), Value::Text(y)) => decided(x.as_str() == y.as_str()),
-        (Value::List(x), Value::List(y)) => decided(same_items(x, y)),
-        (Value::Context(x), Value::Context(y)) => decided(same_contexts(x, y)),
+        (Value::List(x), Value::List(y)) => decided(same_items(x.values(), y.values())),
+        (Value::Context(x), Value::Context(y)) => {
+            decided(same_contexts(x.entries_on_heap(), y.entries_on_heap()))
+        }
         _ => Truth::Unknown,
     }
 }

@@ -52,8 +52,7 @@ impl ContextEntries {
 
     /// Takes one more entry; or answers false, and drops it, where the context of all would no longer keep the limits.
     ///
-    /// The time is constant, but for a list or a context that is the copy of an entry (`Part::entry`), and for a value of nearly
-    /// 100 levels: there it is linear in the nodes, as far as there is room for them.
+    /// The time is constant.
     pub fn push(&mut self, name: ArcStr, value: Feel) -> Result<bool, AllocError>
         ensures fits { IfOk result (λ b. b ≡ keeps_limits (context (entries_of (self.old ++ (arc_str_bytes name, value) ∷ [])))) }
         ensures taken { MatchResult result (λ b. self.new ≡ (if b then self.old ++ (arc_str_bytes name, value) ∷ [] else self.old)) (λ _. self.new ≡ self.old) }

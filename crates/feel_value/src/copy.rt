@@ -15,7 +15,7 @@ pub(crate) fn copy(value: &Value) -> Result<Value, AllocError>
         Value::Bool(b) => Ok(Value::Bool(*b)),
         Value::Number(n) => Ok(Value::Number(*n)),
         Value::Text(text) => Ok(Value::Text(text.clone()?)),
-        Value::List(items) => Ok(Value::List(Arc::try_clone(items)?)),
-        Value::Context(entries) => Ok(Value::Context(Arc::try_clone(entries)?)),
+        Value::List(list) => Ok(Value::List(Arc::try_clone(list)?)),
+        Value::Context(context) => Ok(Value::Context(Arc::try_clone(context)?)),
     }
 }

@@ -5,17 +5,16 @@ ghost use Rattle.feel_value.specs.Faults.{json_reading, IsDueUnlessMemory};
 ghost use Rattle.feel_value.specs.Json.{json_of};
 ghost use Rattle.feel_value.specs.Limits.{is_value, nodes, depth, most_nodes, most_depth};
 ghost use Rattle.feel_value.specs.Datum.{list, context};
-ghost use Rattle.feel_value.specs.Sizes.{IsSizeOf, IsGrown};
+ghost use Rattle.feel_value.specs.Sizes.{size as size_of_datum, IsGrown};
 ghost use Rattle.feel_value.specs.View.{datum_of, items_view, entries_view};
 
 use crate::copy::copy;
 use crate::fault::ValueFault;
 use crate::json::{read, write};
-use crate::limits::{MOST_DEPTH, MOST_NODES, is_in_range, size_of, size_within};
+use crate::limits::is_in_range;
 use crate::logic::Truth;
-use crate::names::has_distinct_names;
 use crate::size::Size;
-use crate::value::Value;
+use crate::value::{Value, ValueContext, ValueList};
 use std::alloc::{AllocError, Global};
 use std::marker::Model;
 use std::sync::{Arc, ArcStr};
@@ -27,12 +26,10 @@ use std::sync::{Arc, ArcStr};
 #[derive(Drop)]
 pub struct Feel {
     value: Value,
-    // Known but for a list or a context that was an entry of another value.
-    size: Option<Size>,
 }
 
 impl Model for Feel {
-    ghost use Rattle.std.specs.Prelude.{◌≡◌, true, IfSome};
+    ghost use Rattle.std.specs.Prelude.{◌≡◌, true};
     ghost use Rattle.feel_value.specs.Datum.{Datum};
     ghost use Rattle.feel_value.specs.Code.{datum_code};
 
@@ -41,29 +38,22 @@ impl Model for Feel {
     ghost coded = { datum_code };
 
     ghost use Rattle.feel_value.specs.Limits.{is_value};
-    ghost use Rattle.feel_value.specs.Sizes.{IsSizeOf};
     ghost use Rattle.feel_value.specs.View.{datum_of};
 
     ghost view = { λ f. datum_of f.value };
 
-    ghost invariant = { λ f. (is_value (datum_of f.value) ≡ true) × IfSome f.size (λ s. IsSizeOf s (datum_of f.value)) };
+    ghost invariant = { λ f. is_value (datum_of f.value) ≡ true };
 }
 
 impl Feel {
     /// The value, where it keeps the limits and each context has distinct names.
     ///
-    /// The time is linear in the nodes where the names of each context rise. The names of another context are put in order: for
-    /// `n` names that takes about `n * log n` comparisons, and memory that is given back. Where the heap has none left it takes
-    /// up to `n * n / 2`. A value that is too deep or has too many nodes is left at the first part too many.
+    /// The time is constant, since each list and each context keeps its size.
     pub fn of(value: Value) -> Option<Feel>
         ensures { result ≡ (if is_value (datum_of value) then Some (datum_of value) else None) }
     {
-        let size = size_of(&value)?;
-        if has_distinct_names(&value) {
-            Some(Feel {
-                value,
-                size: Some(size),
-            })
+        if value.is_lawful() {
+            Some(Feel { value })
         } else {
             None
         }
@@ -76,14 +66,12 @@ impl Feel {
         size: Size,
     ) -> Result<Feel, AllocError>
         requires lawful { is_value (list (items_view members.items)) ≡ true }
-        requires size { IsSizeOf size (list (items_view members.items)) }
+        requires size { size ≡ size_of_datum (list (items_view members.items)) }
         ensures { IfOk result (λ f. f ≡ list (items_view members.items)) }
     {
-        let value = Value::List(Arc::new(alloc, members)?);
-        Ok(Feel {
-            value,
-            size: Some(size),
-        })
+        let list = ValueList::of_size(members, Some(size));
+        let value = Value::List(Arc::new(alloc, list)?);
+        Ok(Feel { value })
     }
 
     // The context of these entries, which is a value of that size.
@@ -93,14 +81,12 @@ impl Feel {
         size: Size,
     ) -> Result<Feel, AllocError>
         requires lawful { is_value (context (entries_view entries.items)) ≡ true }
-        requires size { IsSizeOf size (context (entries_view entries.items)) }
+        requires size { size ≡ size_of_datum (context (entries_view entries.items)) }
         ensures { IfOk result (λ f. f ≡ context (entries_view entries.items)) }
     {
-        let value = Value::Context(Arc::new(alloc, entries)?);
-        Ok(Feel {
-            value,
-            size: Some(size),
-        })
+        let context = ValueContext::of_size(entries, Some(size));
+        let value = Value::Context(Arc::new(alloc, context)?);
+        Ok(Feel { value })
     }
 
     /// The value that a JSON value stands for. An object is a context of its members in the order of their keys.
@@ -111,13 +97,10 @@ impl Feel {
         ensures { IsDueUnlessMemory result (json_reading (view json.now)) }
     {
         let value = read(alloc, json)?;
-        let Some(size) = size_of(&value) else {
+        if !value.is_lawful() {
             return Err(ValueFault::Size);
-        };
-        Ok(Feel {
-            value,
-            size: Some(size),
-        })
+        }
+        Ok(Feel { value })
     }
 
     /// The same value in JSON, with each context as an object.
@@ -127,21 +110,13 @@ impl Feel {
         write(alloc, self.value())
     }
 
-    // A copy of a part of a value. Its size is that of the part, as far as it is known.
-    pub(crate) fn copy_of(part: &Value, size: Option<Size>) -> Result<Feel, AllocError>
-        requires lawful { is_value (datum_of part.now) ≡ true }
-        requires size { IfSome size (λ s. IsSizeOf s (datum_of part.now)) }
+    // A copy of a part of a value.
+    pub(crate) fn copy_of(part: &Value) -> Result<Feel, AllocError>
+        requires { is_value (datum_of part.now) ≡ true }
         ensures { IfOk result (λ f. f ≡ datum_of part.now) }
     {
         let value = copy(part)?;
-        Ok(Feel { value, size })
-    }
-
-    // The size, as far as it is known.
-    pub(crate) fn size(&self) -> Option<Size>
-        ensures { IfSome result (λ s. IsSizeOf s self.now) }
-    {
-        self.size
+        Ok(Feel { value })
     }
 
     /// A copy, which shares its texts, lists and contexts with this value. The time is constant.
@@ -149,46 +124,16 @@ impl Feel {
         ensures { IfOk result (λ f. f ≡ self.now) }
     {
         let value = copy(&self.value)?;
-        Ok(Feel {
-            value,
-            size: self.size,
-        })
+        Ok(Feel { value })
     }
 
     // The size of a list or a context that takes this value as one part more, where it is none too large and none too deep.
     pub(crate) fn grown(&self, whole: Size) -> Option<Size>
-        requires { whole.nodes ≤ most_nodes }
         ensures within { is_some result ≡ (nat_le (1 + depth self.now) most_depth && nat_le (whole.nodes + nodes self.now) most_nodes) }
         ensures size { IfSome result (λ s. IsGrown whole self.now s) }
         ensures lawful { is_value self.now ≡ true }
     {
-        let part = self.size_within(MOST_DEPTH - 1, MOST_NODES - usize::from(whole.nodes))?;
-        Some(Size {
-            nodes: whole.nodes + part.nodes,
-            levels: whole.levels.max(part.levels + 1),
-        })
-    }
-
-    // The size, where the value is at most `levels` deep and has at most `places` nodes. It is walked through only where the
-    // size that is kept leaves that open.
-    fn size_within(&self, levels: usize, places: usize) -> Option<Size>
-        requires levels { levels ≤ most_depth }
-        requires places { places ≤ most_nodes }
-        ensures within { is_some result ≡ (nat_le (depth self.now) levels && nat_le (nodes self.now) places) }
-        ensures size { IfSome result (λ s. IsSizeOf s self.now) }
-        ensures levels { IfSome result (λ s. s.levels ≤ levels) }
-        ensures places { IfSome result (λ s. s.nodes ≤ places) }
-        ensures lawful { is_value self.now ≡ true }
-    {
-        if let Some(size) = self.size {
-            if usize::from(size.nodes) > places {
-                return None;
-            }
-            if usize::from(size.levels) <= levels {
-                return Some(size);
-            }
-        }
-        size_within(&self.value, levels, places)
+        whole.grown(self.value.size()?)
     }
 
     /// The value itself.
@@ -204,7 +149,7 @@ impl Feel {
         ensures same { datum_of result ≡ self }
         ensures lawful { is_value self ≡ true }
     {
-        let Feel { value, size: _ } = self;
+        let Feel { value } = self;
         value
     }
 }
@@ -228,10 +173,7 @@ impl Outcome {
     pub fn null() -> Outcome
         ensures { result ≡ Is null }
     {
-        Outcome::Is(Feel {
-            value: Value::Null,
-            size: Some(Size::of_one_node()),
-        })
+        Outcome::Is(Feel { value: Value::Null })
     }
 
     /// The number held against the range.
@@ -241,7 +183,6 @@ impl Outcome {
         if is_in_range(n) {
             Outcome::Is(Feel {
                 value: Value::Number(n),
-                size: Some(Size::of_one_node()),
             })
         } else {
             Outcome::Limit
@@ -257,24 +198,21 @@ impl Outcome {
             Truth::No => Value::Bool(false),
             Truth::Unknown => Value::Null,
         };
-        Outcome::Is(Feel {
-            value,
-            size: Some(Size::of_one_node()),
-        })
+        Outcome::Is(Feel { value })
     }
 
     /// The list of the members, held against the limits.
     pub fn list(alloc: Global, members: Vec<Value>) -> Result<Outcome, AllocError>
         ensures { IfOk result (λ o. o ≡ held (list (items_view members.items))) }
     {
-        Ok(Outcome::of(Value::List(Arc::new(alloc, members)?)))
+        Ok(Outcome::of(Value::list(alloc, members)?))
     }
 
     /// The context of the entries, in their order, held against the limits.
     pub fn context(alloc: Global, entries: Vec<(ArcStr, Value)>) -> Result<Outcome, AllocError>
         ensures { IfOk result (λ o. o ≡ held (context (entries_view entries.items))) }
     {
-        Ok(Outcome::of(Value::Context(Arc::new(alloc, entries)?)))
+        Ok(Outcome::of(Value::context(alloc, entries)?))
     }
 
     /// The value, unless a limit was broken.

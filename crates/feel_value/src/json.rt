@@ -12,7 +12,7 @@ use crate::limits::is_in_range;
 use crate::value::Value;
 use serde_json::{Map, Number};
 use std::alloc::{AllocError, Global};
-use std::sync::{Arc, ArcStr};
+use std::sync::ArcStr;
 
 #[cycle(read)]
 pub(crate) fn read(alloc: Global, json: &serde_json::Value) -> Result<Value, ValueFault>
@@ -27,11 +27,9 @@ pub(crate) fn read(alloc: Global, json: &serde_json::Value) -> Result<Value, Val
         serde_json::Value::String(text) => {
             Ok(Value::Text(ArcStr::from_str(alloc, text.as_str())?))
         }
-        serde_json::Value::Array(items) => {
-            Ok(Value::List(Arc::new(alloc, read_items(alloc, items)?)?))
-        }
+        serde_json::Value::Array(items) => { Ok(Value::list(alloc, read_items(alloc, items)?)?) }
         serde_json::Value::Object(members) => {
-            Ok(Value::Context(Arc::new(alloc, read_members(alloc, members)?)?))
+            Ok(Value::context(alloc, read_members(alloc, members)?)?)
         }
     }
 }
@@ -89,8 +87,10 @@ pub(crate) fn write(alloc: Global, value: &Value) -> Result<serde_json::Value, A
         Value::Text(text) => {
             Ok(serde_json::Value::String(String::from_str(alloc, text.as_str())?))
         }
-        Value::List(items) => Ok(serde_json::Value::Array(write_items(alloc, items)?)),
-        Value::Context(entries) => Ok(serde_json::Value::Object(write_entries(alloc, entries)?)),
+        Value::List(list) => { Ok(serde_json::Value::Array(write_items(alloc, list.values())?)) }
+        Value::Context(context) => {
+            Ok(serde_json::Value::Object(write_entries(alloc, context.entries())?))
+        }
     }
 }
 

@@ -15,6 +15,7 @@ mod names;
 mod part;
 mod reading;
 mod size;
+mod sizes;
 mod value;
 
 pub use comparison::{equal, less};
@@ -25,4 +26,4 @@ pub use logic::{Truth, and3, decided, not3, or3};
 pub use members::Members;
 pub use part::Part;
 pub use reading::truth;
-pub use value::Value;
+pub use value::{Value, ValueContext, ValueList};

@@ -49,8 +49,7 @@ impl Members {
 
     /// Takes one more member; or answers false, and drops it, where the list of all would be no value.
     ///
-    /// The time is constant, but for a list or a context that is the copy of an entry (`Part::entry`), and for a member of nearly
-    /// 100 levels: there it is linear in the nodes, as far as there is room for them.
+    /// The time is constant.
     pub fn push(&mut self, value: Feel) -> Result<bool, AllocError>
         ensures fits { IfOk result (λ b. b ≡ is_value (list (items_of (self.old ++ value ∷ [])))) }
         ensures taken { MatchResult result (λ b. self.new ≡ (if b then self.old ++ value ∷ [] else self.old)) (λ _. self.new ≡ self.old) }

@@ -1,9 +1,9 @@
 //! The names of a context: looking one up, and whether they are distinct.
 ghost use Rattle.std.specs.Prelude.{◌≡◌, option_map};
 ghost use Rattle.feel_value.specs.Datum.{value_at};
-ghost use Rattle.feel_value.specs.Limits.{names_distinct, items_distinct, entries_distinct, names_differ as differ};
+ghost use Rattle.feel_value.specs.Limits.{names_differ as differ};
 ghost use Rattle.feel_value.specs.Names.{names_rise as rise};
-ghost use Rattle.feel_value.specs.View.{datum_of, items_view, entries_view};
+ghost use Rattle.feel_value.specs.View.{datum_of, entries_view};
 
 use crate::by_name::{FEW, by_name};
 use crate::value::Value;
@@ -19,42 +19,6 @@ pub(crate) fn find<'a>(entries: &'a [(ArcStr, Value)], name: &str) -> Option<&'a
         }
     }
     None
-}
-
-// Whether each context in the value has distinct names.
-#[cycle(distinct)]
-pub(crate) fn has_distinct_names(value: &Value) -> bool
-    ensures { result ≡ names_distinct (datum_of value.now) }
-{
-    match value {
-        Value::Null | Value::Bool(_) | Value::Number(_) | Value::Text(_) => true,
-        Value::List(items) => items_have_distinct_names(items),
-        Value::Context(entries) => names_differ(entries) && entries_have_distinct_names(entries),
-    }
-}
-
-#[cycle(distinct)]
-fn items_have_distinct_names(items: &[Value]) -> bool
-    ensures { result ≡ items_distinct (items_view items.now) }
-{
-    for item in items {
-        if !has_distinct_names(item) {
-            return false;
-        }
-    }
-    true
-}
-
-#[cycle(distinct)]
-fn entries_have_distinct_names(entries: &[(ArcStr, Value)]) -> bool
-    ensures { result ≡ entries_distinct (entries_view entries.now) }
-{
-    for (_, value) in entries {
-        if !has_distinct_names(value) {
-            return false;
-        }
-    }
-    true
 }
 
 // Whether no two entries have one name. Names that rise differ. Many others are put in order, where the heap has room for it.

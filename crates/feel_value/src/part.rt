@@ -5,7 +5,6 @@ ghost use Rattle.feel_value.specs.Limits.{is_value};
 ghost use Rattle.feel_value.specs.View.{datum_of};
 
 use crate::feel::Feel;
-use crate::size::{Size, size_at_once};
 use crate::value::Value;
 use std::alloc::AllocError;
 use std::marker::Model;
@@ -14,12 +13,10 @@ use std::marker::Model;
 #[derive(Drop)]
 pub struct Part<'a> {
     value: &'a Value,
-    // Known but for a list or a context that is an entry.
-    size: Option<Size>,
 }
 
 impl<'a> Model for Part<'a> {
-    ghost use Rattle.std.specs.Prelude.{◌≡◌, true, IfSome};
+    ghost use Rattle.std.specs.Prelude.{◌≡◌, true};
     ghost use Rattle.feel_value.specs.Datum.{Datum};
     ghost use Rattle.feel_value.specs.Code.{datum_code};
 
@@ -28,12 +25,11 @@ impl<'a> Model for Part<'a> {
     ghost coded = { datum_code };
 
     ghost use Rattle.feel_value.specs.Limits.{is_value};
-    ghost use Rattle.feel_value.specs.Sizes.{IsSizeOf};
     ghost use Rattle.feel_value.specs.View.{datum_of};
 
     ghost view = { λ p. datum_of p.value.now };
 
-    ghost invariant = { λ p. (is_value (datum_of p.value.now) ≡ true) × IfSome p.size (λ s. IsSizeOf s (datum_of p.value.now)) };
+    ghost invariant = { λ p. is_value (datum_of p.value.now) ≡ true };
 }
 
 impl<'a> Part<'a> {
@@ -43,7 +39,6 @@ impl<'a> Part<'a> {
     {
         Part {
             value: value.value(),
-            size: value.size(),
         }
     }
 
@@ -53,10 +48,7 @@ impl<'a> Part<'a> {
         ensures { result ≡ entry_named name.now self.now }
     {
         match self.value.entry(name) {
-            Some(value) => Some(Part {
-                value,
-                size: size_at_once(value),
-            }),
+            Some(value) => Some(Part { value }),
             None => None,
         }
     }
@@ -73,6 +65,6 @@ impl<'a> Part<'a> {
     pub fn try_clone(&self) -> Result<Feel, AllocError>
         ensures { IfOk result (λ f. f ≡ self.now) }
     {
-        Feel::copy_of(self.value, self.size)
+        Feel::copy_of(self.value)
     }
 }

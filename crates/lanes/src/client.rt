@@ -75,7 +75,7 @@ impl<W: Work> Client<W> {
         match self.mailbox.admits() {
             Ok(()) => {}
             Err(why) => {
-                self.signals.begin_to_wait();
+                self.signals.go_away();
                 return Err((why, work));
             }
         }

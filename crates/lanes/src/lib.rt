@@ -2,6 +2,7 @@
 //! each client is handed the results in order. No call of an end waits for another thread.
 #![tactic(auto)]
 
+mod bell;
 mod book;
 mod client;
 mod ending;
@@ -21,5 +22,5 @@ pub use gate::{AtGate, Gate, OpenGate, Stepped, Watch};
 pub use open::{MOST_CLIENTS, MOST_WORKERS, lanes};
 pub use settled::Settled;
 pub use settling::settle;
-pub use signals::Signals;
+pub use signals::{Signals, Woken};
 pub use worker::Worker;

@@ -1,9 +1,9 @@
 //! How threads that have nothing to do sleep, and what wakes them. No answer rests on it.
+use crate::bell::Bell;
 use crate::marks::Marks;
-use std::hint;
+use crossbeam_utils::CachePadded;
 use std::sync::Wait;
 use std::sync::atomic::{AtomicU64, Ordering};
-use std::time::Duration;
 
 /// For how many turns a thread that waits for few answers looks at a count before it sleeps: a little longer than it takes to
 /// wake a worker and to run a small job, so that it need not be woken itself. A turn takes some 5 ns, or 50 where a processor
@@ -11,6 +11,9 @@ use std::time::Duration;
 const TURNS: u32 = 10_000;
 /// From so many on things are many: a thread that waits for things is woken once as many are there, or nothing more comes.
 const MANY: u64 = 16;
+/// From so many jobs that wait on, a worker that takes one wakes another though the front puts more: fewer small ones are run
+/// in the time that it takes to wake one, and where they are not small the front waits for them soon.
+const PLENTY: u64 = 64;
 /// How often workers may be refused memory, with nothing answered between, before they count as starved.
 const STARVED: u64 = 2_000;
 
@@ -20,86 +23,15 @@ const LONGEST_SLEEP: u64 = 100;
 /// The longest sleep, in milliseconds, of a front that waits for many answers: so long one that is there may wait for others.
 const LONGEST_GATHERING: u64 = 1;
 
-/// It counts things, and threads sleep on it until there is one more.
-///
-/// Who puts a thing puts it first, then counts it by `add`, then wakes. Who looks for things reads the count first, then
-/// looks, and sleeps only where it found nothing, by `sleep` with that count. No wake-up is lost by this: each step is
-/// sequentially consistent. A thing that was counted before the count was read was there for the look. For one that is
-/// counted later, either the sleeper was already one of `sleepers` when the waker read these, and is woken, or it
-/// became one after the count rose, and then the system sees another count than the one given, and does not sleep.
-#[derive(Drop)]
-pub struct Bell {
-    count: AtomicU64,
-    sleepers: AtomicU64,
-}
-
-impl Bell {
-    // A bell for which nothing was counted.
-    fn new() -> Bell {
-        Bell {
-            count: AtomicU64::new(0),
-            sleepers: AtomicU64::new(0),
-        }
-    }
-
-    /// How many things were counted.
-    pub fn count(&self) -> u64 {
-        self.count.load(Ordering::SeqCst)
-    }
-
-    /// Counts one thing more, and tells how many there are.
-    pub fn add(&self) -> u64 {
-        self.count.fetch_add(1, Ordering::SeqCst).wrapping_add(1)
-    }
-
-    /// Wakes one thread that sleeps. It costs a read where none does.
-    pub fn wake_one(&self) {
-        if self.has_sleepers() {
-            self.count.wake_one();
-        }
-    }
-
-    /// Wakes all threads that sleep.
-    pub fn wake_all(&self) {
-        if self.has_sleepers() {
-            self.count.wake_all();
-        }
-    }
-
-    /// Whether a thread sleeps, or is about to.
-    pub fn has_sleepers(&self) -> bool {
-        self.sleepers.load(Ordering::SeqCst) > 0
-    }
-
-    // Looks at the count for so many turns, as long as it is this one, and gives how many turns are left.
-    fn watch(&self, seen: u64, turns: u32) -> u32 {
-        for turn in 0..turns {
-            if self.count() != seen {
-                return turns - turn;
-            }
-            hint::spin_loop();
-        }
-        0
-    }
-
-    // Counts one thread more that sleeps.
-    fn add_sleeper(&self) {
-        self.sleepers.fetch_add(1, Ordering::SeqCst);
-    }
-
-    // Sleeps while as many things as this were counted, at most for so many milliseconds, as one who was counted among the
-    // sleepers.
-    fn sleep<R: Wait>(&self, rt: &R, seen: u64, millis: u64) {
-        let longest = Duration::from_millis(millis);
-        self.count
-            .park_timeout(rt, (seen & 0xffff_ffff) as u32, longest);
-        self.end_sleep();
-    }
-
-    // Counts one thread less that sleeps.
-    fn end_sleep(&self) {
-        self.sleepers.fetch_sub(1, Ordering::SeqCst);
-    }
+/// What ended a worker's sleep.
+#[derive(Clone, Copy, Drop, PartialEq, Eq)]
+pub enum Woken {
+    /// It woke by itself: nothing was put meanwhile.
+    ByItself,
+    /// Jobs wait.
+    ForJobs,
+    /// A job may be put soon.
+    BeforeAJob,
 }
 
 /// What the ends of all lanes share beside the lanes.
@@ -107,9 +39,10 @@ impl Bell {
 /// A worker looks for a job, or runs one, or sleeps. A job that is put wakes a sleeper only where no worker looks and many
 /// jobs wait; for fewer one is woken once the front waits, or finds a mailbox full, or before that where a job may be put
 /// soon. Who looks reads the count of jobs again before it sleeps, and wakes a sleeper where it takes a job as the last that
-/// looked and many more wait, or any more while the front is away: while it waits, or does what takes long. So a job is seen
-/// by one that looks, or by one that is woken for it; or few wait, and the front puts others next, or goes away and wakes one
-/// before; or all workers run jobs, and each looks again after that.
+/// looked and plenty more wait, or any more while the front is away: while it does what takes long, or has waited for as long
+/// as small jobs take. So a job is seen by one that looks, or by one that is woken for it; or few wait, and the front puts
+/// others next, or begins to wait and wakes one before; or workers run jobs, each looks again after that, and a front that
+/// has waited for long wakes another before.
 ///
 /// The front says that it is away before it reads whether a worker looks. A worker that takes a job counts itself out before
 /// it reads whether the front is away. So where jobs wait, one of the two sees the other, and wakes a worker.
@@ -127,21 +60,62 @@ impl Bell {
 /// at an empty lane another may pass it, though a job was put. Where a lane is marked again, that is counted as for a job,
 /// so that who passed it looks again. Where a worker's sleep ended by itself, and before workers are told to stop, all lanes
 /// are marked.
+///
+/// What the front or the workers change at each job stands on cache lines of its own. So no thread waits for a line since
+/// another changed a word there that it doesn't ask for.
 #[derive(Drop)]
 pub struct Signals {
-    jobs: Bell,
-    marks: Marks,
-    taken: AtomicU64,
-    looking: AtomicU64,
-    called: AtomicU64,
-    // How many jobs were put.
-    put: AtomicU64,
+    jobs: CachePadded<Bell>,
+    marks: CachePadded<Marks>,
+    workers: CachePadded<Workers>,
+    answers: CachePadded<Bell>,
+    // How much of what counted for a job was none, but a call for a worker.
+    calls: AtomicU64,
     // Whether the front is away since the last job was put: 1 where it is.
     away: AtomicU64,
-    answers: Bell,
     // From how many answers on the front wants to be woken.
     wanted: AtomicU64,
     refusals: AtomicU64,
+}
+
+/// What workers change at each job.
+#[derive(Drop)]
+struct Workers {
+    // How much of what counted for a job was taken.
+    taken: AtomicU64,
+    // How many workers look for jobs.
+    looking: AtomicU64,
+    // Whether a worker was woken that does not look yet: 1 where one was.
+    called: AtomicU64,
+    // Whether it was woken before the job is put for which it is woken: 1 where it was.
+    early: AtomicU64,
+}
+
+impl Workers {
+    // None looks, and none was woken.
+    fn new() -> Workers {
+        Workers {
+            taken: AtomicU64::new(0),
+            looking: AtomicU64::new(0),
+            called: AtomicU64::new(0),
+            early: AtomicU64::new(0),
+        }
+    }
+
+    // Whether one looks for jobs.
+    fn do_look(&self) -> bool {
+        self.looking.load(Ordering::SeqCst) > 0
+    }
+
+    // One more looks for jobs.
+    fn begin_to_look(&self) {
+        self.looking.fetch_add(1, Ordering::SeqCst);
+    }
+
+    // One less looks for jobs, and how many did before.
+    fn end_to_look(&self) -> u64 {
+        self.looking.fetch_sub(1, Ordering::SeqCst)
+    }
 }
 
 impl Signals {
@@ -153,14 +127,12 @@ impl Signals {
     /// The same for so many lanes.
     pub(crate) fn of_lanes(lanes: u32) -> Signals {
         Signals {
-            jobs: Bell::new(),
-            marks: Marks::of(lanes),
-            taken: AtomicU64::new(0),
-            looking: AtomicU64::new(0),
-            called: AtomicU64::new(0),
-            put: AtomicU64::new(0),
+            jobs: CachePadded::new(Bell::new()),
+            marks: CachePadded::new(Marks::of(lanes)),
+            workers: CachePadded::new(Workers::new()),
+            answers: CachePadded::new(Bell::new()),
+            calls: AtomicU64::new(0),
             away: AtomicU64::new(0),
-            answers: Bell::new(),
             wanted: AtomicU64::new(0),
             refusals: AtomicU64::new(0),
         }
@@ -173,7 +145,6 @@ impl Signals {
 
     /// A job was put.
     pub fn add_job(&self) {
-        self.put.fetch_add(1, Ordering::SeqCst);
         if self.is_away() {
             self.away.store(0, Ordering::SeqCst);
         }
@@ -204,8 +175,7 @@ impl Signals {
     /// A lane was not found empty after its mark was taken away: one that passed it meanwhile looks again.
     pub(crate) fn mark_again(&self, lane: u32) {
         self.marks.mark(lane);
-        self.jobs.add();
-        self.taken.fetch_add(1, Ordering::SeqCst);
+        self.add_call();
     }
 
     /// Each lane may hold a job: the next worker that looks passes none.
@@ -213,21 +183,28 @@ impl Signals {
         self.marks.mark_all();
     }
 
-    /// Jobs may wait, and no other is put before some are run: a worker is woken for them where none looks, and each that
-    /// takes one wakes another while more wait.
-    pub fn begin_to_wait(&self) {
+    /// Jobs may wait: a worker is woken for them where none looks.
+    pub fn call_for_jobs(&self) {
+        self.call_worker_for(1);
+    }
+
+    /// The same, and no other job is put before some are run: each worker that takes one wakes another while more wait.
+    pub fn go_away(&self) {
         self.away.store(1, Ordering::SeqCst);
         self.call_worker_for(1);
     }
 
     /// A job may be put soon, and none waits: a worker is woken where none looks, so that it is awake by then.
     pub fn expect_job(&self) {
-        self.call_worker_for(0);
+        if !self.workers.do_look() {
+            self.workers.early.store(1, Ordering::SeqCst);
+            self.call_worker();
+        }
     }
 
     // Wakes a worker that sleeps, where none looks and so many jobs wait.
     fn call_worker_for(&self, jobs: u64) {
-        if self.looking.load(Ordering::SeqCst) == 0 && self.waiting() >= jobs {
+        if !self.workers.do_look() && self.waiting() >= jobs {
             self.call_worker();
         }
     }
@@ -235,50 +212,56 @@ impl Signals {
     // How many jobs wait for a worker.
     fn waiting(&self) -> u64 {
         self.jobs()
-            .saturating_sub(self.taken.load(Ordering::SeqCst))
+            .saturating_sub(self.workers.taken.load(Ordering::SeqCst))
     }
 
     // How many jobs were put and not answered yet.
     fn outstanding(&self) -> u64 {
-        self.put
-            .load(Ordering::SeqCst)
+        let calls = self.calls.load(Ordering::SeqCst);
+        self.jobs()
+            .saturating_sub(calls)
             .saturating_sub(self.answers())
+    }
+
+    // What is no job counts for one that was put and taken.
+    fn add_call(&self) {
+        self.calls.fetch_add(1, Ordering::SeqCst);
+        self.jobs.add();
+        self.workers.taken.fetch_add(1, Ordering::SeqCst);
     }
 
     // Wakes a worker that sleeps, unless one was woken that does not look yet.
     fn call_worker(&self) {
-        if self.called.load(Ordering::SeqCst) == 0 && self.jobs.has_sleepers() {
-            self.called.store(1, Ordering::SeqCst);
-            self.jobs.add();
-            self.taken.fetch_add(1, Ordering::SeqCst);
+        if self.workers.called.load(Ordering::SeqCst) == 0 && self.jobs.has_sleepers() {
+            self.workers.called.store(1, Ordering::SeqCst);
+            self.add_call();
             self.jobs.wake_one();
         }
     }
 
     /// All workers are woken.
     pub fn wake_workers(&self) {
-        self.jobs.add();
-        self.taken.fetch_add(1, Ordering::SeqCst);
+        self.add_call();
         self.jobs.wake_all();
     }
 
     /// One worker more looks for jobs.
     pub fn begin_to_look(&self) {
-        self.looking.fetch_add(1, Ordering::SeqCst);
+        self.workers.begin_to_look();
     }
 
     /// One worker less looks for jobs.
     pub fn end_to_look(&self) {
-        self.looking.fetch_sub(1, Ordering::SeqCst);
+        self.workers.end_to_look();
     }
 
-    /// One worker less looks for jobs, since it took one: the last wakes another in its place where many more wait, or any
+    /// One worker less looks for jobs, since it took one: the last wakes another in its place where plenty more wait, or any
     /// while the front is away.
     pub fn take_job(&self) {
-        let taken = self.taken.fetch_add(1, Ordering::SeqCst);
-        let looked = self.looking.fetch_sub(1, Ordering::SeqCst);
+        let taken = self.workers.taken.fetch_add(1, Ordering::SeqCst);
+        let looked = self.workers.end_to_look();
         let more = self.jobs().saturating_sub(taken).saturating_sub(1);
-        if looked <= 1 && (more >= MANY || more > 0 && self.is_away()) {
+        if looked <= 1 && (more >= PLENTY || more > 0 && self.is_away()) {
             self.call_worker();
         }
     }
@@ -290,16 +273,27 @@ impl Signals {
 
     /// A worker that looks sleeps, unless more jobs were put than this, and looks again after it. Where none were put, all
     /// lanes are marked.
-    pub fn await_job<R: Wait>(&self, rt: &R, seen: u64) {
+    pub fn await_job<R: Wait>(&self, rt: &R, seen: u64) -> Woken {
         self.jobs.add_sleeper();
-        self.looking.fetch_sub(1, Ordering::SeqCst);
-        self.called.store(0, Ordering::SeqCst);
+        self.workers.end_to_look();
+        self.workers.called.store(0, Ordering::SeqCst);
         self.jobs.sleep(rt, seen, LONGEST_SLEEP);
+        let woken = self.woken(seen);
+        self.workers.begin_to_look();
+        self.workers.called.store(0, Ordering::SeqCst);
+        woken
+    }
+
+    // Why a worker woke that slept since so many jobs were put.
+    fn woken(&self, seen: u64) -> Woken {
         if self.jobs() == seen {
             self.mark_all();
+            return Woken::ByItself;
         }
-        self.looking.fetch_add(1, Ordering::SeqCst);
-        self.called.store(0, Ordering::SeqCst);
+        if self.workers.early.swap(0, Ordering::SeqCst) > 0 {
+            return Woken::BeforeAJob;
+        }
+        Woken::ForJobs
     }
 
     /// How many answers were posted.
@@ -326,9 +320,9 @@ impl Signals {
     }
 
     /// Waits until more answers than this were posted: at first awake, then asleep. Where much is out, it sleeps at once,
-    /// until there are many, a millisecond at most. It may return early.
+    /// until there are many, a millisecond at most. Where that was too short, the front is away. It may return early.
     pub fn await_answer<R: Wait>(&self, rt: &R, seen: u64) {
-        self.begin_to_wait();
+        self.call_for_jobs();
         if self.outstanding() >= MANY {
             self.await_many(rt, seen.wrapping_add(MANY));
             return;
@@ -336,11 +330,13 @@ impl Signals {
         if self.answers.watch(seen, TURNS) > 0 {
             return;
         }
+        self.go_away();
         self.answers.add_sleeper();
         self.answers.sleep(rt, seen, LONGEST_SLEEP);
     }
 
-    // Sleeps until so many answers were posted, or a worker posts no more for now, or an answer may lie no longer.
+    // Sleeps until so many answers were posted, or a worker posts no more for now, or an answer may lie no longer. Where they
+    // are not there by then, the jobs take long, and the front is away.
     fn await_many<R: Wait>(&self, rt: &R, wanted: u64) {
         self.wanted.store(wanted, Ordering::SeqCst);
         self.answers.add_sleeper();
@@ -351,6 +347,9 @@ impl Signals {
             self.answers.end_sleep();
         }
         self.wanted.store(0, Ordering::SeqCst);
+        if self.answers() < wanted {
+            self.go_away();
+        }
     }
 
     /// A run was refused memory.

@@ -6,7 +6,6 @@ use feel_value::{Feel, Outcome, Value};
 use full_heap::FullHeap;
 use std::alloc::{AllocError, Global};
 use std::process::Abort;
-use std::sync::Arc;
 use std::test::Fail;
 
 fn number(rt: &impl Abort, n: i64) -> Feel {
@@ -136,7 +135,7 @@ fn ones(alloc: Global, count: usize) -> Result<Feel, Fail> {
     for _ in 0..count {
         numbers.push(Value::Number(1))?;
     }
-    Ok(Feel::of(Value::List(Arc::new(alloc, numbers)?)).ok_or("no list")?)
+    Ok(Feel::of(Value::list(alloc, numbers)?).ok_or("no list")?)
 }
 
 /// What the expression gives over these needs, while the heap gives nothing.

@@ -2,7 +2,7 @@
 use feel_lang::{Env, Held, holds, read_tests};
 use feel_value::{Feel, Value};
 use std::alloc::Global;
-use std::sync::{Arc, ArcStr};
+use std::sync::ArcStr;
 use std::test::Fail;
 
 /// The list of these numbers.
@@ -11,7 +11,7 @@ fn list(alloc: Global, numbers: &[i64]) -> Result<Value, Fail> {
     for n in numbers {
         values.push(Value::Number(*n))?;
     }
-    Ok(Value::List(Arc::new(alloc, values)?))
+    Ok(Value::list(alloc, values)?)
 }
 
 /// The list of so many ones.
@@ -20,7 +20,7 @@ fn ones(alloc: Global, count: usize) -> Result<Value, Fail> {
     for _ in 0..count {
         values.push(Value::Number(1))?;
     }
-    Ok(Value::List(Arc::new(alloc, values)?))
+    Ok(Value::list(alloc, values)?)
 }
 
 /// A context in which x is 1, y is 2 and list is the list of 3 and 4.
@@ -29,7 +29,7 @@ fn context(alloc: Global) -> Result<Value, Fail> {
     entries.push((ArcStr::from_str(alloc, "list")?, list(alloc, &[3, 4])?))?;
     entries.push((ArcStr::from_str(alloc, "x")?, Value::Number(1)))?;
     entries.push((ArcStr::from_str(alloc, "y")?, Value::Number(2)))?;
-    Ok(Value::Context(Arc::new(alloc, entries)?))
+    Ok(Value::context(alloc, entries)?)
 }
 
 fn bind(env: &mut Env, name: &str, value: Value) -> Result<(), Fail> {

@@ -4,7 +4,7 @@ mod refused;
 
 use feel_value::{Feel, Truth, Value, ValueFault, equal};
 use std::alloc::{AllocError, Global};
-use std::sync::{Arc, ArcStr};
+use std::sync::ArcStr;
 use std::test::Fail;
 
 /// The word for why a text is no value; out of memory has none.
@@ -110,7 +110,7 @@ fn named(alloc: Global, names: &[&str]) -> Result<Value, AllocError> {
     for name in names {
         entries.push((ArcStr::from_str(alloc, name)?, Value::Null))?;
     }
-    Ok(Value::Context(Arc::new(alloc, entries)?))
+    Value::context(alloc, entries)
 }
 
 const LISTS_OF_NAMES: &[(&[&str], bool)] = &[
@@ -141,7 +141,7 @@ fn contexts_by_hand(rt: HostRuntime) -> Result<(), Fail> {
 #[test]
 fn values_by_hand(rt: HostRuntime) -> Result<(), Fail> {
     let twice = named(rt.alloc(), &["a", "a"])?;
-    let inside = Value::List(Arc::new(rt.alloc(), vec![in rt.alloc(); twice]?)?);
+    let inside = Value::list(rt.alloc(), vec![in rt.alloc(); twice]?)?;
     assert!(rt; Feel::of(inside).is_none());
     assert!(rt; Feel::of(Value::Number(i64::MIN)).is_none());
     assert!(rt; Feel::of(Value::Number(-i64::MAX)).is_some());

@@ -3,7 +3,7 @@ use feel_value::{Feel, Truth, Value, equal};
 use full_heap::FullHeap;
 use std::alloc::{AllocError, Global};
 use std::process::Abort;
-use std::sync::{Arc, ArcStr};
+use std::sync::ArcStr;
 use std::test::Fail;
 
 const THREE: &[&[&str]] = &[
@@ -49,7 +49,7 @@ fn context(alloc: Global, names: &[&str], further: &[(&str, &str)]) -> Result<Va
     for (name, text) in further {
         entries.push(entry(alloc, name, text)?)?;
     }
-    Ok(Value::Context(Arc::new(alloc, entries)?))
+    Value::context(alloc, entries)
 }
 
 /// Whether contexts of the same entries in these orders are equal, each to each.
@@ -115,7 +115,7 @@ fn nested(alloc: Global, outer: &[&str], inner: &[&str]) -> Result<Value, AllocE
         let within = context(alloc, inner, &[("of", name)])?;
         entries.push((ArcStr::from_str(alloc, name)?, within))?;
     }
-    Ok(Value::Context(Arc::new(alloc, entries)?))
+    Value::context(alloc, entries)
 }
 
 #[test]

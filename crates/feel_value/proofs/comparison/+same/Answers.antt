@@ -1,10 +1,9 @@
 use Rattle.std.proofs.Common.{◌≡◌, ◌∙◌, sym, ap, ap₂, ◌+◌, ◌&&◌, ◌||◌, true, drop, Bor, arith}
 use Rattle.feel_value.specs.Limits.{depth, entries_depth}
-use Rattle.feel_value.specs.Logic.{decided, is_yes}
-use Rattle.feel_value.specs.Comparison.{equal, values_equal, names_within, has_entry}
+use Rattle.feel_value.specs.Logic.{is_yes}
+use Rattle.feel_value.specs.Comparison.{equal, values_equal, has_entry}
 use Rattle.feel_value.specs.Names.{IsByName, lent, same_names, pairs_equal}
 use Rattle.feel_value.specs.View.{datum_of, entries_view}
-use Rattle.feel_value.proofs.Views.{datum_of-Context}
 use Rattle.feel_value.proofs.Booleans.{and_true}
 use Rattle.feel_value.proofs.Entries.{Entry, entries_from}
 use Rattle.feel_value.proofs.Same.{other_length, has_entry-parts}
@@ -89,13 +88,3 @@ same_pairs-same_value-requires t c =
     let x = c.index-a-i.result in
     let less = lent_depth c.args.a.now c.loop-i.i x c.loop-i-test.true in
     (omega (arith, c.decreases, less, ap (λ (y : Bor Entry). depth (datum_of y.now.1)) c.index-a-i.is), tt)
-
-pub same_value-returns-in-Context-Context : goal.same_value-returns-in-Context-Context
-same_value-returns-in-Context-Context t c =
-    let xs = c.in-Context-Context.x.value.items in
-    let ys = c.in-Context-Context.y.value.items in
-    let x_is = ap (λ v. v.items) c.deref-in-Context-Context.ensures in
-    let y_is = ap (λ v. v.items) c.deref-in-Context-Context-2.ensures in
-    c.decided-in-Context-Context.ensures
-    ∙ ap decided (c.same_contexts.ensures ∙ ap₂ (λ us vs. values_equal (entries_view us) (entries_view vs) && names_within (entries_view vs) (entries_view us)) x_is y_is)
-    ∙ sym (ap₂ equal (ap datum_of c.in-Context-Context.is-0 ∙ datum_of-Context c.in-Context-Context.x) (ap datum_of c.in-Context-Context.is-1 ∙ datum_of-Context c.in-Context-Context.y))

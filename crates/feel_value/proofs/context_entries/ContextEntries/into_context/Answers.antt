@@ -1,7 +1,7 @@
-use Rattle.std.proofs.Common.{◌≡◌, ◌∙◌, sym, ap, subst, true, false, if◌then◌else◌}
+use Rattle.std.proofs.Common.{◌≡◌, ◌∙◌, sym, ap, true, false, if◌then◌else◌}
 use Rattle.feel_value.specs.Datum.{context, entries_of}
 use Rattle.feel_value.specs.Limits.{is_value}
-use Rattle.feel_value.specs.Sizes.{IsSizeOf}
+use Rattle.feel_value.specs.Sizes.{size}
 use Rattle.feel_value.specs.declared.feel.Outcome.TheVariants.{Is, Limit}
 use Rattle.feel_value.proofs.Entries.{entries_view-named}
 use Rattle.feel_value.proofs.Growth.{viewed_kept, viewed_value}
@@ -26,7 +26,7 @@ of_entries-requires c =
           ap (λ es. is_value (context es)) (entries_view-named xs ∙ ap entries_of c.self.view_is)
           ∙ viewed_value xs c.args.self c.self.inside.size c.self.view_is c.self.invariant
           ∙ sym c.names_differ.ensures ∙ c.if-not-names_differ.false;
-      size = subst (λ es. IsSizeOf c.self.inside.size (context es)) (sym (entries_view-named xs)) c.self.invariant.1.1;
+      size = c.self.invariant.1.1 ∙ ap (λ es. size (context es)) (sym (entries_view-named xs));
     }
 
 pub returns-in_err-value-clause-kept : goal.returns-in_err-value-clause-kept

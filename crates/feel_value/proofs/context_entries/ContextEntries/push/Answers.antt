@@ -5,11 +5,8 @@ use Rattle.feel_value.specs.Datum.{Datum, context, entries_of}
 use Rattle.feel_value.specs.Limits.{keeps_limits}
 use Rattle.feel_value.specs.Sizes.{IsContext}
 use Rattle.feel_value.specs.View.{named}
-use Rattle.feel_value.proofs.Growth.{context_small, context_kept, context_grown}
+use Rattle.feel_value.proofs.Growth.{context_kept, context_grown}
 use Rattle.feel_value.proofs.context_entries.ContextEntries.push.Goals as goal
-
-pub grown-requires : goal.grown-requires
-grown-requires c = context_small (map named c.self.inside.entries.items) c.self.inside.size c.self.invariant
 
 pub returns-in_default-clause-fits : goal.returns-in_default-clause-fits
 returns-in_default-clause-fits c =

@@ -4,11 +4,8 @@ use Rattle.feel_value.specs.Datum.{Datum, list, items_of}
 use Rattle.feel_value.specs.Limits.{is_value}
 use Rattle.feel_value.specs.Sizes.{IsList}
 use Rattle.feel_value.specs.View.{datum_of}
-use Rattle.feel_value.proofs.Growth.{list_small, list_kept, list_grown}
+use Rattle.feel_value.proofs.Growth.{list_kept, list_grown}
 use Rattle.feel_value.proofs.members.Members.push.Goals as goal
-
-pub grown-requires : goal.grown-requires
-grown-requires c = list_small (map datum_of c.self.inside.values.items) c.self.inside.size c.self.invariant
 
 pub returns-in_default-clause-fits : goal.returns-in_default-clause-fits
 returns-in_default-clause-fits c =

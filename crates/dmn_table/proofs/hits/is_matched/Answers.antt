@@ -12,7 +12,7 @@ use Rattle.dmn_table.specs.Hits.{is_satisfied}
 use Rattle.dmn_table.specs.Parts.{rule_view}
 use Rattle.dmn_table.proofs.Unbroken.{at_miss}
 use Rattle.dmn_table.proofs.ZipEnd.{at_zip_end}
-use Rattle.dmn_table.proofs.hits.does_hit.Goals as goal
+use Rattle.dmn_table.proofs.hits.is_matched.Goals as goal
 
 and_true : (b : Bool) → (b && true) ≡ b
 and_true true = refl
