@@ -5,6 +5,7 @@ use dmn_table::{Output, Rule, Table, decide};
 use feel_lang::{Env, Expr, Tests, read_expr, read_tests};
 use feel_value::{Feel, Outcome, Value};
 use std::alloc::{AllocError, Global};
+use std::sync::ArcStr;
 use std::time::{Clock, Instant};
 
 const ROUNDS: u32 = 1_000;
@@ -59,7 +60,7 @@ fn outputs(alloc: Global) -> Result<Vec<Output>, AllocError> {
     }
     let mut outputs = Vec::new(alloc);
     outputs.push(Output {
-        name: String::from_str(alloc, "r")?,
+        name: ArcStr::from_str(alloc, "r")?,
         values,
         fallback: None,
     })?;
@@ -92,7 +93,7 @@ fn columns(alloc: Global, count: u32) -> Result<Vec<Output>, AllocError> {
     let mut outputs = Vec::new(alloc);
     for i in 0..count {
         outputs.push(Output {
-            name: format!(in alloc; "column_{i:05}")?,
+            name: ArcStr::from_string(format!(in alloc; "column_{i:05}")?)?,
             values: Vec::new(alloc),
             fallback: None,
         })?;

@@ -5,5 +5,5 @@
 pub const VERSION: &str = concat!(
     "0.9.0\n",
     "proved with rattle-kit-13f logic dac8208d650f15bf\n",
-    "sources 7561405e615daaa7bf7ee534a2cf880d229d62dfebebd2e0401623223dc33a0c",
+    "sources 258cdd4da0fbe36d6043342b81d80294d3a208d8bdb0ef04e7ed3180693f2e6d",
 );

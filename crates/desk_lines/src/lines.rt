@@ -1,5 +1,5 @@
 //! Lines of a reader.
-ghost use Rattle.std.specs.Prelude.{◌≡◌, ℕ, ◌+◌, ◌<◌, ◌≤◌, List, [], ◌∷◌, ◌++◌, take, length, Option, Some, None, option_map, OnOk, OnErr, IfOk, IfErr, IfSome, IfNone, MatchResult, vec_len, unwrap_or, ◌==◌, ◌≢◌, ◌-◌, ◌^◌, min, nat_lt, false, IsTrue, Err, if◌then◌else◌, position};
+ghost use Rattle.std.specs.Prelude.{◌≡◌, ℕ, ◌+◌, ◌<◌, ◌≤◌, List, [], ◌∷◌, ◌++◌, take, length, Option, Some, None, option_map, OnOk, OnErr, IsOk, IfOk, IfErr, IfSome, IfNone, MatchResult, vec_len, unwrap_or, ◌==◌, ◌≢◌, ◌-◌, ◌^◌, min, nat_lt, false, IsTrue, Err, if◌then◌else◌, position};
 ghost use Rattle.std.specs.Io.KnownBytes.{Consumes, IsAtEnd};
 ghost use Rattle.desk_lines.specs.Device.{grown};
 ghost use Rattle.desk_lines.specs.Lines.{newline, kept_line, longer, heard, max_line, max_input, IsOneLine};
@@ -57,7 +57,9 @@ impl LineText {
 
     /// Adds a piece at the end. Of a line that grew too long there is nothing to see.
     pub fn add(&mut self, piece: &[u8]) -> Result<(), AllocError>
-        ensures { OnOk result (self.new ≡ longer self.old piece.now) }
+        ensures added { OnOk result (self.new ≡ longer self.old piece.now) }
+        ensures unchanged { OnErr result (self.new ≡ self.old) }
+        ensures long { longer self.old piece.now ≡ None → IsOk result }
     {
         if piece.len() > MAX_LINE - self.bytes.len() {
             self.is_long = true;

@@ -77,6 +77,7 @@ impl Unwritten {
         requires counts { (W.seen writer.old).faults < 2 ^ 64 - 1 }
         ensures said { OnOk result (Gathers
             (W.seen writer.old).contents (W.seen writer.new).contents self.old.bytes.items text.now self.new.bytes.items) }
+        ensures full { 65536 ≤ length self.old.bytes.items + length text.now → OnOk result (self.new.bytes.items ≡ []) }
         ensures part { (result ≡ Err FrontFault.Write) → (rest : List ℕ) × Gathers
             (W.seen writer.old).contents (W.seen writer.new).contents self.old.bytes.items text.now rest }
         ensures memory { (result ≡ Err FrontFault.Memory) → Gathers
@@ -98,6 +99,7 @@ impl Unwritten {
         ensures said { OnOk result (Gathers
             (W.seen writer.old).contents (W.seen writer.new).contents self.old.bytes.items text.now self.new.bytes.items) }
         ensures out { text.now ≡ [] → OnOk result (self.new.bytes.items ≡ []) }
+        ensures full { 65536 ≤ length self.old.bytes.items + length text.now → OnOk result (self.new.bytes.items ≡ []) }
         ensures part { (result ≡ Err FrontFault.Write) → (rest : List ℕ) × Gathers
             (W.seen writer.old).contents (W.seen writer.new).contents self.old.bytes.items text.now rest }
         ensures memory { (result ≡ Err FrontFault.Memory) → Gathers

@@ -1,7 +1,6 @@
 -- What may cross threads.
 use denote.Param.Send.{IsSend, IsSync, sendable, view_send, view_sync}
-use denote.Param.SendFields.{as_row_send, as_row_sync, declared_send, declared_sync}
-use denote.RattleType.{RattleType}
+use denote.Param.SendFields.{declared_send, declared_sync}
 use Rattle.std.proofs.Crossing.{crosses, Vec-send, Vec-sync, Arc-send, Arc-sync}
 use Rattle.std.proofs.MapsCrossing as maps
 use Rattle.std.proofs.option.Option.TheSendSync as option
@@ -9,12 +8,9 @@ use Rattle.feel_lang.proofs.expr.Operator.TheSendSync as operator
 use Rattle.feel_lang.proofs.expr.Function.TheSendSync as function
 use Rattle.feel_lang.proofs.unary.Bound.TheSendSync as bound
 use Rattle.dmn_table.proofs.hit_policy.HitPolicy.TheSendSync as policy
-use Rattle.feel_value.proofs.size.Size.TheSendSync as size
-use Rattle.feel_value.proofs.value.ValueContext.TheLaws.TheKnot as ValueKnot
-use Rattle.feel_value.specs.contracts.value.ValueContext.TheKnot as knot
+use Rattle.feel_value.proofs.Crossing.{Text-send, Text-sync, Value-send, Value-sync, Feel-send, Feel-sync}
 use Rattle.feel_lang.proofs.expr.Tree.TheLaws.TheKnot as TreeKnot
 use Rattle.feel_value.specs.contracts.feel.Feel as Feel
-use Rattle.feel_value.specs.contracts.feel.Feel.TheInside as FeelInside
 use Rattle.feel_lang.specs.contracts.constant.Constant as Constant
 use Rattle.feel_lang.specs.contracts.constant.Constant.TheInside as ConstantInside
 use Rattle.feel_lang.specs.contracts.expression.Expr as Expr
@@ -27,17 +23,13 @@ use Rattle.feel_lang.specs.contracts.reference.Reference as Reference
 use Rattle.feel_lang.specs.contracts.input_entry.Tests as Tests
 use Rattle.feel_lang.proofs.class.Class.TheSendSync as class
 use Rattle.feel_lang.proofs.ready.Span.TheSendSync as span
-use Rattle.feel_value.specs.contracts.value.Value as Value
 use Rattle.dmn_table.specs.contracts.classes.ClassRules as ClassRules
 use Rattle.dmn_table.specs.contracts.classes.ColumnClasses as ColumnClasses
 use Rattle.dmn_table.specs.contracts.table.Output as Output
 use Rattle.dmn_table.specs.contracts.table.Rule as Rule
 use Rattle.dmn_table.specs.contracts.table.Table as Table
 use Rattle.dmn_table.specs.contracts.table.Table.TheInside as TableInside
-use Rattle.std.specs.contracts.alloc.Global as Heap
-use Rattle.std.specs.contracts.impls.GlobalAllocator.TheImpl.{ghosts}
-use Rattle.std.specs.contracts.sync.Arc as Arc
-use Rattle.std.specs.contracts.sync.ArcStr as ArcStr
+use denote.Param.SendFields.{as_row_send, as_row_sync}
 use Rattle.dmn_logic.specs.contracts.logic.Logic as Logic
 use Rattle.dmn_logic.proofs.logic.Logic.TheLaws.TheKnot as LogicKnot
 use Rattle.dmn_service.specs.contracts.plan.Item as Item
@@ -46,50 +38,6 @@ use Rattle.dmn_plan.specs.contracts.plan.Plan as Plan
 use Rattle.dmn_plan.specs.contracts.plan.Plan.TheInside as PlanInside
 use Rattle.dmn_plan.specs.contracts.task.Task as Task
 use Rattle.dmn_plan.specs.contracts.task.Task.TheInside as TaskInside
-
-pub Text-send : IsSend (ArcStr.the_row Heap.the_row ghosts)
-Text-send = search (maps.String-send, maps.String-sync, Arc-send, sendable) depth 20
-
-pub Text-sync : IsSync (ArcStr.the_row Heap.the_row ghosts)
-Text-sync = search (maps.String-send, maps.String-sync, Arc-sync, sendable) depth 20
-
-Text-field-send : IsSend (ArcStr.the_field Heap.the_row ghosts).row
-Text-field-send = search (maps.String-send, maps.String-sync, Arc-send, sendable) depth 20
-
-Text-field-sync : IsSync (ArcStr.the_field Heap.the_row ghosts).row
-Text-field-sync = search (maps.String-send, maps.String-sync, Arc-sync, sendable) depth 20
-
-Arc-field-send : (T : RattleType) → IsSend T → IsSync T → IsSend (Arc.the_field T Heap.the_row ghosts).row
-Arc-field-send T s y = Arc-send T s y
-
-Arc-field-sync : (T : RattleType) → IsSend T → IsSync T → IsSync (Arc.the_field T Heap.the_row ghosts).row
-Arc-field-sync T s y = Arc-sync T s y
-
-ValueList-send : IsSend knot.hole-ValueList
-ValueList-send = search (Text-send, Text-sync, Vec-send, Vec-sync, Arc-send, Arc-sync, option.the_field_send, option.the_field_sync, size.the_send, size.the_sync, as_row_send, as_row_sync, ValueKnot.both_send-ValueList, sendable) depth 40 fits 200000
-
-ValueList-sync : IsSync knot.hole-ValueList
-ValueList-sync = search (Text-send, Text-sync, Vec-send, Vec-sync, Arc-send, Arc-sync, option.the_field_send, option.the_field_sync, size.the_send, size.the_sync, as_row_send, as_row_sync, ValueKnot.both_sync-ValueList, sendable) depth 40 fits 200000
-
-ValueContext-send : IsSend knot.hole-ValueContext
-ValueContext-send = search (Text-send, Text-sync, Vec-send, Vec-sync, Arc-send, Arc-sync, option.the_field_send, option.the_field_sync, size.the_send, size.the_sync, as_row_send, as_row_sync, ValueKnot.both_send-ValueContext, sendable) depth 40 fits 200000
-
-ValueContext-sync : IsSync knot.hole-ValueContext
-ValueContext-sync = search (Text-send, Text-sync, Vec-send, Vec-sync, Arc-send, Arc-sync, option.the_field_send, option.the_field_sync, size.the_send, size.the_sync, as_row_send, as_row_sync, ValueKnot.both_sync-ValueContext, sendable) depth 40 fits 200000
-
-pub Value-send : IsSend Value.the_row
-Value-send = as_row_send Value.the_field
-    (ValueKnot.both_send-Value (search sendable depth 20) (search sendable depth 20) Text-field-send (λ h s y. Arc-field-send h s y) ValueList-send ValueList-sync (λ h s y. Arc-field-send h s y) ValueContext-send ValueContext-sync)
-
-pub Value-sync : IsSync Value.the_row
-Value-sync = as_row_sync Value.the_field
-    (ValueKnot.both_sync-Value (search sendable depth 20) (search sendable depth 20) Text-field-sync (λ h s y. Arc-field-sync h s y) ValueList-send ValueList-sync (λ h s y. Arc-field-sync h s y) ValueContext-send ValueContext-sync)
-
-pub Feel-send : IsSend Feel.the_row
-Feel-send = view_send _ _ _ _ _ (declared_send FeelInside.the_type (Value-send, tt))
-
-pub Feel-sync : IsSync Feel.the_row
-Feel-sync = view_sync _ _ _ _ _ (declared_sync FeelInside.the_type (Value-sync, tt))
 
 pub ConstantInside-send : IsSend ConstantInside.the_row
 ConstantInside-send = declared_send ConstantInside.the_type (Feel-send, tt)
@@ -113,7 +61,7 @@ pub Tests-send : IsSend Tests.the_row
 Tests-send = search (Constant-send, Reference-send, Value-send, Vec-send, span.the_field_send, operator.the_field_send, function.the_field_send, bound.the_field_send, crosses, TreeKnot.crosses, sendable) depth 60 fits 20000
 
 pub Output-send : IsSend Output.the_row
-Output-send = declared_send Output.the_type (maps.String-send, (Vec-send Feel.the_row Feel-send, (option.the_send Expr.the_row Expr-send, tt)))
+Output-send = declared_send Output.the_type (Text-send, (Vec-send Feel.the_row Feel-send, (option.the_send Expr.the_row Expr-send, tt)))
 
 pub Rule-send : IsSend Rule.the_row
 Rule-send = declared_send Rule.the_type (Vec-send Tests.the_row Tests-send, (Vec-send Expr.the_row Expr-send, tt))
@@ -152,7 +100,7 @@ pub Tests-sync : IsSync Tests.the_row
 Tests-sync = search (Constant-sync, Reference-sync, Value-sync, Vec-sync, span.the_field_sync, operator.the_field_sync, function.the_field_sync, bound.the_field_sync, crosses, TreeKnot.crosses, sendable) depth 60 fits 20000
 
 pub Output-sync : IsSync Output.the_row
-Output-sync = declared_sync Output.the_type (maps.String-sync, (Vec-sync Feel.the_row Feel-sync, (option.the_sync Expr.the_row Expr-sync, tt)))
+Output-sync = declared_sync Output.the_type (Text-sync, (Vec-sync Feel.the_row Feel-sync, (option.the_sync Expr.the_row Expr-sync, tt)))
 
 pub Rule-sync : IsSync Rule.the_row
 Rule-sync = declared_sync Rule.the_type (Vec-sync Tests.the_row Tests-sync, (Vec-sync Expr.the_row Expr-sync, tt))
@@ -170,7 +118,7 @@ pub Table-sync : IsSync Table.the_row
 Table-sync = view_sync _ _ _ _ _ TableInside-sync
 
 pub Logic-send : IsSend Logic.the_row
-Logic-send = search (Expr-send, Table-send, crosses, LogicKnot.crosses, sendable) depth 60 fits 20000
+Logic-send = search (Text-send, Expr-send, Table-send, crosses, LogicKnot.crosses, sendable) depth 60 fits 20000
 
 pub Need-send : IsSend Need.the_row
 Need-send = declared_send Need.the_type (Name-send, ((search (sendable, crosses) depth 20), tt))
@@ -182,7 +130,7 @@ pub Needs-send : IsSend Needs.the_row
 Needs-send = view_send _ _ _ _ _ NeedsInside-send
 
 pub Item-send : IsSend Item.the_row
-Item-send = declared_send Item.the_type (maps.String-send, (search (sendable, crosses) depth 20, (Needs-send, (option.the_send Logic.the_row Logic-send, tt))))
+Item-send = declared_send Item.the_type (Text-send, (search (sendable, crosses) depth 20, (Needs-send, (option.the_send Logic.the_row Logic-send, tt))))
 
 pub PlanInside-send : IsSend PlanInside.the_row
 PlanInside-send = declared_send PlanInside.the_type (maps.String-send, (Vec-send Item.the_row Item-send, ((search (maps.BTreeMap-send, maps.String-send, service.the_send, as_row_send) depth 20 fits 20000), tt)))
@@ -191,7 +139,7 @@ pub Plan-send : IsSend Plan.the_row
 Plan-send = view_send _ _ _ _ _ PlanInside-send
 
 pub Logic-sync : IsSync Logic.the_row
-Logic-sync = search (Expr-sync, Table-sync, crosses, LogicKnot.crosses, sendable) depth 60 fits 20000
+Logic-sync = search (Text-sync, Expr-sync, Table-sync, crosses, LogicKnot.crosses, sendable) depth 60 fits 20000
 
 pub Need-sync : IsSync Need.the_row
 Need-sync = declared_sync Need.the_type (Name-sync, ((search (sendable, crosses) depth 20), tt))
@@ -203,7 +151,7 @@ pub Needs-sync : IsSync Needs.the_row
 Needs-sync = view_sync _ _ _ _ _ NeedsInside-sync
 
 pub Item-sync : IsSync Item.the_row
-Item-sync = declared_sync Item.the_type (maps.String-sync, (search (sendable, crosses) depth 20, (Needs-sync, (option.the_sync Logic.the_row Logic-sync, tt))))
+Item-sync = declared_sync Item.the_type (Text-sync, (search (sendable, crosses) depth 20, (Needs-sync, (option.the_sync Logic.the_row Logic-sync, tt))))
 
 pub PlanInside-sync : IsSync PlanInside.the_row
 PlanInside-sync = declared_sync PlanInside.the_type (maps.String-sync, (Vec-sync Item.the_row Item-sync, ((search (maps.BTreeMap-sync, maps.String-sync, service.the_sync, as_row_sync) depth 20 fits 20000), tt)))

@@ -1,5 +1,6 @@
 -- What is told from the outcomes at the places of a plan is what is told from those that its names stand for.
-use Rattle.std.proofs.Common.{◌≡◌, ◌≢◌, ◌∙◌, sym, ap, ap₂, refl, subst, ℕ, suc, ◌+◌, ◌<◌, ◌⊎◌, inl, inr, List, [], ◌∷◌, map, length, get_or, drop, true, false, ◌||◌, Option, None, Some, option_map, string_bytes, arith}
+use Rattle.std.proofs.Common.{◌≡◌, ◌≢◌, ◌∙◌, sym, ap, ap₂, refl, subst, ℕ, suc, ◌+◌, ◌<◌, ◌⊎◌, inl, inr, List, [], ◌∷◌, map, length, get_or, drop, true, false, ◌||◌, Option, None, Some, option_map, arith}
+use Rattle.std.specs.Arc.{arc_str_bytes}
 use Rattle.std.specs.Prelude.{nat_eq, codes}
 use Rattle.std.specs.List.{list_any, All, slice_get}
 use Rattle.std.proofs.lemmas.Bool.Decides.{eqb_tells}
@@ -70,9 +71,9 @@ module _ (outcome : Name → Outcome) (items : List Item) (found : List Outcome)
       ∙ ap (λ (r : Option Bindings). (found_at found q >>= λ v. Some (name_at items q, v)) >>= λ b. r >>= λ bs. Some (b ∷ bs)) (bindings_same qs h.1)
 
   -- the value at a place is that of its item's name
-  value_here : (q : ℕ) (x : Item) → Inside q → slice_get items q ≡ Some x → Stands q → value_of (outcome (string_bytes x.name)) ≡ found_at found q
+  value_here : (q : ℕ) (x : Item) → Inside q → slice_get items q ≡ Some x → Stands q → value_of (outcome (arc_str_bytes x.name)) ≡ found_at found q
   value_here q x inside there stands =
-      let named : name_at items q ≡ string_bytes x.name = name_here items q x inside ∙ ap (λ (y : Item). string_bytes y.name) (get_or_from_slice_get items q x x there) in
+      let named : name_at items q ≡ arc_str_bytes x.name = name_here items q x inside ∙ ap (λ (y : Item). arc_str_bytes y.name) (get_or_from_slice_get items q x x there) in
       ap (λ n. value_of (outcome n)) (sym named) ∙ sym stands
 
   decided_item : (q : ℕ) (x : Item) → Inside q → slice_get items q ≡ Some x → Stands q → Each Stands x.needs.items → x.named ≡ named_places (name_at items) x.needs.items
@@ -80,12 +81,12 @@ module _ (outcome : Name → Outcome) (items : List Item) (found : List Outcome)
   decided_item q x inside there stands needs named = by_logic x.logic
     where
       by_logic : (o : Option Logic)
-          → option_map (decision_told outcome) (option_map (λ l. record { name = string_bytes x.name; needs = map (name_at items) x.needs.items; logic = logic_view l }) o)
+          → option_map (decision_told outcome) (option_map (λ l. record { name = arc_str_bytes x.name; needs = map (name_at items) x.needs.items; logic = logic_view l }) o)
           ≡ option_map (λ l. decided_here found x q (logic_view l)) o
       by_logic None = refl
       by_logic (Some l) =
-          ap (λ (v : Option Datum). Some (named_as (string_bytes x.name) v (how_under (bindings_to outcome (map (name_at items) x.needs.items)) (logic_view l)))) (value_here q x inside there stands)
-          ∙ ap (λ (bs : Option Bindings). Some (named_as (string_bytes x.name) (found_at found q) (how_under bs (logic_view l))))
+          ap (λ (v : Option Datum). Some (named_as (arc_str_bytes x.name) v (how_under (bindings_to outcome (map (name_at items) x.needs.items)) (logic_view l)))) (value_here q x inside there stands)
+          ∙ ap (λ (bs : Option Bindings). Some (named_as (arc_str_bytes x.name) (found_at found q) (how_under bs (logic_view l))))
           (bindings_same x.needs.items needs ∙ ap (bindings_from found) (sym named))
 
   given_item : (q : ℕ) (x : Item) → Inside q → slice_get items q ≡ Some x → Stands q
@@ -93,10 +94,10 @@ module _ (outcome : Name → Outcome) (items : List Item) (found : List Outcome)
   given_item q x inside there stands = by_logic x.logic
     where
       by_logic : (o : Option Logic)
-          → option_map (given_told outcome) (option_map (λ l. record { name = string_bytes x.name; needs = map (name_at items) x.needs.items; logic = logic_view l }) o)
+          → option_map (given_told outcome) (option_map (λ l. record { name = arc_str_bytes x.name; needs = map (name_at items) x.needs.items; logic = logic_view l }) o)
           ≡ option_map (λ l. given_here found x q) o
       by_logic None = refl
-      by_logic (Some l) = ap (λ (v : Option Datum). Some (object (member (codes "name") (string (string_bytes x.name)) (valued (codes "given") v no_members)))) (value_here q x inside there stands)
+      by_logic (Some l) = ap (λ (v : Option Datum). Some (object (member (codes "name") (string (arc_str_bytes x.name)) (valued (codes "given") v no_members)))) (value_here q x inside there stands)
 
   given_at_place : (q : ℕ) → Inside q → Stands q → option_map (given_told outcome) (decision_at items q) ≡ (slice_get items q >>= item_told (λ x q b. given_here found x q) q)
   given_at_place q inside stands = go (slice_get items q) refl

@@ -1,5 +1,6 @@
 -- The members of a list and the entries of a context, as they are told one after another.
-use Rattle.std.proofs.Common.{◌≡◌, ℕ, ◌+◌, ◌<◌, ◌≤◌, Bool, true, false, List, refl, Vec, Box, Global, if◌then◌else◌, [], ◌∷◌, ◌++◌, length, get_or, drop, sym, ap, ◌∙◌, Option, None, Some, string_bytes}
+use Rattle.std.proofs.Common.{◌≡◌, ℕ, ◌+◌, ◌<◌, ◌≤◌, Bool, true, false, List, refl, Vec, Box, Global, if◌then◌else◌, [], ◌∷◌, ◌++◌, length, get_or, drop, sym, ap, ◌∙◌, Option, None, Some}
+use Rattle.std.specs.Arc.{arc_str_bytes}
 use Rattle.std.proofs.lemmas.List.{at_drop_more, drop_all}
 use Rattle.std.specs.Prelude.{codes}
 use Rattle.std.proofs.lemmas.Option.{same_Some}
@@ -28,7 +29,7 @@ abbrev pub member_told : Logic → Bindings → Data
 member_told x m = told_as (value_of (boxed (logic_view x) m)) (how (logic_view x) m)
 
 abbrev pub entry_told : Named → Bindings → Data
-entry_told x m = named_as (string_bytes x.0) (value_of (boxed (logic_view x.1) m)) (how (logic_view x.1) m)
+entry_told x m = named_as (arc_str_bytes x.0) (value_of (boxed (logic_view x.1) m)) (how (logic_view x.1) m)
 
 members_here : (m : Bindings) (xs : List Logic) (i : ℕ) (x : Logic) (o : Outcome) → x ≡ get_or xs i x → i < length xs → o ≡ boxed (logic_view x) m
     → members_told (members_view (drop i xs)) m ≡ item (member_told x m) (items_from (λ (d : Datum). members_told (members_view (drop (i + 1) xs)) m) (value_of o))
@@ -39,11 +40,11 @@ members_here m xs i x o e h b =
 
 entries_from : (m : Bindings) (xs : List Named) (i : ℕ) (x : Named) (o : Outcome) → x ≡ get_or xs i x → i < length xs → o ≡ boxed (logic_view x.1) m
     → entries_told (entries_view (drop i xs)) m
-    ≡ item (entry_told x m) (items_from (λ (d : Datum). entries_told (entries_view (drop (i + 1) xs)) (m ++ (string_bytes x.0, d) ∷ [])) (value_of o))
+    ≡ item (entry_told x m) (items_from (λ (d : Datum). entries_told (entries_view (drop (i + 1) xs)) (m ++ (arc_str_bytes x.0, d) ∷ [])) (value_of o))
 entries_from m xs i x o e h b =
     at_drop_more (λ (ys : List Named). entries_told (entries_view ys) m) xs i x h
-    ∙ ap (λ (y : Named). entries_told (entry (string_bytes y.0) (logic_view y.1) (entries_view (drop (i + 1) xs))) m) (sym e)
-    ∙ ap (λ p. item (entry_told x m) (items_from (λ (d : Datum). entries_told (entries_view (drop (i + 1) xs)) (m ++ (string_bytes x.0, d) ∷ [])) (value_of p))) (sym b)
+    ∙ ap (λ (y : Named). entries_told (entry (arc_str_bytes y.0) (logic_view y.1) (entries_view (drop (i + 1) xs))) m) (sym e)
+    ∙ ap (λ p. item (entry_told x m) (items_from (λ (d : Datum). entries_told (entries_view (drop (i + 1) xs)) (m ++ (arc_str_bytes x.0, d) ∷ [])) (value_of p))) (sym b)
 
 module _ (whole t t1 t2 : List ℕ) (later : Bool) (m : Bindings) (i : ℕ) (comma : t1 ≡ t ++ comma_if later) where
   module _ (xs : List Logic) (x : Logic) (before : t ++ items_text later (members_told (members_view (drop i xs)) m) ≡ whole) (here : x ≡ get_or xs i x) (more : i < length xs)
@@ -58,7 +59,7 @@ module _ (whole t t1 t2 : List ℕ) (later : Bool) (m : Bindings) (i : ℕ) (com
 
   module _ (xs : List Named) (x : Named) (before : t ++ items_text later (entries_told (entries_view (drop i xs)) m) ≡ whole) (here : x ≡ get_or xs i x) (more : i < length xs)
       (added : t2 ≡ t1 ++ compact_text (entry_told x m)) where
-    pub entry_more : (d : Datum) → Is d ≡ boxed (logic_view x.1) m → t2 ++ items_text true (entries_told (entries_view (drop (i + 1) xs)) (m ++ (string_bytes x.0, d) ∷ [])) ≡ whole
+    pub entry_more : (d : Datum) → Is d ≡ boxed (logic_view x.1) m → t2 ++ items_text true (entries_told (entries_view (drop (i + 1) xs)) (m ++ (arc_str_bytes x.0, d) ∷ [])) ≡ whole
     entry_more d b = row_more whole t t1 t2 later _ _ _ before (entries_from m xs i x (Is d) here more b) comma added
 
     pub entry_last : (t3 : List ℕ) → Limit ≡ boxed (logic_view x.1) m → t3 ≡ t2 ++ 93 ∷ [] → t3 ≡ whole

@@ -1,5 +1,6 @@
 -- Internal: no public contract cites these words. The explanation from what was found at the places of a plan.
-use Rattle.std.specs.Prelude.{ℕ, List, [], ◌∷◌, codes, string_bytes, Option, option_map}
+use Rattle.std.specs.Prelude.{ℕ, List, [], ◌∷◌, codes, Option, option_map}
+use Rattle.std.specs.Arc.{arc_str_bytes}
 use Rattle.std.specs.List.{slice_get}
 use Rattle.serde_json.specs.Data.{Data, string, object, Items, no_items, member, no_members}
 use Rattle.feel_value.specs.Found.{◌>>=◌}
@@ -15,10 +16,10 @@ use Rattle.dmn_explain.specs.Explanation.{how_under, item_if}
 
 -- what is said of an item with this logic at this place, from the outcomes at the places
 abbrev pub decided_here : List Outcome → Item → ℕ → Boxed Expr Table → Data
-decided_here found x q b = named_as (string_bytes x.name) (found_at found q) (how_under (bindings_from found x.named) b)
+decided_here found x q b = named_as (arc_str_bytes x.name) (found_at found q) (how_under (bindings_from found x.named) b)
 
 abbrev pub given_here : List Outcome → Item → ℕ → Data
-given_here found x q = object (member (codes "name") (string (string_bytes x.name)) (valued (codes "given") (found_at found q) no_members))
+given_here found x q = object (member (codes "name") (string (arc_str_bytes x.name)) (valued (codes "given") (found_at found q) no_members))
 
 -- nothing is said of an input
 abbrev pub item_told : (Item → ℕ → Boxed Expr Table → Data) → ℕ → Item → Option Data

@@ -1,7 +1,7 @@
 //! How boxed expressions came to their outcomes.
 //!
 //! Each part is evaluated again where it is told, so a part that lies in others is evaluated once for each of these.
-ghost use Rattle.std.specs.Prelude.{◌≡◌, ◌++◌, Some, None, OnOk, IfOk, true, if◌then◌else◌, take, length, string_bytes};
+ghost use Rattle.std.specs.Prelude.{◌≡◌, ◌++◌, Some, None, OnOk, IfOk, true, if◌then◌else◌, take, length};
 ghost use Rattle.serde_json.specs.Data.{array};
 ghost use Rattle.serde_json.specs.Written.{compact_text, members_text};
 ghost use Rattle.feel_value.specs.Found.{value_of};
@@ -20,15 +20,16 @@ use dmn_logic::{Logic, evaluate};
 use feel_lang::Env;
 use feel_value::Outcome;
 use std::alloc::{AllocError, Global};
+use std::sync::ArcStr;
 
 /// Adds how a boxed expression comes to its outcome, as the last members of an object, with its end.
 ///
 /// The environment is the same afterwards, also where memory is refused. It goes as deep as the expression is.
 #[cycle(add_how)]
-pub(crate) fn add_how(
+pub(crate) fn add_how<'a>(
     alloc: Global,
-    logic: &Logic,
-    env: &mut Env,
+    logic: &'a Logic,
+    env: &mut Env<'a>,
     text: &mut Vec<u8>,
 ) -> Result<(), AllocError>
     ensures text { OnOk result (text.new.items ≡ text.old.items ++ members_text true (how (logic_view logic.now) env.old)) }
@@ -61,10 +62,10 @@ pub(crate) fn add_how(
 
 /// Adds a boxed expression's value, and how it comes to that, as an object; and gives its outcome.
 #[cycle(add_how)]
-fn add_told(
+fn add_told<'a>(
     alloc: Global,
-    logic: &Logic,
-    env: &mut Env,
+    logic: &'a Logic,
+    env: &mut Env<'a>,
     text: &mut Vec<u8>,
 ) -> Result<Outcome, AllocError>
     ensures text { OnOk result (text.new.items ≡ text.old.items ++ compact_text (told_as (value_of (boxed (logic_view logic.now) env.old)) (how (logic_view logic.now) env.old))) }
@@ -80,10 +81,10 @@ fn add_told(
 
 /// Adds the members of a list as the last member of an object, with its end.
 #[cycle(add_how)]
-fn add_list(
+fn add_list<'a>(
     alloc: Global,
-    members: &[Logic],
-    env: &mut Env,
+    members: &'a [Logic],
+    env: &mut Env<'a>,
     text: &mut Vec<u8>,
 ) -> Result<(), AllocError>
     ensures text { OnOk result (text.new.items ≡ text.old.items ++ members_text true (how (list (members_view members.now)) env.old)) }
@@ -97,10 +98,10 @@ fn add_list(
 
 /// Adds the members of a list, up to the first that breaks a limit.
 #[cycle(add_how)]
-fn add_members(
+fn add_members<'a>(
     alloc: Global,
-    members: &[Logic],
-    env: &mut Env,
+    members: &'a [Logic],
+    env: &mut Env<'a>,
     text: &mut Vec<u8>,
 ) -> Result<(), AllocError>
     ensures text { OnOk result (text.new.items ≡ text.old.items ++ compact_text (array (members_told (members_view members.now) env.old))) }
@@ -122,10 +123,10 @@ fn add_members(
 
 /// Adds the entries of a context as the last member of an object, with its end.
 #[cycle(add_how)]
-fn add_context(
+fn add_context<'a>(
     alloc: Global,
-    entries: &[(String, Logic)],
-    env: &mut Env,
+    entries: &'a [(ArcStr, Logic)],
+    env: &mut Env<'a>,
     text: &mut Vec<u8>,
 ) -> Result<(), AllocError>
     ensures text { OnOk result (text.new.items ≡ text.old.items ++ members_text true (how (context (entries_view entries.now)) env.old)) }
@@ -141,11 +142,11 @@ fn add_context(
 
 /// Ends the object of a context behind its entries: with its result, where all of them have values.
 #[cycle(add_how)]
-fn add_result(
+fn add_result<'a>(
     alloc: Global,
     all: bool,
-    last: &Logic,
-    env: &mut Env,
+    last: &'a Logic,
+    env: &mut Env<'a>,
     text: &mut Vec<u8>,
 ) -> Result<(), AllocError>
     ensures text { OnOk result (text.new.items ≡ text.old.items ++ result_text all (logic_view last.now) env.old) }
@@ -164,10 +165,10 @@ fn add_result(
 /// Adds the member of a context's entries, up to the first that breaks a limit; false where one does. The entries stay bound
 /// behind the outer names.
 #[cycle(add_how)]
-fn add_entries(
+fn add_entries<'a>(
     alloc: Global,
-    entries: &[(String, Logic)],
-    env: &mut Env,
+    entries: &'a [(ArcStr, Logic)],
+    env: &mut Env<'a>,
     text: &mut Vec<u8>,
 ) -> Result<bool, AllocError>
     ensures text { OnOk result (text.new.items ≡ text.old.items ++ entries_text (entries_told (entries_view entries.now) env.old)) }
@@ -183,7 +184,7 @@ fn add_entries(
             text.push(b']')?;
             return Ok(false);
         };
-        env.bind(name.as_str(), value)?;
+        env.bind_lent(name.as_str(), value)?;
         later = true;
     }
     text.push(b']')?;
@@ -192,11 +193,11 @@ fn add_entries(
 
 /// Adds an entry of a context with its name, its value and how it comes to that; and gives its outcome.
 #[cycle(add_how)]
-fn add_entry(
+fn add_entry<'a>(
     alloc: Global,
     name: &str,
-    logic: &Logic,
-    env: &mut Env,
+    logic: &'a Logic,
+    env: &mut Env<'a>,
     text: &mut Vec<u8>,
 ) -> Result<Outcome, AllocError>
     ensures text { OnOk result (text.new.items ≡ text.old.items ++ compact_text (named_as name.now (value_of (boxed (logic_view logic.now) env.old)) (how (logic_view logic.now) env.old))) }

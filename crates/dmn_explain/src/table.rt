@@ -6,13 +6,13 @@ ghost use Rattle.feel_value.specs.Datum.{list, items_of};
 ghost use Rattle.feel_value.specs.Found.{outcome_from};
 ghost use Rattle.feel_value.specs.Json.{json_of};
 ghost use Rattle.dmn_table.specs.Hits.{output_of as output_from, values_of};
-ghost use Rattle.dmn_table.specs.Parts.{column_view, rule_view};
+ghost use Rattle.dmn_table.specs.Parts.{rule_view};
 ghost use Rattle.dmn_explain.specs.How.{hit_told, hits_told, hits_and_defaults, table_told, takes_defaults};
 ghost use Rattle.dmn_explain.specs.Numbered.{hit_view, hits_from};
 
 use crate::key::{Key, add_comma, add_key};
 use crate::value::add_valued;
-use dmn_table::{Output, Rule, Table, does_hit, evaluated, has_no_default, one_or_context};
+use dmn_table::{Rule, Table, does_hit, evaluated, has_no_default};
 use feel_lang::Env;
 use feel_value::{Feel, Outcome};
 use json_writer::{add_number, add_value};
@@ -63,17 +63,12 @@ fn add_values(alloc: Global, values: &[Feel], text: &mut Vec<u8>) -> Result<(), 
     Ok(())
 }
 
-/// The output of a rule.
-fn output_of(
-    alloc: Global,
-    rule: &Rule,
-    outputs: &[Output],
-    env: &Env,
-) -> Result<Outcome, AllocError>
-    ensures { IfOk result (λ o. o ≡ outcome_from (output_from (map column_view outputs.now)) (values_of env.now (rule_view rule.now).gives)) }
+/// The output of a rule of the table.
+fn output_of(alloc: Global, rule: &Rule, table: &Table, env: &Env) -> Result<Outcome, AllocError>
+    ensures { IfOk result (λ o. o ≡ outcome_from (output_from table.now.outputs) (values_of env.now (rule_view rule.now).gives)) }
 {
     match evaluated(alloc, &rule.gives, env)? {
-        Some(values) => one_or_context(alloc, outputs, values),
+        Some(values) => table.one_or_context(alloc, values),
         None => Ok(Outcome::Limit),
     }
 }
@@ -82,13 +77,13 @@ fn output_of(
 fn add_hit(
     alloc: Global,
     hit: &Hit<'_>,
-    outputs: &[Output],
+    table: &Table,
     env: &Env,
     text: &mut Vec<u8>,
 ) -> Result<(), AllocError>
-    ensures { OnOk result (text.new.items ≡ text.old.items ++ compact_text (hit_told (map column_view outputs.now) env.now (hit_view hit.now))) }
+    ensures { OnOk result (text.new.items ≡ text.old.items ++ compact_text (hit_told table.now.outputs env.now (hit_view hit.now))) }
 {
-    let output = output_of(alloc, hit.rule, outputs, env)?;
+    let output = output_of(alloc, hit.rule, table, env)?;
     text.push(b'{')?;
     add_key(false, Key::Rule, text)?;
     add_number(hit.number as u64, text)?;
@@ -101,17 +96,17 @@ fn add_hit(
 fn add_hits(
     alloc: Global,
     hits: &[Hit<'_>],
-    outputs: &[Output],
+    table: &Table,
     env: &Env,
     text: &mut Vec<u8>,
 ) -> Result<(), AllocError>
-    ensures { OnOk result (text.new.items ≡ text.old.items ++ compact_text (array (hits_told (map column_view outputs.now) env.now (map hit_view hits.now)))) }
+    ensures { OnOk result (text.new.items ≡ text.old.items ++ compact_text (array (hits_told table.now.outputs env.now (map hit_view hits.now)))) }
 {
     let mut later = false;
     text.push(b'[')?;
     for hit in hits {
         add_comma(later, text)?;
-        add_hit(alloc, hit, outputs, env, text)?;
+        add_hit(alloc, hit, table, env, text)?;
         later = true;
     }
     text.push(b']')?;
@@ -119,10 +114,10 @@ fn add_hits(
 }
 
 /// Whether the defaults stand in for these hits.
-fn are_default(outputs: &[Output], hits: &[Hit<'_>]) -> bool
-    ensures { result ≡ takes_defaults (map column_view outputs.now) (map hit_view hits.now) }
+fn are_default(table: &Table, hits: &[Hit<'_>]) -> bool
+    ensures { result ≡ takes_defaults table.now.outputs (map hit_view hits.now) }
 {
-    hits.is_empty() && !has_no_default(outputs)
+    hits.is_empty() && !has_no_default(table.outputs())
 }
 
 /// Adds a boolean.
@@ -140,16 +135,16 @@ fn add_bool(truth: bool, text: &mut Vec<u8>) -> Result<(), AllocError>
 fn add_hits_and_defaults(
     alloc: Global,
     hits: &[Hit<'_>],
-    outputs: &[Output],
+    table: &Table,
     env: &Env,
     text: &mut Vec<u8>,
 ) -> Result<(), AllocError>
-    ensures { OnOk result (text.new.items ≡ text.old.items ++ members_text true (hits_and_defaults (map column_view outputs.now) env.now (map hit_view hits.now))) }
+    ensures { OnOk result (text.new.items ≡ text.old.items ++ members_text true (hits_and_defaults table.now.outputs env.now (map hit_view hits.now))) }
 {
     add_key(true, Key::Hits, text)?;
-    add_hits(alloc, hits, outputs, env, text)?;
+    add_hits(alloc, hits, table, env, text)?;
     add_key(true, Key::Defaults, text)?;
-    add_bool(are_default(outputs, hits), text)?;
+    add_bool(are_default(table, hits), text)?;
     text.push(b'}')?;
     Ok(())
 }
@@ -175,5 +170,5 @@ pub(crate) fn add_table(
         text.push(b'}')?;
         return Ok(());
     };
-    add_hits_and_defaults(alloc, &hits, table.outputs(), env, text)
+    add_hits_and_defaults(alloc, &hits, table, env, text)
 }

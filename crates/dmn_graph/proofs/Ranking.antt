@@ -9,7 +9,7 @@ use Rattle.std.proofs.lemmas.List.Sorted.{list_any-IsPermutation}
 use Rattle.std.proofs.lemmas.Map.Keys.{IsDistinct-IsPermutation}
 use Rattle.dmn_graph.specs.Reach as reach
 use Rattle.dmn_graph.specs.Reach.{has_same, reached, Each, IsInOrder}
-use Rattle.dmn_graph.specs.Needs.{needs_of, count_needing, IsOrderOf, DoRanksFall}
+use Rattle.dmn_graph.specs.Needs.{needs_of, count_needing, IsOrderOf, AreRanks, DoRanksFall}
 use Rattle.dmn_graph.specs.Within.{needs_within, IsReachOf}
 use Rattle.dmn_graph.specs.Members.{IsIn}
 use Rattle.dmn_graph.proofs.Members.{is_in, among, not_in, equal_or_not}
@@ -139,11 +139,11 @@ place_at q [] h = absurd h
 place_at q (x ∷ xs) (inl e) = (0, omega arith, sym e)
 place_at q (x ∷ xs) (inr h) = let w = place_at q xs h in (suc w.0, let l = w.1 in omega arith, w.2)
 
--- each place of an order has its place there as its rank
-abbrev pub AreRanks : List ℕ → List ℕ → ℕ → Type 0
-AreRanks order ranks upto = (k : ℕ) → k < upto → get_or ranks (get_or order k 0) 0 ≡ k
+-- each of the first so many places of an order has where it stands there as its rank
+abbrev pub AreFirstRanks : List ℕ → List ℕ → ℕ → Type 0
+AreFirstRanks order ranks upto = (k : ℕ) → k < upto → get_or ranks (get_or order k 0) 0 ≡ k
 
-pub ranks_fall : (needs : List (List ℕ)) (order ranks : List ℕ) → IsOrderOf needs order → AreRanks order ranks (length order) → DoRanksFall needs ranks
+pub ranks_fall : (needs : List (List ℕ)) (order ranks : List ℕ) → IsOrderOf needs order → AreRanks order ranks → DoRanksFall needs ranks
 ranks_fall needs order ranks o are x q h =
     let needed = is_in nat_eq Decides-eqb q (needs_of needs x) h in
     let j = place_at x order (is_in nat_eq Decides-eqb x order (o.every x (needs_past needs x q needed))) in
@@ -165,7 +165,7 @@ rank_within needs order ranks i o sized l = let b = o.only (get_or order i 0) (a
 
 -- one more rank is written
 pub ranks_more : (needs : List (List ℕ)) (order ranks : List ℕ) (i : ℕ) → IsOrderOf needs order → length ranks ≡ length needs → i < length order
-    → AreRanks order ranks i → AreRanks order (slice_set ranks (get_or order i 0) i) (i + 1)
+    → AreFirstRanks order ranks i → AreFirstRanks order (slice_set ranks (get_or order i 0) i) (i + 1)
 ranks_more needs order ranks i o sized l are k m = elim (cases_lt k i) [
   | inl b ↦ get_or-set_other ranks (get_or order i 0) (get_or order k 0) i 0 (apart_at order k i o.once b l) ∙ are k b
   | inr g ↦ (let e : k ≡ i = omega arith in

@@ -42,3 +42,7 @@ pub record IsOrderOf (needs : List (List ℕ)) (order : List ℕ) : Type 0 where
 -- each place has a higher rank than all that it needs
 abbrev pub DoRanksFall : List (List ℕ) → List ℕ → Type 0
 DoRanksFall needs ranks = (x q : ℕ) → has_same nat_eq (needs_of needs x) q ≡ true → slice_index ranks q < slice_index ranks x
+
+-- each place of an order has where it stands there as its rank
+abbrev pub AreRanks : List ℕ → List ℕ → Type 0
+AreRanks order ranks = (k : ℕ) → k < length order → slice_index ranks (slice_index order k) ≡ k

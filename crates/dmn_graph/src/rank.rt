@@ -1,8 +1,8 @@
 //! The rank of each place in an order, and orders of some of the places by rank.
-ghost use Rattle.std.specs.Prelude.{◌≡◌, ◌≤◌, ◌<◌, ℕ, nat_eq, length, is_some, slice_index, OnOk, IfOk, IfSome, All};
+ghost use Rattle.std.specs.Prelude.{◌≡◌, ◌≤◌, ◌<◌, ℕ, nat_eq, length, is_some, slice_index, vec_len, OnOk, IfOk, IfSome, All};
 ghost use Rattle.std.specs.List.Sorted.{IsPermutation, IsNonDecreasingBy};
 ghost use Rattle.dmn_graph.specs.Reach.{IsInOrder};
-ghost use Rattle.dmn_graph.specs.Needs.{needs_view, needs_of, AreNeedsBelow, count_needing, IsOrderOf, DoRanksFall};
+ghost use Rattle.dmn_graph.specs.Needs.{needs_view, needs_of, AreNeedsBelow, count_needing, IsOrderOf, AreRanks, DoRanksFall};
 ghost use Rattle.dmn_graph.specs.Within.{reaches_only, IsReachOf};
 
 use crate::walk::reach;
@@ -15,7 +15,9 @@ pub fn ranks_of(
     order: &[usize],
 ) -> Result<Vec<usize>, AllocError>
     requires { IsOrderOf (needs_view needs.now) order.now }
-    ensures { IfOk result (λ v. DoRanksFall (needs_view needs.now) v.items) }
+    ensures each { IfOk result (λ v. vec_len v ≡ length needs.now) }
+    ensures ranks { IfOk result (λ v. AreRanks order.now v.items) }
+    ensures falls { IfOk result (λ v. DoRanksFall (needs_view needs.now) v.items) }
 {
     let mut ranks = vec![in alloc; 0; needs.len()]?;
     for (rank, place) in order.iter().enumerate() {

@@ -1,5 +1,7 @@
 -- Boxed expressions, one member or one entry at a time.
-use Rattle.std.proofs.Common.{◌≡◌, ℕ, ◌+◌, ◌<◌, List, [], ◌∷◌, ◌++◌, map, length, get_or, take, drop, refl, sym, ap, ◌∙◌, append_assoc, String, Vec, Box, Global, string_bytes, rules, Option, None, Some, arith}
+use Rattle.std.proofs.Common.{◌≡◌, ℕ, ◌+◌, ◌<◌, List, [], ◌∷◌, ◌++◌, map, length, get_or, take, drop, refl, sym, ap, ◌∙◌, append_assoc, Vec, Box, Global, rules, Option, None, Some, arith}
+use Rattle.std.specs.Arc.{arc_str_bytes}
+use Rattle.std.specs.declared.sync.ArcStr.{ArcStr}
 use Rattle.std.proofs.lemmas.List.{at_drop_more}
 use Rattle.std.proofs.lemmas.Grind.{common_steps}
 use Rattle.feel_value.specs.Datum.{Datum}
@@ -23,11 +25,11 @@ members_from : (xs : List Logic) (i : ℕ) (x : Logic) → x ≡ get_or xs i x �
 members_from xs i x e h = at_drop_more members_view xs i x h ∙ ap (λ (y : Logic). member (logic_view y) (members_view (drop (i + 1) xs))) (sym e)
 
 abbrev pub Named : Type 0
-Named = String Global × Logic
+Named = ArcStr Global × Logic
 
 entries_from : (xs : List Named) (i : ℕ) (x : Named) → x ≡ get_or xs i x → i < length xs
-    → entries_view (drop i xs) ≡ entry (string_bytes x.0) (logic_view x.1) (entries_view (drop (i + 1) xs))
-entries_from xs i x e h = at_drop_more entries_view xs i x h ∙ ap (λ (y : Named). entry (string_bytes y.0) (logic_view y.1) (entries_view (drop (i + 1) xs))) (sym e)
+    → entries_view (drop i xs) ≡ entry (arc_str_bytes x.0) (logic_view x.1) (entries_view (drop (i + 1) xs))
+entries_from xs i x e h = at_drop_more entries_view xs i x h ∙ ap (λ (y : Named). entry (arc_str_bytes y.0) (logic_view y.1) (entries_view (drop (i + 1) xs))) (sym e)
 
 -- the members from the one at i on, by its outcome
 pub members_step : (m : Bindings) (xs : List Logic) (i : ℕ) (x : Logic) (o : Outcome) → x ≡ get_or xs i x → i < length xs → o ≡ boxed (logic_view x) m
@@ -39,10 +41,10 @@ members_step m xs i x o e h b =
 -- the entries from the one at i on, by its outcome
 pub entries_step : (m : Bindings) (xs : List Named) (i : ℕ) (x : Named) (o : Outcome) → x ≡ get_or xs i x → i < length xs → o ≡ boxed (logic_view x.1) m
     → entry_values (entries_view (drop i xs)) m
-    ≡ (value_of o >>= λ d. entry_values (entries_view (drop (i + 1) xs)) (m ++ (string_bytes x.0, d) ∷ []) >>= λ ds. Some ((string_bytes x.0, d) ∷ ds))
+    ≡ (value_of o >>= λ d. entry_values (entries_view (drop (i + 1) xs)) (m ++ (arc_str_bytes x.0, d) ∷ []) >>= λ ds. Some ((arc_str_bytes x.0, d) ∷ ds))
 entries_step m xs i x o e h b =
     ap (λ es. entry_values es m) (entries_from xs i x e h)
-    ∙ ap (λ p. value_of p >>= λ d. entry_values (entries_view (drop (i + 1) xs)) (m ++ (string_bytes x.0, d) ∷ []) >>= λ ds. Some ((string_bytes x.0, d) ∷ ds)) (sym b)
+    ∙ ap (λ p. value_of p >>= λ d. entry_values (entries_view (drop (i + 1) xs)) (m ++ (arc_str_bytes x.0, d) ∷ []) >>= λ ds. Some ((arc_str_bytes x.0, d) ∷ ds)) (sym b)
 
 fused : (es : List Named) → map named_view (map (λ e. (e.0, logic_view e.1)) es) ≡ map entry_view es
 fused [] = refl
@@ -67,10 +69,10 @@ kept_in_front outer m r e = grind (arith, common_steps)
 -- one turn of the loop that binds the entries of a context
 pub bind_turn : (whole : Option Bindings) (outer m0 m1 m2 : Bindings) (xs : List Named) (i : ℕ) (x : Named) (name : List ℕ) (d : Datum)
     → (take (length outer) m0 ≡ outer) × (whole ≡ bound_behind m0 (entry_values (entries_view (drop i xs)) m0))
-    → x ≡ get_or xs i x → i < length xs → Is d ≡ boxed (logic_view x.1) m0 → m1 ≡ m0 → m2 ≡ m1 ++ (name, d) ∷ [] → name ≡ string_bytes x.0
+    → x ≡ get_or xs i x → i < length xs → Is d ≡ boxed (logic_view x.1) m0 → m1 ≡ m0 → m2 ≡ m1 ++ (name, d) ∷ [] → name ≡ arc_str_bytes x.0
     → (take (length outer) m2 ≡ outer) × (whole ≡ bound_behind m2 (entry_values (entries_view (drop (i + 1) xs)) m2))
 bind_turn whole outer m0 m1 m2 xs i x name d before here more outcome kept bound named =
-    let pair : List ℕ × Datum = (string_bytes x.0, d) in
+    let pair : List ℕ × Datum = (arc_str_bytes x.0, d) in
     let next : m2 ≡ m0 ++ pair ∷ [] = bound ∙ ap (λ m. m ++ (name, d) ∷ []) kept ∙ ap (λ n. m0 ++ (n, d) ∷ []) named in (
       ap (take (length outer)) next ∙ kept_in_front outer m0 (pair ∷ []) before.0,
       before.1 ∙ ap (bound_behind m0) (entries_step m0 xs i x (Is d) here more outcome)

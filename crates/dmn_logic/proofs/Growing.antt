@@ -1,5 +1,6 @@
 -- The members of a boxed list and the entries of a boxed context, counted as they are collected.
-use Rattle.std.proofs.Common.{◌≡◌, ℕ, ◌+◌, ◌<◌, List, [], ◌∷◌, ◌++◌, length, get_or, take, drop, refl, sym, ap, ◌∙◌, string_bytes, Option, None, Some, false, if◌then◌else◌}
+use Rattle.std.proofs.Common.{◌≡◌, ℕ, ◌+◌, ◌<◌, List, [], ◌∷◌, ◌++◌, length, get_or, take, drop, refl, sym, ap, ◌∙◌, Option, None, Some, false, if◌then◌else◌}
+use Rattle.std.specs.Arc.{arc_str_bytes}
 use Rattle.feel_value.specs.Datum as datum
 use Rattle.feel_value.specs.Datum.{Datum, items_of, entries_of}
 use Rattle.feel_value.specs.Limits.{is_value, keeps_limits}
@@ -43,20 +44,20 @@ too_many_named ps (Some ds) h = ap (λ b. if b then Is (datum.context (entries_o
 -- one entry more, whose value is d
 pub one_named : (m : Bindings) (ps : List (List ℕ × Datum)) (d : Datum) (xs : List Named) (i : ℕ) (x : Named) → x ≡ get_or xs i x → i < length xs → Is d ≡ boxed (logic_view x.1) m
     → after ps (entry_values (entries_view (drop i xs)) m)
-    ≡ after (ps ++ (string_bytes x.0, d) ∷ []) (entry_values (entries_view (drop (i + 1) xs)) (m ++ (string_bytes x.0, d) ∷ []))
+    ≡ after (ps ++ (arc_str_bytes x.0, d) ∷ []) (entry_values (entries_view (drop (i + 1) xs)) (m ++ (arc_str_bytes x.0, d) ∷ []))
 one_named m ps d xs i x e h b =
-    let pair : List ℕ × Datum = (string_bytes x.0, d) in
+    let pair : List ℕ × Datum = (arc_str_bytes x.0, d) in
     ap (after ps) (entries_step m xs i x (Is d) e h b) ∙ after-more ps pair (entry_values (entries_view (drop (i + 1) xs)) (m ++ pair ∷ []))
 
 -- one turn of the loop over the entries of a context
 pub entry_turn : (whole : Outcome) (outer m0 m1 m2 : Bindings) (ps qs : List (List ℕ × Datum)) (xs : List Named) (i : ℕ) (x : Named) (key name : List ℕ) (d e : Datum)
     → (take (length outer) m0 ≡ outer) × (whole ≡ context_from (after ps (entry_values (entries_view (drop i xs)) m0)))
-    → x ≡ get_or xs i x → i < length xs → Is d ≡ boxed (logic_view x.1) m0 → m1 ≡ m0 → m2 ≡ m1 ++ (name, d) ∷ [] → name ≡ string_bytes x.0
-    → key ≡ string_bytes x.0 → e ≡ d → qs ≡ ps ++ (key, e) ∷ []
+    → x ≡ get_or xs i x → i < length xs → Is d ≡ boxed (logic_view x.1) m0 → m1 ≡ m0 → m2 ≡ m1 ++ (name, d) ∷ [] → name ≡ arc_str_bytes x.0
+    → key ≡ arc_str_bytes x.0 → e ≡ d → qs ≡ ps ++ (key, e) ∷ []
     → (take (length outer) m2 ≡ outer) × (whole ≡ context_from (after qs (entry_values (entries_view (drop (i + 1) xs)) m2)))
 entry_turn whole outer m0 m1 m2 ps qs xs i x key name d e before here more outcome kept bound named keyed copied pushed =
-    let pair : List ℕ × Datum = (string_bytes x.0, d) in
-    let paired : qs ≡ ps ++ pair ∷ [] = pushed ∙ ap (λ k. ps ++ (k, e) ∷ []) keyed ∙ ap (λ z. ps ++ (string_bytes x.0, z) ∷ []) copied in
+    let pair : List ℕ × Datum = (arc_str_bytes x.0, d) in
+    let paired : qs ≡ ps ++ pair ∷ [] = pushed ∙ ap (λ k. ps ++ (k, e) ∷ []) keyed ∙ ap (λ z. ps ++ (arc_str_bytes x.0, z) ∷ []) copied in
     let next : m2 ≡ m0 ++ pair ∷ [] = bound ∙ ap (λ m. m ++ (name, d) ∷ []) kept ∙ ap (λ n. m0 ++ (n, d) ∷ []) named in (
       ap (take (length outer)) next ∙ kept_in_front outer m0 (pair ∷ []) before.0,
       before.1 ∙ ap context_from (one_named m0 ps d xs i x here more outcome)

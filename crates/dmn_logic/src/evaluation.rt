@@ -16,9 +16,14 @@ use std::sync::ArcStr;
 ///
 /// Every member of a list, every entry of a context and its result is evaluated until one breaks a limit, or, in a list and in a
 /// context without a result, until the values are too many for one. The environment is the same afterwards, also where memory is
-/// refused: what entries bind is cut off again. It goes as deep as the expression is.
+/// refused: what entries bind is cut off again. Names are shared with the expression, and not copied. It goes as deep as the expression
+/// is.
 #[cycle(evaluate)]
-pub fn evaluate(alloc: Global, logic: &Logic, env: &mut Env) -> Result<Outcome, AllocError>
+pub fn evaluate<'a>(
+    alloc: Global,
+    logic: &'a Logic,
+    env: &mut Env<'a>,
+) -> Result<Outcome, AllocError>
     ensures value { IfOk result (λ o. o ≡ boxed (logic_view logic.now) env.old) }
     ensures same { env.new ≡ env.old }
 {
@@ -48,7 +53,11 @@ pub fn evaluate(alloc: Global, logic: &Logic, env: &mut Env) -> Result<Outcome, 
 
 /// The outcome of a list, whose evaluation ends where its values are too many for one.
 #[cycle(evaluate)]
-fn list_outcome(alloc: Global, members: &[Logic], env: &mut Env) -> Result<Outcome, AllocError>
+fn list_outcome<'a>(
+    alloc: Global,
+    members: &'a [Logic],
+    env: &mut Env<'a>,
+) -> Result<Outcome, AllocError>
     ensures value { IfOk result (λ o. o ≡ boxed (list (members_view members.now)) env.old) }
     ensures same { env.new ≡ env.old }
 {
@@ -66,10 +75,10 @@ fn list_outcome(alloc: Global, members: &[Logic], env: &mut Env) -> Result<Outco
 
 /// The outcome of a context without a result.
 #[cycle(evaluate)]
-fn context_outcome(
+fn context_outcome<'a>(
     alloc: Global,
-    entries: &[(String, Logic)],
-    env: &mut Env,
+    entries: &'a [(ArcStr, Logic)],
+    env: &mut Env<'a>,
 ) -> Result<Outcome, AllocError>
     ensures value { IfOk result (λ o. o ≡ boxed (context (entries_view entries.now)) env.old) }
     ensures same { env.new ≡ env.old }
@@ -82,10 +91,10 @@ fn context_outcome(
 
 /// The same, whose entries stay bound behind the outer names. It ends where the values are too many for a context.
 #[cycle(evaluate)]
-fn entries_outcome(
+fn entries_outcome<'a>(
     alloc: Global,
-    entries: &[(String, Logic)],
-    env: &mut Env,
+    entries: &'a [(ArcStr, Logic)],
+    env: &mut Env<'a>,
 ) -> Result<Outcome, AllocError>
     ensures value { IfOk result (λ o. o ≡ boxed (context (entries_view entries.now)) env.old) }
     ensures outer { take (length env.old) env.new ≡ env.old }
@@ -95,21 +104,20 @@ fn entries_outcome(
         let Outcome::Is(value) = evaluate(alloc, logic, env)? else {
             return Ok(Outcome::Limit);
         };
-        let key = ArcStr::from_str(alloc, name.as_str())?;
-        if !values.push(key, value.try_clone()?)? {
+        if !values.push(name.clone()?, value.try_clone()?)? {
             return Ok(Outcome::Limit);
         }
-        env.bind(name.as_str(), value)?;
+        env.bind_lent(name.as_str(), value)?;
     }
     values.into_context(alloc)
 }
 
 /// Binds the entries of a context, each to its value, behind the outer names; false where one breaks a limit.
 #[cycle(evaluate)]
-fn bind_entries(
+fn bind_entries<'a>(
     alloc: Global,
-    entries: &[(String, Logic)],
-    env: &mut Env,
+    entries: &'a [(ArcStr, Logic)],
+    env: &mut Env<'a>,
 ) -> Result<bool, AllocError>
     ensures bound { IfOk result (λ all. bound_behind env.old (entry_values_of (entries_view entries.now) env.old) ≡ (if all then Some env.new else None)) }
     ensures outer { take (length env.old) env.new ≡ env.old }
@@ -118,7 +126,7 @@ fn bind_entries(
         let Outcome::Is(value) = evaluate(alloc, logic, env)? else {
             return Ok(false);
         };
-        env.bind(name.as_str(), value)?;
+        env.bind_lent(name.as_str(), value)?;
     }
     Ok(true)
 }

@@ -1,6 +1,7 @@
 //! Boxed expressions.
 use dmn_table::Table;
 use feel_lang::Expr;
+use std::sync::ArcStr;
 
 /// A boxed expression: what a decision, a member of a list or an entry of a context is worked out by.
 #[derive(Drop)]
@@ -12,7 +13,7 @@ pub enum Logic {
     /// A list, member by member.
     List(Vec<Logic>),
     /// A context of named entries.
-    Context(Vec<(String, Logic)>),
+    Context(Vec<(ArcStr, Logic)>),
     /// A context of named entries with a result, which is its value.
-    ContextWith(Vec<(String, Logic)>, Box<Logic>),
+    ContextWith(Vec<(ArcStr, Logic)>, Box<Logic>),
 }

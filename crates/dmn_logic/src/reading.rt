@@ -12,6 +12,7 @@ use crate::texts::expression_of;
 use dmn_form::{WrittenDecision, WrittenLogic};
 use feel_lang::Needs;
 use std::alloc::{AllocError, Global};
+use std::sync::ArcStr;
 
 /// What reading gives.
 #[derive(Drop)]
@@ -65,7 +66,7 @@ fn logic_of(
 /// A context with a result, of what reading its entries and its result gave.
 fn context_with(
     alloc: Global,
-    entries: Reading<Vec<(String, Logic)>>,
+    entries: Reading<Vec<(ArcStr, Logic)>>,
     last: Reading<Logic>,
 ) -> Result<Reading<Logic>, AllocError>
     ensures { IfOk result (λ r. mapped logic_view r ≡ both context_of (mapped (λ v. map entry_view v.items) entries) (mapped logic_view last)) }
@@ -110,7 +111,7 @@ fn entries_of(
     alloc: Global,
     needs: &Needs,
     written: &[(String, WrittenLogic)],
-) -> Result<Reading<Vec<(String, Logic)>>, AllocError>
+) -> Result<Reading<Vec<(ArcStr, Logic)>>, AllocError>
     ensures { IfOk result (λ r. mapped (λ v. map entry_view v.items) r ≡ entries_reading (entries_in (map written_entry written.now))) }
 {
     let mut entries = Vec::with_capacity(alloc, written.len())?;
@@ -118,7 +119,7 @@ fn entries_of(
     for (name, logic) in written {
         match logic_of(alloc, needs, logic)? {
             Reading::Found(logic) => {
-                entries.push((String::from_str(alloc, name.as_str())?, logic))?;
+                entries.push((ArcStr::from_str(alloc, name.as_str())?, logic))?;
             }
             Reading::Refused => is_refused = true,
             Reading::Unread => return Ok(Reading::Unread),

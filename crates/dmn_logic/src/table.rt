@@ -14,6 +14,7 @@ use dmn_table::{Output, Rule, Table};
 use feel_lang::{Expr, Needs};
 use std::alloc::{AllocError, Global};
 use std::collections::BTreeSet;
+use std::sync::ArcStr;
 
 /// An output column, if each of its texts has a reading.
 fn column_of(
@@ -29,7 +30,7 @@ fn column_of(
     let Some(fallback) = expression_if(alloc, needs, &written.fallback)? else {
         return Ok(None);
     };
-    let name = String::from_str(alloc, written.name.as_str())?;
+    let name = ArcStr::from_str(alloc, written.name.as_str())?;
     Ok(Some(Output {
         name,
         values,

@@ -1,5 +1,6 @@
 -- The decisions of a model, assembled from the names, the needs and the logic at its places.
-use Rattle.std.proofs.Common.{◌≡◌, ℕ, List, [], ◌∷◌, ◌++◌, map, Option, Some, None, option_map, refl, sym, ap, ap₂, ◌∙◌, string_bytes}
+use Rattle.std.proofs.Common.{◌≡◌, ℕ, List, [], ◌∷◌, ◌++◌, map, Option, Some, None, option_map, refl, sym, ap, ap₂, ◌∙◌}
+use Rattle.std.specs.Arc.{arc_str_bytes}
 use Rattle.std.specs.Prelude.{slice_index_or}
 use Rattle.std.specs.List.{filter_map, cons_option}
 use Rattle.feel_lang.specs.Expr.{Expr}
@@ -30,11 +31,11 @@ assembled name (n ∷ ns) [] ls = []
 assembled name (n ∷ ns) (q ∷ qs) [] = []
 assembled name (n ∷ ns) (q ∷ qs) (l ∷ ls) = cons_option (made n (map name q) l) (assembled name ns qs ls)
 
-made_of : (items : List Item) (x : Item) → decision_of items x ≡ made (string_bytes x.name) (map (name_at items) x.needs.items) (option_map logic_view x.logic)
+made_of : (items : List Item) (x : Item) → decision_of items x ≡ made (arc_str_bytes x.name) (map (name_at items) x.needs.items) (option_map logic_view x.logic)
 made_of items x = go x.logic
   where
-    go : (o : Option _) → option_map (λ l. record { name = string_bytes x.name; needs = map (name_at items) x.needs.items; logic = logic_view l }) o
-        ≡ made (string_bytes x.name) (map (name_at items) x.needs.items) (option_map logic_view o)
+    go : (o : Option _) → option_map (λ l. record { name = arc_str_bytes x.name; needs = map (name_at items) x.needs.items; logic = logic_view l }) o
+        ≡ made (arc_str_bytes x.name) (map (name_at items) x.needs.items) (option_map logic_view o)
     go None = refl
     go (Some l) = refl
 

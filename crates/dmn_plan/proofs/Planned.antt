@@ -1,5 +1,6 @@
 -- A model without a fault is planned by its items and routes.
-use Rattle.std.proofs.Common.{◌≡◌, ◌<◌, ℕ, List, [], ◌∷◌, map, drop, length, Bool, true, false, get_or, Option, Some, None, option_map, refl, sym, ap, subst, ◌∙◌, if◌then◌else◌, ◌≤◌, string_bytes, suc}
+use Rattle.std.proofs.Common.{◌≡◌, ◌<◌, ℕ, List, [], ◌∷◌, map, drop, length, Bool, true, false, get_or, Option, Some, None, option_map, refl, sym, ap, subst, ◌∙◌, if◌then◌else◌, ◌≤◌, suc}
+use Rattle.std.specs.Arc.{arc_str_bytes}
 use Rattle.std.specs.Prelude.{Ok, nat_eq, slice_index_or}
 use Rattle.std.specs.List.{All, filter_map}
 use Rattle.std.proofs.lemmas.List.{length-map, get_or-map}
@@ -73,7 +74,7 @@ all_same f g xs e k d lt = sym (get_or-map f xs k d (f d) lt) ∙ ap (λ l. get_
 -- places of items are those of the model's names
 module _ (m : Draft) (needs : List (List ℕ)) (logics : List Read) (items : List Item) (are : AreItemsOf m needs logics items) where
   count : length items ≡ length (value_names m)
-  count = sym (length-map items (λ x. string_bytes x.name)) ∙ ap length are.names
+  count = sym (length-map items (λ x. arc_str_bytes x.name)) ∙ ap length are.names
 
   same_name : place_name m ≡ name_at items
   same_name = λ i q. (ap (λ ns. slice_index_or ns q []) (sym are.names)) i

@@ -1,5 +1,6 @@
 -- Internal, cited by no public contract: names, needs and logic of items.
-use Rattle.std.specs.Prelude.{◌≡◌, ℕ, List, [], ◌++◌, map, length, Option, option_map, string_bytes}
+use Rattle.std.specs.Prelude.{◌≡◌, ℕ, List, [], ◌++◌, map, length, Option, option_map}
+use Rattle.std.specs.Arc.{arc_str_bytes}
 use Rattle.feel_lang.specs.Expr.{Expr}
 use Rattle.dmn_table.specs.Table.{Table}
 use Rattle.dmn_form.specs.Draft.{Draft}
@@ -8,7 +9,7 @@ use Rattle.dmn_logic.specs.LogicView.{logic_view}
 use Rattle.dmn_service.specs.declared.plan.Item.{Item}
 
 abbrev pub have_names : List Item → List Name
-have_names items = map (λ x. string_bytes x.name) items
+have_names items = map (λ x. arc_str_bytes x.name) items
 
 abbrev pub have_needs : List Item → List (List ℕ)
 have_needs items = map (λ x. x.needs.items) items

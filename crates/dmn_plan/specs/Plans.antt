@@ -1,5 +1,6 @@
 -- Internal: names, needs and logic of a model by places, and when plans of services are those of a model.
 use Rattle.std.specs.Prelude.{◌≡◌, ◌<◌, ◌≤◌, ℕ, List, [], ◌∷◌, ◌++◌, map, length, true, Option, None, Some, option_map, Result, Ok, Err, string_bytes, nat_eq, slice_index_or, drop, ⊤}
+use Rattle.std.specs.Arc.{arc_str_bytes}
 use Rattle.std.specs.List.{All}
 use Rattle.feel_lang.specs.Expr.{Expr}
 use Rattle.dmn_table.specs.Table.{Table}
@@ -43,7 +44,7 @@ AreNamed m items = have_named items ≡ needed_by_name m (have_needs items)
 
 -- the items are those of the model, with what each place needs and the logic of each decision
 pub record AreItemsOf (m : Draft) (needs : List (List ℕ)) (logics : List (Boxed Expr Table)) (items : List Item) : Type 0 where
-  pub names : map (λ x. string_bytes x.name) items ≡ value_names m
+  pub names : map (λ x. arc_str_bytes x.name) items ≡ value_names m
   pub needed : map (λ x. x.needs.items) items ≡ needs
   pub logic : map (λ x. option_map logic_view x.logic) items ≡ place_logic m.inputs logics
   pub named : AreNamed m items

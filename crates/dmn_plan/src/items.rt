@@ -1,5 +1,5 @@
 //! The inputs and decisions of a model, by places.
-ghost use Rattle.std.specs.Prelude.{◌≡◌, [], None, Some, IfOk, map, length, drop, option_map, string_bytes};
+ghost use Rattle.std.specs.Prelude.{◌≡◌, [], None, Some, IfOk, map, length, drop, option_map};
 ghost use Rattle.dmn_form.specs.ModelView.{model_view};
 ghost use Rattle.dmn_graph.specs.Needs.{needs_view};
 ghost use Rattle.dmn_logic.specs.LogicView.{logic_view};
@@ -14,6 +14,7 @@ use dmn_logic::Logic;
 use dmn_service::Item;
 use feel_lang::Needs;
 use std::alloc::{AllocError, Global};
+use std::sync::ArcStr;
 
 /// The inputs: each needs nothing and has no logic.
 fn input_items(alloc: Global, model: &WrittenModel) -> Result<Vec<Item>, AllocError>
@@ -24,7 +25,7 @@ fn input_items(alloc: Global, model: &WrittenModel) -> Result<Vec<Item>, AllocEr
 {
     let mut items = Vec::with_capacity(alloc, model.inputs.len())?;
     for input in &model.inputs {
-        let name = String::from_str(alloc, input.as_str())?;
+        let name = ArcStr::from_str(alloc, input.as_str())?;
         items.push(Item {
             name,
             needs: Vec::new(alloc),
@@ -122,7 +123,7 @@ pub(crate) fn items_of(
         let Some(logic) = logics.next() else {
             break;
         };
-        let name = String::from_str(alloc, decision.name.as_str())?;
+        let name = ArcStr::from_str(alloc, decision.name.as_str())?;
         items.push(Item {
             name,
             needs,

@@ -1,5 +1,6 @@
 -- The decision of a name among items with distinct names.
-use Rattle.std.proofs.Common.{◌≡◌, ◌∙◌, ap, refl, ℕ, zero, suc, ◌<◌, List, [], ◌∷◌, map, length, get_or, true, false, not, Option, None, Some, option_map, string_bytes, inl, inr, arith}
+use Rattle.std.proofs.Common.{◌≡◌, ◌∙◌, ap, refl, ℕ, zero, suc, ◌<◌, List, [], ◌∷◌, map, length, get_or, true, false, not, Option, None, Some, option_map, inl, inr, arith}
+use Rattle.std.specs.Arc.{arc_str_bytes}
 use Rattle.std.specs.Prelude.{bytes_eq, nat_eq, ◌||◌, ◌≢◌, ◌⊎◌, if◌then◌else◌}
 use Rattle.std.specs.List.{list_any, filter_map, cons_option}
 use Rattle.std.proofs.lemmas.Bool.Decides.{eqb_tells}
@@ -51,23 +52,23 @@ module _ (items : List Item) where
   none_named : (xs : List Item) (n : Name) → list_any (bytes_eq n) (names_of xs) ≡ false → decision_named (filter_map (decision_of items) xs) n ≡ None
   none_named [] n e = refl
   none_named (x ∷ xs) n e =
-      let two = both_false (bytes_eq n (string_bytes x.name)) (list_any (bytes_eq n) (names_of xs)) e in
-      passed n (string_bytes x.name) (map (name_at items) x.needs.items) x.logic (filter_map (decision_of items) xs) two.0 ∙ none_named xs n two.1
+      let two = both_false (bytes_eq n (arc_str_bytes x.name)) (list_any (bytes_eq n) (names_of xs)) e in
+      passed n (arc_str_bytes x.name) (map (name_at items) x.needs.items) x.logic (filter_map (decision_of items) xs) two.0 ∙ none_named xs n two.1
 
   -- among items with distinct names, each has its own decision
   named_at : (xs : List Item) (q : ℕ) → are_distinct (names_of xs) ≡ true → q < length xs
       → decision_named (filter_map (decision_of items) xs) (get_or (names_of xs) q []) ≡ get_or (map (decision_of items) xs) q None
   named_at [] q d inside = absurd (omega (arith, inside))
   named_at (x ∷ xs) zero d inside =
-      let two = two_true (not (list_any (bytes_eq (string_bytes x.name)) (names_of xs))) (are_distinct (names_of xs)) d in
-      found (string_bytes x.name) (string_bytes x.name) (map (name_at items) x.needs.items) x.logic (filter_map (decision_of items) xs)
-      ((bytes_eq-Decides (string_bytes x.name) (string_bytes x.name)).1 refl)
-      (none_named xs (string_bytes x.name) (not_true (list_any (bytes_eq (string_bytes x.name)) (names_of xs)) two.0))
+      let two = two_true (not (list_any (bytes_eq (arc_str_bytes x.name)) (names_of xs))) (are_distinct (names_of xs)) d in
+      found (arc_str_bytes x.name) (arc_str_bytes x.name) (map (name_at items) x.needs.items) x.logic (filter_map (decision_of items) xs)
+      ((bytes_eq-Decides (arc_str_bytes x.name) (arc_str_bytes x.name)).1 refl)
+      (none_named xs (arc_str_bytes x.name) (not_true (list_any (bytes_eq (arc_str_bytes x.name)) (names_of xs)) two.0))
   named_at (x ∷ xs) (suc q) d inside =
-      let two = two_true (not (list_any (bytes_eq (string_bytes x.name)) (names_of xs))) (are_distinct (names_of xs)) d in
+      let two = two_true (not (list_any (bytes_eq (arc_str_bytes x.name)) (names_of xs))) (are_distinct (names_of xs)) d in
       let within : q < length (names_of xs) = (let e = length_names xs in omega (arith, inside)) in
-      let apart = swap (string_bytes x.name) (get_or (names_of xs) q []) (apart_at (string_bytes x.name) (names_of xs) q (not_true (list_any (bytes_eq (string_bytes x.name)) (names_of xs)) two.0) within) in
-      passed (get_or (names_of xs) q []) (string_bytes x.name) (map (name_at items) x.needs.items) x.logic (filter_map (decision_of items) xs) apart ∙ named_at xs q two.1 (omega (arith, inside))
+      let apart = swap (arc_str_bytes x.name) (get_or (names_of xs) q []) (apart_at (arc_str_bytes x.name) (names_of xs) q (not_true (list_any (bytes_eq (arc_str_bytes x.name)) (names_of xs)) two.0) within) in
+      passed (get_or (names_of xs) q []) (arc_str_bytes x.name) (map (name_at items) x.needs.items) x.logic (filter_map (decision_of items) xs) apart ∙ named_at xs q two.1 (omega (arith, inside))
 
   -- the parts of the decision at a place
   parts_at : (xs : List Item) (q : ℕ) → q < length xs
@@ -77,8 +78,8 @@ module _ (items : List Item) where
   parts_at [] q inside = absurd (omega (arith, inside))
   parts_at (x ∷ xs) zero inside = by_logic x.logic
     where
-      by_logic : (l : Option Logic) → made (string_bytes x.name) (map (name_at items) x.needs.items) l
-          ≡ option_map (λ b. record { name = string_bytes x.name; needs = map (name_at items) x.needs.items; logic = b }) (option_map logic_view l)
+      by_logic : (l : Option Logic) → made (arc_str_bytes x.name) (map (name_at items) x.needs.items) l
+          ≡ option_map (λ b. record { name = arc_str_bytes x.name; needs = map (name_at items) x.needs.items; logic = b }) (option_map logic_view l)
       by_logic None = refl
       by_logic (Some l) = refl
   parts_at (x ∷ xs) (suc q) inside = parts_at xs q (omega (arith, inside))

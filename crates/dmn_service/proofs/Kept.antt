@@ -1,5 +1,6 @@
 -- What a run keeps at the places, one place after the other.
-use Rattle.std.proofs.Common.{◌≡◌, ◌∙◌, sym, ap, refl, ℕ, ◌+◌, ◌<◌, Bool, true, false, cond, List, [], ◌∷◌, ◌++◌, map, zero, suc, length, drop, get_or, Option, None, Some, option_map, string_bytes, inl, inr, ◌⊎◌, arith}
+use Rattle.std.proofs.Common.{◌≡◌, ◌∙◌, sym, ap, refl, ℕ, ◌+◌, ◌<◌, Bool, true, false, cond, List, [], ◌∷◌, ◌++◌, map, zero, suc, length, drop, get_or, Option, None, Some, option_map, inl, inr, ◌⊎◌, arith}
+use Rattle.std.specs.Arc.{arc_str_bytes}
 use Rattle.std.specs.Prelude.{nat_eq, slice_set, ◌≢◌}
 use Rattle.std.specs.List.{slice_get}
 use Rattle.std.proofs.lemmas.Bool.Decides.{eqb_tells}
@@ -62,8 +63,8 @@ nothing_more found none =
     λ i q. at q i
 
 -- the name at a place
-pub name_here : (items : List Item) (q : ℕ) (x : Item) → q < length items → name_at items q ≡ string_bytes (get_or items q x).name
-name_here items q x inside = get_or-map (λ (y : Item). string_bytes y.name) items q x _ inside
+pub name_here : (items : List Item) (q : ℕ) (x : Item) → q < length items → name_at items q ≡ arc_str_bytes (get_or items q x).name
+name_here items q x inside = get_or-map (λ (y : Item). arc_str_bytes y.name) items q x _ inside
 
 outcome_here : (items : List Item) (q : ℕ) (x : Item) (found : Found) → q < length items → x ≡ get_or items q x
     → outcome_at (name_at items) found (needs_at items q) (logic_at items q) ≡ outcome_at (name_at items) found x.needs.items (option_map logic_view x.logic)

@@ -1,10 +1,11 @@
 -- The names of a plan by places: each input and each decision has a place, and what a decision needs is a list of places.
-use Rattle.std.specs.Prelude.{ℕ, List, [], map, string_bytes, slice_index_or}
+use Rattle.std.specs.Prelude.{ℕ, List, [], map, slice_index_or}
+use Rattle.std.specs.Arc.{arc_str_bytes}
 use Rattle.dmn_form.specs.Model.{Name}
 use Rattle.dmn_service.specs.declared.plan.Item.{Item}
 
 abbrev pub names_of : List Item → List Name
-names_of items = map (λ x. string_bytes x.name) items
+names_of items = map (λ x. arc_str_bytes x.name) items
 
 abbrev pub name_at : List Item → ℕ → Name
 name_at items q = slice_index_or (names_of items) q []

@@ -1,5 +1,6 @@
 -- When places and their order are a plan of a service of a model.
-use Rattle.std.specs.Prelude.{◌≡◌, ◌<◌, ◌≤◌, ℕ, suc, List, map, length, Option, option_map, string_bytes, nat_eq, true, false}
+use Rattle.std.specs.Prelude.{◌≡◌, ◌<◌, ◌≤◌, ℕ, suc, List, map, length, Option, option_map, nat_eq, true, false}
+use Rattle.std.specs.Arc.{arc_str_bytes}
 use Rattle.std.specs.List.{filter_map, zip, All}
 use Rattle.feel_value.specs.Datum.{Datum}
 use Rattle.feel_value.specs.declared.feel.Outcome.{Outcome}
@@ -31,7 +32,7 @@ IsNotAmong qs q = has_same nat_eq qs q ≡ false
 -- the decision that an item is; none where it is an input
 abbrev pub decision_of : List Item → Item → Option (Decision Expr Table)
 decision_of items x =
-    option_map (λ l. record { name = string_bytes x.name; needs = map (name_at items) x.needs.items; logic = logic_view l }) x.logic
+    option_map (λ l. record { name = arc_str_bytes x.name; needs = map (name_at items) x.needs.items; logic = logic_view l }) x.logic
 
 -- The items have distinct names and are the decisions of the model, among inputs; and the plan leads from the parameters of the
 -- service to its outputs. Its order has no parameter, at most as many places as the model has decisions, and each behind those

@@ -12,7 +12,6 @@ use crate::found::value_at;
 use crate::plan::Item;
 use feel_value::{Feel, Outcome};
 use std::alloc::{AllocError, Global};
-use std::sync::ArcStr;
 
 /// The outcome of the outputs: the value of the only one, or the context of all in their order.
 #[tactic(auto, using(crate::proofs::OneOrContext::only_output, crate::proofs::OneOrContext::many_outputs))]
@@ -63,7 +62,7 @@ fn values(
     Ok(Some(values))
 }
 
-/// The context of the values under the outputs' names.
+/// The context of the values under the outputs' names, which it shares with the items.
 fn named(
     alloc: Global,
     items: &[Item],
@@ -79,7 +78,7 @@ fn named(
         let Some(value) = values.next() else {
             break;
         };
-        let name = ArcStr::from_str(alloc, items[*output].name.as_str())?;
+        let name = items[*output].name.clone()?;
         entries.push((name, value.into_value()))?;
     }
     Outcome::context(alloc, entries)

@@ -1,12 +1,13 @@
 //! Plans of decision services.
 use dmn_logic::Logic;
 use feel_lang::Needs;
+use std::sync::ArcStr;
 
 /// An input, or a decision with its logic and the places of what it needs. Its own place is its index in a list of items.
 #[derive(Drop)]
 pub struct Item {
     /// The name under which what needs it sees its value.
-    pub name: String,
+    pub name: ArcStr,
     /// The places of the inputs and decisions that it needs.
     pub needs: Vec<usize>,
     /// The same places, each under the name of what stands there.

@@ -1,6 +1,7 @@
 -- Distinct names, one output after another.
 use Rattle.std.proofs.Common.{◌≡◌, ℕ, ◌+◌, ◌<◌, List, ◌∷◌, refl, sym, ◌∙◌, ap, Bool, true, false, not, map, ◌&&◌, if◌then◌else◌, Option, Some, None, length, drop, get_or, arith}
-use Rattle.std.specs.Prelude.{bytes_eq, string_bytes, nat_lt, nat_eq}
+use Rattle.std.specs.Prelude.{bytes_eq, nat_lt, nat_eq}
+use Rattle.std.specs.Arc.{arc_str_bytes}
 use Rattle.std.specs.List.{list_any, list_all}
 use Rattle.std.proofs.lemmas.List.{at_drop_more}
 use Rattle.dmn_table.specs.declared.table.Output.{Output}
@@ -15,13 +16,13 @@ use Rattle.std.proofs.lemmas.List.{length-map}
 use Rattle.std.proofs.lemmas.Bool.Decides.{nat_tests}
 
 abbrev pub distinct_outputs : List Output → Bool
-distinct_outputs os = are_distinct (map (λ o. string_bytes o.name) os)
+distinct_outputs os = are_distinct (map (λ o. arc_str_bytes o.name) os)
 
 abbrev pub named_later : Output → List Output → Bool
-named_later o os = list_any (λ p. bytes_eq (string_bytes o.name) (string_bytes p.name)) os
+named_later o os = list_any (λ p. bytes_eq (arc_str_bytes o.name) (arc_str_bytes p.name)) os
 
 distinct_cons : (o : Output) (os : List Output) → distinct_outputs (o ∷ os) ≡ (not (named_later o os) && distinct_outputs os)
-distinct_cons o os = ap (λ b. not b && distinct_outputs os) (list_any-map (λ p. string_bytes p.name) (bytes_eq (string_bytes o.name)) os)
+distinct_cons o os = ap (λ b. not b && distinct_outputs os) (list_any-map (λ p. arc_str_bytes p.name) (bytes_eq (arc_str_bytes o.name)) os)
 
 pub distinct_at : (os : List Output) (i : ℕ) (o : Output) (later : List Output) → i < length os → o ≡ get_or os i o → later ≡ drop (i + 1) os
     → distinct_outputs (drop i os) ≡ (not (named_later o later) && distinct_outputs (drop (i + 1) os))
@@ -33,10 +34,10 @@ distinct_at os i o later l e f =
 -- a step of the walk: s is the name of the output o at i, and b tells whether a later one has it
 module _ (os : List Output) (i : ℕ) (o : Output) (later : List Output) (s : List ℕ) (b : Bool)
     (invariant : distinct_outputs os ≡ distinct_outputs (drop i os)) (l : i < length os) (is : o ≡ get_or os i o)
-    (rest : later ≡ drop (i + 1) os) (text : s ≡ string_bytes o.name) (tested : b ≡ list_any (λ p. bytes_eq s (string_bytes p.name)) later) where
+    (rest : later ≡ drop (i + 1) os) (text : s ≡ arc_str_bytes o.name) (tested : b ≡ list_any (λ p. bytes_eq s (arc_str_bytes p.name)) later) where
   here : distinct_outputs os ≡ (not b && distinct_outputs (drop (i + 1) os))
   here =
-      let named : b ≡ named_later o later = tested ∙ ap (λ (t : List ℕ). list_any (λ p. bytes_eq t (string_bytes p.name)) later) text in
+      let named : b ≡ named_later o later = tested ∙ ap (λ (t : List ℕ). list_any (λ p. bytes_eq t (arc_str_bytes p.name)) later) text in
       invariant ∙ distinct_at os i o later l is rest ∙ ap (λ c. not c && distinct_outputs (drop (i + 1) os)) (sym named)
 
   pub distinct_more : b ≡ false → distinct_outputs os ≡ distinct_outputs (drop (i + 1) os)
@@ -48,9 +49,9 @@ module _ (os : List Output) (i : ℕ) (o : Output) (later : List Output) (s : Li
 -- with at least one output, and distinct names, the columns fit where the rules do
 pub fit_by_rules : (inputs : ℕ) (os : List Output) (rules : List Rule) (r : Bool) → nat_eq (length os) 0 ≡ false → true ≡ distinct_outputs os
     → r ≡ list_all (λ q. fits_columns inputs (length os) (length q.tests.items, length q.gives.items)) rules
-    → r ≡ columns_fit inputs (map (λ o. string_bytes o.name) os) (entry_counts rules)
+    → r ≡ columns_fit inputs (map (λ o. arc_str_bytes o.name) os) (entry_counts rules)
 fit_by_rules inputs os rules r some distinct e =
-    let n : length (map (λ o. string_bytes o.name) os) ≡ length os = length-map os (λ o. string_bytes o.name) in
+    let n : length (map (λ o. arc_str_bytes o.name) os) ≡ length os = length-map os (λ o. arc_str_bytes o.name) in
     let lt : nat_lt 0 (length os) ≡ true = grind (arith, nat_tests) in
     let all : r ≡ list_all (fits_columns inputs (length os)) (entry_counts rules) = e ∙ sym (list_all-map (λ q. (length q.tests.items, length q.gives.items)) (fits_columns inputs (length os)) rules) in
     rw (n, lt, ← distinct) all

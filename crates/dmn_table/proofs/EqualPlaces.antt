@@ -1,6 +1,7 @@
 -- The hits of a table have a place for each of its output columns.
 use Rattle.std.proofs.Common.{eq-eqb, ◌≡◌, ℕ, zero, suc, ◌<◌, List, [], ◌∷◌, map, length, refl, sym, ap, ◌∙◌, subst, arith, Bool, true, false, ◌&&◌, Option, Some, None}
-use Rattle.std.specs.Prelude.{⊤, nat_eq, nat_lt, slice_index_or, string_bytes}
+use Rattle.std.specs.Prelude.{⊤, nat_eq, nat_lt, slice_index_or}
+use Rattle.std.specs.Arc.{arc_str_bytes}
 use Rattle.std.specs.List.{AllPairs, list_all}
 use Rattle.std.proofs.lemmas.Option.{same_Some}
 use Rattle.std.proofs.lemmas.List.{length-map}
@@ -103,7 +104,7 @@ entries_of_hits inputs os rules m values hits fits found = go (each (does_hit m 
     gives =
         let n = length (names_of os) in
         let all : list_all (fits_columns inputs n) (entry_counts rules) ≡ true = and_second (nat_lt 0 n && are_distinct (names_of os)) _ fits in
-        subst (λ k. EachGives k (map rule_view rules)) (length-map os (λ o. string_bytes o.name)) (gives_fit inputs n rules all)
+        subst (λ k. EachGives k (map rule_view rules)) (length-map os (λ o. arc_str_bytes o.name)) (gives_fit inputs n rules all)
 
     go : (o : Option (List Bool)) → Some hits ≡ (o >>= λ answers. Some (kept (map rule_view rules) answers)) → have_entries (length os) hits ≡ true
     go None e = cc

@@ -64,7 +64,8 @@ not_named n (m ∷ ns) (d ∷ ds) h =
     let p = neither (bytes_eq n m) (is_among ns n) h in
     ap₂ (λ a b. a || b) p.0 (not_named n ns ds p.1)
 
-differ : (ns : List (List ℕ)) (ds : List Datum) → are_distinct ns ≡ true → names_differ (entries_of (zip ns ds)) ≡ true
+-- values under distinct names
+pub differ : (ns : List (List ℕ)) (ds : List Datum) → are_distinct ns ≡ true → names_differ (entries_of (zip ns ds)) ≡ true
 differ [] ds h = refl
 differ (n ∷ ns) [] h = refl
 differ (n ∷ ns) (d ∷ ds) h =

@@ -1,5 +1,6 @@
 -- What the parts of the code's tables stand for.
-use Rattle.std.specs.Prelude.{◌≡◌, ℕ, List, map, length, string_bytes, Option, None, Some}
+use Rattle.std.specs.Prelude.{◌≡◌, ℕ, List, map, length, Option, None, Some}
+use Rattle.std.specs.Arc.{arc_str_bytes}
 use Rattle.feel_lang.specs.Expr.{Expr}
 use Rattle.dmn_table.specs.declared.fault.TableFault.{TableFault}
 use Rattle.dmn_table.specs.declared.hit_policy.HitPolicy.{HitPolicy}
@@ -9,13 +10,13 @@ use Rattle.dmn_table.specs.Faults.{table_fault, policy_of}
 use Rattle.dmn_table.specs.Table.{Column, Rule, Table}
 
 abbrev pub column_view : Output → Column
-column_view o = record { name = string_bytes o.name; values = o.values.items; fallback = o.fallback }
+column_view o = record { name = arc_str_bytes o.name; values = o.values.items; fallback = o.fallback }
 
 abbrev pub rule_view : rule.Rule → Rule
 rule_view r = record { tests = r.tests.items; gives = r.gives.items }
 
 abbrev pub names_of : List Output → List (List ℕ)
-names_of outputs = map (λ o. string_bytes o.name) outputs
+names_of outputs = map (λ o. arc_str_bytes o.name) outputs
 
 -- of each rule, how many tests and how many output entries it has
 abbrev pub entry_counts : List rule.Rule → List (ℕ × ℕ)

@@ -27,6 +27,7 @@ pub(crate) fn list_of(
     outputs: &[Output],
     env: &Env,
 ) -> Result<Outcome, AllocError>
+    requires { are_distinct (names_of outputs.now) ≡ true }
     ensures { IfOk result (λ o. o ≡ outcome_from list_of_values (outputs_of (map column_view outputs.now) env.now (rules_view rules.now))) }
 {
     let mut values = Members::new(alloc);
@@ -109,6 +110,7 @@ pub(crate) fn common_one(
     outputs: &[Output],
     env: &Env,
 ) -> Result<Outcome, AllocError>
+    requires { are_distinct (names_of outputs.now) ≡ true }
     ensures { IfOk result (λ o. o ≡ outcome_from (λ ds. Is (common_one_of ds)) (outputs_of (map column_view outputs.now) env.now (rules_view rules.now))) }
 {
     let Some((rule, rest)) = rules.split_first() else {
@@ -132,6 +134,7 @@ fn all_equal(
     outputs: &[Output],
     env: &Env,
 ) -> Result<Option<bool>, AllocError>
+    requires { are_distinct (names_of outputs.now) ≡ true }
     ensures { IfOk result (λ found. found ≡ option_map (list_all (λ d. is_yes (equal_of first.now d))) (outputs_of (map column_view outputs.now) env.now (rules_view rules.now))) }
 {
     let mut all = true;

@@ -1,7 +1,8 @@
 //! What a table decides.
-ghost use Rattle.std.specs.Prelude.{◌≡◌, IfOk, map};
+ghost use Rattle.std.specs.Prelude.{◌≡◌, IfOk, map, true};
+ghost use Rattle.feel_value.specs.Distinct.{are_distinct};
 ghost use Rattle.dmn_table.specs.Result.{table_result, defaults as defaults_of};
-ghost use Rattle.dmn_table.specs.Parts.{column_view};
+ghost use Rattle.dmn_table.specs.Parts.{column_view, names_of};
 
 use crate::hits::rules_that_hit;
 use crate::output::{default_values, evaluated, has_no_default, one_or_context};
@@ -34,6 +35,7 @@ pub fn decide(alloc: Global, table: &Table, env: &Env) -> Result<Outcome, AllocE
 
 /// The result where no rule hits.
 fn defaults(alloc: Global, outputs: &[Output], env: &Env) -> Result<Outcome, AllocError>
+    requires { are_distinct (names_of outputs.now) ≡ true }
     ensures { IfOk result (λ o. o ≡ defaults_of (map column_view outputs.now) env.now) }
 {
     if has_no_default(outputs) {

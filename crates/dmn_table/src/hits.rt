@@ -190,7 +190,8 @@ pub(crate) fn found_hit(
     outputs: &[Output],
     env: &Env,
 ) -> Result<Option<Hit>, AllocError>
-    requires { lists.now ≡ listed_values (map column_view outputs.now) }
+    requires lists { lists.now ≡ listed_values (map column_view outputs.now) }
+    requires distinct { are_distinct (names_of outputs.now) ≡ true }
     ensures { IfOk result (λ hit. option_map hit_view hit ≡ hit_of_rule (map column_view outputs.now) env.now (rule_view rule.now)) }
 {
     let Some(values) = evaluated(alloc, &rule.gives, env)? else {
@@ -234,6 +235,7 @@ pub(crate) fn fitting_hits(
     outputs: &[Output],
     env: &Env,
 ) -> Result<Option<Vec<Hit>>, AllocError>
+    requires { are_distinct (names_of outputs.now) ≡ true }
     ensures { IfOk result (λ found. option_map (λ v. map hit_view v.items) found ≡ fitting (each (hit_of_rule (map column_view outputs.now) env.now) (rules_view rules.now))) }
 {
     let lists = lists_of(alloc, outputs, rules.len())?;

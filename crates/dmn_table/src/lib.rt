@@ -18,5 +18,5 @@ mod table;
 pub use decision::decide;
 pub use fault::TableFault;
 pub use hits::does_hit;
-pub use output::{evaluated, has_no_default, one_or_context};
+pub use output::{evaluated, has_no_default};
 pub use table::{Output, Rule, Table};

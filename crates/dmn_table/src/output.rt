@@ -1,12 +1,12 @@
 //! The output of a rule, and what stands where none hits.
-ghost use Rattle.std.specs.Prelude.{◌≡◌, All, IfOk, IsTrue, None, Some, true, if◌then◌else◌, map, option_map, string_bytes};
+ghost use Rattle.std.specs.Prelude.{◌≡◌, All, IfOk, IsTrue, None, Some, true, if◌then◌else◌, map, option_map};
 ghost use Rattle.feel_value.specs.Outcome.{held};
 ghost use Rattle.feel_value.specs.Datum.{context, entries_of};
 ghost use Rattle.std.specs.List.{zip, list_all};
 ghost use Rattle.std.specs.Option.{is_none, is_some};
 ghost use Rattle.feel_value.specs.Distinct.{are_distinct};
 ghost use Rattle.feel_value.specs.declared.feel.Outcome.TheVariants.{Is};
-ghost use Rattle.feel_value.specs.View.{datum_of};
+ghost use Rattle.feel_value.specs.View.{datum_of, entries_view};
 ghost use Rattle.dmn_table.specs.Hits.{values_of, output_of};
 ghost use Rattle.dmn_table.specs.Result.{first_of, default_of, default_values as default_values_of};
 ghost use Rattle.dmn_table.specs.Parts.{column_view, names_of, rule_view};
@@ -64,6 +64,7 @@ pub(crate) fn rule_output(
     outputs: &[Output],
     env: &Env,
 ) -> Result<Outcome, AllocError>
+    requires { are_distinct (names_of outputs.now) ≡ true }
     ensures { IfOk result (λ o. value_of o ≡ rule_output_of (map column_view outputs.now) env.now (rule_view rule.now)) }
 {
     match evaluated(alloc, &rule.gives, env)? {
@@ -172,11 +173,12 @@ pub(crate) fn default_values(
 
 /// The values of the output columns as one value: the only one itself, otherwise a context of them under the columns' names.
 /// `Limit` where that context would be no value.
-pub fn one_or_context(
+pub(crate) fn one_or_context(
     alloc: Global,
     outputs: &[Output],
     values: Vec<Feel>,
 ) -> Result<Outcome, AllocError>
+    requires { are_distinct (names_of outputs.now) ≡ true }
     ensures { IfOk result (λ o. o ≡ output_of (map column_view outputs.now) values.items) }
 {
     if outputs.len() != 1 {
@@ -210,9 +212,22 @@ pub fn has_no_default(outputs: &[Output]) -> bool
     true
 }
 
-/// The context of the values under the columns' names.
+/// The context of the values under the columns' names, which are not compared.
 fn named(alloc: Global, outputs: &[Output], values: Vec<Feel>) -> Result<Outcome, AllocError>
-    ensures { IfOk result (λ o. o ≡ held (context (entries_of (zip (map (λ o. string_bytes o.name) outputs.now) values.items)))) }
+    requires { are_distinct (names_of outputs.now) ≡ true }
+    ensures { IfOk result (λ o. o ≡ held (context (entries_of (zip (names_of outputs.now) values.items)))) }
+{
+    let entries = named_values(alloc, outputs, values)?;
+    Outcome::context_of_distinct(alloc, entries)
+}
+
+/// The values under the columns' names.
+fn named_values(
+    alloc: Global,
+    outputs: &[Output],
+    values: Vec<Feel>,
+) -> Result<Vec<(ArcStr, Value)>, AllocError>
+    ensures { IfOk result (λ es. entries_view es.items ≡ entries_of (zip (names_of outputs.now) values.items)) }
 {
     let mut entries = Vec::with_capacity(alloc, outputs.len())?;
     let mut values = values.into_iter();
@@ -220,8 +235,8 @@ fn named(alloc: Global, outputs: &[Output], values: Vec<Feel>) -> Result<Outcome
         let Some(value) = values.next() else {
             break;
         };
-        let name = ArcStr::from_str(alloc, output.name.as_str())?;
+        let name = output.name.clone()?;
         entries.push((name, value.into_value()))?;
     }
-    Outcome::context(alloc, entries)
+    Ok(entries)
 }

@@ -92,7 +92,8 @@ fn ordered(
     outputs: &[Output],
     env: &Env,
 ) -> Result<Outcome, AllocError>
-    requires { have_entries (length outputs.now) (rules_view rules.now) ≡ true }
+    requires entries { have_entries (length outputs.now) (rules_view rules.now) ≡ true }
+    requires distinct { are_distinct (names_of outputs.now) ≡ true }
     ensures { IfOk result (λ o. o ≡ outcome_from (λ hs. list_of_values (map (λ h. h.output) (in_priority_of hs))) (each (hit_of (map column_view outputs.now) env.now) (rules_view rules.now))) }
 {
     match fitting_hits(alloc, rules, outputs, env)? {

@@ -1,5 +1,6 @@
 //! Decision tables and their parts.
-ghost use Rattle.std.specs.Prelude.{◌≡◌, true, IsTrue, IfOk, IfErr, string_bytes, bytes_eq, length};
+ghost use Rattle.std.specs.Prelude.{◌≡◌, true, IsTrue, IfOk, IfErr, bytes_eq, length};
+ghost use Rattle.std.specs.Arc.{arc_str_bytes};
 ghost use Rattle.std.specs.List.{list_all, list_any};
 ghost use Rattle.dmn_table.specs.Faults.{columns_fit as columns_fit_of, fits_columns};
 ghost use Rattle.feel_value.specs.Distinct.{are_distinct};
@@ -9,10 +10,12 @@ ghost use Rattle.dmn_table.specs.Unbroken.{KeepLimits, AllKeepLimits};
 use crate::classes::{ColumnClasses, classes_of_columns};
 use crate::fault::TableFault;
 use crate::hit_policy::HitPolicy;
+use crate::output::one_or_context;
 use feel_lang::{Expr, Tests};
-use feel_value::Feel;
+use feel_value::{Feel, Outcome};
 use std::alloc::{AllocError, Global};
 use std::marker::Model;
+use std::sync::ArcStr;
 
 /// The fewest rules that are worth the classes of their columns.
 const FEWEST_RULES: usize = 64;
@@ -21,7 +24,7 @@ const FEWEST_RULES: usize = 64;
 #[derive(Drop)]
 pub struct Output {
     /// Its name, under which a context has its value where there are several columns.
-    pub name: String,
+    pub name: ArcStr,
     /// Its output values, the highest in priority first; empty where it has none.
     pub values: Vec<Feel>,
     /// Its default, where no rule hits.
@@ -39,7 +42,7 @@ pub struct Rule {
 
 impl Output {
     fn is_named(&self, name: &str) -> bool
-        ensures { result ≡ bytes_eq name.now (string_bytes self.now.name) }
+        ensures { result ≡ bytes_eq name.now (arc_str_bytes self.now.name) }
     {
         name == self.name.as_str()
     }
@@ -95,6 +98,7 @@ impl Model for Table {
 
 impl Table {
     ghost use Rattle.std.specs.Prelude.{map};
+    ghost use Rattle.dmn_table.specs.Hits.{output_of};
     ghost use Rattle.dmn_table.specs.Parts.{column_view, rule_view};
 
     /// The table, or its first fault: of the text of the hit policy, of the columns, of an operator over several outputs. It
@@ -169,6 +173,14 @@ impl Table {
         &self.rules
     }
 
+    /// The values of its output columns as one value: the only one itself, otherwise a context of them under the columns' names.
+    /// `Limit` where that context would be no value.
+    pub fn one_or_context(&self, alloc: Global, values: Vec<Feel>) -> Result<Outcome, AllocError>
+        ensures { IfOk result (λ o. o ≡ output_of self.now.outputs values.items) }
+    {
+        one_or_context(alloc, &self.outputs, values)
+    }
+
     /// The same table with the classes of its columns, by which a decision finds the rules that hit without asking each, where it
     /// has many rules; otherwise it stays as it is. A rule an entry of which may break a limit is always asked. Its value is the
     /// same. On an error the table is let go.
@@ -214,7 +226,7 @@ fn names_are_distinct(outputs: &[Output]) -> bool
 }
 
 fn is_among(name: &str, outputs: &[Output]) -> bool
-    ensures { result ≡ list_any (λ o. bytes_eq name.now (string_bytes o.name)) outputs.now }
+    ensures { result ≡ list_any (λ o. bytes_eq name.now (arc_str_bytes o.name)) outputs.now }
 {
     outputs.iter().any(|output| output.is_named(name))
 }

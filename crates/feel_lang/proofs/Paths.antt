@@ -1,5 +1,5 @@
 -- Paths into contexts and lists.
-use Rattle.std.proofs.Common.{◌≡◌, ◌∙◌, sym, ap, ℕ, ◌+◌, ◌<◌, true, List, [], ◌∷◌, ◌++◌, length, get_or, drop, Some, if◌then◌else◌, unwrap_or}
+use Rattle.std.proofs.Common.{◌≡◌, ◌∙◌, refl, sym, ap, ℕ, ◌+◌, ◌<◌, true, List, [], ◌∷◌, ◌++◌, length, get_or, drop, Some, if◌then◌else◌, unwrap_or}
 use Rattle.feel_value.specs.Datum.{Datum, null, boolean, number, text, list, context, item, entry_named}
 use Rattle.feel_value.specs.Limits.{is_value}
 use Rattle.feel_value.specs.Outcome.{held}
@@ -22,6 +22,11 @@ entry_path name (context es) e q = ap (λ o. unwrap_or o null) q
 
 pub entry_held : (name : List ℕ) (d e : Datum) → is_value d ≡ true → entry_named name d ≡ Some e → held (path_of name d) ≡ Is e
 entry_held name d e h q = ap held (entry_path name d e q) ∙ ap (λ t. if t then Is e else Limit) (entry_lawful name d e h q)
+
+-- the path of an empty list is that list
+pub path_of_empty : (name : List ℕ) (vs : List Value) → length vs ≡ 0 → list (items_view vs) ≡ path_of name (list (items_view vs))
+path_of_empty name [] e = refl
+path_of_empty name (v ∷ vs) e = cc
 
 -- one more member's path
 pub paths_step : (name : List ℕ) (vs xs : List Value) (v x : Value) (i : ℕ) → x ≡ get_or xs i x → i < length xs → datum_of v ≡ path_of name (datum_of x)

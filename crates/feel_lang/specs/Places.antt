@@ -1,12 +1,16 @@
 -- Internal but for `bindings_of`: where the last binding of a name stands.
-use Rattle.std.specs.Prelude.{◌≡◌, ℕ, suc, ◌<◌, List, [], ◌∷◌, map, take, length, slice_index_or, Option, Some, None, String, string_bytes, bytes_eq, if◌then◌else◌}
+use Rattle.std.specs.Prelude.{◌≡◌, ℕ, suc, ◌<◌, List, [], ◌∷◌, map, take, length, slice_index_or, Option, Some, None, bytes_eq, if◌then◌else◌}
 use Rattle.std.specs.declared.alloc.Global.{Global}
-use Rattle.std.specs.BTreeMap.{BTreeMap, get_by_text}
+use Rattle.std.specs.BTreeMap.{BTreeMap, get_by}
+use Rattle.std.specs.Ordering.{nat_cmp}
+use Rattle.std.specs.Cmp.Lexicographic.{slice_cmp}
+use Rattle.std.specs.Cow.{cow_str_bytes}
+use Rattle.std.specs.declared.borrow.CowStr.{CowStr}
 use Rattle.feel_lang.specs.Meaning.{Bindings}
 use Rattle.feel_lang.specs.declared.indexed.Binding.{Binding}
 
 abbrev pub bindings_of : List Binding → Bindings
-bindings_of = map (λ b. (string_bytes b.name, b.value))
+bindings_of = map (λ b. (cow_str_bytes b.name, b.value))
 
 abbrev pub place_after : Option ℕ → Option ℕ → Option ℕ
 place_after None o = o
@@ -17,8 +21,12 @@ abbrev pub last_place : {X : Type 0} → List ℕ → List (List ℕ × X) → O
 last_place name [] = None
 last_place name (b ∷ bs) = place_after (last_place name bs) (if bytes_eq name b.0 then Some 0 else None)
 
+-- what the map has at the name
+abbrev pub place_in : {X : Type 0} → BTreeMap (CowStr Global) X → List ℕ → Option X
+place_in places name = get_by (λ k. slice_cmp nat_cmp name (cow_str_bytes k)) places
+
 -- The map has the place of the last binding of each name, and each binding the place of the one that it hides.
-pub record IsIndexed (bindings : List Binding) (places : BTreeMap (String Global) ℕ) : Type 0 where
-  pub last : (name : List ℕ) → get_by_text places name ≡ last_place name (bindings_of bindings)
+pub record IsIndexed (bindings : List Binding) (places : BTreeMap (CowStr Global) ℕ) : Type 0 where
+  pub last : (name : List ℕ) → place_in places name ≡ last_place name (bindings_of bindings)
   pub hidden : (i : ℕ) (b : Binding) → i < length bindings
-      → (slice_index_or bindings i b).hidden ≡ last_place (string_bytes (slice_index_or bindings i b).name) (take i (bindings_of bindings))
+      → (slice_index_or bindings i b).hidden ≡ last_place (cow_str_bytes (slice_index_or bindings i b).name) (take i (bindings_of bindings))

@@ -1,11 +1,13 @@
 //! Names with values that are bound one by one.
 ghost use Rattle.std.specs.Prelude.{◌≡◌, ◌≤◌, ◌<◌, ◌+◌, ◌^◌, [], ◌∷◌, ◌++◌, length, take, option_map, MatchResult};
+ghost use Rattle.std.specs.Cow.{cow_str_bytes};
 ghost use Rattle.feel_lang.specs.Meaning.{bound};
 ghost use Rattle.feel_lang.specs.Few.{few_of};
 
 use crate::indexed::Indexed;
 use feel_value::Feel;
 use std::alloc::{AllocError, Global};
+use std::borrow::CowStr;
 use std::marker::Model;
 
 // So many bindings are looked through one by one. An index finds the others.
@@ -13,8 +15,8 @@ const FEW: usize = 8;
 
 // A name with its value.
 #[derive(Drop)]
-struct NamedValue {
-    name: String,
+struct NamedValue<'a> {
+    name: CowStr<'a>,
     value: Feel,
 }
 
@@ -22,13 +24,13 @@ struct NamedValue {
 ///
 /// Binding, finding and cutting off one name take steps in proportion to the logarithm of how many names there are.
 #[derive(Drop)]
-pub(crate) struct Added {
-    few: Vec<NamedValue>,
+pub(crate) struct Added<'a> {
+    few: Vec<NamedValue<'a>>,
     // Those behind the first few.
-    more: Indexed,
+    more: Indexed<'a>,
 }
 
-impl Model for Added {
+impl<'a> Model for Added<'a> {
     ghost use Rattle.std.specs.Prelude.{◌++◌, List, ℕ};
     ghost use Rattle.std.specs.Coded.{coded_list, coded×, coded_ℕ};
     ghost use Rattle.feel_value.specs.Datum.{Datum};
@@ -45,9 +47,9 @@ impl Model for Added {
     ghost invariant = { λ e. IsFilled e.few.items e.more };
 }
 
-impl Added {
+impl<'a> Added<'a> {
     /// No names. It takes no memory, and keeps the allocator for its bindings.
-    pub(crate) fn new(alloc: Global) -> Added
+    pub(crate) fn new(alloc: Global) -> Added<'a>
         ensures { result ≡ [] }
     {
         Added {
@@ -59,14 +61,13 @@ impl Added {
     /// Binds a name to a value, which hides what the name was bound to before. Where memory is refused nothing changes,
     /// and the value is gone.
     #[tactic(auto, using(crate::proofs::Few::one_more, crate::proofs::Few::one_behind))]
-    pub(crate) fn bind(&mut self, name: &str, value: Feel) -> Result<(), AllocError>
-        ensures { MatchResult result (λ _. self.new ≡ self.old ++ (name.now, value) ∷ []) (λ _. self.new ≡ self.old) }
+    pub(crate) fn bind(&mut self, name: CowStr<'a>, value: Feel) -> Result<(), AllocError>
+        ensures { MatchResult result (λ _. self.new ≡ self.old ++ (cow_str_bytes name.entry, value) ∷ []) (λ _. self.new ≡ self.old) }
     {
         if self.few.len() == FEW {
             self.more.bind(name, value)?;
             return Ok(());
         }
-        let name = String::from_str(*self.few.allocator(), name)?;
         self.few.push(NamedValue { name, value })?;
         Ok(())
     }
@@ -110,7 +111,7 @@ impl Added {
 }
 
 // The value of the last of these that has the name.
-fn last_named<'a>(bindings: &'a [NamedValue], name: &str) -> Option<&'a Feel>
+fn last_named<'b>(bindings: &'b [NamedValue<'_>], name: &str) -> Option<&'b Feel>
     ensures { option_map (λ v. v.now) result ≡ bound name.now (few_of bindings.now) }
 {
     let mut i = bindings.len();

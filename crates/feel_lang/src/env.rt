@@ -1,5 +1,6 @@
 //! Names with values.
 ghost use Rattle.std.specs.Prelude.{◌≡◌, ◌≤◌, ◌<◌, ◌+◌, ◌^◌, [], ◌∷◌, ◌++◌, length, take, option_map, unwrap_or, MatchResult};
+ghost use Rattle.std.specs.Cow.{cow_str_bytes};
 ghost use Rattle.feel_lang.specs.Meaning.{bound};
 ghost use Rattle.feel_lang.specs.Needed.{bindings_from};
 
@@ -9,6 +10,7 @@ use crate::needs::Needs;
 use crate::reference::Reference;
 use feel_value::{Feel, Outcome};
 use std::alloc::{AllocError, Global};
+use std::borrow::CowStr;
 use std::marker::Model;
 
 /// A list of names with values, of which the last binding of a name counts.
@@ -19,7 +21,7 @@ pub struct Env<'a> {
     // What a decision needs. It is looked at where it lies.
     lent: Option<Lent<'a>>,
     // Those behind it, once there are some.
-    added: Option<Added>,
+    added: Option<Added<'a>>,
     alloc: Global,
 }
 
@@ -63,9 +65,23 @@ impl<'a> Env<'a> {
 
     /// Binds a name to a value, which hides what the name was bound to before. Where memory is refused nothing changes,
     /// and the value is gone.
-    #[tactic(auto, using(crate::proofs::Few::one_behind))]
     pub fn bind(&mut self, name: &str, value: Feel) -> Result<(), AllocError>
         ensures { MatchResult result (λ _. self.new ≡ self.old ++ (name.now, value) ∷ []) (λ _. self.new ≡ self.old) }
+    {
+        let name = String::from_str(self.alloc, name)?;
+        self.bind_either(CowStr::Owned(name), value)
+    }
+
+    /// The same with a name that is lent for as long as the environment is there, and not copied.
+    pub fn bind_lent(&mut self, name: &'a str, value: Feel) -> Result<(), AllocError>
+        ensures { MatchResult result (λ _. self.new ≡ self.old ++ (name.now, value) ∷ []) (λ _. self.new ≡ self.old) }
+    {
+        self.bind_either(CowStr::Borrowed(name), value)
+    }
+
+    #[tactic(auto, using(crate::proofs::Few::one_behind))]
+    fn bind_either(&mut self, name: CowStr<'a>, value: Feel) -> Result<(), AllocError>
+        ensures { MatchResult result (λ _. self.new ≡ self.old ++ (cow_str_bytes name.entry, value) ∷ []) (λ _. self.new ≡ self.old) }
     {
         if let Some(added) = &mut self.added {
             return added.bind(name, value);
@@ -93,8 +109,8 @@ impl<'a> Env<'a> {
     pub(crate) fn find_at(&self, reference: &Reference) -> Option<&Feel>
         ensures { option_map (λ v. v.now) result ≡ bound reference.now.name self.now }
     {
-        if self.added.is_some() {
-            return self.find(reference.name.as_str());
+        if let Some(value) = find_added(&self.added, reference.name.as_str()) {
+            return Some(value);
         }
         self.lent.as_ref()?.find_at(reference)
     }
@@ -124,14 +140,14 @@ impl<'a> Env<'a> {
 }
 
 // The value of the last binding of the name behind what is lent.
-fn find_added<'b>(added: &'b Option<Added>, name: &str) -> Option<&'b Feel>
+fn find_added<'b>(added: &'b Option<Added<'_>>, name: &str) -> Option<&'b Feel>
     ensures { option_map (λ v. v.now) result ≡ bound name.now (unwrap_or added.now []) }
 {
     added.as_ref()?.find(name)
 }
 
 // Drops all bindings behind what is lent but the first so many.
-fn cut_added(added: &mut Option<Added>, len: usize)
+fn cut_added(added: &mut Option<Added<'_>>, len: usize)
     requires { len ≤ length (unwrap_or added.old []) }
     ensures { unwrap_or added.new [] ≡ take len (unwrap_or added.old []) }
 {
@@ -141,7 +157,7 @@ fn cut_added(added: &mut Option<Added>, len: usize)
 }
 
 // How many bindings there are behind what is lent.
-fn added_len(added: &Option<Added>) -> usize
+fn added_len(added: &Option<Added<'_>>) -> usize
     ensures number { result ≡ length (unwrap_or added.now []) }
     ensures small { result < 2 ^ 63 + 8 }
 {

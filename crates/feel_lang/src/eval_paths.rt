@@ -1,5 +1,6 @@
 //! Paths into contexts and lists.
 ghost use Rattle.std.specs.Prelude.{◌≡◌, IfOk};
+ghost use Rattle.feel_value.specs.Datum.{list as list_of};
 ghost use Rattle.feel_value.specs.Outcome.{held};
 ghost use Rattle.feel_value.specs.View.{datum_of, items_view};
 ghost use Rattle.feel_lang.specs.Meaning.{path_of, paths_of};
@@ -19,12 +20,23 @@ pub(crate) fn path(alloc: Global, value: &Value, name: &str) -> Result<Value, Al
             Some(entry) => entry.try_clone(),
             None => Ok(Value::Null),
         },
-        Value::List(list) => {
-            let value = Value::list(alloc, paths(alloc, list.values(), name)?)?;
-            Ok(value)
-        }
+        Value::List(list) => list_path(alloc, value, list.values(), name),
         _ => Ok(Value::Null),
     }
+}
+
+// The same of a list with these items. An empty one is shared, and not formed again.
+#[cycle(path)]
+#[tactic(auto, using(crate::proofs::Paths::path_of_empty))]
+fn list_path(alloc: Global, list: &Value, items: &[Value], name: &str) -> Result<Value, AllocError>
+    requires { datum_of list.now ≡ list_of (items_view items.now) }
+    ensures { IfOk result (λ v. datum_of v ≡ path_of name.now (list_of (items_view items.now))) }
+{
+    if items.is_empty() {
+        return list.try_clone();
+    }
+    let values = paths(alloc, items, name)?;
+    Value::list(alloc, values)
 }
 
 #[cycle(path)]

@@ -1,17 +1,20 @@
 //! Names with values, found by an index.
-ghost use Rattle.std.specs.Prelude.{◌≡◌, ◌≤◌, ◌<◌, [], ◌∷◌, ◌++◌, ◌^◌, List, ℕ, length, take, option_map, MatchResult, IfOk, OnOk, OnErr, IsSome, Some, vec_len, vec_capacity, bytes_eq, string_bytes, if◌then◌else◌};
-ghost use Rattle.std.specs.BTreeMap.{IsUnchanged, get_by_text};
+ghost use Rattle.std.specs.Prelude.{◌≡◌, ◌≤◌, ◌<◌, [], ◌∷◌, ◌++◌, ◌^◌, List, ℕ, length, take, option_map, MatchResult, IfOk, OnOk, OnErr, IsSome, Some, vec_len, vec_capacity, bytes_eq, if◌then◌else◌};
+ghost use Rattle.std.specs.BTreeMap.{IsUnchanged};
+ghost use Rattle.std.specs.Cow.{cow_str_bytes};
 ghost use Rattle.feel_lang.specs.Meaning.{bound};
+ghost use Rattle.feel_lang.specs.Places.{place_in};
 
 use feel_value::Feel;
 use std::alloc::{AllocError, Global};
+use std::borrow::CowStr;
 use std::collections::BTreeMap;
 use std::marker::Model;
 
 // A name with its value.
 #[derive(Drop)]
-struct Binding {
-    name: String,
+struct Binding<'a> {
+    name: CowStr<'a>,
     value: Feel,
     // Where the binding stands that this one hides.
     hidden: Option<usize>,
@@ -21,13 +24,13 @@ struct Binding {
 ///
 /// Binding, finding and cutting off one name take steps in proportion to the logarithm of how many names there are.
 #[derive(Drop)]
-pub(crate) struct Indexed {
-    bindings: Vec<Binding>,
+pub(crate) struct Indexed<'a> {
+    bindings: Vec<Binding<'a>>,
     // Where the last binding of each name stands.
-    places: BTreeMap<String, usize>,
+    places: BTreeMap<CowStr<'a>, usize>,
 }
 
-impl Model for Indexed {
+impl<'a> Model for Indexed<'a> {
     ghost use Rattle.std.specs.Prelude.{List, ℕ};
     ghost use Rattle.std.specs.Coded.{coded_list, coded×, coded_ℕ};
     ghost use Rattle.feel_value.specs.Datum.{Datum};
@@ -44,9 +47,9 @@ impl Model for Indexed {
     ghost invariant = { λ e. IsIndexed e.bindings.items e.places };
 }
 
-impl Indexed {
+impl<'a> Indexed<'a> {
     /// No names. It takes no memory, and keeps the allocator for its bindings.
-    pub(crate) fn new(alloc: Global) -> Indexed
+    pub(crate) fn new(alloc: Global) -> Indexed<'a>
         ensures { result ≡ [] }
     {
         Indexed {
@@ -57,10 +60,10 @@ impl Indexed {
 
     /// Binds a name to a value, which hides what the name was bound to before. Where memory is refused nothing changes,
     /// and the value is gone.
-    pub(crate) fn bind(&mut self, name: &str, value: Feel) -> Result<(), AllocError>
-        ensures { MatchResult result (λ _. self.new ≡ self.old ++ (name.now, value) ∷ []) (λ _. self.new ≡ self.old) }
+    pub(crate) fn bind(&mut self, name: CowStr<'a>, value: Feel) -> Result<(), AllocError>
+        ensures { MatchResult result (λ _. self.new ≡ self.old ++ (cow_str_bytes name.entry, value) ∷ []) (λ _. self.new ≡ self.old) }
     {
-        let (name, hidden) = placed(&mut self.bindings, &mut self.places, name)?;
+        let hidden = placed(&mut self.bindings, &mut self.places, &name)?;
         self.bindings.push(Binding {
             name,
             value,
@@ -104,31 +107,28 @@ impl Indexed {
     }
 }
 
-/// Gives the name the place behind the items, where there is then room. Tells a copy of the name, and the place that it had.
-fn placed<T>(
+/// Gives the name the place behind the items, where there is then room. Tells the place that it had.
+fn placed<'a, T>(
     items: &mut Vec<T>,
-    places: &mut BTreeMap<String, usize>,
-    name: &str,
-) -> Result<(String, Option<usize>), AllocError>
+    places: &mut BTreeMap<CowStr<'a>, usize>,
+    name: &CowStr<'a>,
+) -> Result<Option<usize>, AllocError>
     ensures items { items.new.items ≡ items.old.items }
     ensures room { OnOk result (vec_len items.new < vec_capacity items.new) }
-    ensures name { IfOk result (λ p. string_bytes p.0 ≡ name.now) }
-    ensures hidden { IfOk result (λ p. p.1 ≡ get_by_text places.old name.now) }
-    ensures place { OnOk result ((other : List ℕ) → get_by_text places.new other ≡ (if bytes_eq name.now other then Some (length items.old.items) else get_by_text places.old other)) }
+    ensures hidden { IfOk result (λ p. p ≡ place_in places.old (cow_str_bytes name.now)) }
+    ensures place { OnOk result ((other : List ℕ) → place_in places.new other ≡ (if bytes_eq (cow_str_bytes name.now) other then Some (length items.old.items) else place_in places.old other)) }
     ensures refused { OnErr result (IsUnchanged places.old places.new) }
 {
-    let alloc = *items.allocator();
-    let key = String::from_str(alloc, name)?;
-    let name = String::from_str(alloc, name)?;
+    let key = name.clone()?;
     items.reserve(1)?;
     let hidden = places.insert(key, items.len())?;
-    Ok((name, hidden))
+    Ok(hidden)
 }
 
 // Gives the name the place that its last binding has hidden, where there is one.
-fn uncover(places: &mut BTreeMap<String, usize>, name: String, hidden: Option<usize>)
-    requires { IsSome (get_by_text places.old (string_bytes name)) }
-    ensures { (other : List ℕ) → get_by_text places.new other ≡ (if bytes_eq (string_bytes name) other then hidden else get_by_text places.old other) }
+fn uncover<'a>(places: &mut BTreeMap<CowStr<'a>, usize>, name: CowStr<'a>, hidden: Option<usize>)
+    requires { IsSome (place_in places.old (cow_str_bytes name)) }
+    ensures { (other : List ℕ) → place_in places.new other ≡ (if bytes_eq (cow_str_bytes name.entry) other then hidden else place_in places.old other) }
 {
     match hidden {
         // The name is there, so this takes no memory.

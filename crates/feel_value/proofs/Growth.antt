@@ -9,7 +9,7 @@ use Rattle.feel_value.specs.declared.size.Size.{Size}
 use Rattle.feel_value.proofs.Booleans.{both_true, and_true}
 use Rattle.feel_value.proofs.Entries.{Entry, named, entries_view-named}
 
-abbrev Pairs : Type 0
+abbrev pub Pairs : Type 0
 Pairs = List (List ℕ × Datum)
 
 -- one part more, word by word
@@ -29,35 +29,35 @@ max_assoc a b c = omega arith
 max_none : (a : ℕ) → max a 0 ≡ max 0 a
 max_none a = omega arith
 
-more_nodes : (ds : List Datum) (d : Datum) → items_nodes (items_of (ds ++ d ∷ [])) ≡ items_nodes (items_of ds) + nodes d
+pub more_nodes : (ds : List Datum) (d : Datum) → items_nodes (items_of (ds ++ d ∷ [])) ≡ items_nodes (items_of ds) + nodes d
 more_nodes [] d = plus_none (nodes d)
 more_nodes (x ∷ xs) d = ap (λ n. nodes x + n) (more_nodes xs d) ∙ plus_assoc (nodes x) (items_nodes (items_of xs)) (nodes d)
 
-more_depth : (ds : List Datum) (d : Datum) → items_depth (items_of (ds ++ d ∷ [])) ≡ max (items_depth (items_of ds)) (depth d)
+pub more_depth : (ds : List Datum) (d : Datum) → items_depth (items_of (ds ++ d ∷ [])) ≡ max (items_depth (items_of ds)) (depth d)
 more_depth [] d = max_none (depth d)
 more_depth (x ∷ xs) d = ap (λ n. max (depth x) n) (more_depth xs d) ∙ max_assoc (depth x) (items_depth (items_of xs)) (depth d)
 
-more_range : (ds : List Datum) (d : Datum) → items_in_range (items_of (ds ++ d ∷ [])) ≡ (items_in_range (items_of ds) && numbers_in_range d)
+pub more_range : (ds : List Datum) (d : Datum) → items_in_range (items_of (ds ++ d ∷ [])) ≡ (items_in_range (items_of ds) && numbers_in_range d)
 more_range [] d = and_true (numbers_in_range d)
 more_range (x ∷ xs) d = ap (λ b. numbers_in_range x && b) (more_range xs d) ∙ and_assoc (numbers_in_range x) (items_in_range (items_of xs)) (numbers_in_range d)
 
-more_distinct : (ds : List Datum) (d : Datum) → items_distinct (items_of (ds ++ d ∷ [])) ≡ (items_distinct (items_of ds) && names_distinct d)
+pub more_distinct : (ds : List Datum) (d : Datum) → items_distinct (items_of (ds ++ d ∷ [])) ≡ (items_distinct (items_of ds) && names_distinct d)
 more_distinct [] d = and_true (names_distinct d)
 more_distinct (x ∷ xs) d = ap (λ b. names_distinct x && b) (more_distinct xs d) ∙ and_assoc (names_distinct x) (items_distinct (items_of xs)) (names_distinct d)
 
-more_entry_nodes : (es : Pairs) (n : List ℕ) (d : Datum) → entries_nodes (entries_of (es ++ (n, d) ∷ [])) ≡ entries_nodes (entries_of es) + nodes d
+pub more_entry_nodes : (es : Pairs) (n : List ℕ) (d : Datum) → entries_nodes (entries_of (es ++ (n, d) ∷ [])) ≡ entries_nodes (entries_of es) + nodes d
 more_entry_nodes [] n d = plus_none (nodes d)
 more_entry_nodes (x ∷ xs) n d = ap (λ k. nodes x.1 + k) (more_entry_nodes xs n d) ∙ plus_assoc (nodes x.1) (entries_nodes (entries_of xs)) (nodes d)
 
-more_entry_depth : (es : Pairs) (n : List ℕ) (d : Datum) → entries_depth (entries_of (es ++ (n, d) ∷ [])) ≡ max (entries_depth (entries_of es)) (depth d)
+pub more_entry_depth : (es : Pairs) (n : List ℕ) (d : Datum) → entries_depth (entries_of (es ++ (n, d) ∷ [])) ≡ max (entries_depth (entries_of es)) (depth d)
 more_entry_depth [] n d = max_none (depth d)
 more_entry_depth (x ∷ xs) n d = ap (λ k. max (depth x.1) k) (more_entry_depth xs n d) ∙ max_assoc (depth x.1) (entries_depth (entries_of xs)) (depth d)
 
-more_entry_range : (es : Pairs) (n : List ℕ) (d : Datum) → entries_in_range (entries_of (es ++ (n, d) ∷ [])) ≡ (entries_in_range (entries_of es) && numbers_in_range d)
+pub more_entry_range : (es : Pairs) (n : List ℕ) (d : Datum) → entries_in_range (entries_of (es ++ (n, d) ∷ [])) ≡ (entries_in_range (entries_of es) && numbers_in_range d)
 more_entry_range [] n d = and_true (numbers_in_range d)
 more_entry_range (x ∷ xs) n d = ap (λ b. numbers_in_range x.1 && b) (more_entry_range xs n d) ∙ and_assoc (numbers_in_range x.1) (entries_in_range (entries_of xs)) (numbers_in_range d)
 
-more_entry_distinct : (es : Pairs) (n : List ℕ) (d : Datum) → entries_distinct (entries_of (es ++ (n, d) ∷ [])) ≡ (entries_distinct (entries_of es) && names_distinct d)
+pub more_entry_distinct : (es : Pairs) (n : List ℕ) (d : Datum) → entries_distinct (entries_of (es ++ (n, d) ∷ [])) ≡ (entries_distinct (entries_of es) && names_distinct d)
 more_entry_distinct [] n d = and_true (names_distinct d)
 more_entry_distinct (x ∷ xs) n d = ap (λ b. names_distinct x.1 && b) (more_entry_distinct xs n d) ∙ and_assoc (names_distinct x.1) (entries_distinct (entries_of xs)) (names_distinct d)
 

@@ -57,7 +57,7 @@ missing k (json.member l d ms) es h e =
     let p = both_true (is_lt (slice_cmp nat_cmp k l)) (is_before k ms) h in
     joined_entries (has_name k) false l (value_of_json d) (entries_of_json ms) es (λ c r _ g. ap₂ (λ a b. a || b) (other_name k l p.0) (missing k ms r p.1 g)) e
 
-differ_from_json : (ms : json.Members) (es : Entries) → in_order ms ≡ true → entries_of_json ms ≡ Some es → names_differ es ≡ true
+pub differ_from_json : (ms : json.Members) (es : Entries) → in_order ms ≡ true → entries_of_json ms ≡ Some es → names_differ es ≡ true
 differ_from_json json.no_members es h e = let same : no_entries ≡ es = cc in ap names_differ (sym same)
 differ_from_json (json.member k d ms) es h e =
     let p = both_true (is_before k ms) (in_order ms) h in

@@ -3,8 +3,8 @@ pub mod Entries
 pub mod Places
 pub mod Room
 pub mod ContextRoom
-pub mod Sums
 pub mod Growth
+pub mod Sums
 pub mod Booleans
 pub mod DistinctNames
 pub mod ByName
@@ -16,4 +16,5 @@ pub mod CodePoints
 pub mod Laws
 pub mod Parts
 pub mod JsonKeys
+pub mod Crossing
 pub mod Examples

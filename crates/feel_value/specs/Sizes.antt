@@ -16,6 +16,12 @@ size_of d = if is_value d then Some (size d) else None
 abbrev pub grown : Size → Size → Option Size
 grown s t = if nat_le (1 + t.levels) most_depth && nat_le (s.nodes + t.nodes) most_nodes then Some (record { nodes = s.nodes + t.nodes; levels = max s.levels (1 + t.levels) }) else None
 
+-- The same where one of the two may be no value.
+abbrev pub grown_by : Option Size → Option Size → Option Size
+grown_by None part = None
+grown_by (Some s) None = None
+grown_by (Some s) (Some t) = grown s t
+
 -- The size of a list or a context of that size that takes parts of this range, depth and nodes, with or without distinct names.
 abbrev pub with_parts : Size → Bool → Bool → ℕ → ℕ → Option Size
 with_parts s range distinct x m = if range && (nat_le (1 + x) most_depth && nat_le (s.nodes + m) most_nodes) && distinct then Some (record { nodes = s.nodes + m; levels = max s.levels (1 + x) }) else None

@@ -3,7 +3,7 @@ ghost use Rattle.std.specs.Prelude.{option_map, ◌≡◌, ◌+◌, ◌≤◌, �
 ghost use Rattle.serde_json.specs.View.{view};
 ghost use Rattle.feel_value.specs.Faults.{json_reading, IsDueUnlessMemory};
 ghost use Rattle.feel_value.specs.Json.{json_of};
-ghost use Rattle.feel_value.specs.Limits.{is_value, nodes, depth, most_nodes, most_depth};
+ghost use Rattle.feel_value.specs.Limits.{is_value, names_differ, nodes, depth, most_nodes, most_depth};
 ghost use Rattle.feel_value.specs.Datum.{list, context};
 ghost use Rattle.feel_value.specs.Sizes.{size as size_of_datum, IsGrown};
 ghost use Rattle.feel_value.specs.View.{datum_of, items_view, entries_view};
@@ -14,6 +14,7 @@ use crate::json::{read, write};
 use crate::limits::is_in_range;
 use crate::logic::Truth;
 use crate::size::Size;
+use crate::sizes::size_of_entries;
 use crate::value::{Value, ValueContext, ValueList};
 use std::alloc::{AllocError, Global};
 use std::marker::Model;
@@ -213,6 +214,21 @@ impl Outcome {
         ensures { IfOk result (λ o. o ≡ held (context (entries_view entries.items))) }
     {
         Ok(Outcome::of(Value::context(alloc, entries)?))
+    }
+
+    /// The same of entries whose names are known to be distinct: they are not compared.
+    pub fn context_of_distinct(
+        alloc: Global,
+        entries: Vec<(ArcStr, Value)>,
+    ) -> Result<Outcome, AllocError>
+        requires { names_differ (entries_view entries.items) ≡ true }
+        ensures { IfOk result (λ o. o ≡ held (context (entries_view entries.items))) }
+    {
+        let Some(size) = size_of_entries(&entries) else {
+            return Ok(Outcome::Limit);
+        };
+        let value = Feel::of_entries(alloc, entries, size)?;
+        Ok(Outcome::Is(value))
     }
 
     /// The value, unless a limit was broken.

@@ -9,10 +9,12 @@ ghost use Rattle.feel_value.specs.View.{datum_of, items_view, entries_view};
 
 use crate::fault::ValueFault;
 use crate::limits::is_in_range;
-use crate::value::Value;
+use crate::size::Size;
+use crate::sizes::grown_by;
+use crate::value::{Value, ValueContext, ValueList};
 use serde_json::{Map, Number};
 use std::alloc::{AllocError, Global};
-use std::sync::ArcStr;
+use std::sync::{Arc, ArcStr};
 
 #[cycle(read)]
 pub(crate) fn read(alloc: Global, json: &serde_json::Value) -> Result<Value, ValueFault>
@@ -27,9 +29,13 @@ pub(crate) fn read(alloc: Global, json: &serde_json::Value) -> Result<Value, Val
         serde_json::Value::String(text) => {
             Ok(Value::Text(ArcStr::from_str(alloc, text.as_str())?))
         }
-        serde_json::Value::Array(items) => { Ok(Value::list(alloc, read_items(alloc, items)?)?) }
+        serde_json::Value::Array(items) => {
+            let list = read_items(alloc, items)?;
+            Ok(Value::List(Arc::new(alloc, list)?))
+        }
         serde_json::Value::Object(members) => {
-            Ok(Value::context(alloc, read_members(alloc, members)?)?)
+            let context = read_members(alloc, members)?;
+            Ok(Value::Context(Arc::new(alloc, context)?))
         }
     }
 }
@@ -46,34 +52,41 @@ fn whole(n: &Number) -> Result<Value, ValueFault>
 }
 
 #[cycle(read)]
-fn read_items(alloc: Global, items: &[serde_json::Value]) -> Result<Vec<Value>, ValueFault>
-    ensures due { MatchResult result (λ v. items_of_json (json_items_view items.now) ≡ Some (items_view v.items))
+fn read_items(alloc: Global, items: &[serde_json::Value]) -> Result<ValueList, ValueFault>
+    ensures due { MatchResult result (λ v. items_of_json (json_items_view items.now) ≡ Some v)
         (λ e. IsNumberOrMemory e (items_of_json (json_items_view items.now))) }
     ensures rising { OnOk result (items_rise (json_items_view items.now) ≡ true) }
 {
     let mut values = Vec::with_capacity(alloc, items.len())?;
+    let mut size = Some(Size::of_one_node());
     for item in items {
-        values.push(read(alloc, item)?)?;
+        let value = read(alloc, item)?;
+        size = grown_by(size, &value);
+        values.push(value)?;
     }
-    Ok(values)
+    Ok(ValueList::of_size(values, size))
 }
 
+// The keys rise, so the names need no search.
 #[cycle(read)]
 fn read_members(
     alloc: Global,
     members: &Map<String, serde_json::Value>,
-) -> Result<Vec<(ArcStr, Value)>, ValueFault>
-    ensures due { MatchResult result (λ v. entries_of_json (json_members_view members.now.entries) ≡ Some (entries_view v.items))
+) -> Result<ValueContext, ValueFault>
+    ensures due { MatchResult result (λ v. entries_of_json (json_members_view members.now.entries) ≡ Some v)
         (λ e. IsNumberOrMemory e (entries_of_json (json_members_view members.now.entries))) }
     ensures rising { OnOk result ((in_order (json_members_view members.now.entries) ≡ true)
         × (members_rise (json_members_view members.now.entries) ≡ true)) }
 {
     let mut entries = Vec::with_capacity(alloc, members.len())?;
+    let mut size = Some(Size::of_one_node());
     for (key, member) in members.iter() {
         let name = ArcStr::from_str(alloc, key.as_str())?;
-        entries.push((name, read(alloc, member)?))?;
+        let value = read(alloc, member)?;
+        size = grown_by(size, &value);
+        entries.push((name, value))?;
     }
-    Ok(entries)
+    Ok(ValueContext::of_size(entries, size))
 }
 
 #[cycle(write)]

@@ -1,6 +1,8 @@
 //! A heap that refuses requests for memory, for tests. It can't be had under an address sanitizer, which keeps a heap of its own.
 #![tactic(auto)]
 
+ghost use Rattle.std.specs.Prelude.{◌≡◌, vec_len};
+
 use std::alloc::{AllocError, Global};
 
 /// The most blocks that the heap is taken in.
@@ -43,7 +45,9 @@ impl FullHeap {
     }
 
     /// How many blocks were taken.
-    pub fn blocks(&self) -> usize {
+    pub fn blocks(&self) -> usize
+        ensures { result ≡ vec_len self.now.blocks }
+    {
         self.blocks.len()
     }
 }

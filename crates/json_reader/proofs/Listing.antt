@@ -100,16 +100,16 @@ no_object depth t ts r d h e = λ ms few same.
 -- ---- the whole text
 
 pub whole_listed : (o : Option (json.Json × List Token)) (l : Listed) → ListsRead (converted of_json o) l [] → ListsText (whole o) l
-whole_listed o (Object ms) h = whole_done o (object (members_of ms.items)) h
+whole_listed o (Object ms) h = (whole_done o (object (members_of ms.items)) h.0, h.1)
 whole_listed o Other h = (h.0, whole_done o h.0 h.1, h.2)
 whole_listed o Syntax h = whole_none o h
 
 pub whole_followed : (o : Option (json.Json × List Token)) (l : Listed) (t : Token) (ts : List Token) → ListsRead (converted of_json o) l (t ∷ ts) → whole o ≡ None
-whole_followed o (Object ms) t ts h = whole_more o (object (members_of ms.items)) t ts h
+whole_followed o (Object ms) t ts h = whole_more o (object (members_of ms.items)) t ts h.0
 whole_followed o Other t ts h = whole_more o h.0 t ts h.1
 whole_followed o Syntax t ts h = whole_none o h
 
 pub read_as : (text : List ℕ) (l : Listed) → IsUtf8 text → ListsText (read text) l → IsReadAs text l
-read_as text (Object ms) utf8 h = (utf8, h)
+read_as text (Object ms) utf8 h = (utf8, h.0, h.1)
 read_as text Other utf8 h = (utf8, h)
 read_as text Syntax utf8 h = inr h

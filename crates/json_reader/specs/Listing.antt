@@ -15,12 +15,12 @@ Lists all listed = (length listed ≤ most_listed → all ≡ members_of listed)
 
 -- what is read from tokens, and the tokens that follow
 abbrev pub ListsRead : Option (Data × List Token) → Listed → List Token → Type 0
-ListsRead found (Object members) rest = found ≡ Some (object (members_of members.items), rest)
+ListsRead found (Object members) rest = (found ≡ Some (object (members_of members.items), rest)) × (length members.items ≤ most_listed)
 ListsRead found Other rest = (value : Data) × (found ≡ Some (value, rest)) × IsNotFew value
 ListsRead found Syntax rest = found ≡ None
 
 -- what is read from a whole text
 abbrev pub ListsText : Option Data → Listed → Type 0
-ListsText found (Object members) = found ≡ Some (object (members_of members.items))
+ListsText found (Object members) = (found ≡ Some (object (members_of members.items))) × (length members.items ≤ most_listed)
 ListsText found Other = (value : Data) × (found ≡ Some value) × IsNotFew value
 ListsText found Syntax = found ≡ None

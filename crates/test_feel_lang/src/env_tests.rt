@@ -55,10 +55,15 @@ fn number(n: u8) -> Result<Feel, Fail> {
     Ok(Feel::of(Value::Number(i64::from(n))).ok_or("no number")?)
 }
 
-/// Makes these bindings.
-fn bind(env: &mut Env, bindings: &[(&str, u8)]) -> Result<(), Fail> {
-    for (name, n) in bindings {
-        env.bind(name, number(*n)?)?;
+/// Makes these bindings, every second one under a name that is lent.
+fn bind<'a>(env: &mut Env<'a>, bindings: &[(&'a str, u8)]) -> Result<(), Fail> {
+    for (i, (name, n)) in bindings.iter().enumerate() {
+        let value = number(*n)?;
+        if i % 2 == 0 {
+            env.bind(name, value)?;
+        } else {
+            env.bind_lent(*name, value)?;
+        }
     }
     Ok(())
 }

@@ -12,6 +12,8 @@ mod logic;
 #[cfg(test)]
 mod names;
 #[cfg(test)]
+mod shared_names;
+#[cfg(test)]
 mod tables;
 #[cfg(test)]
 mod values;

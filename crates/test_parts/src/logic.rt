@@ -4,7 +4,6 @@ use dmn_logic::{Logic, evaluate, read_decision_logic};
 use feel_lang::Env;
 use feel_value::{Feel, Outcome, Value};
 use std::alloc::{AllocError, Global};
-use std::process::Abort;
 use std::test::Fail;
 
 /// The logic of a decision with this expression, which is JSON.
@@ -30,7 +29,7 @@ const OUTCOMES: &[(&str, &str)] = &[
 ];
 
 /// An environment in which `a` is this number.
-pub fn env_of(alloc: Global, a: i64) -> Result<Env<'static>, Fail> {
+pub fn env_of<'a>(alloc: Global, a: i64) -> Result<Env<'a>, Fail> {
     let mut env = Env::new(alloc);
     env.bind("a", Feel::of(Value::Number(a)).ok_or("no number")?)?;
     Ok(env)
@@ -44,32 +43,21 @@ pub fn shown(alloc: Global, outcome: &Outcome) -> Result<String, AllocError> {
     }
 }
 
-/// What a boxed expression comes to.
-fn evaluated(alloc: Global, logic: &Logic, env: &mut Env) -> Result<String, AllocError> {
-    let outcome = evaluate(alloc, logic, env)?;
-    shown(alloc, &outcome)
-}
-
-/// What an expression, which is JSON, comes to.
-fn outcome_of(alloc: Global, expression: &str, env: &mut Env) -> Result<String, Fail> {
+/// What an expression, which is JSON, comes to where `a` is 3, and how many names are bound then.
+fn outcome_of(alloc: Global, expression: &str) -> Result<(String, usize), Fail> {
     let logic = logic(alloc, expression)?;
-    Ok(evaluated(alloc, &logic, env)?)
+    let mut env = env_of(alloc, 3)?;
+    let outcome = evaluate(alloc, &logic, &mut env)?;
+    Ok((shown(alloc, &outcome)?, env.len()))
 }
 
-/// Each expression comes to its outcome.
-fn have_their_outcomes(rt: &impl Abort, alloc: Global, env: &mut Env) -> Result<(), Fail> {
-    for (expression, want) in OUTCOMES {
-        let found = outcome_of(alloc, expression, env)?;
-        assert_eq!(rt; found.as_str(), *want, "{expression}");
-    }
-    Ok(())
-}
-
-/// Behind an evaluation no more names are bound than before.
+/// Each expression comes to its outcome. Behind an evaluation no more names are bound than before.
 #[test]
 fn contexts_with_a_name_twice(rt: HostRuntime) -> Result<(), Fail> {
-    let mut env = env_of(rt.alloc(), 3)?;
-    have_their_outcomes(&rt, rt.alloc(), &mut env)?;
-    assert_eq!(rt; env.len(), 1);
+    for (expression, want) in OUTCOMES {
+        let (found, bound) = outcome_of(rt.alloc(), expression)?;
+        assert_eq!(rt; found.as_str(), *want, "{expression}");
+        assert_eq!(rt; bound, 1, "{expression}");
+    }
     Ok(())
 }

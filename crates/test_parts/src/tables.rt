@@ -9,6 +9,7 @@ use dmn_logic::Logic;
 use dmn_table::{Output, Rule, Table, TableFault, decide};
 use feel_lang::{Env, Expr, Tests, read_expr, read_tests};
 use std::alloc::{AllocError, Global};
+use std::sync::ArcStr;
 use std::test::Fail;
 
 /// So many tests that always hold.
@@ -48,7 +49,7 @@ fn rules(alloc: Global, counts: &[(usize, usize)]) -> Result<Vec<Rule>, Fail> {
 /// An output column of this name.
 fn column(alloc: Global, name: &str) -> Result<Output, AllocError> {
     Ok(Output {
-        name: String::from_str(alloc, name)?,
+        name: ArcStr::from_str(alloc, name)?,
         values: Vec::new(alloc),
         fallback: None,
     })

@@ -110,7 +110,7 @@ fn named(alloc: Global, names: &[&str]) -> Result<Value, AllocError> {
     for name in names {
         entries.push((ArcStr::from_str(alloc, name)?, Value::Null))?;
     }
-    Value::context(alloc, entries)
+    Ok(Value::context(alloc, entries)?)
 }
 
 const LISTS_OF_NAMES: &[(&[&str], bool)] = &[
@@ -145,5 +145,57 @@ fn values_by_hand(rt: HostRuntime) -> Result<(), Fail> {
     assert!(rt; Feel::of(inside).is_none());
     assert!(rt; Feel::of(Value::Number(i64::MIN)).is_none());
     assert!(rt; Feel::of(Value::Number(-i64::MAX)).is_some());
+    Ok(())
+}
+
+/// The list of so many nulls.
+fn nulls(alloc: Global, count: usize) -> Result<Value, AllocError> {
+    let mut values = Vec::new(alloc);
+    for _ in 0..count {
+        values.push(Value::Null)?;
+    }
+    Value::list(alloc, values)
+}
+
+/// The list of two lists: of so many nulls, and of so many.
+fn pair(alloc: Global, first: usize, second: usize) -> Result<Value, Fail> {
+    let first = nulls(alloc, first)?;
+    let second = nulls(alloc, second)?;
+    Ok(Value::list(alloc, vec![in alloc; first, second]?)?)
+}
+
+/// Values made by hand, of just as many nodes as there may be, and of one more.
+#[test]
+fn nodes_by_hand(rt: HostRuntime) -> Result<(), Fail> {
+    assert!(rt; Feel::of(nulls(rt.alloc(), 9_999)?).is_some());
+    assert!(rt; Feel::of(nulls(rt.alloc(), 10_000)?).is_none());
+    assert!(rt; Feel::of(pair(rt.alloc(), 4_998, 4_999)?).is_some());
+    assert!(rt; Feel::of(pair(rt.alloc(), 4_999, 4_999)?).is_none());
+    assert!(rt; Feel::of(pair(rt.alloc(), 70_000, 1)?).is_none());
+    Ok(())
+}
+
+/// A null so many lists deep.
+fn deep(alloc: Global, lists: usize) -> Result<Value, Fail> {
+    let mut value = Value::Null;
+    for _ in 0..lists {
+        value = Value::list(alloc, vec![in alloc; value]?)?;
+    }
+    Ok(value)
+}
+
+/// Values made by hand, just as deep as a value may be, and deeper.
+#[test]
+fn depths_by_hand(rt: HostRuntime) -> Result<(), Fail> {
+    assert!(rt; Feel::of(deep(rt.alloc(), 99)?).is_some());
+    assert!(rt; Feel::of(deep(rt.alloc(), 100)?).is_none());
+    assert!(rt; Feel::of(deep(rt.alloc(), 400)?).is_none());
+    Ok(())
+}
+
+#[test]
+fn bytes_of_a_value(rt: HostRuntime) -> Result<(), Fail> {
+    assert_eq!(rt; std::mem::size_of::<Value>(), 16);
+    assert_eq!(rt; std::mem::size_of::<Feel>(), 16);
     Ok(())
 }

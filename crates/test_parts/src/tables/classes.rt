@@ -198,7 +198,7 @@ fn table(
     for name in INPUTS {
         inputs.push(read_expr(alloc, name)?)?;
     }
-    let name = String::from_str(alloc, "r")?;
+    let name = ArcStr::from_str(alloc, "r")?;
     let values = vec![in alloc; read_literal(alloc, "3")?, read_literal(alloc, "1")?]?;
     let fallback = None;
     let output = Output {

@@ -4,6 +4,7 @@ use crate::logic::{env_of, shown};
 use dmn_table::{Output, Rule, Table, decide};
 use feel_lang::{read_expr, read_literal, read_tests};
 use std::alloc::{AllocError, Global};
+use std::sync::ArcStr;
 use std::test::Fail;
 
 /// The text of the listed value at this place: numbers and texts in turn, some of them twice, and `true` and null.
@@ -107,7 +108,7 @@ fn table(alloc: Global, hit: &str, listed: &[String], given: &[String]) -> Resul
         let gives = vec![in alloc; read_expr(alloc, text.as_str())?]?;
         rules.push(Rule { tests, gives })?;
     }
-    let name = String::from_str(alloc, "r")?;
+    let name = ArcStr::from_str(alloc, "r")?;
     let fallback = None;
     let outputs = vec![in alloc;
         Output {

@@ -8,6 +8,7 @@ use feel_value::{Feel, Outcome};
 use full_heap::FullHeap;
 use std::alloc::{AllocError, Global};
 use std::process::Abort;
+use std::sync::ArcStr;
 use std::test::Fail;
 
 /// The one value of an output column.
@@ -19,7 +20,7 @@ fn values(alloc: Global) -> Result<Vec<Feel>, Fail> {
 fn full_columns(alloc: Global) -> Result<Vec<Output>, Fail> {
     let values = values(alloc)?;
     let fallback = Some(read_expr(alloc, "3")?);
-    let name = String::from_str(alloc, "r")?;
+    let name = ArcStr::from_str(alloc, "r")?;
     Ok(vec![in alloc;
         Output {
             name,

@@ -49,7 +49,7 @@ fn context(alloc: Global, names: &[&str], further: &[(&str, &str)]) -> Result<Va
     for (name, text) in further {
         entries.push(entry(alloc, name, text)?)?;
     }
-    Value::context(alloc, entries)
+    Ok(Value::context(alloc, entries)?)
 }
 
 /// Whether contexts of the same entries in these orders are equal, each to each.
@@ -115,7 +115,7 @@ fn nested(alloc: Global, outer: &[&str], inner: &[&str]) -> Result<Value, AllocE
         let within = context(alloc, inner, &[("of", name)])?;
         entries.push((ArcStr::from_str(alloc, name)?, within))?;
     }
-    Value::context(alloc, entries)
+    Ok(Value::context(alloc, entries)?)
 }
 
 #[test]

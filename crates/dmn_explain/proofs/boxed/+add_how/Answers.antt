@@ -1,4 +1,5 @@
-use Rattle.std.proofs.Common.{◌≡◌, ap, sym, ◌∙◌, subst, ◌++◌, ◌+◌, [], ◌∷◌, List, ℕ, true, false, drop, Option, string_bytes, OnOk, refl, Vec, Global}
+use Rattle.std.proofs.Common.{◌≡◌, ap, sym, ◌∙◌, subst, ◌++◌, ◌+◌, [], ◌∷◌, List, ℕ, true, false, drop, Option, OnOk, refl, Vec, Global}
+use Rattle.std.specs.Arc.{arc_str_bytes}
 use Rattle.std.specs.Prelude.{codes}
 use Rattle.serde_json.specs.Data.{array}
 use Rattle.serde_json.specs.Written.{compact_text, items_text, members_text}
@@ -87,10 +88,10 @@ add_entries-loop-name-preserved t c =
     let t2 = c.add_entry.new.text.items in
     let outcome = sym c.in-Is.is ∙ c.in_ok-value.ensures.value in
     let named = c.as_str-in-loop-name.ensures.value in
-    let next : c.bind.new.self ≡ m ++ (string_bytes x.0, d) ∷ [] =
-    c.in_ok-bind.ensures ∙ ap (λ (e : Bindings). e ++ (c.as_str-in-loop-name.result.now, d) ∷ []) c.in_ok-value.ensures.same ∙ ap (λ (n : List ℕ). m ++ (n, d) ∷ []) named in record {
-      bound = bind_turn _ c.args.env.now m c.add_entry.new.env c.bind.new.self entries i x c.as_str-in-loop-name.result.now d
-          c.loop-name.invariant.bound c.loop-name-item.is c.loop-name-test.true outcome c.in_ok-value.ensures.same c.in_ok-bind.ensures named;
+    let next : c.bind_lent.new.self ≡ m ++ (arc_str_bytes x.0, d) ∷ [] =
+    c.in_ok-bind_lent.ensures ∙ ap (λ (e : Bindings). e ++ (c.as_str-in-loop-name.result.now, d) ∷ []) c.in_ok-value.ensures.same ∙ ap (λ (n : List ℕ). m ++ (n, d) ∷ []) named in record {
+      bound = bind_turn _ c.args.env.now m c.add_entry.new.env c.bind_lent.new.self entries i x c.as_str-in-loop-name.result.now d
+          c.loop-name.invariant.bound c.loop-name-item.is c.loop-name-test.true outcome c.in_ok-value.ensures.same c.in_ok-bind_lent.ensures named;
       text = ap (λ (e : Bindings). t2 ++ items_text true (entries_told (entries_view (drop (i + 1) entries)) e)) next
           ∙ entry_more (c.args.text.now.items ++ entries_text (entries_told (entries_view entries) c.args.env.now)) c.loop-name.text.items t1 t2 c.loop-name.later m i
           c.in_ok-add_comma.ensures entries x c.loop-name.invariant.text c.loop-name-item.is c.loop-name-test.true

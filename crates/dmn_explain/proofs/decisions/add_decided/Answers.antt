@@ -1,4 +1,5 @@
-use Rattle.std.proofs.Common.{◌≡◌, ap, sym, ◌∙◌, ◌++◌, List, ℕ, true, Option, None, Some, string_bytes}
+use Rattle.std.proofs.Common.{◌≡◌, ap, sym, ◌∙◌, ◌++◌, List, ℕ, true, Option, None, Some}
+use Rattle.std.specs.Arc.{arc_str_bytes}
 use Rattle.std.specs.Prelude.{codes}
 use Rattle.serde_json.specs.Written.{members_text}
 use Rattle.feel_value.specs.Datum.{Datum}
@@ -15,7 +16,7 @@ returns-in_default c =
     let t1 = c.add_name.new.text.items in
     let t2 = c.add_valued.new.text.items in
     let none : None ≡ bindings_from c.args.found.now c.args.item.now.named = sym c.in_default.is ∙ c.over.ensures in
-    named_added_by c.args.text.now.items t1 t2 c.push.new.self.items (string_bytes c.args.item.now.name) (codes "value") (found_at c.args.found.now c.args.place)
+    named_added_by c.args.text.now.items t1 t2 c.push.new.self.items (arc_str_bytes c.args.item.now.name) (codes "value") (found_at c.args.found.now c.args.place)
     (how_under (bindings_from c.args.found.now c.args.item.now.named) (logic_view c.args.logic.now))
     (c.in_ok-add_name.ensures ∙ ap (λ (n : List ℕ). c.args.text.now.items ++ name_text n) c.as_str.ensures.value)
     (c.in_ok-add_valued.ensures ∙ ap (λ (o : Option Datum). t1 ++ valued_text true (codes "value") o) c.value_at.ensures)
@@ -26,7 +27,7 @@ returns c =
     let t1 = c.add_name.new.text.items in
     let t2 = c.add_valued.new.text.items in
     let some : Some c.in-Some.env ≡ bindings_from c.args.found.now c.args.item.now.named = sym c.in-Some.is ∙ c.over.ensures in
-    named_added_by c.args.text.now.items t1 t2 c.add_how.new.text.items (string_bytes c.args.item.now.name) (codes "value") (found_at c.args.found.now c.args.place)
+    named_added_by c.args.text.now.items t1 t2 c.add_how.new.text.items (arc_str_bytes c.args.item.now.name) (codes "value") (found_at c.args.found.now c.args.place)
     (how_under (bindings_from c.args.found.now c.args.item.now.named) (logic_view c.args.logic.now))
     (c.in_ok-add_name.ensures ∙ ap (λ (n : List ℕ). c.args.text.now.items ++ name_text n) c.as_str.ensures.value)
     (c.in_ok-add_valued.ensures ∙ ap (λ (o : Option Datum). t1 ++ valued_text true (codes "value") o) c.value_at.ensures)

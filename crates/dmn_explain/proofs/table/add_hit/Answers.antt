@@ -1,9 +1,8 @@
-use Rattle.std.proofs.Common.{ap, ◌∙◌, ◌++◌, true, false, map, Option}
+use Rattle.std.proofs.Common.{ap, ◌∙◌, ◌++◌, true, false, Option}
 use Rattle.std.specs.Prelude.{codes}
 use Rattle.serde_json.specs.Data.{number, unsigned, member, no_members}
 use Rattle.feel_value.specs.Datum.{Datum}
 use Rattle.feel_value.specs.Found.{value_of}
-use Rattle.dmn_table.specs.Parts.{column_view}
 use Rattle.dmn_explain.specs.How.{valued, output_value}
 use Rattle.dmn_explain.specs.Numbered.{hit_view}
 use Rattle.dmn_explain.specs.Text.{valued_text}
@@ -13,7 +12,7 @@ use Rattle.dmn_explain.proofs.table.add_hit.Goals as goal
 pub returns : goal.returns
 returns c =
     let hit = hit_view c.args.hit.now in
-    let o : Option Datum = output_value (map column_view c.args.outputs.now) c.args.env.now hit.1 in
+    let o : Option Datum = output_value c.args.table.now.outputs c.args.env.now hit.1 in
     let t1 = c.push.new.self.items in
     let t2 = c.add_key.new.text.items in
     let t3 = c.add_number.new.text.items in

@@ -18,5 +18,8 @@ loop-rank-preserved c = record {
       (c.loop-rank.invariant.sized ∙ sym (length-map c.args.needs.now (λ v. v.items))) (omega arith) c.loop-rank.invariant.ranks;
 }
 
-pub returns : goal.returns
-returns c = ranks_fall (needs_view c.args.needs.now) c.args.order.now c.loop-rank.ranks.items c.requires (λ k l. c.loop-rank.invariant.ranks k (omega arith))
+pub returns-clause-ranks : goal.returns-clause-ranks
+returns-clause-ranks c k l = c.loop-rank.invariant.ranks k (omega arith)
+
+pub returns-clause-falls : goal.returns-clause-falls
+returns-clause-falls c = ranks_fall (needs_view c.args.needs.now) c.args.order.now c.loop-rank.ranks.items c.requires (returns-clause-ranks c)

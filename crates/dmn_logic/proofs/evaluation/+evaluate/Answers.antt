@@ -1,4 +1,4 @@
-use Rattle.std.proofs.Common.{◌≡◌, ap, sym, ◌∙◌, subst, Option, Some, None, Bool, false, if◌then◌else◌, IfOk, ◌+◌, [], ◌∷◌, ◌++◌, drop, string_bytes}
+use Rattle.std.proofs.Common.{◌≡◌, ap, sym, ◌∙◌, subst, Option, Some, None, Bool, false, if◌then◌else◌, IfOk, ◌+◌, [], ◌∷◌, ◌++◌, drop}
 use Rattle.std.specs.Arc.{arc_str_bytes}
 use Rattle.feel_lang.specs.Meaning.{Bindings}
 use Rattle.feel_value.specs.Datum.{list as list_value, items_of, context as context_value, entries_of}
@@ -31,21 +31,21 @@ entries_outcome-returns-then-not-branch-clause-value t c =
     let x = c.loop-name-item.result in
     let entries = c.args.entries.now in
     let i = c.loop-name.name-index in
-    let rest = entry_values (entries_view (drop (i + 1) entries)) (env ++ (string_bytes x.0, d) ∷ []) in
+    let rest = entry_values (entries_view (drop (i + 1) entries)) (env ++ (arc_str_bytes x.0, d) ∷ []) in
     let outcome = sym c.in-Is.is ∙ c.in_ok-value.ensures.value in
-    let same : ps ++ (arc_str_bytes c.in_ok-key.key, c.in_ok-try_clone.field-0) ∷ [] ≡ ps ++ (string_bytes x.0, d) ∷ [] =
-    ap (λ k. ps ++ (k, c.in_ok-try_clone.field-0) ∷ []) (c.in_ok-key.ensures.ok ∙ c.as_str.ensures.value) ∙ ap (λ z. ps ++ (string_bytes x.0, z) ∷ []) c.in_ok-try_clone.ensures in
-    let refused : keeps_limits (context_value (entries_of (ps ++ (string_bytes x.0, d) ∷ []))) ≡ false =
+    let same : ps ++ (arc_str_bytes c.in_ok-clone.field-0, c.in_ok-try_clone.field-0) ∷ [] ≡ ps ++ (arc_str_bytes x.0, d) ∷ [] =
+    ap (λ k. ps ++ (k, c.in_ok-try_clone.field-0) ∷ []) c.in_ok-clone.ensures.cases ∙ ap (λ z. ps ++ (arc_str_bytes x.0, z) ∷ []) c.in_ok-try_clone.ensures in
+    let refused : keeps_limits (context_value (entries_of (ps ++ (arc_str_bytes x.0, d) ∷ []))) ≡ false =
     ap (λ qs. keeps_limits (context_value (entries_of qs))) (sym same) ∙ sym c.in_ok-push.ensures.fits ∙ c.if-not-branch.true in
-    sym (c.loop-name.invariant.1 ∙ ap context_from (one_named env ps d entries i x c.loop-name-item.is c.loop-name-test.true outcome) ∙ too_many_named (ps ++ (string_bytes x.0, d) ∷ []) rest refused)
+    sym (c.loop-name.invariant.1 ∙ ap context_from (one_named env ps d entries i x c.loop-name-item.is c.loop-name-test.true outcome) ∙ too_many_named (ps ++ (arc_str_bytes x.0, d) ∷ []) rest refused)
 
 pub entries_outcome-loop-name-preserved : goal.entries_outcome-loop-name-preserved
 entries_outcome-loop-name-preserved t c =
-    entry_turn _ c.args.env.now c.loop-name.env c.evaluate.new.env c.bind.new.self c.loop-name.values c.push.new.self c.args.entries.now c.loop-name.name-index c.loop-name-item.result
-    (arc_str_bytes c.in_ok-key.key) c.as_str-in-loop-name.result.now c.in-Is.value c.in_ok-try_clone.field-0
-    c.loop-name.invariant c.loop-name-item.is c.loop-name-test.true (sym c.in-Is.is ∙ c.in_ok-value.ensures.value) c.in_ok-value.ensures.same c.in_ok-bind.ensures
-    c.as_str-in-loop-name.ensures.value (c.in_ok-key.ensures.ok ∙ c.as_str.ensures.value) c.in_ok-try_clone.ensures
-    (c.in_ok-push.ensures.taken ∙ ap (λ b. if b then c.loop-name.values ++ (arc_str_bytes c.in_ok-key.key, c.in_ok-try_clone.field-0) ∷ [] else c.loop-name.values) c.if-not-branch.false)
+    entry_turn _ c.args.env.now c.loop-name.env c.evaluate.new.env c.bind_lent.new.self c.loop-name.values c.push.new.self c.args.entries.now c.loop-name.name-index c.loop-name-item.result
+    (arc_str_bytes c.in_ok-clone.field-0) c.as_str.result.now c.in-Is.value c.in_ok-try_clone.field-0
+    c.loop-name.invariant c.loop-name-item.is c.loop-name-test.true (sym c.in-Is.is ∙ c.in_ok-value.ensures.value) c.in_ok-value.ensures.same c.in_ok-bind_lent.ensures
+    c.as_str.ensures.value c.in_ok-clone.ensures.cases c.in_ok-try_clone.ensures
+    (c.in_ok-push.ensures.taken ∙ ap (λ b. if b then c.loop-name.values ++ (arc_str_bytes c.in_ok-clone.field-0, c.in_ok-try_clone.field-0) ∷ [] else c.loop-name.values) c.if-not-branch.false)
 
 pub evaluate-returns-in_ok-outcome-in-Context-clause-value : goal.evaluate-returns-in_ok-outcome-in-Context-clause-value
 evaluate-returns-in_ok-outcome-in-Context-clause-value t c =
@@ -73,5 +73,5 @@ evaluate-returns-after-bind_entries-clause-value t c =
 
 pub bind_entries-loop-name-preserved : goal.bind_entries-loop-name-preserved
 bind_entries-loop-name-preserved t c =
-    bind_turn _ c.args.env.now c.loop-name.env c.evaluate.new.env c.bind.new.self c.args.entries.now c.loop-name.name-index c.loop-name-item.result c.as_str.result.now c.in-Is.value
-    c.loop-name.invariant c.loop-name-item.is c.loop-name-test.true (sym c.in-Is.is ∙ c.in_ok-value.ensures.value) c.in_ok-value.ensures.same c.in_ok-bind.ensures c.as_str.ensures.value
+    bind_turn _ c.args.env.now c.loop-name.env c.evaluate.new.env c.bind_lent.new.self c.args.entries.now c.loop-name.name-index c.loop-name-item.result c.as_str.result.now c.in-Is.value
+    c.loop-name.invariant c.loop-name-item.is c.loop-name-test.true (sym c.in-Is.is ∙ c.in_ok-value.ensures.value) c.in_ok-value.ensures.same c.in_ok-bind_lent.ensures c.as_str.ensures.value

@@ -1,4 +1,5 @@
 use Rattle.std.proofs.Common.{refl, ap, ap₂, sym, ◌∙◌, List, [], ◌∷◌, map, String, Global, string_bytes}
+use Rattle.std.specs.declared.sync.ArcStr.{ArcStr}
 use Rattle.std.proofs.lemmas.List.{map-append}
 use Rattle.dmn_form.specs.Model.{Name, members_of, entries_of}
 use Rattle.dmn_form.specs.LogicView.{logic_view as written_view, entry_view as written_entry}
@@ -75,7 +76,7 @@ entries_of-loop-name-preserved t c =
     let named = mapped (λ logic. (string_bytes c.loop-name-item.result.0, logic)) in
     elim c.match-branch-3.branch [
       | entries_of-in-Found+in_ok-from_str-in-Found+in_ok-push-in-Found w ↦
-          let pair : String Global × Logic = (w.in_ok-from_str-in-Found.field-0, w.in-Found.logic) in
+          let pair : ArcStr Global × Logic = (w.in_ok-from_str-in-Found.field-0, w.in-Found.logic) in
           found_turn entries_part entries_each (λ e es. refl) _ c.loop-name.is_refused _ (map entry_view c.loop-name.entries.items) _ (entry_view pair)
           c.args.written.now c.loop-name.name-index c.loop-name-item.result
           c.loop-name.invariant c.loop-name-item.is c.loop-name-test.true

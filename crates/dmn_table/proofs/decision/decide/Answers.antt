@@ -44,3 +44,8 @@ returns c =
     let test : nat_eq (vec_len c.in-Some-2.rules) 0 ≡ true = eq-eqb _ _ (omega (arith, c.in-Some-2.rules.ok.0)) in
     absurd (true≢false (sym test ∙ sym c.if-is_empty.ensures)) in
     subst (λ d. IfOk c.result_of.result (λ o. o ≡ d)) (by_policy whole m values hits some inputs found ∙ ap (λ t. table_result t m) same) c.result_of.ensures
+
+pub defaults-requires : goal.defaults-requires
+defaults-requires c =
+    let table = c.table.inside in
+    rw c.deref-then-is_empty.ensures.value (fitting_distinct (length table.inputs.items) table.outputs.items (entry_counts table.rules.items) c.table.invariant.0)

@@ -12,7 +12,7 @@ pub in_priority-requires : goal.in_priority-requires
 in_priority-requires c =
     let found = each (hit_of (map column_view c.args.outputs.now) c.args.env.now) (rules_view c.args.rules.now) in
     let kept : Some (map hit_view c.in-Some.hits.items) ≡ fitting found = sym (ap (option_map (λ v. map hit_view v.items)) c.in-Some.is) ∙ c.in_ok-hits.ensures in
-    equal_places c.args.outputs.now (rules_view c.args.rules.now) c.args.env.now c.in-Some.hits.items c.requires (fitting_found (map hit_view c.in-Some.hits.items) found kept)
+    equal_places c.args.outputs.now (rules_view c.args.rules.now) c.args.env.now c.in-Some.hits.items c.requires.entries (fitting_found (map hit_view c.in-Some.hits.items) found kept)
 
 pub returns-in-None : goal.returns-in-None
 returns-in-None c =

@@ -6,10 +6,13 @@ use Rattle.feel_value.proofs.FromJson.{items_after}
 use Rattle.feel_lang.proofs.eval_paths.+path.Given as goal
 
 abbrev pub decreases-path : goal.decreases-path
-decreases-path l = 2 * depth (datum_of l.value.now)
+decreases-path l = 3 * depth (datum_of l.value.now)
+
+abbrev pub decreases-list_path : goal.decreases-list_path
+decreases-list_path l = 3 * items_depth (items_view l.items.now) + 2
 
 abbrev pub decreases-paths : goal.decreases-paths
-decreases-paths l = 2 * items_depth (items_view l.items.now) + 1
+decreases-paths l = 3 * items_depth (items_view l.items.now) + 1
 
 abbrev pub invariant-paths-loop-item : goal.invariant-paths-loop-item
 invariant-paths-loop-item l = paths_of l.name (items_view l.items) ≡ items_after l.values.items (paths_of l.name (items_view (drop l.item-index l.items)))

@@ -67,6 +67,8 @@ returns c =
     let i = c.members.invariant in
     let r = c.next_key.new.self in
     let ended : read_key c.members.reader ≡ Some (None, r) = grind arith in
-    let few : length c.members.members.items ≤ most_listed = omega arith in
-    ap (parse_map object) (i.3.2 ∙ ap (converted (λ ms. of_members ms i.3.0)) (members_end (value c.args.depth) i.0 c.members.reader r i.1 ended))
-    ∙ ap (λ ms. Some (object ms, r)) (i.3.1.0 few)
+    let few : length c.members.members.items ≤ most_listed = omega arith in (
+      ap (parse_map object) (i.3.2 ∙ ap (converted (λ ms. of_members ms i.3.0)) (members_end (value c.args.depth) i.0 c.members.reader r i.1 ended))
+          ∙ ap (λ ms. Some (object ms, r)) (i.3.1.0 few),
+      few,
+    )
