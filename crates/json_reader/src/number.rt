@@ -1,6 +1,5 @@
 //! A number from its text.
-ghost use Rattle.std.specs.Prelude.{◌≡◌, option_map};
-ghost use Rattle.fast_float.specs.Text.{Parts};
+ghost use Rattle.std.specs.Prelude.{◌≡◌, ◌<◌, ◌==◌, IsTrue, length, slice_index, option_map, true, false};
 ghost use Rattle.serde_json.specs.Data.{number};
 ghost use Rattle.serde_json.specs.Read.{number_of, number_from, float_of};
 ghost use Rattle.serde_json.specs.View.{view};
@@ -13,10 +12,18 @@ pub(crate) fn number_in(text: &str) -> Option<Value>
     ensures { option_map view result ≡ option_map number (number_of text.now) }
 {
     let bytes = text.as_bytes();
-    match bytes.first() {
-        Some(b'-') => negative(&Numeral::scan(&bytes[1..])),
-        _ => positive(&Numeral::scan(bytes)),
+    if begins_with_minus(bytes) {
+        negative(&Numeral::scan(&bytes[1..]))
+    } else {
+        positive(&Numeral::scan(bytes))
     }
+}
+
+fn begins_with_minus(bytes: &[u8]) -> bool
+    ensures value { result ≡ (slice_index bytes.now 0 == 45) }
+    ensures some { IsTrue result → 0 < length bytes.now }
+{
+    !bytes.is_empty() && bytes[0] == b'-'
 }
 
 /// The number of a numeral with no sign: a whole number from 0 to 2^64 - 1, where it is written in digits alone, else a float.
