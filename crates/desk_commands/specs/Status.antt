@@ -8,7 +8,7 @@ use Rattle.dmn_plan.specs.declared.fault.ModelFault.{ModelFault}
 use Rattle.desk_lines.specs.Device.{Reader, Writer}
 use Rattle.desk_lines.specs.Fault.{fault_word}
 use Rattle.desk_lines.specs.Lines.{ended}
-use Rattle.desk_lines.specs.Ran.{Ran}
+use Rattle.desk_lines.specs.Ran.{Ran, RanAtOnce}
 use Rattle.desk_lines.specs.Told.{IsTold}
 use Rattle.desk_lines.specs.declared.fault.FrontFault.{FrontFault}
 use Rattle.desk_lines.specs.declared.fault.FrontFault.TheVariants.{Memory}
@@ -91,7 +91,7 @@ pub record EndsBy {X : Type 0} (Did : Result X FrontFault → Type 0) (status_by
 
 module _ (reader reader' : Reader) (writer writer' : Writer) where
   abbrev pub Replayed : Result (Unit {0}) FrontFault → Type 0
-  Replayed end = Ran replaying.Script replaying.Script reader reader' writer writer' end
+  Replayed end = RanAtOnce replaying.Script reader reader' writer writer' end
 
   -- with so many lanes
   abbrev pub ServedWith : ℕ → Result (Unit {0}) FrontFault → Type 0
@@ -99,8 +99,8 @@ module _ (reader reader' : Reader) (writer writer' : Writer) where
 
   -- in texts for people, of which nothing is said, or in lines
   abbrev pub Explained : Bool → Result (Unit {0}) FrontFault → Type 0
-  Explained true end = Ran AnyLines AnyLines reader reader' writer writer' end
-  Explained false end = Ran explaining.Script explaining.Script reader reader' writer writer' end
+  Explained true end = RanAtOnce AnyLines reader reader' writer writer' end
+  Explained false end = RanAtOnce explaining.Script reader reader' writer writer' end
 
   module _ (faults faults' : Writer) (status : ℕ) where
     -- what is promised of each command
