@@ -3,7 +3,7 @@ ghost use Rattle.std.specs.Prelude.{◌≡◌, ◌≢◌, ◌<◌, ◌-◌, ◌^
 ghost use Rattle.serde_json.specs.Read.{read};
 ghost use Rattle.serde_json.specs.View.{view};
 ghost use Rattle.dmn_plan.specs.ReadModel.{read_model};
-ghost use Rattle.desk_checking.specs.Checked.{Checked, Tells};
+ghost use Rattle.desk_checking.specs.Checked.{Checked, Tells, TellsInPart};
 ghost use Rattle.desk_checking.specs.FirstFault.{IsFirstFault, fault_in};
 
 use crate::cut::model_and_rest;
@@ -159,9 +159,11 @@ fn write_told<W: Sink>(
 ) -> Result<(), FrontFault>
     requires counts { (W.seen writer.old).faults < 2 ^ 64 - 1 }
     ensures tells { OnOk result (Tells options (W.seen writer.old) (W.seen writer.new) verdict.now.fault) }
+    ensures cut { (result ≡ Err FrontFault.Write) → TellsInPart options (W.seen writer.old) (W.seen writer.new) verdict.now.fault }
+    ensures unwritten { IfErr result (λ e. e ≢ FrontFault.Write → writer.new ≡ writer.old) }
     ensures only { IfErr result (λ e. (e ≢ FrontFault.Long) × (e ≢ FrontFault.Read)) }
     ensures fault { (result ≡ Err FrontFault.Write) → (W.seen writer.old).faults < (W.seen writer.new).faults }
-    ensures counts { OnOk result ((W.seen writer.new).faults ≡ (W.seen writer.old).faults) }
+    ensures counts { (result ≢ Err FrontFault.Write) → (W.seen writer.new).faults ≡ (W.seen writer.old).faults }
 {
     let told = told_of(alloc, options.json, verdict.fault, &verdict.rest)?;
     write_all(writer, told.as_bytes())

@@ -1,5 +1,5 @@
 -- What the program does with its words, what its status says of that, and what it tells.
-use Rattle.std.specs.Prelude.{◌≡◌, ◌≢◌, ◌⊎◌, ℕ, List, [], codes, Bool, true, false, Option, Some, None, Result, Ok, Err}
+use Rattle.std.specs.Prelude.{◌≡◌, ◌≢◌, ◌⊎◌, ◌<◌, ℕ, List, [], length, codes, Bool, true, false, Option, Some, None, Result, Ok, Err}
 use Rattle.clap.specs.Kinds.{Kinds, IsAmong}
 use Rattle.clap.specs.Words.{first_of}
 use Rattle.clap.specs.declared.error.kind.ErrorKind.{ErrorKind}
@@ -70,9 +70,10 @@ fault_line why = ended (fault_word why)
 abbrev pub no_utf8_line : List ℕ
 no_utf8_line = ended (codes "error: a word of the command line is not UTF-8")
 
--- some text is told, and nothing is said of which
+-- some text is told that is not empty, and nothing else is said of which
 pub record IsSomethingTold (old new : Writer) : Type 0 where
   pub text : List ℕ
+  pub some : 0 < length text
   pub told : IsTold old new text
 
 -- what is told of how a command ended: a fault on a line of its own, and nothing else
