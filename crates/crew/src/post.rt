@@ -14,7 +14,7 @@ const TURNS: u32 = 200;
 const EARLY_TURNS: u32 = 10_000;
 /// How many turns pass between two tries to get rid of what it holds.
 const BETWEEN: u32 = 50;
-/// The first and the longest pause, in microseconds, of a worker that holds what it can't get rid of.
+/// The first and the longest pause, in microseconds, of a worker that holds a job that was refused memory.
 const FIRST_PAUSE: u64 = 20;
 
 const LONGEST_PAUSE: u64 = 200;
@@ -39,6 +39,9 @@ pub(crate) struct Post<'a, V> {
     // How long its next pause is.
     pause: u64,
     bed: Parker,
+    // The lane of its last answer, and how often that lane's client had taken answers before this one was last tried.
+    lane: u32,
+    takes: u64,
 }
 
 impl<'a, V> Post<'a, V> {
@@ -53,6 +56,8 @@ impl<'a, V> Post<'a, V> {
             turns: TURNS,
             pause: FIRST_PAUSE,
             bed: Parker::new(),
+            lane: 0,
+            takes: 0,
         }
     }
 
@@ -74,10 +79,7 @@ impl<'a, V> Post<'a, V> {
                 self.signals.add_refusal();
                 self.pause(rt);
             }
-            Stepped::RingFull => {
-                self.signals.end_to_post();
-                self.pause(rt);
-            }
+            Stepped::RingFull => self.await_place(rt),
         }
     }
 
@@ -101,13 +103,30 @@ impl<'a, V> Post<'a, V> {
         }
     }
 
-    // It holds what it can't get rid of: it tries again after a few turns, and later after pauses that grow.
+    // It holds an answer for which there was no place: it tries again after a few turns, and later once the client took answers
+    // in. The count of these is read before each try but the first, behind which it stays awake.
+    fn await_place<R: Wait>(&mut self, rt: &R) {
+        self.signals.add_full();
+        if self.turns > 0 {
+            self.stay_awake();
+        } else {
+            self.signals.await_place(rt, self.lane, self.takes);
+        }
+        self.takes = self.signals.takes(self.lane);
+    }
+
+    // Some of its turns pass.
+    fn stay_awake(&mut self) {
+        self.turns = self.turns.saturating_sub(BETWEEN);
+        for _ in 0..BETWEEN {
+            hint::spin_loop();
+        }
+    }
+
+    // It holds a job that was refused memory: it tries again after a few turns, and later after pauses that grow.
     fn pause<R: Wait>(&mut self, rt: &R) {
         if self.turns > 0 {
-            self.turns = self.turns.saturating_sub(BETWEEN);
-            for _ in 0..BETWEEN {
-                hint::spin_loop();
-            }
+            self.stay_awake();
             return;
         }
         let pause = self.pause.min(LONGEST_PAUSE);
@@ -148,6 +167,8 @@ impl<'a, V: Watch> Watch for Post<'a, V> {
     }
 
     fn leave<W: Work>(&mut self, client: u32, done: &Done<W>) {
+        self.lane = client;
+        self.turns = TURNS;
         self.watch.leave(client, done);
     }
 }

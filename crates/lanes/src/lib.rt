@@ -10,6 +10,7 @@ mod fault;
 mod gate;
 mod marks;
 mod open;
+mod places;
 mod port;
 mod settled;
 mod settling;
