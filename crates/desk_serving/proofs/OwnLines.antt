@@ -278,27 +278,27 @@ told_line name lanes earlier (Request n s i) true e h =
     let lane = has_lane lanes (reading ∷ earlier) n in
     told_own name n (line_answer lanes earlier (Request n s i)) (request_client (number_after earlier) n model _ _ _ s i) e
     ∙ ap (λ report. report ∷ [])
-      (unnumbered_request (number_after earlier) n model lane (is_closed n earlier) (length (requests n earlier)) s i
-      ∙ ap (λ report. without_number report) (with_a_lane n model lane (is_closed n earlier) (length (requests n earlier)) s i (λ t is. asked_under lanes name n model (callers earlier) t e h is))
-      ∙ ap (λ m. without_number (request_answer 0 n model true (is_closed m earlier) (length (requests m earlier)) s i)) (same_name n name e))
+    (unnumbered_request (number_after earlier) n model lane (is_closed n earlier) (length (requests n earlier)) s i
+    ∙ ap (λ report. without_number report) (with_a_lane n model lane (is_closed n earlier) (length (requests n earlier)) s i (λ t is. asked_under lanes name n model (callers earlier) t e h is))
+    ∙ ap (λ m. without_number (request_answer 0 n model true (is_closed m earlier) (length (requests m earlier)) s i)) (same_name n name e))
 told_line name lanes earlier (Close n) false e h =
     told_other name n (line_answer lanes earlier (Close n)) (close_client (number_after earlier) n _ _) e
 told_line name lanes earlier (Close n) true e h =
     let lane = has_lane lanes (Says (Close n) ∷ earlier) n in
     told_own name n (line_answer lanes earlier (Close n)) (close_client (number_after earlier) n _ _) e
     ∙ ap (λ report. report ∷ [])
-      (unnumbered_close (number_after earlier) n lane (is_closed n earlier)
-      ∙ ap (λ l. without_number (close_answer 0 n l (is_closed n earlier))) (asked lanes name n (callers earlier) e h)
-      ∙ ap (λ m. without_number (close_answer 0 n true (is_closed m earlier))) (same_name n name e))
+    (unnumbered_close (number_after earlier) n lane (is_closed n earlier)
+    ∙ ap (λ l. without_number (close_answer 0 n l (is_closed n earlier))) (asked lanes name n (callers earlier) e h)
+    ∙ ap (λ m. without_number (close_answer 0 n true (is_closed m earlier))) (same_name n name e))
 told_line name lanes earlier (Resize n c) false e h =
     told_other name n (line_answer lanes earlier (Resize n c)) (resize_client (number_after earlier) n c _ _) e
 told_line name lanes earlier (Resize n c) true e h =
     let lane = has_lane lanes (Says (Resize n c) ∷ earlier) n in
     told_own name n (line_answer lanes earlier (Resize n c)) (resize_client (number_after earlier) n c _ _) e
     ∙ ap (λ report. report ∷ [])
-      (unnumbered_resize (number_after earlier) n c lane (is_closed n earlier)
-      ∙ ap (λ l. without_number (resize_answer 0 n c l (is_closed n earlier))) (asked lanes name n (callers earlier) e h)
-      ∙ ap (λ m. without_number (resize_answer 0 n c true (is_closed m earlier))) (same_name n name e))
+    (unnumbered_resize (number_after earlier) n c lane (is_closed n earlier)
+    ∙ ap (λ l. without_number (resize_answer 0 n c l (is_closed n earlier))) (asked lanes name n (callers earlier) e h)
+    ∙ ap (λ m. without_number (resize_answer 0 n c true (is_closed m earlier))) (same_name n name e))
 
 one_more : (own : List OwnLine) (model : Option (List ℕ)) (line : Line) (closed : Bool) (count : ℕ) (b : Bool) → closed ≡ own_closed own → count ≡ length (own_requests own)
     → own_answers own ++ (if b then answer_by model line closed count ∷ [] else []) ≡ own_answers (of_line b model line own)

@@ -28,7 +28,11 @@ pub fn hand_out_round<W: Sink>(
     lanes.hand_out(alloc, &mut text)?;
     lanes.call_worker();
     unwritten.pass_on(writer, &text)?;
-    Ok(!text.is_empty())
+    if text.is_empty() {
+        return Ok(false);
+    }
+    lanes.free_memory();
+    Ok(true)
 }
 
 /// Hands out results, round by round, until it has come. Where nothing comes since the workers find no memory for what they hold,
