@@ -157,7 +157,8 @@ func (g *graph) checkFunction(k *dmn.BusinessKnowledge) {
 func (t *types) inputType(input *dmn.InputData) *valueType {
 	if input.Variable != nil {
 		if of := t.resolve(input.Variable.Element, input.Variable.TypeRef); of != nil && of.kind != anyKind {
-			return of
+			own := *of
+			return &own
 		}
 	}
 	return &valueType{kind: anyKind, open: true}

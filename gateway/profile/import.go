@@ -108,7 +108,7 @@ func (t *translator) decision(n *node) {
 		if of == nil {
 			of = refusedType
 		}
-		s.bindWord(need.name, need.word, of)
+		s.bind(need.name, &binding{value: constant(need.word, of), input: need.input != nil})
 	}
 	n.logic, n.of = t.expression(n.decision.Logic, s)
 	t.declared(n)

@@ -35,6 +35,9 @@ func schemaOf(of *valueType, w *words) map[string]interface{} {
 		}
 		made["properties"] = properties
 	}
+	if len(of.allowed) == 0 {
+		narrow(made, of.noted)
+	}
 	narrow(made, of.allowed)
 	return made
 }

@@ -10,6 +10,8 @@ type binding struct {
 	value phrase
 	// function is the business knowledge that the name invokes; nil for a value.
 	function *knowledge
+	// input tells that it is an input of the model.
+	input bool
 	// service tells that it is a decision service, which can't be invoked.
 	service bool
 }

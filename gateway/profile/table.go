@@ -121,7 +121,9 @@ func (r *tableReader) inputColumn(clause *dmn.InputClause) {
 	}
 	if clause.Values != nil {
 		c.allowed = r.types.values(clause.Values, c.value.of)
-		r.narrowed(c)
+		if len(c.allowed) > 0 && clause.Expression != nil {
+			r.noted(c)
+		}
 	}
 	r.columns = append(r.columns, c)
 	r.made.table.Inputs = append(r.made.table.Inputs, c.text)
@@ -149,10 +151,18 @@ func (r *tableReader) columnValue(i int) phrase {
 	return c.value
 }
 
-// narrowed notes the input values of a column that is an input of the model by itself, for who calls.
-func (r *tableReader) narrowed(c column) {
-	if of := c.value.of; len(c.allowed) > 0 && of.open && len(of.allowed) == 0 && of.isScalar() {
-		of.allowed = c.allowed
+// noted notes the input values of a column that is an input of the model by itself, for who calls.
+func (r *tableReader) noted(c column) {
+	kept := r.trees[c.clause.Expression]
+	if kept == nil || kept.fault != nil {
+		return
+	}
+	name, is := kept.nodes[0].(*feel.Name)
+	if !is {
+		return
+	}
+	if found := r.scope.find(name.Name); found != nil && found.input {
+		found.value.of.noted = c.allowed
 	}
 }
 

@@ -31,6 +31,9 @@ type valueType struct {
 	// allowed are the values that the type is narrowed to; none where it isn't.
 	allowed []feel.Node
 
+	// noted are the input values of a column that is an input of the model by itself: they are for who calls.
+	noted []feel.Node
+
 	// open tells that it is of an input without a declared type: what it is given to may tell its type. For an entry of
 	// such an input, parent and field tell which.
 	open   bool
