@@ -95,7 +95,7 @@ type writer struct {
 
 // finish checks that the text that was written is read with the same names.
 func (w *writer) finish(written string, check func(string) error) (string, error) {
-	if w.err == nil && written != w.source {
+	if w.err == nil {
 		w.err = check(written)
 	}
 	return written, w.err
@@ -181,7 +181,8 @@ func (w *writer) chain(e *feel.Chain) string {
 		operand := e.Operands[i+1]
 		between := w.source[e.Operands[i].At().End:operand.At().Start]
 		if operator == "+" && left.maybe(isText) && w.bound.of(operand).maybe(isText) {
-			between = strings.Replace(between, "+", "- -", 1)
+			sign := strings.IndexByte(between, '+')
+			between = between[:sign] + "- -" + strings.TrimLeft(between[sign+1:], " \t\r\n")
 		}
 		text.WriteString(between)
 		text.WriteString(w.form(operand))
@@ -260,8 +261,7 @@ func (w *writer) test(test feel.Node, negated bool) string {
 	}
 	written := "? = (" + w.form(test) + ")"
 	if value.maybe(isList) {
-		again := w.form(test)
-		written = fmt.Sprintf("%s or (%s) instance of list<Any> and list contains(%s, ?)", written, again, again)
+		written = fmt.Sprintf("%s or (%s) instance of list<Any> and list contains(%s, ?)", written, w.form(test), w.form(test))
 	}
 	if negated {
 		return "((" + written + ") = true)"
