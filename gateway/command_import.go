@@ -16,14 +16,8 @@ import (
 	"gateway/profile"
 )
 
-// The exit statuses of import, beside statusUsage.
-const (
-	statusFine = 0
-	// statusFailed is that a file can't be opened or read, or the output not be written.
-	statusFailed = 1
-	// statusRefused is that a place of a file can't be taken.
-	statusRefused = 3
-)
+// statusFine is the exit status where all was done.
+const statusFine = 0
 
 const importUsage = `desk import [--line] [--service NAME] FILE.dmn.. > model.json
 
@@ -32,12 +26,9 @@ standard error with what to write instead, and the status is 3 then.
 
 `
 
-var importCommand = command{
-	name:    "import",
-	summary: "translates .dmn files to a model: FILE.dmn.. > model.json",
-	run: func(_ context.Context, words []string) int {
-		return runImport(words, os.Stdout, os.Stderr)
-	},
+func init() {
+	commands = append(commands, command{"import", "FILE.dmn.. > model.json: translates files of DMN to a model",
+		func(_ context.Context, words []string) int { return runImport(words, os.Stdout, os.Stderr) }})
 }
 
 // runImport reads the files, translates them and writes the model, or what is refused.
@@ -113,7 +104,7 @@ func readFile(path string) (*dmn.File, error) {
 
 // writeImported writes the model with what its files say beside it, or its line alone.
 func writeImported(out io.Writer, result *profile.Result, lineAlone bool) error {
-	line, err := profile.Line(result.Model)
+	line, err := profile.Line(&result.Model)
 	if err != nil {
 		return err
 	}
@@ -132,10 +123,10 @@ func wholeImport(result *profile.Result) ([]byte, error) {
 	encoder := json.NewEncoder(&text)
 	encoder.SetEscapeHTML(false)
 	err := encoder.Encode(struct {
-		Model  model.Model                `json:"model"`
+		Model  *model.Model               `json:"model"`
 		Names  map[string]string          `json:"names"`
 		Types  map[string]json.RawMessage `json:"types"`
 		Places map[string]profile.Place   `json:"places"`
-	}{result.Model, result.Names, result.Types, result.Places})
+	}{&result.Model, result.Names, result.Types, result.Places})
 	return bytes.TrimRight(text.Bytes(), "\n"), err
 }

@@ -11,6 +11,7 @@ import (
 	"testing"
 
 	"gateway/dmn"
+	"gateway/model"
 	"gateway/profile"
 )
 
@@ -145,7 +146,7 @@ func refusedWith(t testing.TB, file, words string) profile.Refusal {
 	t.Helper()
 	result, refusals := imported(t, file)
 	if result != nil {
-		line, _ := profile.Line(result.Model)
+		line, _ := profile.Line(&result.Model)
 		t.Fatalf("it is taken: %s", line)
 	}
 	if len(refusals) != 1 || !strings.Contains(refusals[0].Why, words) {
@@ -162,11 +163,11 @@ func logicOf(t testing.TB, result *profile.Result, word string) string {
 	t.Helper()
 	for _, d := range result.Model.Decisions {
 		if d.Name == word {
-			text, err := json.Marshal(d.Expr)
+			text, err := (&model.Model{Decisions: []model.Decision{{Expr: d.Expr}}}).JSON()
 			if err != nil {
 				t.Fatal(err)
 			}
-			return strings.NewReplacer(`\u003c`, "<", `\u003e`, ">", `\u0026`, "&").Replace(string(text))
+			return string(text)
 		}
 	}
 	t.Fatalf("no decision %s", word)
@@ -229,7 +230,7 @@ func (d *desk) tell(line string) string {
 // model puts a model in force.
 func (d *desk) model(result *profile.Result) {
 	d.t.Helper()
-	line, err := profile.Line(result.Model)
+	line, err := profile.Line(&result.Model)
 	if err != nil {
 		d.t.Fatal(err)
 	}

@@ -149,7 +149,7 @@ func (t *translator) unused(k *knowledge) {
 
 // fitsLine tells whether a model fits in a line, and refuses it where it doesn't.
 func fitsLine(result *Result, r *refusals, files []*dmn.File) bool {
-	bytes, err := Line(result.Model)
+	bytes, err := Line(&result.Model)
 	if err == nil && len(bytes) <= MostLine {
 		return true
 	}

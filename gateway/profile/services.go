@@ -1,10 +1,6 @@
 package profile
 
 import (
-	"bytes"
-	"encoding/json"
-	"fmt"
-
 	"gateway/dmn"
 	"gateway/feel"
 	"gateway/model"
@@ -169,7 +165,7 @@ func (g *graph) serviceOf(n *node) model.Service {
 // defaultServices gives a model without services one for each decision that no other needs, then one for each other
 // decision while the model fits in a line. What finds no place is left out.
 func defaultServices(g *graph, result *Result) {
-	line, err := Line(result.Model)
+	line, err := Line(&result.Model)
 	if err != nil {
 		return
 	}
@@ -180,28 +176,25 @@ func defaultServices(g *graph, result *Result) {
 				continue
 			}
 			one := g.serviceOf(n)
-			text, err := json.Marshal(one)
-			if err != nil || size+len(text)+1 > MostLine {
+			text, err := (&model.Model{Services: []model.Service{one}}).JSON()
+			// What stands round the service in this text is more than the comma behind it.
+			if err != nil || size+len(text) > MostLine {
 				result.LeftOut = append(result.LeftOut, n.name)
 				continue
 			}
-			size += len(text) + 1
+			size += len(text)
 			result.Model.Services = append(result.Model.Services, one)
 		}
 	}
 }
 
 // Line is the line that puts a model in force: {"model":M}, without its newline.
-func Line(m model.Model) ([]byte, error) {
-	var out bytes.Buffer
-	encoder := json.NewEncoder(&out)
-	encoder.SetEscapeHTML(false)
-	if err := encoder.Encode(struct {
-		Model model.Model `json:"model"`
-	}{m}); err != nil {
-		return nil, fmt.Errorf("writing the model: %w", err)
+func Line(m *model.Model) ([]byte, error) {
+	text, err := m.JSON()
+	if err != nil {
+		return nil, err
 	}
-	return bytes.TrimRight(out.Bytes(), "\n"), nil
+	return []byte(`{"model":` + string(text) + `}`), nil
 }
 
 func wordsOf(nodes []*node) []string {
