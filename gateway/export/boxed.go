@@ -22,7 +22,7 @@ func (p *page) boxed(pointer string, e model.Expression, s scope) *element {
 	case *model.Table:
 		return p.table(pointer+"/table", e, s)
 	case model.Literal:
-		return p.literal("literalExpression", p.expression(pointer, string(e), s), scalar(s.bound.ofText(string(e))))
+		return p.literal("literalExpression", p.expression(pointer, string(e), s), p.scalar(s.bound.ofText(string(e))))
 	}
 	return p.literal("literalExpression", "null", "")
 }
@@ -53,7 +53,7 @@ func (p *page) context(pointer string, c model.Context, s scope) *element {
 	e := tag("context", "id", p.id("context"))
 	for i, entry := range c.Entries {
 		value := s.bound.ofBoxed(entry.Expr)
-		variable := tag("variable", "id", p.id("variable"), "name", p.spell(entry.Name), "typeRef", scalar(value))
+		variable := tag("variable", "id", p.id("variable"), "name", p.spell(entry.Name), "typeRef", p.scalar(value))
 		expr := p.boxed(fmt.Sprintf("%s/context/%d/expr", pointer, i), entry.Expr, s)
 		e.add(tag("contextEntry", "id", p.id("entry")).add(variable, expr))
 		s = s.with(entry.Name, value)
@@ -96,7 +96,7 @@ func (p *page) table(pointer string, t *model.Table, s scope) *element {
 	e := tag("decisionTable", "id", p.id("table"), "hitPolicy", hit[0], "aggregation", hit[1])
 	for i, input := range t.Inputs {
 		expr := p.literal("inputExpression", p.expression(fmt.Sprintf("%s/inputs/%d", pointer, i), input, s),
-			scalar(s.bound.ofText(input)))
+			p.scalar(s.bound.ofText(input)))
 		e.add(tag("input", "id", p.id("input")).add(expr))
 	}
 	for i := range t.Outputs {
@@ -163,7 +163,7 @@ func (p *page) defaults(pointer string, t *model.Table, s scope) string {
 func (p *page) output(pointer string, t *model.Table, column int, s scope) *element {
 	output := t.Outputs[column]
 	value := s.bound.ofColumn(t, column)
-	e := tag("output", "id", p.id("output"), "name", p.spell(output.Name), "typeRef", scalar(value))
+	e := tag("output", "id", p.id("output"), "name", p.spell(output.Name), "typeRef", p.scalar(value))
 	place := fmt.Sprintf("%s/outputs/%d", pointer, column)
 	if p.keepsValues(place, t, column) {
 		e.add(tag("outputValues", "id", p.id("values")).add(text(strings.Join(output.Values, ", "))))

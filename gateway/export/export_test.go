@@ -43,16 +43,19 @@ func TestAnExpressionMeansTheSameInTheStandard(t *testing.T) {
 		"n - (a + b)":                "n - (a - -b)",
 		"if f then a + s else n + s": "if f then a - -s else n + s",
 		// A single value is no list, and texts have no least.
-		"sum(l)":         "sum(l)",
-		"sum(n)":         "null",
-		"sum([a])":       "sum([a])",
-		"max(l)":         "max(l)",
-		"max([a, 1])":    "(max([a, 1]) + 0)",
-		"max([n, 1])":    "max([n, 1])",
-		"count(m)":       "count(m)",
-		"count(a)":       "(if (a) instance of list<Any> then count(a) else null)",
-		"sum(a.p)":       "(if (a.p) instance of list<Any> then sum(a.p) else null)",
-		"min(a)":         "(if (a) instance of list<Any> then (min(a) + 0) else null)",
+		"sum(l)":      "sum(l)",
+		"sum(n)":      "null",
+		"sum([a])":    "sum([a])",
+		"max(l)":      "max(l)",
+		"max([a, 1])": "(max([a, 1]) + 0)",
+		"max([n, 1])": "max([n, 1])",
+		"count(m)":    "count(m)",
+		"count(a)":    "(if (a) instance of list<Any> then count(a) else null)",
+		"sum(a.p)":    "(if (a.p) instance of list<Any> then sum(a.p) else null)",
+		"min(a)":      "(if (a) instance of list<Any> then (min(a) + 0) else null)",
+		"if count(a) >= 0 then sum(a) else sum([a])": "sum(a)",
+		"if count(a) >= 0 then sum(a) else sum([b])": "if (if (a) instance of list<Any> then count(a) else null) >= 0 then " +
+			"(if (a) instance of list<Any> then sum(a) else null) else sum([b])",
 		"1 + count( a )": "1 + (if (a) instance of list<Any> then count( a ) else null)",
 		// What a literal may hold here alone is escaped.
 		"\"a\nb\\\"\"": `"a\nb\""`,
@@ -192,8 +195,8 @@ func TestTypesOfAnImportBecomeDefinitions(t *testing.T) {
 	}
 	file, refusals := File(source)
 	for _, due := range []string{
-		`<variable id="variable_1" name="P q" typeRef="t P q" />`, `<itemComponent id="item_2" name="x y">`,
-		`<text>"A", "\""</text>`, `name="q" typeRef="number"`, `name="t r" isCollection="true"`,
+		`<variable id="variable_1" name="P q" typeRef="tP q" />`, `<itemComponent id="item_2" name="x y">`,
+		`<text>"A", "\""</text>`, `name="q" typeRef="number"`, `name="tr" isCollection="true"`,
 	} {
 		if len(refusals) > 0 || !strings.Contains(string(file), due) {
 			t.Errorf("%v, due %s in\n%s", refusals, due, file)

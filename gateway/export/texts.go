@@ -149,6 +149,10 @@ func (w *writer) form(node feel.Node) string {
 		return w.chain(e)
 	case *feel.Call:
 		return w.call(e)
+	case *feel.If:
+		if list := w.sumOfEither(e); list != nil {
+			return "sum(" + w.splice(list.At(), list) + ")"
+		}
 	}
 	return w.splice(node.At(), parts(node)...)
 }
@@ -231,6 +235,36 @@ func (w *writer) overList(e *feel.Call, called string, value feel.Node) string {
 		return text
 	}
 	return "(if (" + w.splice(value.At(), value) + ") instance of list<Any> then " + text + " else null)"
+}
+
+// sumOfEither is x where a condition is "if count(x) >= 0 then sum(x) else sum([x])", which is what sum(x) means in the
+// standard: of a list its sum, and of what is no list that of the list with this one member. It is nil for any other.
+func (w *writer) sumOfEither(e *feel.If) feel.Node {
+	isList, _ := e.Condition.(*feel.Binary)
+	if isList == nil || isList.Operator != ">=" || w.text(isList.Right) != "0" {
+		return nil
+	}
+	counted, summed, single := argument(isList.Left, "count"), argument(e.Then, "sum"), argument(e.Else, "sum")
+	list, _ := single.(*feel.List)
+	if counted == nil || summed == nil || list == nil || len(list.Items) != 1 {
+		return nil
+	}
+	if x := w.text(counted); x != w.text(summed) || x != w.text(list.Items[0]) {
+		return nil
+	}
+	return counted
+}
+
+// text is a form as the source has it.
+func (w *writer) text(node feel.Node) string { return w.source[node.At().Start:node.At().End] }
+
+// argument is the one argument of a call of a function; nil where the form is none.
+func argument(node feel.Node, called string) feel.Node {
+	call, _ := node.(*feel.Call)
+	if call == nil || function(call) != called || len(call.Arguments) != 1 {
+		return nil
+	}
+	return call.Arguments[0].Value
 }
 
 // tests writes tests of which one has to hold. In a negation a test may not be unknown.
