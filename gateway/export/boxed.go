@@ -89,7 +89,7 @@ func policy(t *model.Table) [2]string {
 // table writes a decision table. A default of a table that gives a list stands outside of it: here it is given as it is,
 // and the standard doesn't say whether it is put into a list.
 func (p *page) table(pointer string, t *model.Table, s scope) *element {
-	if hasDefault(t) && (t.Hit == "R" || t.Hit == "O" || t.Hit == "C" || t.Hit == "C#") {
+	if hasDefault(t) && (t.Hit == "R" || t.Hit == "O" || t.Hit == "C") {
 		return p.withDefault(pointer, t, s)
 	}
 	hit := policy(t)
@@ -111,6 +111,16 @@ func (p *page) table(pointer string, t *model.Table, s scope) *element {
 func hasDefault(t *model.Table) bool {
 	for _, output := range t.Outputs {
 		if output.Default != nil {
+			return true
+		}
+	}
+	return false
+}
+
+// alwaysHits tells whether some rule has no test.
+func alwaysHits(t *model.Table) bool {
+	for _, rule := range t.Rules {
+		if strings.Trim(strings.Join(rule.When, ""), "- \t\r\n") == "" {
 			return true
 		}
 	}
@@ -168,8 +178,12 @@ func (p *page) output(pointer string, t *model.Table, column int, s scope) *elem
 	if p.keepsValues(place, t, column) {
 		e.add(tag("outputValues", "id", p.id("values")).add(text(strings.Join(output.Values, ", "))))
 	}
-	if output.Default != nil {
+	switch {
+	case output.Default != nil:
 		e.add(p.literal("defaultOutputEntry", p.expression(place+"/default", *output.Default, s), ""))
+	case t.Hit == "C#" && !alwaysHits(t):
+		// Without it the count of no hits may be taken for 0, which is null here.
+		e.add(p.literal("defaultOutputEntry", "null", ""))
 	}
 	return e
 }

@@ -135,6 +135,10 @@ func TestATableMeansTheSameInTheStandard(t *testing.T) {
 		{table("U", `{"name":"r","values":["2"]}`, one), "", "outputValues"},
 		{table("U", `{"name":"r","values":["1"],"default":"7"}`, one), "", "outputValues"},
 		{table("U", `{"name":"r","values":["1","7"],"default":"7"}`, one), "defaultOutputEntry", "contextEntry"},
+		// The count of no hits is null.
+		{table("C#", `{"name":"r"}`, two), "<defaultOutputEntry", ""},
+		{table("C#", `{"name":"r"}`, one), "", "defaultOutputEntry"},
+		{table("C#", `{"name":"r","default":"0"}`, two), "<text>0</text>", "contextEntry"},
 		// A default is put into no list.
 		{table("C", `{"name":"r","default":"7"}`, two), "<text>if hits = null then (7) else hits</text>", "defaultOutputEntry"},
 		{table("O", `{"name":"r","default":"7"},{"name":"q"}`, `{"when":["1"],"then":["1","2"]}`),
