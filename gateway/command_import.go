@@ -63,6 +63,9 @@ func runImport(words []string, out, errs io.Writer) int {
 		}
 		return statusRefused
 	}
+	for _, note := range result.Notes {
+		fmt.Fprintf(errs, "note: %s\n", note)
+	}
 	for _, name := range result.LeftOut {
 		fmt.Fprintf(errs, "desk import: the decision %q has no service of its own: the model would be longer than a line; "+
 			"--service picks it\n", name)

@@ -28,6 +28,8 @@ type Result struct {
 	Places map[string]Place
 	// LeftOut are the names of the decisions that got no service, for the model would be too long with them.
 	LeftOut []string
+	// Notes are places that are taken, where tools differ: what the model does there.
+	Notes []Refusal
 }
 
 // A Place is an element of a file by its id and its name; each may be empty.
@@ -60,6 +62,7 @@ func Import(files []*dmn.File, options Options) (*Result, []Refusal) {
 		return nil, r.inOrder(files)
 	}
 	result := assembled(g, services)
+	result.Notes = r.notes
 	if options.Service == "" && len(services) == 0 {
 		defaultServices(g, result)
 	}

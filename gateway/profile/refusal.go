@@ -58,8 +58,10 @@ func shortened(text string) string {
 
 // refusals collects the places of one run, none twice.
 type refusals struct {
-	all  []Refusal
-	seen map[Refusal]bool
+	all []Refusal
+	// notes are of places that are taken, with something to be told.
+	notes []Refusal
+	seen  map[Refusal]bool
 	// muted lets all go, in the pass that finds types.
 	muted bool
 	// elements tells the file and the parent of each element.
@@ -90,17 +92,29 @@ func (r *refusals) know(file *dmn.File, order int) {
 
 // refuse notes that an element can't be taken.
 func (r *refusals) refuse(e *dmn.Element, text, why, instead string) {
+	if made, fresh := r.made(e, text, why, instead); fresh {
+		r.all = append(r.all, made)
+	}
+}
+
+// note notes what is to be told of an element that is taken.
+func (r *refusals) note(e *dmn.Element, why, instead string) {
+	if made, fresh := r.made(e, "", why, instead); fresh {
+		r.notes = append(r.notes, made)
+	}
+}
+
+// made is a refusal, and whether it is to be told: none is told twice.
+func (r *refusals) made(e *dmn.Element, text, why, instead string) (made Refusal, fresh bool) {
 	if r.muted {
-		return
+		return made, false
 	}
-	refusal := Refusal{File: r.homes[e].path, Line: e.Place.Line, Column: e.Place.Column, Element: e.Tag, Text: text,
+	made = Refusal{File: r.homes[e].path, Line: e.Place.Line, Column: e.Place.Column, Element: e.Tag, Text: text,
 		Why: why, Instead: instead}
-	refusal.Name, refusal.ID = r.called(e)
-	if r.seen[refusal] {
-		return
-	}
-	r.seen[refusal] = true
-	r.all = append(r.all, refusal)
+	made.Name, made.ID = r.called(e)
+	fresh = !r.seen[made]
+	r.seen[made] = true
+	return made, fresh
 }
 
 // called is the name and the id by which people find an element.

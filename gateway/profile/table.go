@@ -62,6 +62,7 @@ func (t *translator) table(x *dmn.Table, s *scope) (*box, *valueType) {
 	for i := range r.outputs {
 		r.defaultOf(i)
 	}
+	r.noteNoHit(hit)
 	return r.made, r.typeOf(hit)
 }
 
@@ -307,10 +308,6 @@ func (r *tableReader) defaultOf(i int) {
 	o := &r.outputs[i]
 	hit := r.made.table.Hit
 	if o.clause.Default == nil {
-		if hit == "C#" && !r.alwaysHits() {
-			r.refusals.refuse(o.clause.Element, "", "the count of no hits may be 0, or null by the rule for no hit",
-				"the default 0 for the output")
-		}
 		return
 	}
 	if hit == "C" || hit == "R" || hit == "O" {
@@ -327,6 +324,15 @@ func (r *tableReader) defaultOf(i int) {
 	r.checkAllowed(o.clause.Default, o.allowed, "the output values")
 	o.gives = joined(o.gives, value.of)
 	r.made.table.Outputs[i].Default = &value.text
+}
+
+// noteNoHit tells what comes of no hit where tools differ: the standard has null for a table without a default.
+func (r *tableReader) noteNoHit(hit string) {
+	other := map[string]string{"C": "an empty list", "R": "an empty list", "O": "an empty list", "C#": "0"}[hit]
+	if other == "" || r.alwaysHits() || r.outputs[0].clause.Default != nil {
+		return
+	}
+	r.refusals.note(r.source.Element, "where no rule hits its value is null, as the standard says; some tools give "+other, "")
 }
 
 // alwaysHits tells whether some rule has no test.
