@@ -181,8 +181,8 @@ func (p *page) output(pointer string, t *model.Table, column int, s scope) *elem
 	switch {
 	case output.Default != nil:
 		e.add(p.literal("defaultOutputEntry", p.expression(place+"/default", *output.Default, s), ""))
-	case t.Hit == "C#" && !alwaysHits(t):
-		// Without it the count of no hits may be taken for 0, which is null here.
+	case t.Hit == "C#" && !p.Imported && !alwaysHits(t):
+		// Without it some tools take the count of no hits for 0, which is null here and in the standard.
 		e.add(p.literal("defaultOutputEntry", "null", ""))
 	}
 	return e
@@ -239,7 +239,9 @@ func squeezed(literal string) string {
 func (p *page) rule(pointer string, t *model.Table, rule model.Rule, s scope) *element {
 	e := tag("rule", "id", p.id("rule"))
 	for i, when := range rule.When {
-		written := p.written(fmt.Sprintf("%s/when/%d", pointer, i), when, s.tests)
+		written := p.written(fmt.Sprintf("%s/when/%d", pointer, i), when, func(content string) (string, error) {
+			return s.tests(content, s.bound.ofText(t.Inputs[i]))
+		})
 		e.add(tag("inputEntry", "id", p.id("tests")).add(text(written)))
 	}
 	for i, then := range rule.Then {

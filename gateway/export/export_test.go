@@ -69,23 +69,32 @@ func TestAnExpressionMeansTheSameInTheStandard(t *testing.T) {
 }
 
 func TestUnaryTestsMeanTheSameInTheStandard(t *testing.T) {
-	for text, due := range map[string]string{
-		"-":                  "-",
-		"< n + 1, >= 3":      "< n + 1, >= 3",
-		"[1..Age_in)":        "[1..Age in years)",
-		`not("a", null, -3)`: `not("a", null, -3)`,
-		"true, false":        "true, false",
-		"n, s, [1, 2], l":    "n, s, [1, 2], l",
-		"n > 3":              "? = (n > 3)",
-		"f, 1":               "? = (f), 1",
-		"not(f)":             "not(((? = (f)) = true))",
-		"not(f) = true":      "? = (not(f) = true)",
-		"a":                  "? = (a) or (a) instance of list<Any> and list contains(a, ?)",
-		"]a..2[":             "]a..2[",
+	for _, c := range []struct {
+		input     shape
+		text, due string
+	}{
+		{anything, "-", "-"},
+		{anything, "< n + 1, >= 3", "< n + 1, >= 3"},
+		{anything, "[1..Age_in)", "[1..Age in years)"},
+		{anything, "]a..2[", "]a..2["},
+		{anything, "true, false", "true, false"},
+		{anything, "n, s, [1, 2], l", "n, s, [1, 2], l"},
+		// A condition is compared.
+		{anything, "n > 3", "? = (n > 3)"},
+		{anything, "f, 1", "? = (f), 1"},
+		{anything, "not(f) = true", "? = (not(f) = true)"},
+		{anything, "a", "? = (a) or (a) instance of list<Any> and list contains(a, ?)"},
+		// In a negation nothing is unknown.
+		{number, "not(-3, null, n, < 2)", "not(-3, null, n, < 2)"},
+		{shape{kinds: isText}, `not("a", null)`, `not("a", null)`},
+		{condition, "not(true)", "not(true)"},
+		{anything, `not("a", [1])`, `not(((? = ("a")) = true), [1])`},
+		{number, `not("a")`, `not(((? = ("a")) = true))`},
+		{condition, "not(f)", "not(((? = (f)) = true))"},
 	} {
-		got, err := place.tests(text)
-		if err != nil || got != due {
-			t.Errorf("%s: %s, %v, due %s", text, got, err, due)
+		got, err := place.tests(c.text, c.input)
+		if err != nil || got != c.due {
+			t.Errorf("%s: %s, %v, due %s", c.text, got, err, c.due)
 		}
 	}
 }

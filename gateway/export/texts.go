@@ -47,13 +47,13 @@ func (s scope) expression(text string) (string, error) {
 	})
 }
 
-// tests writes the unary tests of a column whose input has a shape.
-func (s scope) tests(text string) (string, error) {
+// tests writes the unary tests of a column, whose input has a shape.
+func (s scope) tests(text string, input shape) (string, error) {
 	nodes, stopped := feel.Tests(text, s.bound.scope(), nil)
 	if stopped != nil {
 		return "", &fault{why: stopped.Why, instead: stopped.Instead}
 	}
-	w := &writer{scope: s, source: text}
+	w := &writer{scope: s, source: text, input: input}
 	return w.finish(w.tests(feel.Span{Start: 0, End: len(text)}, nodes, false), func(written string) error {
 		again, stopped := feel.Tests(written, s.fileScope(), s.fileMembers())
 		if stopped != nil {
@@ -88,6 +88,8 @@ const mostText = 1 << 20
 type writer struct {
 	scope
 	source string
+	// input is what is known of the value that tests are asked of.
+	input shape
 	// used are the names of the text in their order, as the file spells them.
 	used []string
 	err  error
@@ -281,16 +283,19 @@ func (w *writer) tests(span feel.Span, tests []feel.Node, negated bool) string {
 }
 
 // test writes one test. An expression is compared with the input here; the standard takes one that is true for a
-// condition that is met, so one that may be true is written as a comparison.
+// condition that is met, so one that may be true is written as a comparison. In a negation a comparison of two kinds of
+// values would be unknown there; here it is no, so that the negation holds.
 func (w *writer) test(test feel.Node, negated bool) string {
 	switch e := test.(type) {
-	case *feel.Anything, *feel.Unary, *feel.Range, *feel.Boolean:
+	case *feel.Anything, *feel.Unary, *feel.Range:
 		return w.form(test)
 	case *feel.NotTests:
 		return w.tests(e.Span, e.Tests, true)
 	}
+	_, literal := test.(*feel.Boolean)
 	value := w.bound.of(test)
-	if !value.maybe(isBoolean) {
+	isPlain := literal || !value.maybe(isBoolean)
+	if isPlain && (!negated || w.isOfOneKind(value)) {
 		return w.form(test)
 	}
 	written := "? = (" + w.form(test) + ")"
@@ -301,6 +306,16 @@ func (w *writer) test(test feel.Node, negated bool) string {
 		return "((" + written + ") = true)"
 	}
 	return written
+}
+
+// isOfOneKind tells whether a comparison of the input with a value is never unknown: both are of one kind, or one is
+// null; a list that holds the input or not is no comparison.
+func (w *writer) isOfOneKind(value shape) bool {
+	kinds := value.kinds &^ isNull
+	if kinds == 0 || kinds == isList {
+		return true
+	}
+	return kinds&(kinds-1) == 0 && w.input.kinds&^isNull&^kinds == 0
 }
 
 // quote writes a string literal. What may stand for itself in a literal here but not in one of the standard, or not in
