@@ -88,6 +88,7 @@ func TestUnaryTestsMeanTheSameInTheStandard(t *testing.T) {
 		{number, "not(-3, null, n, < 2)", "not(-3, null, n, < 2)"},
 		{shape{kinds: isText}, `not("a", null)`, `not("a", null)`},
 		{condition, "not(true)", "not(true)"},
+		{number, "not((0..n], 9)", "not((0..n], 9)"},
 		{anything, `not("a", [1])`, `not(((? = ("a")) = true), [1])`},
 		{number, `not("a")`, `not(((? = ("a")) = true))`},
 		{condition, "not(f)", "not(((? = (f)) = true))"},
