@@ -92,9 +92,9 @@ func (t texts) value(of shape, depth int) any {
 }
 
 // shapes are what the names of random texts may be.
-func shapes() names {
+func shapes() map[string]shape {
 	text := shape{kinds: isText | isNull}
-	return names{"a": anything, "b": anything, "n": number, "s": text, "f": condition,
+	return map[string]shape{"a": anything, "b": anything, "n": number, "s": text, "f": condition,
 		"l": {kinds: isList | isNull, members: &number}, "m": {kinds: isList | isNull},
 		"c": {kinds: isContext | isNull, entries: map[string]shape{"p": number}}}
 }
@@ -120,7 +120,7 @@ const trials = 3000
 // TestRandomTextsMeanTheSame holds what the engine gives of a text against what the standard means by what is written.
 func TestRandomTextsMeanTheSame(t *testing.T) {
 	r := texts{rand.New(rand.NewSource(57))}
-	place := scope{bound: shapes(), spelled: map[string]string{}}
+	place := placeOf(shapes(), nil)
 	var all []trial
 	for len(all) < trials {
 		one := trial{text: r.expression(1 + r.Intn(3)), bound: r.bound()}
@@ -128,7 +128,7 @@ func TestRandomTextsMeanTheSame(t *testing.T) {
 		if err != nil {
 			t.Fatalf("%s: %v", one.text, err)
 		}
-		node, fault := feel.Expression(written, place.bound.scope(), nil)
+		node, fault := feel.Expression(written, place.bound.reads, nil)
 		if fault != nil {
 			t.Fatalf("%s is written as %s: %v", one.text, written, fault)
 		}
@@ -142,16 +142,16 @@ func TestRandomTextsMeanTheSame(t *testing.T) {
 // TestRandomTestsMeanTheSame does the same of unary tests, of columns of each kind.
 func TestRandomTestsMeanTheSame(t *testing.T) {
 	r := texts{rand.New(rand.NewSource(58))}
-	place := scope{bound: shapes(), spelled: map[string]string{}}
+	place := placeOf(shapes(), nil)
 	var all []trial
 	for len(all) < trials {
 		column := r.one("a", "n", "s", "f", "l")
 		one := trial{text: r.tests(), bound: r.bound()}
-		written, err := place.tests(one.text, place.bound[column])
+		written, err := place.tests(one.text, shapes()[column])
 		if err != nil {
 			t.Fatalf("%s: %v", one.text, err)
 		}
-		nodes, fault := feel.Tests(written, place.bound.scope(), nil)
+		nodes, fault := feel.Tests(written, place.bound.reads, nil)
 		if fault != nil {
 			t.Fatalf("%s is written as %s: %v", one.text, written, fault)
 		}
