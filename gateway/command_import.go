@@ -28,7 +28,13 @@ standard error with what to write instead, and the status is 3 then.
 
 func init() {
 	commands = append(commands, command{"import", "FILE.dmn.. > model.json: translates files of DMN to a model",
-		func(_ context.Context, words []string) int { return runImport(words, os.Stdout, os.Stderr) }})
+		func(ctx context.Context, words []string) int {
+			go func() {
+				<-ctx.Done()
+				os.Exit(statusFailed)
+			}()
+			return runImport(words, os.Stdout, os.Stderr)
+		}})
 }
 
 // runImport reads the files, translates them and writes the model, or what is refused.
