@@ -29,11 +29,14 @@ standard error with what to write instead, and the status is 3 then.
 func init() {
 	commands = append(commands, command{"import", "FILE.dmn.. > model.json: translates files of DMN to a model",
 		func(ctx context.Context, words []string) int {
-			go func() {
-				<-ctx.Done()
-				os.Exit(statusFailed)
-			}()
-			return runImport(words, os.Stdout, os.Stderr)
+			done := make(chan int, 1)
+			go func() { done <- runImport(words, os.Stdout, os.Stderr) }()
+			select {
+			case status := <-done:
+				return status
+			case <-ctx.Done():
+				return statusFailed
+			}
 		}})
 }
 

@@ -22,12 +22,14 @@ type Source struct {
 	Model *model.Model
 	// Names has how a word is spelled in the file; a word without a line is spelled as it is.
 	Names map[string]string
-	// Types has the JSON Schema of the values of an input, by its word.
+	// Types has the JSON Schema of the values of an input or a decision, by its word.
 	Types map[string]Schema
 	// Title is the name of the model; it may be empty.
 	Title string
 	// Imported tells that the model came from a file.
 	Imported bool
+	// Typed tells that decisions and outputs get the types that are known of them, and not the inputs alone.
+	Typed bool
 }
 
 // A Refusal is a place of the model that can't be written so that the standard means the same.
@@ -62,7 +64,7 @@ func Read(data []byte) (Source, error) {
 	if err := json.Unmarshal(data, &whole); err != nil {
 		return Source{}, fmt.Errorf("reading the model: %w", err)
 	}
-	source := Source{Names: whole.Names, Types: whole.Types, Imported: whole.Names != nil}
+	source := Source{Names: whole.Names, Types: whole.Types, Imported: whole.Names != nil, Typed: true}
 	if whole.Model == nil {
 		whole.Model = data
 	}
@@ -96,13 +98,15 @@ type requirement struct{ id, needed, by string }
 // A page is one file while it is written.
 type page struct {
 	Source
-	model    *model.Model
-	title    string
-	services []model.Service
-	shapes   map[string]shape
-	spelled  map[string]string
-	ids      ids
-	counts   map[string]int
+	model *model.Model
+	// decisions are those of the model by their words.
+	decisions map[string]*model.Decision
+	title     string
+	services  []model.Service
+	shapes    map[string]shape
+	words     *dictionary
+	ids       ids
+	counts    map[string]int
 
 	requirements []requirement
 	types        []*element
@@ -111,18 +115,21 @@ type page struct {
 
 func newPage(source Source) *page {
 	p := &page{Source: source, model: source.Model, title: source.Title, services: source.Model.Services,
-		shapes: map[string]shape{}, spelled: map[string]string{}, counts: map[string]int{}}
+		decisions: map[string]*model.Decision{}, shapes: map[string]shape{}, words: newDictionary(source.Names),
+		counts: map[string]int{}}
 	if p.title == "" {
 		p.title = "Model"
 	}
-	for word, name := range source.Names {
-		p.spelled[word] = name
-	}
 	p.ids = newIDs(source.Model)
+	for i := range p.model.Decisions {
+		p.decisions[p.model.Decisions[i].Name] = &p.model.Decisions[i]
+	}
 	for _, input := range p.model.Inputs {
 		p.shapes[input] = anything
-		if schema, typed := p.Types[input]; typed {
-			p.shapes[input] = schema.shape()
+	}
+	for word, schema := range p.Types {
+		if s := schema.shape(); s.kinds != isAnything {
+			p.shapes[word] = s
 		}
 	}
 	return p
@@ -159,9 +166,7 @@ func (p *page) definitions() *element {
 	return root.add(p.types...).add(parts...).add(p.diagram())
 }
 
-func (p *page) spell(word string) string {
-	return scope{spelled: p.spelled}.spell(word)
-}
+func (p *page) spell(word string) string { return p.words.spell(word) }
 
 func (p *page) input(word string) *element {
 	variable := tag("variable", "id", p.id("variable"), "name", p.spell(word), "typeRef", p.typeOf(word))
@@ -170,21 +175,28 @@ func (p *page) input(word string) *element {
 
 func (p *page) decision(index int) *element {
 	d := p.model.Decisions[index]
-	variable := tag("variable", "id", p.id("variable"), "name", p.spell(d.Name), "typeRef", scalar(p.shape(d.Name)))
+	typeRef := p.typeOf(d.Name)
+	if typeRef == "" {
+		typeRef = p.scalar(p.shape(d.Name))
+	}
+	if !p.Typed {
+		typeRef = ""
+	}
+	variable := tag("variable", "id", p.id("variable"), "name", p.spell(d.Name), "typeRef", typeRef)
 	e := tag("decision", "id", p.ids.node(d.Name), "name", p.spell(d.Name)).add(variable)
-	bound := names{}
+	place := newScope(p.words)
 	for _, need := range d.Needs {
-		bound[need] = p.shape(need)
+		place.bind(need, p.shape(need))
 		e.add(p.requires(need, d.Name))
 	}
-	return e.add(p.boxed(fmt.Sprintf("/decisions/%d/expr", index), d.Expr, scope{bound, p.spelled}))
+	return e.add(p.boxed(fmt.Sprintf("/decisions/%d/expr", index), d.Expr, place))
 }
 
 func (p *page) requires(needed, by string) *element {
 	r := requirement{p.id("requirement"), needed, by}
 	p.requirements = append(p.requirements, r)
 	kind := "requiredInput"
-	if p.model.Decision(needed) != nil {
+	if p.decisions[needed] != nil {
 		kind = "requiredDecision"
 	}
 	return tag("informationRequirement", "id", r.id).add(tag(kind, "href", "#"+p.ids.node(needed)))
@@ -195,14 +207,14 @@ func (p *page) shape(word string) shape {
 	if s, known := p.shapes[word]; known {
 		return s
 	}
-	d := p.model.Decision(word)
+	d := p.decisions[word]
 	if d == nil {
 		return anything
 	}
 	p.shapes[word] = anything
-	bound := names{}
+	bound := newNames(nil)
 	for _, need := range d.Needs {
-		bound[need] = p.shape(need)
+		bound.bind(need, p.shape(need))
 	}
 	p.shapes[word] = bound.ofBoxed(d.Expr)
 	return p.shapes[word]

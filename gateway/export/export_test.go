@@ -10,14 +10,21 @@ import (
 
 // place is a scope with: anything a and b, a number n, a text s, a boolean f, a list of numbers l, a list of anything m, a
 // context c with the entry "x y", and two names that run into each other with a third one.
-var place = scope{
-	bound: names{
+func place() *scope {
+	return placeOf(map[string]shape{
 		"a": anything, "b": anything, "n": number, "s": {kinds: isText | isNull}, "f": condition,
 		"l": {kinds: isList | isNull, members: &number}, "m": {kinds: isList},
 		"c":      {kinds: isContext, entries: map[string]shape{"x_y": number}},
 		"Age_in": number, "net_a": number, "net": number,
-	},
-	spelled: map[string]string{"x_y": "x y", "Age_in": "Age in years", "net_a": "net-a"},
+	}, map[string]string{"x_y": "x y", "Age_in": "Age in years", "net_a": "net-a"})
+}
+
+func placeOf(bound map[string]shape, spelled map[string]string) *scope {
+	s := newScope(newDictionary(spelled))
+	for name, value := range bound {
+		s.bind(name, value)
+	}
+	return s
 }
 
 func TestAnExpressionMeansTheSameInTheStandard(t *testing.T) {
@@ -43,22 +50,25 @@ func TestAnExpressionMeansTheSameInTheStandard(t *testing.T) {
 		"n - (a + b)":                "n - (a - -b)",
 		"if f then a + s else n + s": "if f then a - -s else n + s",
 		// A single value is no list, and texts have no least.
-		"sum(l)":         "sum(l)",
-		"sum(n)":         "null",
-		"sum([a])":       "sum([a])",
-		"max(l)":         "max(l)",
-		"max([a, 1])":    "(max([a, 1]) + 0)",
-		"max([n, 1])":    "max([n, 1])",
-		"count(m)":       "count(m)",
-		"count(a)":       "(if (a) instance of list<Any> then count(a) else null)",
-		"sum(a.p)":       "(if (a.p) instance of list<Any> then sum(a.p) else null)",
-		"min(a)":         "(if (a) instance of list<Any> then (min(a) + 0) else null)",
+		"sum(l)":      "sum(l)",
+		"sum(n)":      "null",
+		"sum([a])":    "sum([a])",
+		"max(l)":      "max(l)",
+		"max([a, 1])": "(max([a, 1]) + 0)",
+		"max([n, 1])": "max([n, 1])",
+		"count(m)":    "count(m)",
+		"count(a)":    "(if (a) instance of list<Any> then count(a) else null)",
+		"sum(a.p)":    "(if (a.p) instance of list<Any> then sum(a.p) else null)",
+		"min(a)":      "(if (a) instance of list<Any> then (min(a) + 0) else null)",
+		"if count(a) >= 0 then sum(a) else sum([a])": "sum(a)",
+		"if count(a) >= 0 then sum(a) else sum([b])": "if (if (a) instance of list<Any> then count(a) else null) >= 0 then " +
+			"(if (a) instance of list<Any> then sum(a) else null) else sum([b])",
 		"1 + count( a )": "1 + (if (a) instance of list<Any> then count( a ) else null)",
 		// What a literal may hold here alone is escaped.
 		"\"a\nb\\\"\"": `"a\nb\""`,
 		"\"\x0b\"":     `"\u000b"`,
 	} {
-		got, err := place.expression(text)
+		got, err := place().expression(text)
 		if err != nil || got != due {
 			t.Errorf("%s: %s, %v, due %s", text, got, err, due)
 		}
@@ -66,23 +76,33 @@ func TestAnExpressionMeansTheSameInTheStandard(t *testing.T) {
 }
 
 func TestUnaryTestsMeanTheSameInTheStandard(t *testing.T) {
-	for text, due := range map[string]string{
-		"-":                  "-",
-		"< n + 1, >= 3":      "< n + 1, >= 3",
-		"[1..Age_in)":        "[1..Age in years)",
-		`not("a", null, -3)`: `not("a", null, -3)`,
-		"true, false":        "true, false",
-		"n, s, [1, 2], l":    "n, s, [1, 2], l",
-		"n > 3":              "? = (n > 3)",
-		"f, 1":               "? = (f), 1",
-		"not(f)":             "not(((? = (f)) = true))",
-		"not(f) = true":      "? = (not(f) = true)",
-		"a":                  "? = (a) or (a) instance of list<Any> and list contains(a, ?)",
-		"]a..2[":             "]a..2[",
+	for _, c := range []struct {
+		input     shape
+		text, due string
+	}{
+		{anything, "-", "-"},
+		{anything, "< n + 1, >= 3", "< n + 1, >= 3"},
+		{anything, "[1..Age_in)", "[1..Age in years)"},
+		{anything, "]a..2[", "]a..2["},
+		{anything, "true, false", "true, false"},
+		{anything, "n, s, [1, 2], l", "n, s, [1, 2], l"},
+		// A condition is compared.
+		{anything, "n > 3", "? = (n > 3)"},
+		{anything, "f, 1", "? = (f), 1"},
+		{anything, "not(f) = true", "? = (not(f) = true)"},
+		{anything, "a", "? = (a) or (a) instance of list<Any> and list contains(a, ?)"},
+		// In a negation nothing is unknown.
+		{number, "not(-3, null, n, < 2)", "not(-3, null, n, < 2)"},
+		{shape{kinds: isText}, `not("a", null)`, `not("a", null)`},
+		{condition, "not(true)", "not(true)"},
+		{number, "not((0..n], 9)", "not((0..n], 9)"},
+		{anything, `not("a", [1])`, `not(((? = ("a")) = true), [1])`},
+		{number, `not("a")`, `not(((? = ("a")) = true))`},
+		{condition, "not(f)", "not(((? = (f)) = true))"},
 	} {
-		got, err := place.tests(text)
-		if err != nil || got != due {
-			t.Errorf("%s: %s, %v, due %s", text, got, err, due)
+		got, err := place().tests(c.text, c.input)
+		if err != nil || got != c.due {
+			t.Errorf("%s: %s, %v, due %s", c.text, got, err, c.due)
 		}
 	}
 }
@@ -90,14 +110,16 @@ func TestUnaryTestsMeanTheSameInTheStandard(t *testing.T) {
 func TestWhatCantBeWrittenIsRefused(t *testing.T) {
 	// Between the names net and a the sign would make the name net-a of them.
 	for _, text := range []string{"net-a", "net - a"} {
-		if got, err := place.expression(text); err == nil {
+		if got, err := place().expression(text); err == nil {
 			t.Errorf("%s: %s", text, got)
 		}
 	}
-	if got, err := place.with("count", number).expression("count(l)"); err == nil {
+	hidden := place().inner()
+	hidden.bind("count", number)
+	if got, err := hidden.expression("count(l)"); err == nil {
 		t.Errorf("count is a name and called: %s", got)
 	}
-	if got, err := place.with("count", number).expression("count + 1"); err != nil || got != "count + 1" {
+	if got, err := hidden.expression("count + 1"); err != nil || got != "count + 1" {
 		t.Errorf("count is a name: %s, %v", got, err)
 	}
 }
@@ -132,6 +154,10 @@ func TestATableMeansTheSameInTheStandard(t *testing.T) {
 		{table("U", `{"name":"r","values":["2"]}`, one), "", "outputValues"},
 		{table("U", `{"name":"r","values":["1"],"default":"7"}`, one), "", "outputValues"},
 		{table("U", `{"name":"r","values":["1","7"],"default":"7"}`, one), "defaultOutputEntry", "contextEntry"},
+		// The count of no hits is null.
+		{table("C#", `{"name":"r"}`, two), "<defaultOutputEntry", ""},
+		{table("C#", `{"name":"r"}`, one), "", "defaultOutputEntry"},
+		{table("C#", `{"name":"r","default":"0"}`, two), "<text>0</text>", "contextEntry"},
 		// A default is put into no list.
 		{table("C", `{"name":"r","default":"7"}`, two), "<text>if hits = null then (7) else hits</text>", "defaultOutputEntry"},
 		{table("O", `{"name":"r","default":"7"},{"name":"q"}`, `{"when":["1"],"then":["1","2"]}`),
@@ -192,8 +218,8 @@ func TestTypesOfAnImportBecomeDefinitions(t *testing.T) {
 	}
 	file, refusals := File(source)
 	for _, due := range []string{
-		`<variable id="variable_1" name="P q" typeRef="t P q" />`, `<itemComponent id="item_2" name="x y">`,
-		`<text>"A", "\""</text>`, `name="q" typeRef="number"`, `name="t r" isCollection="true"`,
+		`<variable id="variable_1" name="P q" typeRef="tP q" />`, `<itemComponent id="item_2" name="x y">`,
+		`<text>"A", "\""</text>`, `name="q" typeRef="number"`, `name="tr" isCollection="true"`,
 	} {
 		if len(refusals) > 0 || !strings.Contains(string(file), due) {
 			t.Errorf("%v, due %s in\n%s", refusals, due, file)
