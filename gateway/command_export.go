@@ -1,0 +1,79 @@
+package main
+
+import (
+	"context"
+	"fmt"
+	"io"
+	"os"
+	"path/filepath"
+	"strings"
+
+	"gateway/engine"
+	"gateway/export"
+)
+
+func init() {
+	commands = append(commands, command{"export", "MODEL.json > FILE.dmn: writes a model as a file of DMN 1.3", runExport})
+}
+
+// Statuses of a command, beside statusUsage.
+const (
+	statusFailed  = 1
+	statusRefused = 3
+)
+
+// runExport writes a model as a .dmn file on standard output. Its status is 0; or 3 where the model is not lawful, or a
+// place of it can't be written, each of which is told on a line of standard error.
+func runExport(ctx context.Context, words []string) int {
+	if len(words) != 1 {
+		fmt.Fprintln(os.Stderr, "desk export: one model is due: desk export MODEL.json > FILE.dmn")
+		return statusUsage
+	}
+	status, err := exportModel(ctx, words[0], os.Stdout, os.Stderr)
+	if err != nil {
+		fmt.Fprintln(os.Stderr, "desk export:", err)
+		return statusFailed
+	}
+	return status
+}
+
+func exportModel(ctx context.Context, path string, out, faults io.Writer) (int, error) {
+	data, err := os.ReadFile(path)
+	if err != nil {
+		return 0, err
+	}
+	source, err := export.Read(data)
+	if err != nil {
+		fmt.Fprintf(faults, "%s: %v\n", path, err)
+		return statusRefused, nil
+	}
+	source.Title = strings.TrimSuffix(filepath.Base(path), filepath.Ext(path))
+	if status, err := checkModel(ctx, source, faults); status != 0 || err != nil {
+		return status, err
+	}
+	file, refusals := export.File(source)
+	for _, refusal := range refusals {
+		fmt.Fprintf(faults, "%s: %s\n", path, refusal)
+	}
+	if len(refusals) > 0 {
+		return statusRefused, nil
+	}
+	if _, err := out.Write(file); err != nil {
+		return 0, fmt.Errorf("writing the file: %w", err)
+	}
+	return 0, nil
+}
+
+// checkModel asks the engine whether the model is lawful, and tells what it says of one that isn't.
+func checkModel(ctx context.Context, source export.Source, faults io.Writer) (int, error) {
+	text, err := source.Model.JSON()
+	if err != nil {
+		return 0, err
+	}
+	said, status, err := engine.Once(ctx, text, "check")
+	if err != nil || status == 0 {
+		return 0, err
+	}
+	fmt.Fprintf(faults, "%s", said)
+	return statusRefused, nil
+}
