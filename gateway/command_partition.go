@@ -19,11 +19,8 @@ func init() {
 		summary: "owns one partition on RabbitMQ at a time, and answers its lines"})
 }
 
-// The statuses of the commands of the partitions: a fault ended the run, or something was left out.
-const statusFault = 1
-
-// words reads the options of a command; it answers false where they are wrong, or help was asked for.
-func words(flags *flag.FlagSet, given []string) bool {
+// readOptions reads the options of a command; it answers false where they are wrong, or help was asked for.
+func readOptions(flags *flag.FlagSet, given []string) bool {
 	if err := flags.Parse(given); err != nil {
 		return false
 	}
@@ -34,9 +31,9 @@ func words(flags *flag.FlagSet, given []string) bool {
 	return true
 }
 
-func told(name string, err error) int {
+func tellFault(name string, err error) int {
 	fmt.Fprintf(os.Stderr, "desk %s: %v\n", name, err)
-	return statusFault
+	return statusFailed
 }
 
 func runPartition(ctx context.Context, given []string) int {
@@ -45,7 +42,7 @@ func runPartition(ctx context.Context, given []string) int {
 	deadline := flags.Duration("deadline", time.Minute, "how long the evaluation of a line may take, from 1s")
 	longest := flags.Int("longest", 1<<20, "how many bytes an answer may have, from 1024 to 16777216")
 	address := flags.String("metrics", "", "the address at which /metrics and /health are shown, as 127.0.0.1:9100")
-	if !words(flags, given) {
+	if !readOptions(flags, given) {
 		return statusUsage
 	}
 	if *workers < 1 || *workers > 8 || *deadline < time.Second || *longest < 1024 || *longest > broker.WindowBytes {
@@ -54,22 +51,22 @@ func runPartition(ctx context.Context, given []string) int {
 	}
 	settings, err := broker.ReadSettings()
 	if err != nil {
-		return told("partition", err)
+		return tellFault("partition", err)
 	}
 	path, err := engine.Path()
 	if err != nil {
-		return told("partition", err)
+		return tellFault("partition", err)
 	}
 	gauges := partition.NewGauges()
 	if *address != "" {
 		if _, err := metrics.Serve(ctx, *address, gauges); err != nil {
-			return told("partition", err)
+			return tellFault("partition", err)
 		}
 	}
 	options := partition.Options{Settings: settings, Deadline: *deadline, Log: os.Stderr, Gauges: gauges,
 		Engine: process.Options{Path: path, Workers: *workers, Longest: *longest}}
 	if err := partition.Run(ctx, options); err != nil && ctx.Err() == nil {
-		return told("partition", err)
+		return tellFault("partition", err)
 	}
 	return 0
 }

@@ -24,31 +24,31 @@ func runReceive(ctx context.Context, given []string) int {
 	output := flags.String("output", "",
 		"a file that takes the answers in place of standard output; with --place each stands there once, whatever happens")
 	idle := flags.Duration("idle", 0, "end after so long without an answer, as 5s; 0 says never")
-	if !words(flags, given) {
+	if !readOptions(flags, given) {
 		return statusUsage
 	}
 	settings, err := broker.ReadSettings()
 	if err != nil {
-		return told("receive", err)
+		return tellFault("receive", err)
 	}
 	options := receiver.Options{Settings: settings, From: *from, Place: *place, Output: os.Stdout, Idle: *idle, Log: os.Stderr}
 	if *from != broker.FromFirst && *from != broker.FromNext {
 		at, err := time.Parse(time.RFC3339, *from)
 		if err != nil {
-			return told("receive", fmt.Errorf("--from: %w", err))
+			return tellFault("receive", fmt.Errorf("--from: %w", err))
 		}
 		options.From = at
 	}
 	if *output != "" {
 		file, err := os.OpenFile(*output, os.O_WRONLY|os.O_CREATE, 0o666)
 		if err != nil {
-			return told("receive", err)
+			return tellFault("receive", err)
 		}
 		defer file.Close()
 		options.Output, options.File = file, true
 	}
 	if err := receiver.Receive(ctx, options); err != nil {
-		return told("receive", err)
+		return tellFault("receive", err)
 	}
 	return 0
 }
