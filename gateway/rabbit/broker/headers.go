@@ -49,14 +49,29 @@ func ReadClaim(headers amqp.Table) (ledger.Claim, error) {
 	var claim ledger.Claim
 	var is [4]bool
 	claim.Sender, is[0] = headers[senderHeader].(string)
-	claim.Number, is[1] = headers[numberHeader].(int64)
-	claim.First, is[2] = headers[firstHeader].(int64)
+	claim.Number, is[1] = number(headers[numberHeader])
+	claim.First, is[2] = number(headers[firstHeader])
 	claim.Named, is[3] = headers[namedHeader].(bool)
 	if is != [4]bool{true, true, true, true} || len(claim.Sender) == 0 || len(claim.Sender) > MaximumSenderBytes ||
 		claim.Number < 0 || claim.First < 0 {
 		return claim, ErrForeign
 	}
 	return claim, nil
+}
+
+// number is a whole number, of whichever width a client's library has chosen.
+func number(value interface{}) (int64, bool) {
+	switch value := value.(type) {
+	case int64:
+		return value, true
+	case int32:
+		return int64(value), true
+	case int16:
+		return int64(value), true
+	case int8:
+		return int64(value), true
+	}
+	return 0, false
 }
 
 // A Part is what a message of the answers' stream says of itself.
@@ -90,11 +105,11 @@ func ReadPart(headers amqp.Table) (part Part, is bool, err error) {
 		places = append(places, &part.After.Offset, &part.After.Index)
 	}
 	for at, name := range names {
-		number, isNumber := headers[name].(int64)
+		value, isNumber := number(headers[name])
 		if !isNumber {
 			return part, false, fmt.Errorf("a message of answers has no header %s", name)
 		}
-		*places[at] = number
+		*places[at] = value
 	}
 	return part, true, nil
 }
