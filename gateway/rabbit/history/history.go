@@ -78,7 +78,7 @@ func Read(link *broker.Link, publisher *broker.Publisher, queue string) (*Histor
 // pass reads the stream up to the mark, whose offset it tells. It was begun at the offset from, or at the last
 // messages where that is negative.
 func pass(stream *broker.Stream, mark string, from int64) (*History, int64, error) {
-	h := &History{Ledger: ledger.New()}
+	h := New(false)
 	cut := false
 	for first := true; ; first = false {
 		delivery, offset, err := stream.Next()
@@ -87,12 +87,11 @@ func pass(stream *broker.Stream, mark string, from int64) (*History, int64, erro
 		}
 		switch {
 		case first && offset == 0:
-			h.found = true
-			h.chain.Reach(ledger.Start)
+			h = New(true)
 		case first:
 			cut = from >= 0 && offset > from
 		}
-		if err := h.take(delivery.Headers, delivery.Body); err != nil {
+		if err := h.Take(delivery.Headers, delivery.Body); err != nil {
 			return nil, 0, fmt.Errorf("offset %d: %w", offset, err)
 		}
 		if delivery.Headers[broker.MarkHeader] != mark {
@@ -105,8 +104,17 @@ func pass(stream *broker.Stream, mark string, from int64) (*History, int64, erro
 	}
 }
 
-// take takes in a message. Before a snapshot is found, answers say nothing.
-func (h *History) take(headers amqp.Table, body []byte) error {
+// New is a history without a message, at the beginning of a stream or somewhere in it.
+func New(beginning bool) *History {
+	h := &History{Ledger: ledger.New(), found: beginning}
+	if beginning {
+		h.chain.Reach(ledger.Start)
+	}
+	return h
+}
+
+// Take takes in the next message of the stream. Before a snapshot is found, answers say nothing.
+func (h *History) Take(headers amqp.Table, body []byte) error {
 	h.Messages++
 	part, is, err := broker.ReadPart(headers)
 	if err != nil || !is {

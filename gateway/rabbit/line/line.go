@@ -56,8 +56,8 @@ func ClientNumber(name []byte) (int, bool) {
 	if len(name) != ClientNameBytes || name[0] != 'n' {
 		return 0, false
 	}
-	number, err := strconv.Atoi(string(name[1:]))
-	return number, err == nil && number < Clients
+	number, err := strconv.ParseUint(string(name[1:]), 10, 8)
+	return int(number), err == nil && number < Clients
 }
 
 // Read reads one line, without its line end. The first of these faults is told: too long, no UTF-8, no JSON, neither

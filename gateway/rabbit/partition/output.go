@@ -3,6 +3,8 @@ package partition
 import (
 	"fmt"
 
+	amqp "github.com/rabbitmq/amqp091-go"
+
 	"gateway/rabbit/answer"
 	"gateway/rabbit/broker"
 	"gateway/rabbit/ledger"
@@ -16,9 +18,15 @@ const (
 	snapshotMessages = 1000
 )
 
+// A publisher publishes messages, and knows how many of them are without a confirm.
+type publisher interface {
+	Open() int
+	Publish(queue string, headers amqp.Table, body []byte) error
+}
+
 // An output publishes the answers in the order of their lines, and snapshots between them.
 type output struct {
-	publisher *broker.Publisher
+	publisher publisher
 	name      string // of the stream
 	ledger    *ledger.Ledger
 	last      ledger.Place // the place of the last answer that was published

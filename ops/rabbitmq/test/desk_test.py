@@ -15,6 +15,7 @@ import subprocess
 import tempfile
 import threading
 import time
+import uuid
 from typing import Any, Iterator
 
 HERE = pathlib.Path(__file__).resolve().parent.parent
@@ -211,16 +212,18 @@ class Cluster:
                     channel.connection.close()
 
     def records(self, kind: str, partition: int) -> list[Record]:
-        """All messages of a stream."""
-        channel, found = self.channel(), []
-        channel.basic_qos(prefetch_count=500)
-        reader = channel.consume(self.queue(kind, partition), inactivity_timeout=3, arguments={"x-stream-offset": "first"})
-        for method, properties, body in reader:
-            if method is None:
-                break
+        """All messages of a stream, up to a mark that is published now."""
+        import pika
+        channel, queue, mark, found = self.channel(), self.queue(kind, partition), str(uuid.uuid4()), []
+        channel.confirm_delivery()
+        channel.basic_publish("", queue, b"", pika.BasicProperties(headers={"mark": mark}), mandatory=True)
+        channel.basic_qos(prefetch_count=100)
+        for method, properties, body in channel.consume(queue, arguments={"x-stream-offset": "first"}):
             channel.basic_ack(method.delivery_tag)
             headers = properties.headers
             found.append((headers.pop("x-stream-offset"), headers, body))
+            if headers.get("mark") == mark:
+                break
         channel.connection.close()
         return found
 
