@@ -77,7 +77,7 @@ func number(value interface{}) (int64, bool) {
 // A Part is what a message of the answers' stream says of itself.
 type Part struct {
 	Snapshot bool
-	After    ledger.Place // answers: they begin behind this place
+	After    ledger.Place // answers: they begin behind this place; the headers don't tell the start
 	Upto     ledger.Place // answers: the place of the last; snapshot: all up to here is answered
 }
 
@@ -88,7 +88,9 @@ func PartHeaders(part Part) amqp.Table {
 		headers[kindHeader] = kindSnapshot
 		return headers
 	}
-	headers[afterOffsetHeader], headers[afterIndexHeader] = part.After.Offset, part.After.Index
+	if part.After != ledger.Start { // some libraries read no number below 0
+		headers[afterOffsetHeader], headers[afterIndexHeader] = part.After.Offset, part.After.Index
+	}
 	return headers
 }
 
@@ -100,7 +102,8 @@ func ReadPart(headers amqp.Table) (part Part, is bool, err error) {
 	}
 	part.Snapshot = kind == kindSnapshot
 	names, places := []string{offsetHeader, indexHeader}, []*int64{&part.Upto.Offset, &part.Upto.Index}
-	if !part.Snapshot {
+	part.After = ledger.Start
+	if _, has := headers[afterOffsetHeader]; has {
 		names = append(names, afterOffsetHeader, afterIndexHeader)
 		places = append(places, &part.After.Offset, &part.After.Index)
 	}

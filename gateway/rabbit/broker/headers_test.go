@@ -15,7 +15,8 @@ func TestHeadersComeBack(t *testing.T) {
 	}
 	for _, part := range []Part{
 		{After: ledger.Start, Upto: ledger.Place{Offset: 7, Index: 2}},
-		{Snapshot: true, Upto: ledger.Place{Offset: 7, Index: 2}},
+		{After: ledger.Place{Offset: 6, Index: 9}, Upto: ledger.Place{Offset: 7, Index: 2}},
+		{Snapshot: true, After: ledger.Start, Upto: ledger.Place{Offset: 7, Index: 2}},
 	} {
 		if back, is, err := ReadPart(PartHeaders(part)); err != nil || !is || back != part {
 			t.Errorf("%+v, %v, %v", back, is, err)

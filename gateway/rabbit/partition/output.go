@@ -49,7 +49,7 @@ func (out *output) snapshotDue() bool {
 	if out.size*snapshotFactor > due {
 		due = out.size * snapshotFactor
 	}
-	return out.sinceBytes >= due || out.sinceMessages >= snapshotMessages
+	return out.ledger.Place != ledger.Start && (out.sinceBytes >= due || out.sinceMessages >= snapshotMessages)
 }
 
 // settle takes in that an entry is settled, and adds its answer to the body if it is a new one.

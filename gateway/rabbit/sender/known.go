@@ -2,6 +2,8 @@ package sender
 
 import (
 	"bytes"
+	"fmt"
+	"sync"
 
 	amqp "github.com/rabbitmq/amqp091-go"
 
@@ -9,6 +11,32 @@ import (
 	"gateway/rabbit/history"
 	"gateway/rabbit/ledger"
 )
+
+// atOnce is how many partitions are asked at a time.
+const atOnce = 8
+
+// knownOfAll is what each partition knows of a sender.
+func knownOfAll(link *broker.Link, settings broker.Settings, name string) ([]*ledger.Sender, error) {
+	found, faults := make([]*ledger.Sender, settings.Partitions), make([]error, settings.Partitions)
+	var asked sync.WaitGroup
+	turns := make(chan struct{}, atOnce)
+	for partition := range found {
+		turns <- struct{}{}
+		asked.Add(1)
+		go func(partition int) {
+			defer asked.Done()
+			found[partition], faults[partition] = known(link, settings, partition, name)
+			<-turns
+		}(partition)
+	}
+	asked.Wait()
+	for partition, fault := range faults {
+		if fault != nil {
+			return nil, fmt.Errorf("what partition %d knows of sender %q: %w", partition, name, fault)
+		}
+	}
+	return found, nil
+}
 
 // known is what a partition knows of a sender: what the last snapshot says, and what stands in the log behind it. It
 // is nil where the partition has no line of this name.

@@ -130,12 +130,9 @@ func (s *sender) prepare(link *broker.Link) error {
 	if s.prepared || !s.options.Named {
 		return nil
 	}
-	found := make([]*ledger.Sender, len(s.targets))
-	for partition := range s.targets {
-		var err error
-		if found[partition], err = known(link, s.options.Settings, partition, s.options.Name); err != nil {
-			return fmt.Errorf("what partition %d knows of sender %q: %w", partition, s.options.Name, err)
-		}
+	found, err := knownOfAll(link, s.options.Settings, s.options.Name)
+	if err != nil {
+		return err
 	}
 	s.prepared = true
 	for partition, t := range s.targets {

@@ -21,6 +21,7 @@ from typing import Any, Iterator
 HERE = pathlib.Path(__file__).resolve().parent.parent
 ROOT = HERE.parents[1]
 PACKAGES = ["rabbitmq-server", "python3-pika", "procps"]
+PROGRAM = ""
 CLIENTS = 64
 NO_LINES = 7  # so many messages of the sender x are no lines
 Record = tuple[int, dict[str, Any], bytes]  # offset, headers, body
@@ -39,7 +40,8 @@ def install() -> None:
 
 
 def program(*words: str) -> list[str]:
-    return [str(ROOT / "gateway" / "out" / "desk-gateway"), *words]
+    """The gateway's program, as it was when the cluster was made: it may be built again meanwhile."""
+    return [PROGRAM, *words]
 
 
 def model(addend: int) -> str:
@@ -109,6 +111,8 @@ class Cluster:
                             "DESK_SECONDS": str(seconds), "DESK_PARTITIONS": str(partitions),
                             "DESK_ENGINE": str(ROOT / "dist" / "desk"),
                             "DESK_BROKERS": ",".join(f"amqp://127.0.0.1:{port + number}" for number in (1, 2, 3))}
+        global PROGRAM
+        PROGRAM = shutil.copy(ROOT / "gateway" / "out" / "desk-gateway", self.folder)
         self.processes: list[subprocess.Popen[bytes]] = []
         self.stopped: "subprocess.Popen[bytes] | None" = None
         self.log = open(self.folder / "partitions.log", "ab")
@@ -290,7 +294,7 @@ def answers_of(records: list[Record]) -> Iterator[bytes]:
         place = (headers.get("offset", -1), headers.get("index", 0))
         if headers.get("kind") == "snapshot":
             upto = max(upto, place)
-        elif headers.get("kind") == "answers" and (headers["after-offset"], headers["after-index"]) <= upto < place:
+        elif headers.get("kind") == "answers" and (headers.get("after-offset", -1), headers.get("after-index", 0)) <= upto < place:
             for line in body.splitlines():
                 value = json.loads(line)
                 if (value["offset"], value["place"]) > upto:
