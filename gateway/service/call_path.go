@@ -20,7 +20,6 @@ func (s *Service) servicesPath(w http.ResponseWriter, r *http.Request, id string
 		return http.StatusMethodNotAllowed
 	}
 	fail := func(p *problem) int {
-		limitWrite(r)
 		p.write(w, id)
 		return p.Status
 	}
@@ -85,16 +84,18 @@ func (s *Service) ask(who caller, name string, body []byte) (*call, *turn, *prob
 
 // write gives the answer. A client's answer is on its way before the next one begins.
 func (c *call) write(w http.ResponseWriter, r *http.Request, id string, inOrder bool) int {
-	limitWrite(r)
 	status := http.StatusOK
 	if c.isList {
-		writeJSON(w, status, c.appendList(nil))
+		text := c.appendList(nil)
+		limitWrite(r, len(text))
+		writeJSON(w, status, text)
 	} else if p := problemOf(c.outcomes[0]); p != nil {
 		status = p.Status
 		p.write(w, id)
 	} else {
 		value := c.outcomes[0].Value
 		text := c.appendResult(make([]byte, 0, len(value)+16), value)
+		limitWrite(r, len(text))
 		writeJSON(w, status, append(text, '\n'))
 	}
 	if flusher, is := w.(http.Flusher); inOrder && is {

@@ -12,6 +12,7 @@ import (
 	"sort"
 	"strconv"
 	"strings"
+	"sync/atomic"
 	"time"
 
 	"gateway/openapi"
@@ -68,10 +69,21 @@ func requestID(r *http.Request) string {
 	if values := r.Header["X-Request-Id"]; len(values) == 1 && isID(values[0]) {
 		return values[0]
 	}
-	var random [8]byte
-	_, _ = rand.Read(random[:])
-	return time.Now().UTC().Format("20060102T150405.000Z-") + hex.EncodeToString(random[:])
+	id := make([]byte, 0, 48)
+	id = time.Now().UTC().AppendFormat(id, "20060102T150405.000Z-")
+	id = append(id, idStart...)
+	return string(strconv.AppendUint(id, idCount.Add(1), 10))
 }
+
+// idStart and idCount tell the ids that are made apart: those of two processes, and those of one.
+var (
+	idStart = func() string {
+		var random [4]byte
+		_, _ = rand.Read(random[:])
+		return hex.EncodeToString(random[:]) + "-"
+	}()
+	idCount atomic.Uint64
+)
 
 func isID(id string) bool {
 	if len(id) == 0 || len(id) > maxID {
@@ -197,8 +209,15 @@ func (s *Service) openAPIPath(w http.ResponseWriter, r *http.Request) {
 	writeJSON(w, http.StatusOK, page)
 }
 
-// limitWrite bounds how long a caller may take to read the answer.
-func limitWrite(r *http.Request) {
+// longAnswer is the most bytes of an answer that the system takes whether the caller reads or not.
+const longAnswer = 4096
+
+// limitWrite bounds how long a caller may take to read an answer of this many bytes. Without it the limit is that of the
+// whole exchange.
+func limitWrite(r *http.Request, bytes int) {
+	if bytes <= longAnswer {
+		return
+	}
 	if connection, is := r.Context().Value(connectionKey{}).(net.Conn); is {
 		_ = connection.SetWriteDeadline(time.Now().Add(writePatience))
 	}

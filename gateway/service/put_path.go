@@ -23,7 +23,6 @@ func (s *Service) modelPath(w http.ResponseWriter, r *http.Request) {
 		s.putPath(w, r, id, who)
 		return
 	}
-	limitWrite(r)
 	if p != nil {
 		p.write(w, id)
 		return
@@ -49,7 +48,6 @@ type putPage struct {
 
 func (s *Service) putPath(w http.ResponseWriter, r *http.Request, id string, who caller) {
 	page, model, p := s.putModel(w, r, who)
-	limitWrite(r)
 	if p != nil {
 		s.metrics.puts.WithLabelValues(http.StatusText(p.Status)).Inc()
 		p.write(w, id)

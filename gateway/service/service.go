@@ -9,6 +9,7 @@ import (
 	"net/http"
 	"os"
 	"path/filepath"
+	"runtime/debug"
 	"sync"
 	"sync/atomic"
 	"time"
@@ -42,8 +43,17 @@ type Service struct {
 
 var errLongModel = errors.New("the model is too long")
 
+// Most of what a call needs is garbage at its end. So little stays that by Go's own measure garbage would be collected
+// many times a second: it may grow to nine times what stays, and to heapLimit in all.
+const (
+	garbagePercent = 800
+	heapLimit      = 512 << 20
+)
+
 // Run serves until the context ends and what was taken is answered.
 func Run(ctx context.Context, options Options) error {
+	debug.SetGCPercent(garbagePercent)
+	debug.SetMemoryLimit(heapLimit)
 	s, err := newService(ctx, options)
 	if err != nil {
 		return err
