@@ -1,7 +1,9 @@
 package main
 
 import (
+	"bytes"
 	"context"
+	"encoding/json"
 	"errors"
 	"flag"
 	"fmt"
@@ -16,15 +18,11 @@ import (
 	"syscall"
 	"time"
 
+	"gateway/dmn"
 	"gateway/engine"
+	"gateway/lines"
+	"gateway/profile"
 	"gateway/service"
-)
-
-// Statuses of desk http.
-const (
-	statusFault = 1
-	// statusModel says that the model has a fault, as in desk check.
-	statusModel = 3
 )
 
 // httpUsage is the text of desk http --help.
@@ -55,6 +53,10 @@ type httpWords struct {
 	options service.Options
 	listen  string
 	files   []string
+}
+
+func init() {
+	commands = append(commands, command{"http", "MODEL.json|FILE.dmn..: answers requests to a model's services over HTTP", runHTTP})
 }
 
 func runHTTP(ctx context.Context, words []string) int {
@@ -93,6 +95,7 @@ func serveHTTP(ctx context.Context, parsed *httpWords, options service.Options) 
 	if options.Model, err = readModel(parsed.files); err != nil {
 		return err
 	}
+	options.ReadDMN = putDMN
 	options.Named = strings.Join(parsed.files, " ")
 	if options.Listener, err = listen(parsed.listen); err != nil {
 		return err
@@ -105,16 +108,22 @@ func serveHTTP(ctx context.Context, parsed *httpWords, options service.Options) 
 func tellFault(logger *log.Logger, err error) int {
 	logger.Printf("%v", err)
 	var faulty *engine.FaultyModel
-	if errors.As(err, &faulty) {
+	var refused refusedPlaces
+	var fault *lines.SyntaxFault
+	switch {
+	case errors.As(err, &faulty):
 		for _, place := range faulty.Places {
 			fmt.Fprintf(os.Stderr, "%s\n", place)
 		}
-		return statusModel
+	case errors.As(err, &refused):
+		for _, place := range refused {
+			fmt.Fprintln(os.Stderr, place)
+		}
+	case errors.As(err, &fault), errors.Is(err, service.ErrNoModel):
+	default:
+		return statusFailed
 	}
-	if errors.Is(err, service.ErrNoModel) {
-		return statusModel
-	}
-	return statusFault
+	return statusRefused
 }
 
 func parseHTTP(words []string) (*httpWords, error) {
@@ -212,7 +221,7 @@ func handedOver() (net.Listener, error) {
 // readModel reads the files of the command line: one model in JSON, or files in DMN.
 func readModel(files []string) (*service.Source, error) {
 	if len(files) > 1 || strings.HasSuffix(files[0], ".dmn") {
-		return nil, fmt.Errorf("reading %s: files in DMN are not read yet", strings.Join(files, ", "))
+		return readDMN(files, readFile)
 	}
 	text, err := os.ReadFile(files[0])
 	if err != nil {
@@ -223,4 +232,72 @@ func readModel(files []string) (*service.Source, error) {
 		return nil, fmt.Errorf("%s: %w", files[0], err)
 	}
 	return source, nil
+}
+
+// putDMN reads a file in DMN that was put.
+func putDMN(text []byte) (*service.Source, error) {
+	return readDMN([]string{"the body"}, func(path string) (*dmn.File, error) {
+		return dmn.Read(path, bytes.NewReader(text))
+	})
+}
+
+// refusedPlaces is the error of files in DMN with places that can't be taken.
+type refusedPlaces []profile.Refusal
+
+func (r refusedPlaces) Error() string {
+	if len(r) == 1 {
+		return r[0].String()
+	}
+	return fmt.Sprintf("%d places can't be taken; the first: %s", len(r), r[0])
+}
+
+// Errors has each place as JSON.
+func (r refusedPlaces) Errors() []json.RawMessage {
+	var all []json.RawMessage
+	for _, place := range r {
+		text, err := json.Marshal(struct {
+			Line    int    `json:"line"`
+			Column  int    `json:"column"`
+			Element string `json:"element,omitempty"`
+			Name    string `json:"name,omitempty"`
+			ID      string `json:"id,omitempty"`
+			Text    string `json:"text,omitempty"`
+			Said    string `json:"said"`
+			Hint    string `json:"hint,omitempty"`
+		}{place.Line, place.Column, place.Element, place.Name, place.ID, place.Text, place.Why, place.Instead})
+		if err == nil {
+			all = append(all, text)
+		}
+	}
+	return all
+}
+
+// readDMN reads files in DMN, and translates them to one model.
+func readDMN(paths []string, read func(path string) (*dmn.File, error)) (*service.Source, error) {
+	var files []*dmn.File
+	var refused refusedPlaces
+	for _, path := range paths {
+		file, err := read(path)
+		var fault *dmn.Fault
+		switch {
+		case errors.As(err, &fault):
+			refused = append(refused, profile.RefusalOf(path, fault))
+		case err != nil:
+			return nil, fmt.Errorf("reading the model: %w", err)
+		default:
+			files = append(files, file)
+		}
+	}
+	if len(refused) > 0 {
+		return nil, refused
+	}
+	result, places := profile.Import(files, profile.Options{})
+	if result == nil {
+		return nil, refusedPlaces(places)
+	}
+	text, err := wholeImport(result)
+	if err != nil {
+		return nil, fmt.Errorf("reading the model: %w", err)
+	}
+	return service.ReadSource(text)
 }

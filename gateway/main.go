@@ -19,9 +19,7 @@ type command struct {
 }
 
 // commands lists what this program does, in the order of the help text.
-var commands = []command{
-	{"http", "answers requests to a model's services over HTTP", runHTTP},
-}
+var commands = []command{}
 
 // statusUsage is the exit status of a command line that asks for nothing that there is.
 const statusUsage = 2

@@ -2,6 +2,7 @@ package service
 
 import (
 	"bufio"
+	"bytes"
 	"crypto/rand"
 	"encoding/hex"
 	"encoding/json"
@@ -120,8 +121,17 @@ func writeJSON(w http.ResponseWriter, status int, text []byte) {
 	_, _ = w.Write(text)
 }
 
+// plainJSON writes a value as JSON, with nothing escaped that need not be.
+func plainJSON(value any) ([]byte, error) {
+	var text bytes.Buffer
+	encoder := json.NewEncoder(&text)
+	encoder.SetEscapeHTML(false)
+	err := encoder.Encode(value)
+	return bytes.TrimSuffix(text.Bytes(), []byte("\n")), err
+}
+
 func writePage(w http.ResponseWriter, status int, page any) {
-	text, err := json.Marshal(page)
+	text, err := plainJSON(page)
 	if err != nil {
 		problemInside.with(err.Error()).write(w, w.Header().Get("X-Request-Id"))
 		return
@@ -196,7 +206,7 @@ func (s *Service) openAPIPath(w http.ResponseWriter, r *http.Request) {
 	for _, form := range model.lawful.Services {
 		service := openapi.Service{Name: model.nameOf(form.Name)}
 		for _, word := range form.Parameters {
-			service.Inputs = append(service.Inputs, openapi.Input{Name: model.nameOf(word), Schema: model.source.Types[word]})
+			service.Inputs = append(service.Inputs, openapi.Input{Name: model.nameOf(word), Schema: model.schema(word)})
 		}
 		services = append(services, service)
 	}

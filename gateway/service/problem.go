@@ -118,7 +118,7 @@ func (k *problemKind) at(pointer, detail string) *problem {
 
 // text is the problem as JSON.
 func (p *problem) text() []byte {
-	text, err := json.Marshal(p)
+	text, err := plainJSON(p)
 	if err != nil {
 		return []byte(`{"type":"/problems/inside","status":500}`)
 	}

@@ -66,7 +66,15 @@ func (m *served) values(service *decisionService, text []byte, members []lines.M
 		if !counts || !service.parameters[member.Key] {
 			continue
 		}
-		if fault := lines.Value(text, member.Value); fault != nil {
+		fault := lines.Value(text, member.Value)
+		if of := m.types[member.Key]; of != nil && fault == nil {
+			value, err := lines.Tree(text[member.Value.Start:member.Value.End])
+			if err != nil {
+				return problemInside.with(err.Error())
+			}
+			fault = of.Check(value)
+		}
+		if fault != nil {
 			return problemValue.at(m.pointer("/"+lines.Token(member.Key)+fault.Pointer), fault.Reason)
 		}
 	}

@@ -8,6 +8,7 @@ import (
 
 	"gateway/engine"
 	"gateway/lines"
+	"gateway/types"
 )
 
 // A served is a model with what the service has to know of it.
@@ -20,6 +21,8 @@ type served struct {
 	services map[string]*decisionService
 	// words has the model's word for each name in the file that is another.
 	words map[string]string
+	// types has the type of each input of which the file says one, by its word.
+	types map[string]*types.Type
 	// origin says where the model came from, and since when it is in force.
 	origin string
 	since  time.Time
@@ -43,28 +46,42 @@ func (s *Service) read(ctx context.Context, source *Source, origin string) (*ser
 	}
 	it := &served{
 		source: source, engine: engine.NewModel(source.Text), lawful: lawful, warnings: warnings,
-		services: map[string]*decisionService{}, words: map[string]string{}, origin: origin, since: time.Now(),
+		services: map[string]*decisionService{}, words: map[string]string{}, types: map[string]*types.Type{}, origin: origin,
+		since: time.Now(),
 	}
 	line := len(it.engine.AppendLine(nil)) - 1
 	if line > lines.MaxLine {
 		return nil, fmt.Errorf("%w: its line would have %d bytes, and at most %d are read", errLongModel, line, lines.MaxLine)
 	}
 	it.sum = []string{it.engine.Sum}
-	for word, name := range source.Names {
+	if err := it.index(); err != nil {
+		return nil, err
+	}
+	return it, engine.Try(ctx, s.options.Engine, s.options.Memory, it.engine)
+}
+
+// index makes the tables by which names, types and services are found.
+func (m *served) index() (err error) {
+	for word, name := range m.source.Names {
 		if word != name {
-			it.words[name] = word
+			m.words[name] = word
 		}
 	}
-	for _, form := range lawful.Services {
-		service := &decisionService{word: form.Name, name: it.nameOf(form.Name), parameters: map[string]bool{}}
+	for word, text := range m.source.Types {
+		if m.types[word], err = types.Read(text); err != nil {
+			return fmt.Errorf("%w: the type of %s: %v", ErrNoModel, word, err)
+		}
+	}
+	for _, form := range m.lawful.Services {
+		service := &decisionService{word: form.Name, name: m.nameOf(form.Name), parameters: map[string]bool{}}
 		for _, parameter := range form.Parameters {
 			service.parameters[parameter] = true
 		}
 		service.tail = append(lines.AppendQuoted([]byte(`,"service":`), form.Name), '}')
-		it.services[service.word] = service
-		it.services[service.name] = service
+		m.services[service.word] = service
+		m.services[service.name] = service
 	}
-	return it, engine.Try(ctx, s.options.Engine, s.options.Memory, it.engine)
+	return nil
 }
 
 // nameOf is the name in the file of a word.
@@ -125,11 +142,43 @@ func (m *served) page(version string) *modelPage {
 	}
 	if len(m.source.Types) > 0 {
 		page.Types = map[string]json.RawMessage{}
-		for word, schema := range m.source.Types {
-			page.Types[m.nameOf(word)] = schema
+		for word := range m.source.Types {
+			page.Types[m.nameOf(word)] = m.schema(word)
 		}
 	}
 	return page
+}
+
+// schema is the JSON Schema of an input with the names of the file; nil where the file says none.
+func (m *served) schema(word string) json.RawMessage {
+	text := m.source.Types[word]
+	if text == nil || len(m.words) == 0 {
+		return text
+	}
+	tree, err := lines.Tree(text)
+	if err != nil {
+		return text
+	}
+	m.renameProperties(tree)
+	return lines.Compact(nil, tree)
+}
+
+// renameProperties gives the properties within a schema the names of the file.
+func (m *served) renameProperties(schema any) {
+	parts, _ := schema.(map[string]any)
+	if parts["items"] != nil {
+		m.renameProperties(parts["items"])
+	}
+	properties, is := parts["properties"].(map[string]any)
+	if !is {
+		return
+	}
+	renamed := make(map[string]any, len(properties))
+	for word, part := range properties {
+		m.renameProperties(part)
+		renamed[m.nameOf(word)] = part
+	}
+	parts["properties"] = renamed
 }
 
 func (m *served) names(words []string) []string {

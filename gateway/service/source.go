@@ -61,7 +61,7 @@ func ReadSource(text []byte) (*Source, error) {
 
 // text is the source as desk import writes it.
 func (s *Source) text() ([]byte, error) {
-	text, err := json.Marshal(imported{Model: s.Text, Names: s.Names, Types: s.Types, Places: s.Places})
+	text, err := plainJSON(imported{Model: s.Text, Names: s.Names, Types: s.Types, Places: s.Places})
 	if err != nil {
 		return nil, fmt.Errorf("writing the model: %w", err)
 	}
