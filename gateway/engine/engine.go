@@ -72,6 +72,8 @@ type engine struct {
 	process             *process
 	// Counted anew for each process: its lines and its answers. order counts the requests sent, over all of them.
 	lines, answers, order uint64
+	// moved is when the process last answered, or was asked while nothing was out.
+	moved time.Time
 	// age is how long the process has been at what it is at, as far as seen ticks tell.
 	age   time.Duration
 	seen  uint64
@@ -265,7 +267,7 @@ func (e *engine) ask(text []byte, job *Job) []byte {
 	job.line, job.order = e.lines, e.order
 	e.lanes[job.lane].sent.push(job)
 	if e.sent == 0 {
-		e.age = 0
+		e.age, e.moved = 0, time.Now()
 	}
 	e.sent++
 	e.sentBytes += len(job.Rest)
@@ -312,6 +314,7 @@ func (e *engine) settle(r reply) (*Job, error) {
 	e.mu.Lock()
 	defer e.mu.Unlock()
 	e.answers++
+	e.moved = time.Now()
 	job, err := e.answered(r)
 	if job == nil {
 		e.wake.Signal()
@@ -432,11 +435,36 @@ func (e *engine) shortest() int {
 	return best
 }
 
-// out is how many requests wait or are out, and whether a process is there that took a model.
-func (e *engine) out() (int, bool) {
+// A state says how well an engine could take one more request.
+type state struct {
+	// out is how many requests wait or are out.
+	out int
+	// ready says that a process is there that took a model, slow that it has been at one request for a while.
+	ready, slow bool
+}
+
+// slowAfter is how long an engine is at one request until others are better sent elsewhere.
+const slowAfter = 5 * time.Millisecond
+
+func (e *engine) state() state {
 	e.mu.Lock()
 	defer e.mu.Unlock()
-	return e.waiting + e.sent + e.again.len(), e.process != nil && e.taken != nil
+	return state{
+		out:   e.waiting + e.sent + e.again.len(),
+		ready: e.process != nil && e.taken != nil,
+		slow:  e.sent > 0 && time.Since(e.moved) > slowAfter,
+	}
+}
+
+// isBefore says whether a request is better sent to this engine than to the other.
+func (s state) isBefore(other state) bool {
+	if s.ready != other.ready {
+		return s.ready
+	}
+	if s.slow != other.slow {
+		return other.slow
+	}
+	return s.out < other.out
 }
 
 // tick sees whether the process is at one thing for too long, and takes out what waited too long.

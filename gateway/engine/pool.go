@@ -155,20 +155,16 @@ func (p *Pool) place(client string) (at, lane int) {
 	return int(h % n), int(h / n % Lanes)
 }
 
-// least is the engine at which least is out, among those that are ready if there is one.
+// least is the engine at which least is out, among those that are ready and not slow if there is one.
 func (p *Pool) least() *engine {
 	n := len(p.engines)
-	start := int(p.next.Add(1))
-	var best *engine
-	least, bestReady := 0, false
-	for step := 0; step < n; step++ {
+	start := int(p.next.Add(1) % uint32(n))
+	best := p.engines[start]
+	least := best.state()
+	for step := 1; step < n && (!least.ready || least.out > 0); step++ {
 		e := p.engines[(start+step)%n]
-		out, ready := e.out()
-		if best == nil || ready && !bestReady || ready == bestReady && out < least {
-			best, least, bestReady = e, out, ready
-		}
-		if ready && out == 0 {
-			break
+		if it := e.state(); it.isBefore(least) {
+			best, least = e, it
 		}
 	}
 	return best
@@ -198,7 +194,7 @@ func (p *Pool) Switch(model *Model, beside func()) {
 func (p *Pool) Ready() int {
 	ready := 0
 	for _, e := range p.engines {
-		if _, is := e.out(); is {
+		if e.state().ready {
 			ready++
 		}
 	}
@@ -214,7 +210,7 @@ func (p *Pool) Processes() int {
 func (p *Pool) Out() []int {
 	out := make([]int, len(p.engines))
 	for at, e := range p.engines {
-		out[at], _ = e.out()
+		out[at] = e.state().out
 	}
 	return out
 }

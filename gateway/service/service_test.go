@@ -100,7 +100,7 @@ func serve(t *testing.T, model string, options Options) *running {
 	ctx, r.end = context.WithCancel(context.Background())
 	go func() { r.ended <- Run(ctx, options) }()
 	for until := time.Now().Add(time.Minute); ; time.Sleep(10 * time.Millisecond) {
-		if answer, err := http.Get(r.url + "/readyz"); err == nil {
+		if answer, err := oneCall.Get(r.url + "/readyz"); err == nil {
 			answer.Body.Close()
 			break
 		}
@@ -116,6 +116,9 @@ func serve(t *testing.T, model string, options Options) *running {
 	return r
 }
 
+// oneCall takes a connection for each call.
+var oneCall = &http.Client{Transport: &http.Transport{DisableKeepAlives: true}}
+
 // send sends a request, and gives its status and body.
 func send(t *testing.T, method, url, body string, headers ...string) (int, string, http.Header) {
 	t.Helper()
@@ -126,7 +129,7 @@ func send(t *testing.T, method, url, body string, headers ...string) (int, strin
 	for at := 0; at < len(headers); at += 2 {
 		request.Header.Set(headers[at], headers[at+1])
 	}
-	answer, err := http.DefaultClient.Do(request)
+	answer, err := oneCall.Do(request)
 	if err != nil {
 		t.Fatal(err)
 	}
@@ -249,7 +252,7 @@ func TestPutUnderLoad(t *testing.T) {
 // A client's answers come in the order of its requests, on every connection; without a name a slow request holds up nobody
 // else.
 func TestOrder(t *testing.T) {
-	r := serve(t, slow(20_000), Options{Processes: 2})
+	r := serve(t, slow(5000), Options{Processes: 2})
 	defer r.stop(t)
 	order := func(headers ...string) (order []int) {
 		var mu sync.Mutex
@@ -258,7 +261,7 @@ func TestOrder(t *testing.T) {
 			n := n
 			length := 1
 			if n == 0 {
-				length = 1500
+				length = 4990
 			}
 			calls.Add(1)
 			go func() {
@@ -270,7 +273,7 @@ func TestOrder(t *testing.T) {
 				order = append(order, n)
 				mu.Unlock()
 			}()
-			time.Sleep(20 * time.Millisecond)
+			time.Sleep(50 * time.Millisecond)
 		}
 		calls.Wait()
 		return order
@@ -370,10 +373,10 @@ func TestStateAndJournal(t *testing.T) {
 	if _, text, _ := send(t, "POST", r.url+"/v1/services/s", `{"a":1}`); text != `{"result":6}` {
 		t.Errorf("after a restart: %s", text)
 	}
+	r.stop(t)
 	if !strings.Contains(strings.Join(r.log, "\n"), "serving the model last put") {
 		t.Errorf("the log says nothing of the model last put: %q", r.log)
 	}
-	r.stop(t)
 	names, _ := filepath.Glob(filepath.Join(folder, "*.jsonl"))
 	var all []byte
 	for _, name := range names {
@@ -431,13 +434,13 @@ func TestStopUnderLoad(t *testing.T) {
 
 // A caller that goes away costs nobody else anything.
 func TestCallersThatLeave(t *testing.T) {
-	r := serve(t, slow(20_000), Options{Processes: 1})
+	r := serve(t, slow(2000), Options{Processes: 1})
 	defer r.stop(t)
 	for n := 0; n < 20; n++ {
 		ctx, stop := context.WithTimeout(context.Background(), 5*time.Millisecond)
 		request, _ := http.NewRequestWithContext(ctx, "POST", r.url+"/v1/services/s", strings.NewReader(long(300)))
 		request.Header.Set("X-Client", "ann")
-		if answer, err := http.DefaultClient.Do(request); err == nil {
+		if answer, err := oneCall.Do(request); err == nil {
 			answer.Body.Close()
 		}
 		stop()
