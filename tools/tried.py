@@ -62,6 +62,24 @@ def edits_of(folder: Path) -> dict[str, str]:
     return found
 
 
+def unfit(folder: Path, edit: str) -> str | None:
+    """Why an edit cannot be applied to the crate as it stands, if it cannot."""
+    path, old, texts = Path(), "", dict[Path, str]()
+    for line in edit.splitlines():
+        if line.startswith("file: "):
+            path = folder / line[len("file: ") :].strip()
+            if not path.is_file():
+                return f"there is no file {path.relative_to(folder)}"
+        elif line.startswith("old: "):
+            old = line[len("old: ") :]
+        elif line.startswith("new:"):
+            text = texts.setdefault(path, path.read_text("utf-8"))
+            if text.count(old) != 1:
+                return f"its text stands {text.count(old)} times in {path.relative_to(folder)}, and not once: {old.strip()}"
+            texts[path] = text.replace(old, line[len("new:") :].removeprefix(" "))
+    return None
+
+
 def without_comments(lines: list[str], mark: str) -> str:
     return "\n".join(it for it in lines if it.strip() and not it.lstrip().startswith(mark))
 
