@@ -4,8 +4,6 @@ use box_core::{Done, Job, Work};
 use lanes::{Signals, Stepped, Watch, Woken};
 use std::hint;
 use std::sync::Wait;
-use std::thread::Parker;
-use std::time::Duration;
 
 /// For how many turns a worker that has nothing to do, or can't get rid of what it holds, stays awake.
 const TURNS: u32 = 200;
@@ -14,10 +12,10 @@ const TURNS: u32 = 200;
 const EARLY_TURNS: u32 = 10_000;
 /// How many turns pass between two tries to get rid of what it holds.
 const BETWEEN: u32 = 50;
-/// The first and the longest pause, in microseconds, of a worker that holds a job that was refused memory.
-const FIRST_PAUSE: u64 = 20;
+/// The first and the longest pause, in milliseconds, of a worker that holds a job that was refused memory.
+const FIRST_PAUSE: u64 = 1;
 
-const LONGEST_PAUSE: u64 = 200;
+const LONGEST_PAUSE: u64 = 100;
 
 /// What a worker does.
 #[derive(Clone, Copy, Drop, PartialEq, Eq)]
@@ -36,9 +34,11 @@ pub(crate) struct Post<'a, V> {
     does: Does,
     // For how many turns it stays awake before it sleeps.
     turns: u32,
-    // How long its next pause is.
+    // Whether it holds a job that was refused memory, how often something was freed before that was last tried, and how long its
+    // next pause is.
+    lacks: bool,
+    freed: u64,
     pause: u64,
-    bed: Parker,
     // The lane of its last answer, and how often that lane's client had taken answers before this one was last tried.
     lane: u32,
     takes: u64,
@@ -54,8 +54,9 @@ impl<'a, V> Post<'a, V> {
             signals,
             does: Does::Looks,
             turns: TURNS,
+            lacks: false,
+            freed: 0,
             pause: FIRST_PAUSE,
-            bed: Parker::new(),
             lane: 0,
             takes: 0,
         }
@@ -75,10 +76,7 @@ impl<'a, V> Post<'a, V> {
             }
             Stepped::Again => hint::spin_loop(),
             Stepped::Idle => self.rest(rt, seen),
-            Stepped::NoMemory => {
-                self.signals.add_refusal();
-                self.pause(rt);
-            }
+            Stepped::NoMemory => self.await_memory(rt),
             Stepped::RingFull => self.await_place(rt),
         }
     }
@@ -123,22 +121,37 @@ impl<'a, V> Post<'a, V> {
         }
     }
 
-    // It holds a job that was refused memory: it tries again after a few turns, and later after pauses that grow.
-    fn pause<R: Wait>(&mut self, rt: &R) {
+    // It holds a job that was refused memory: it tries again after a few turns, and later once something was freed, or after
+    // pauses that grow. What was freed is read before each try but the first, behind which it stays awake.
+    fn await_memory<R: Wait>(&mut self, rt: &R) {
+        if !self.lacks {
+            self.lacks = true;
+            self.signals.begin_to_lack();
+        }
+        self.signals.add_refusal();
         if self.turns > 0 {
             self.stay_awake();
-            return;
+        } else {
+            self.signals.await_memory(rt, self.freed, self.pause);
+            self.pause = LONGEST_PAUSE.min(self.pause.saturating_mul(2));
         }
-        let pause = self.pause.min(LONGEST_PAUSE);
-        self.bed.park_timeout(rt, Duration::from_micros(pause));
-        self.pause = pause * 2;
+        self.freed = self.signals.freed();
     }
 
-    // It looks no more.
-    pub(crate) fn end(&self) {
+    // It lacks no memory any more.
+    fn end_to_lack(&mut self) {
+        if self.lacks {
+            self.lacks = false;
+            self.signals.end_to_lack();
+        }
+    }
+
+    // It looks no more, and tries nothing again.
+    pub(crate) fn end(&mut self) {
         if self.does == Does::Looks {
             self.signals.end_to_look();
         }
+        self.end_to_lack();
     }
 }
 
@@ -167,6 +180,7 @@ impl<'a, V: Watch> Watch for Post<'a, V> {
     }
 
     fn leave<W: Work>(&mut self, client: u32, done: &Done<W>) {
+        self.end_to_lack();
         self.lane = client;
         self.turns = TURNS;
         self.watch.leave(client, done);

@@ -3,6 +3,7 @@
 
 mod answering;
 mod ending;
+mod laws;
 mod line;
 mod named_lanes;
 mod options;
@@ -13,6 +14,7 @@ mod state;
 mod until;
 mod waiting;
 
+pub use laws::own_lines_decide;
 pub use line::{Line, line_heard};
 pub use options::Options;
 pub use run::serve;

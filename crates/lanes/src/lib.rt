@@ -9,6 +9,7 @@ mod ending;
 mod fault;
 mod gate;
 mod marks;
+mod memory;
 mod open;
 mod places;
 mod port;

@@ -1,6 +1,7 @@
 //! How threads that have nothing to do sleep, and what wakes them. No answer rests on it.
 use crate::bell::Bell;
 use crate::marks::Marks;
+use crate::memory::Memory;
 use crate::places::Places;
 use crossbeam_utils::CachePadded;
 use std::alloc::{AllocError, Global};
@@ -16,9 +17,6 @@ const MANY: u64 = 16;
 /// From so many jobs that wait on, a worker that takes one wakes another though the front puts more: fewer small ones are run
 /// in the time that it takes to wake one, and where they are not small the front waits for them soon.
 const PLENTY: u64 = 64;
-/// How often workers may be refused memory, with nothing answered between, before they count as starved.
-const STARVED: u64 = 2_000;
-
 /// The longest sleep in milliseconds. No wake-up is lost, as `Bell` says, and no job is passed; this bounds what it would
 /// cost.
 const LONGEST_SLEEP: u64 = 100;
@@ -89,7 +87,7 @@ pub struct Signals {
     away: AtomicU64,
     // From how many answers on the front wants to be woken.
     wanted: AtomicU64,
-    refusals: AtomicU64,
+    memory: Memory,
 }
 
 /// What workers change at each job.
@@ -157,7 +155,7 @@ impl Signals {
             full_before: AtomicU64::new(0),
             away: AtomicU64::new(0),
             wanted: AtomicU64::new(0),
-            refusals: AtomicU64::new(0),
+            memory: Memory::new(),
         }
     }
 
@@ -268,6 +266,7 @@ impl Signals {
         self.add_call();
         self.jobs.wake_all();
         self.places.wake_all();
+        self.memory.free();
     }
 
     /// One worker more looks for jobs.
@@ -332,9 +331,7 @@ impl Signals {
         if answers >= self.wanted.load(Ordering::SeqCst) {
             self.answers.wake_one();
         }
-        if self.refusals.load(Ordering::SeqCst) > 0 {
-            self.refusals.store(0, Ordering::SeqCst);
-        }
+        self.memory.free();
     }
 
     /// A worker posts no more for now: a front that waits for many answers is woken for those that are there.
@@ -419,16 +416,49 @@ impl Signals {
         }
     }
 
+    // How many jobs were taken and not answered yet.
+    fn taken(&self) -> u64 {
+        let taken = self.workers.taken.load(Ordering::SeqCst);
+        let jobs = taken.saturating_sub(self.calls.load(Ordering::SeqCst));
+        let notices = self.notices.load(Ordering::SeqCst);
+        jobs.saturating_sub(self.answers().saturating_sub(notices))
+    }
+
+    /// A worker holds a job whose run was refused memory.
+    pub fn begin_to_lack(&self) {
+        self.memory.begin_to_lack();
+    }
+
+    /// One that did holds none any more.
+    pub fn end_to_lack(&self) {
+        self.memory.end_to_lack();
+    }
+
     /// A run was refused memory.
     pub fn add_refusal(&self) {
-        self.refusals.fetch_add(1, Ordering::SeqCst);
+        self.memory.add_try();
         if self.is_starved() {
             self.call_front();
         }
     }
 
-    /// Whether workers were refused memory so often, with nothing answered between, that what they hold will hardly fit.
+    /// How often something was freed while a worker lacked memory.
+    pub fn freed(&self) -> u64 {
+        self.memory.freed()
+    }
+
+    /// An answer was handed out, so what it held is free.
+    pub fn free_memory(&self) {
+        self.memory.free();
+    }
+
+    /// A worker that lacks memory sleeps for so many milliseconds, unless something was freed more often than this.
+    pub fn await_memory<R: Wait>(&self, rt: &R, seen: u64, millis: u64) {
+        self.memory.sleep(rt, seen, millis);
+    }
+
+    /// Whether every job that was taken was refused memory again and again, and nothing came free between.
     pub fn is_starved(&self) -> bool {
-        self.refusals.load(Ordering::SeqCst) >= STARVED
+        self.memory.is_used_up(self.taken())
     }
 }
