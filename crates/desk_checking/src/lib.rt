@@ -5,6 +5,7 @@ mod cut;
 mod faults;
 mod helping;
 mod input;
+mod lines;
 mod model_check;
 mod options;
 mod place_words;

@@ -1,0 +1,103 @@
+-- Lines of places, one behind the other.
+use Rattle.std.proofs.Common.{◌≡◌, ◌∙◌, ℕ, zero, suc, ◌+◌, ◌-◌, ◌<◌, ◌≤◌, ◌==◌, ◌||◌, nat_lt, cond, Bool, true, false, IsTrue, List, [], ◌∷◌, ◌++◌, append_assoc, append-nil, length, map, drop, get_or, Option, Some, None, option_map, IfSome, OnOk, IfOk, Result, Ok, Err, refl, sym, ap, ap₂, subst, arith, nat_tests, common_steps}
+use Rattle.std.specs.Prelude.{codes}
+use Rattle.std.specs.List.{flat_map, list_any}
+use Rattle.std.specs.Option.{is_none}
+use Rattle.std.specs.Char.{digit_char}
+use Rattle.std.proofs.lemmas.Grind.{flat_map-append}
+use Rattle.std.proofs.lemmas.List.{at_drop_more, drop_all}
+use Rattle.std.proofs.lemmas.List.Folds.{list_any-append}
+use Rattle.json.specs.Print.{escape, escape_byte, escape_letter, quoted}
+use Rattle.desk_lines.specs.Lines.{IsOneLine, ended, has_newline, newline}
+use Rattle.desk_wire.specs.Words.{fault_word, word_text}
+use Rattle.dmn_plan.specs.declared.fault.ModelFault.{ModelFault}
+use Rattle.dmn_plan.specs.declared.fault.ModelFault.TheVariants as fault
+use Rattle.dmn_check.specs.NotesView.{finding_view, findings_view}
+use Rattle.dmn_check.specs.declared.finding.Finding as finding
+use Rattle.dmn_check.specs.Told.{Told}
+use Rattle.desk_checking.specs.GoesOn.{GoesOn, known_lines}
+use Rattle.desk_checking.specs.Placed.{Adds, AreAsDue, Due, IsAsDue, known_due, lines_due, more_due, place_due, place_head}
+
+-- ## Texts without a newline
+
+neither : (a b : Bool) → a ≡ false → b ≡ false → (a || b) ≡ false
+neither a b h k = rw (h, k) refl
+
+pub one_line : (a b : List ℕ) → IsOneLine a → IsOneLine b → IsOneLine (a ++ b)
+one_line a b h k = list_any-append {p = λ x. x == newline} a b ∙ neither (has_newline a) (has_newline b) h k
+
+-- no byte of JSON that stands for a byte is a newline
+no_newline : (x : ℕ) → IsOneLine (escape_byte x)
+unfolding escape_byte
+no_newline x = grind (arith, nat_tests)
+
+escaped_line : (s : List ℕ) → IsOneLine (escape s)
+escaped_line [] = refl
+escaped_line (x ∷ s) = one_line (escape_byte x) (escape s) (no_newline x) (escaped_line s)
+
+pub quoted_line : (s : List ℕ) → IsOneLine (quoted s)
+quoted_line s = one_line (escape s) (34 ∷ []) (escaped_line s) refl
+
+pub head_line : (f : ModelFault) (pointer : List ℕ) → IsOneLine (place_head f pointer)
+head_line f pointer =
+    let word = quoted (word_text (fault_word f)) in
+    one_line ((codes "{\"fault\":" ++ word) ++ codes ",\"pointer\":") (quoted pointer)
+    (one_line (codes "{\"fault\":" ++ word) (codes ",\"pointer\":") (one_line (codes "{\"fault\":") word refl (quoted_line (word_text (fault_word f)))) refl)
+    (quoted_line pointer)
+
+-- ## A line that goes on
+
+pub goes_on : (head line more line' : List ℕ) → GoesOn head line → IsOneLine more → line' ≡ line ++ more → GoesOn head line'
+goes_on head line more line' g one is =
+    (g.0 ++ more, is ∙ ap (λ s. s ++ more) g.1 ∙ append_assoc head g.0 more, subst (λ s. IsOneLine s) (sym is) (one_line line more g.2 one))
+
+-- a member behind others
+pub goes_on_by : (head t t1 t2 t3 t4 key text : List ℕ) → GoesOn head t → IsOneLine key → t1 ≡ t ++ codes ",\"" → t2 ≡ t1 ++ key → t3 ≡ t2 ++ codes "\":" → t4 ≡ t3 ++ quoted text → GoesOn head t4
+goes_on_by head t t1 t2 t3 t4 key text g one a b c d =
+    goes_on head t3 (quoted text) t4 (goes_on head t2 (codes "\":") t3 (goes_on head t1 key t2 (goes_on head t (codes ",\"") t1 g refl a) one b) refl c) (quoted_line text) d
+
+-- ## Lines behind a text
+
+pub adds_none : (a : List ℕ) → Adds [] a a
+adds_none a = record { lines = []; are = tt; is = sym (append-nil a) }
+
+pub adds_one : (d : Due) (line a b : List ℕ) → IsAsDue d line → b ≡ a ++ ended line → Adds (d ∷ []) a b
+adds_one d line a b due is = record { lines = line ∷ []; are = (due, tt); is = is ∙ ap (λ s. a ++ s) (sym (append-nil (ended line))) }
+
+are_then : (ds es : List Due) (xs ys : List (List ℕ)) → AreAsDue ds xs → AreAsDue es ys → AreAsDue (ds ++ es) (xs ++ ys)
+are_then [] es [] ys h k = k
+are_then [] es (x ∷ xs) ys h k = absurd h
+are_then (d ∷ ds) es [] ys h k = absurd h
+are_then (d ∷ ds) es (x ∷ xs) ys h k = (h.0, are_then ds es xs ys h.1 k)
+
+pub adds_then : (ds es : List Due) (a b c : List ℕ) → Adds ds a b → Adds es b c → Adds (ds ++ es) a c
+adds_then ds es a b c h k = record {
+  lines = h.lines ++ k.lines;
+  are = are_then ds es h.lines k.lines h.are k.are;
+  is =
+      k.is ∙ ap (λ s. s ++ flat_map ended k.lines) h.is ∙ append_assoc a (flat_map ended h.lines) (flat_map ended k.lines)
+      ∙ ap (λ s. a ++ s) (sym (flat_map-append ended h.lines k.lines));
+}
+
+-- what is left of the places of a fault
+abbrev pub left_due : ModelFault → List finding.Finding → ℕ → List Due
+left_due f xs i = map (place_due f) (findings_view (drop i xs))
+
+-- a place more, and what is left then
+pub place_more : (f : ModelFault) (xs : List finding.Finding) (i : ℕ) (x : finding.Finding) (line a b c : List ℕ) → x ≡ get_or xs i x → i < length xs
+    → IsAsDue (place_due f (finding_view x)) line → b ≡ a ++ ended line → Adds (left_due f xs (i + 1)) b c → Adds (left_due f xs i) a c
+place_more f xs i x line a b c here inside due is rest =
+    let next = at_drop_more (λ (ys : List finding.Finding). map (place_due f) (findings_view ys)) xs i x inside in
+    let first = ap (λ (y : finding.Finding). place_due f (finding_view y) ∷ left_due f xs (i + 1)) (sym here) in
+    let d = place_due f (finding_view x) in
+    subst (λ ds. Adds ds a c) (sym (next ∙ first)) (adds_then (d ∷ []) (left_due f xs (i + 1)) a b c (adds_one d line a b due is) rest)
+
+pub none_left : (f : ModelFault) (xs : List finding.Finding) (i : ℕ) (a : List ℕ) → length xs ≤ i → Adds (left_due f xs i) a a
+none_left f xs i a past = subst (λ ds. Adds ds a a) (sym (ap (λ (ys : List finding.Finding). map (place_due f) (findings_view ys)) (drop_all i xs past))) (adds_none a)
+
+-- of what needs what
+pub known_same : (o : Option Told) (b : Bool) (f : ModelFault) (t : Told) → is_none o ≡ b → IfSome o (λ u. u ≡ t) → known_lines f o ≡ known_due b f t
+known_same None true f t none is = refl
+known_same None false f t none is = let wrong : ⊥ = cc in absurd wrong
+known_same (Some u) true f t none is = let wrong : ⊥ = cc in absurd wrong
+known_same (Some u) false f t none is = ap (lines_due f) is
