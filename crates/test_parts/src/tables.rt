@@ -1,6 +1,7 @@
 //! Tables that are refused, each for its own reason; entries behind a miss; rules by classes; and calls while the heap refuses
 //! requests.
 mod classes;
+mod columns;
 mod listed;
 mod memory;
 
