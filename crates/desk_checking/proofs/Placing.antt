@@ -1,5 +1,5 @@
 -- Lines of places, one behind the other.
-use Rattle.std.proofs.Common.{◌≡◌, ◌∙◌, ℕ, zero, suc, ◌+◌, ◌-◌, ◌<◌, ◌≤◌, ◌==◌, ◌||◌, nat_lt, cond, Bool, true, false, IsTrue, List, [], ◌∷◌, ◌++◌, append_assoc, append-nil, length, map, drop, get_or, Option, Some, None, option_map, IfSome, OnOk, IfOk, Result, Ok, Err, refl, sym, ap, ap₂, subst, arith, nat_tests, common_steps}
+use Rattle.std.proofs.Common.{◌≡◌, ◌∙◌, ℕ, zero, suc, ◌+◌, ◌-◌, ◌<◌, ◌≤◌, ◌==◌, ◌||◌, nat_lt, cond, Bool, true, false, IsTrue, List, [], ◌∷◌, ◌++◌, append_assoc, append-nil, length, map, drop, get_or, Option, Some, None, option_map, IfSome, OnOk, IfOk, Result, Ok, Err, refl, sym, ap, ap₂, subst, arith}
 use Rattle.std.specs.Prelude.{codes}
 use Rattle.std.specs.List.{flat_map, list_any}
 use Rattle.std.specs.Option.{is_none}
@@ -7,6 +7,7 @@ use Rattle.std.specs.Char.{digit_char}
 use Rattle.std.proofs.lemmas.Grind.{flat_map-append}
 use Rattle.std.proofs.lemmas.List.{at_drop_more, drop_all}
 use Rattle.std.proofs.lemmas.List.Folds.{list_any-append}
+use Rattle.std.proofs.lemmas.Bool.Decides.{nat_tests}
 use Rattle.json.specs.Print.{escape, escape_byte, escape_letter, quoted}
 use Rattle.desk_lines.specs.Lines.{IsOneLine, ended, has_newline, newline}
 use Rattle.desk_wire.specs.Words.{fault_word, word_text}
@@ -24,7 +25,7 @@ neither : (a b : Bool) → a ≡ false → b ≡ false → (a || b) ≡ false
 neither a b h k = rw (h, k) refl
 
 pub one_line : (a b : List ℕ) → IsOneLine a → IsOneLine b → IsOneLine (a ++ b)
-one_line a b h k = list_any-append {p = λ x. x == newline} a b ∙ neither (has_newline a) (has_newline b) h k
+one_line a b h k = list_any-append (λ x. x == newline) a b ∙ neither (has_newline a) (has_newline b) h k
 
 -- no byte of JSON that stands for a byte is a newline
 no_newline : (x : ℕ) → IsOneLine (escape_byte x)
