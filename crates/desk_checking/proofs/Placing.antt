@@ -1,5 +1,5 @@
 -- Lines of places, one behind the other.
-use Rattle.std.proofs.Common.{◌≡◌, ◌∙◌, ℕ, zero, suc, ◌+◌, ◌-◌, ◌^◌, ◌<◌, ◌≤◌, ◌==◌, ◌||◌, Bool, true, false, List, [], ◌∷◌, ◌++◌, append_assoc, append-nil, length, map, drop, get_or, Option, Some, None, IfSome, refl, sym, ap, subst, lit<, arith}
+use Rattle.std.proofs.Common.{◌≡◌, ◌∙◌, ℕ, zero, suc, ◌+◌, ◌-◌, ◌^◌, ◌<◌, ◌≤◌, ◌==◌, ◌||◌, Bool, true, false, List, [], ◌∷◌, ◌++◌, append_assoc, append-nil, length, map, drop, get_or, Option, Some, None, option_map, IfSome, refl, sym, ap, subst, lit<, arith}
 use Rattle.std.specs.Prelude.{codes}
 use Rattle.std.specs.Fmt.{decimal}
 use Rattle.std.specs.Int.Digits.{digits_of}
@@ -16,6 +16,8 @@ use Rattle.desk_wire.specs.Words.{fault_word, word_text}
 use Rattle.dmn_plan.specs.declared.fault.ModelFault.{ModelFault}
 use Rattle.dmn_check.specs.NotesView.{finding_view, findings_view}
 use Rattle.dmn_check.specs.Told.{Told}
+use Rattle.dmn_check.specs.ToldView.{told_view}
+use Rattle.dmn_check.specs.declared.told.Told as told
 use Rattle.dmn_check.specs.declared.finding.Finding as finding
 use Rattle.desk_checking.specs.GoesOn.{GoesOn, known_lines}
 use Rattle.desk_checking.specs.Placed.{Adds, AreAsDue, Due, Is, IsAsDue, known_due, lines_due, more_due, more_line, place_due, place_head}
@@ -122,11 +124,9 @@ pub told_as : (f : ModelFault) (t u : Told) (a b : List ℕ) → t ≡ u → Add
 told_as f t u a b is h = subst (λ v. Adds (lines_due f v) a b) is h
 
 -- of what needs what
-pub known_same : (o : Option Told) (b : Bool) (f : ModelFault) (t : Told) → is_none o ≡ b → IfSome o (λ u. u ≡ t) → known_lines f o ≡ known_due b f t
-known_same None true f t none is = refl
-known_same None false f t none is = let wrong : ⊥ = cc in absurd wrong
-known_same (Some u) true f t none is = let wrong : ⊥ = cc in absurd wrong
-known_same (Some u) false f t none is = ap (lines_due f) is
-
-pub known_as : (o : Option Told) (b : Bool) (f : ModelFault) (t : Told) (x y : List ℕ) → is_none o ≡ b → IfSome o (λ u. u ≡ t) → Adds (known_lines f o) x y → Adds (known_due b f t) x y
-known_as o b f t x y none is h = subst (λ ds. Adds ds x y) (known_same o b f t none is) h
+pub known_as : (o : Option told.Told) (b : Bool) (f : ModelFault) (t : Told) (x y : List ℕ) → is_none o ≡ b → IfSome o (λ u. told_view u ≡ t)
+    → Adds (known_lines f (option_map told_view o)) x y → Adds (known_due b f t) x y
+known_as None true f t x y none is h = h
+known_as None false f t x y none is h = let wrong : ⊥ = cc in absurd wrong
+known_as (Some u) true f t x y none is h = let wrong : ⊥ = cc in absurd wrong
+known_as (Some u) false f t x y none is h = told_as f (told_view u) t x y is h
