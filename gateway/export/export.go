@@ -104,7 +104,7 @@ type page struct {
 	title     string
 	services  []model.Service
 	shapes    map[string]shape
-	spelled   map[string]string
+	words     *dictionary
 	ids       ids
 	counts    map[string]int
 
@@ -115,13 +115,10 @@ type page struct {
 
 func newPage(source Source) *page {
 	p := &page{Source: source, model: source.Model, title: source.Title, services: source.Model.Services,
-		decisions: map[string]*model.Decision{}, shapes: map[string]shape{}, spelled: map[string]string{},
+		decisions: map[string]*model.Decision{}, shapes: map[string]shape{}, words: newDictionary(source.Names),
 		counts: map[string]int{}}
 	if p.title == "" {
 		p.title = "Model"
-	}
-	for word, name := range source.Names {
-		p.spelled[word] = name
 	}
 	p.ids = newIDs(source.Model)
 	for i := range p.model.Decisions {
@@ -169,9 +166,7 @@ func (p *page) definitions() *element {
 	return root.add(p.types...).add(parts...).add(p.diagram())
 }
 
-func (p *page) spell(word string) string {
-	return scope{spelled: p.spelled}.spell(word)
-}
+func (p *page) spell(word string) string { return p.words.spell(word) }
 
 func (p *page) input(word string) *element {
 	variable := tag("variable", "id", p.id("variable"), "name", p.spell(word), "typeRef", p.typeOf(word))
@@ -189,12 +184,12 @@ func (p *page) decision(index int) *element {
 	}
 	variable := tag("variable", "id", p.id("variable"), "name", p.spell(d.Name), "typeRef", typeRef)
 	e := tag("decision", "id", p.ids.node(d.Name), "name", p.spell(d.Name)).add(variable)
-	bound := names{}
+	place := newScope(p.words)
 	for _, need := range d.Needs {
-		bound[need] = p.shape(need)
+		place.bind(need, p.shape(need))
 		e.add(p.requires(need, d.Name))
 	}
-	return e.add(p.boxed(fmt.Sprintf("/decisions/%d/expr", index), d.Expr, scope{bound, p.spelled}))
+	return e.add(p.boxed(fmt.Sprintf("/decisions/%d/expr", index), d.Expr, place))
 }
 
 func (p *page) requires(needed, by string) *element {
@@ -217,9 +212,9 @@ func (p *page) shape(word string) shape {
 		return anything
 	}
 	p.shapes[word] = anything
-	bound := names{}
+	bound := newNames(nil)
 	for _, need := range d.Needs {
-		bound[need] = p.shape(need)
+		bound.bind(need, p.shape(need))
 	}
 	p.shapes[word] = bound.ofBoxed(d.Expr)
 	return p.shapes[word]

@@ -10,14 +10,21 @@ import (
 
 // place is a scope with: anything a and b, a number n, a text s, a boolean f, a list of numbers l, a list of anything m, a
 // context c with the entry "x y", and two names that run into each other with a third one.
-var place = scope{
-	bound: names{
+func place() *scope {
+	return placeOf(map[string]shape{
 		"a": anything, "b": anything, "n": number, "s": {kinds: isText | isNull}, "f": condition,
 		"l": {kinds: isList | isNull, members: &number}, "m": {kinds: isList},
 		"c":      {kinds: isContext, entries: map[string]shape{"x_y": number}},
 		"Age_in": number, "net_a": number, "net": number,
-	},
-	spelled: map[string]string{"x_y": "x y", "Age_in": "Age in years", "net_a": "net-a"},
+	}, map[string]string{"x_y": "x y", "Age_in": "Age in years", "net_a": "net-a"})
+}
+
+func placeOf(bound map[string]shape, spelled map[string]string) *scope {
+	s := newScope(newDictionary(spelled))
+	for name, value := range bound {
+		s.bind(name, value)
+	}
+	return s
 }
 
 func TestAnExpressionMeansTheSameInTheStandard(t *testing.T) {
@@ -61,7 +68,7 @@ func TestAnExpressionMeansTheSameInTheStandard(t *testing.T) {
 		"\"a\nb\\\"\"": `"a\nb\""`,
 		"\"\x0b\"":     `"\u000b"`,
 	} {
-		got, err := place.expression(text)
+		got, err := place().expression(text)
 		if err != nil || got != due {
 			t.Errorf("%s: %s, %v, due %s", text, got, err, due)
 		}
@@ -69,23 +76,33 @@ func TestAnExpressionMeansTheSameInTheStandard(t *testing.T) {
 }
 
 func TestUnaryTestsMeanTheSameInTheStandard(t *testing.T) {
-	for text, due := range map[string]string{
-		"-":                  "-",
-		"< n + 1, >= 3":      "< n + 1, >= 3",
-		"[1..Age_in)":        "[1..Age in years)",
-		`not("a", null, -3)`: `not("a", null, -3)`,
-		"true, false":        "true, false",
-		"n, s, [1, 2], l":    "n, s, [1, 2], l",
-		"n > 3":              "? = (n > 3)",
-		"f, 1":               "? = (f), 1",
-		"not(f)":             "not(((? = (f)) = true))",
-		"not(f) = true":      "? = (not(f) = true)",
-		"a":                  "? = (a) or (a) instance of list<Any> and list contains(a, ?)",
-		"]a..2[":             "]a..2[",
+	for _, c := range []struct {
+		input     shape
+		text, due string
+	}{
+		{anything, "-", "-"},
+		{anything, "< n + 1, >= 3", "< n + 1, >= 3"},
+		{anything, "[1..Age_in)", "[1..Age in years)"},
+		{anything, "]a..2[", "]a..2["},
+		{anything, "true, false", "true, false"},
+		{anything, "n, s, [1, 2], l", "n, s, [1, 2], l"},
+		// A condition is compared.
+		{anything, "n > 3", "? = (n > 3)"},
+		{anything, "f, 1", "? = (f), 1"},
+		{anything, "not(f) = true", "? = (not(f) = true)"},
+		{anything, "a", "? = (a) or (a) instance of list<Any> and list contains(a, ?)"},
+		// In a negation nothing is unknown.
+		{number, "not(-3, null, n, < 2)", "not(-3, null, n, < 2)"},
+		{shape{kinds: isText}, `not("a", null)`, `not("a", null)`},
+		{condition, "not(true)", "not(true)"},
+		{number, "not((0..n], 9)", "not((0..n], 9)"},
+		{anything, `not("a", [1])`, `not(((? = ("a")) = true), [1])`},
+		{number, `not("a")`, `not(((? = ("a")) = true))`},
+		{condition, "not(f)", "not(((? = (f)) = true))"},
 	} {
-		got, err := place.tests(text)
-		if err != nil || got != due {
-			t.Errorf("%s: %s, %v, due %s", text, got, err, due)
+		got, err := place().tests(c.text, c.input)
+		if err != nil || got != c.due {
+			t.Errorf("%s: %s, %v, due %s", c.text, got, err, c.due)
 		}
 	}
 }
@@ -93,14 +110,16 @@ func TestUnaryTestsMeanTheSameInTheStandard(t *testing.T) {
 func TestWhatCantBeWrittenIsRefused(t *testing.T) {
 	// Between the names net and a the sign would make the name net-a of them.
 	for _, text := range []string{"net-a", "net - a"} {
-		if got, err := place.expression(text); err == nil {
+		if got, err := place().expression(text); err == nil {
 			t.Errorf("%s: %s", text, got)
 		}
 	}
-	if got, err := place.with("count", number).expression("count(l)"); err == nil {
+	hidden := place().inner()
+	hidden.bind("count", number)
+	if got, err := hidden.expression("count(l)"); err == nil {
 		t.Errorf("count is a name and called: %s", got)
 	}
-	if got, err := place.with("count", number).expression("count + 1"); err != nil || got != "count + 1" {
+	if got, err := hidden.expression("count + 1"); err != nil || got != "count + 1" {
 		t.Errorf("count is a name: %s, %v", got, err)
 	}
 }

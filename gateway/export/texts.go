@@ -12,34 +12,63 @@ type fault struct{ why, instead string }
 
 func (f *fault) Error() string { return f.why }
 
-// A scope writes the texts of a place of the model: it knows what is bound there and how words are spelled in the file.
-type scope struct {
-	bound   names
+// A dictionary has how words are spelled in the file.
+type dictionary struct {
 	spelled map[string]string
+	// members are all names, any of which may stand behind a point.
+	members *feel.Scope
+}
+
+func newDictionary(spelled map[string]string) *dictionary {
+	d := &dictionary{spelled, feel.NewScope(nil)}
+	for _, name := range spelled {
+		d.members.Add(name)
+	}
+	return d
 }
 
 // spell is a word as the file writes it.
-func (s scope) spell(word string) string {
-	if name, found := s.spelled[word]; found {
+func (d *dictionary) spell(word string) string {
+	if name, found := d.spelled[word]; found {
 		return name
 	}
 	return word
 }
 
-// with is the scope with one more name.
-func (s scope) with(name string, value shape) scope {
-	return scope{s.bound.with(name, value), s.spelled}
+// A scope writes the texts of a place of the model: it knows what is bound there.
+type scope struct {
+	*dictionary
+	outer *scope
+	bound *names
+	// file has the names that are bound, as the file spells them.
+	file *feel.Scope
+}
+
+// newScope is a place of no other one, where nothing is bound.
+func newScope(d *dictionary) *scope {
+	return &scope{dictionary: d, bound: newNames(nil), file: feel.NewScope(nil)}
+}
+
+// inner is a place inside of this one.
+func (s *scope) inner() *scope {
+	return &scope{dictionary: s.dictionary, outer: s, bound: newNames(s.bound), file: feel.NewScope(s.file)}
+}
+
+// bind binds a word.
+func (s *scope) bind(word string, value shape) {
+	s.bound.bind(word, value)
+	s.file.Add(s.spell(word))
 }
 
 // expression writes an expression.
-func (s scope) expression(text string) (string, error) {
-	node, stopped := feel.Expression(text, s.bound.scope(), nil)
+func (s *scope) expression(text string) (string, error) {
+	node, stopped := feel.Expression(text, s.bound.reads, nil)
 	if stopped != nil {
 		return "", &fault{why: stopped.Why, instead: stopped.Instead}
 	}
 	w := &writer{scope: s, source: text}
 	return w.finish(w.splice(feel.Span{Start: 0, End: len(text)}, node), func(written string) error {
-		again, stopped := feel.Expression(written, s.fileScope(), s.fileMembers())
+		again, stopped := feel.Expression(written, s.file, s.members)
 		if stopped != nil {
 			return &fault{why: stopped.Why}
 		}
@@ -47,15 +76,15 @@ func (s scope) expression(text string) (string, error) {
 	})
 }
 
-// tests writes the unary tests of a column whose input has a shape.
-func (s scope) tests(text string) (string, error) {
-	nodes, stopped := feel.Tests(text, s.bound.scope(), nil)
+// tests writes the unary tests of a column, whose input has a shape.
+func (s *scope) tests(text string, input shape) (string, error) {
+	nodes, stopped := feel.Tests(text, s.bound.reads, nil)
 	if stopped != nil {
 		return "", &fault{why: stopped.Why, instead: stopped.Instead}
 	}
-	w := &writer{scope: s, source: text}
+	w := &writer{scope: s, source: text, input: input}
 	return w.finish(w.tests(feel.Span{Start: 0, End: len(text)}, nodes, false), func(written string) error {
-		again, stopped := feel.Tests(written, s.fileScope(), s.fileMembers())
+		again, stopped := feel.Tests(written, s.file, s.members)
 		if stopped != nil {
 			return &fault{why: stopped.Why}
 		}
@@ -63,31 +92,15 @@ func (s scope) tests(text string) (string, error) {
 	})
 }
 
-// fileScope has the names that are bound, as the file spells them.
-func (s scope) fileScope() *feel.Scope {
-	scope := feel.NewScope(nil)
-	for word := range s.bound {
-		scope.Add(s.spell(word))
-	}
-	return scope
-}
-
-// fileMembers has all names that may stand behind a point.
-func (s scope) fileMembers() *feel.Scope {
-	scope := feel.NewScope(nil)
-	for _, name := range s.spelled {
-		scope.Add(name)
-	}
-	return scope
-}
-
 // mostText is how long a text may get.
 const mostText = 1 << 20
 
 // A writer writes one text anew: it goes over the tree, and what it need not change it takes as it stands.
 type writer struct {
-	scope
+	*scope
 	source string
+	// input is what is known of the value that tests are asked of.
+	input shape
 	// used are the names of the text in their order, as the file spells them.
 	used []string
 	err  error
@@ -200,7 +213,7 @@ func (w *writer) chain(e *feel.Chain) string {
 // is no list of numbers; the standard takes a single value for a list, and has the least text.
 func (w *writer) call(e *feel.Call) string {
 	called := function(e)
-	if _, hidden := w.bound[called]; hidden {
+	if _, hidden := w.bound.find(called); hidden {
 		w.fail(fmt.Sprintf("%s is called, and is the name of a value too", called), "another name for the value")
 		return ""
 	}
@@ -281,16 +294,19 @@ func (w *writer) tests(span feel.Span, tests []feel.Node, negated bool) string {
 }
 
 // test writes one test. An expression is compared with the input here; the standard takes one that is true for a
-// condition that is met, so one that may be true is written as a comparison.
+// condition that is met, so one that may be true is written as a comparison. In a negation a comparison of two kinds of
+// values would be unknown there; here it is no, so that the negation holds.
 func (w *writer) test(test feel.Node, negated bool) string {
 	switch e := test.(type) {
-	case *feel.Anything, *feel.Unary, *feel.Range, *feel.Boolean:
+	case *feel.Anything, *feel.Unary, *feel.Range:
 		return w.form(test)
 	case *feel.NotTests:
 		return w.tests(e.Span, e.Tests, true)
 	}
+	_, literal := test.(*feel.Boolean)
 	value := w.bound.of(test)
-	if !value.maybe(isBoolean) {
+	isPlain := literal || !value.maybe(isBoolean)
+	if isPlain && (!negated || w.isOfOneKind(value)) {
 		return w.form(test)
 	}
 	written := "? = (" + w.form(test) + ")"
@@ -301,6 +317,16 @@ func (w *writer) test(test feel.Node, negated bool) string {
 		return "((" + written + ") = true)"
 	}
 	return written
+}
+
+// isOfOneKind tells whether a comparison of the input with a value is never unknown: both are of one kind, or one is
+// null; a list that holds the input or not is no comparison.
+func (w *writer) isOfOneKind(value shape) bool {
+	kinds := value.kinds &^ isNull
+	if kinds == 0 || kinds == isList {
+		return true
+	}
+	return kinds&(kinds-1) == 0 && w.input.kinds&^isNull&^kinds == 0
 }
 
 // quote writes a string literal. What may stand for itself in a literal here but not in one of the standard, or not in

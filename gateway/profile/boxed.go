@@ -103,6 +103,7 @@ func (t *translator) boxes(members []dmn.Expression, s *scope) (*box, *valueType
 func (t *translator) context(x *dmn.Context, s *scope) (*box, *valueType) {
 	made := &box{kind: contextBox, entries: []boxEntry{}}
 	of := &valueType{kind: contextKind, fields: map[string]*valueType{}}
+	inside := newScope(s)
 	for i, entry := range x.Entries {
 		if entry.Value == nil {
 			t.refusals.refuse(entry.Element, "", "the entry has no expression", "null, or a value")
@@ -112,21 +113,21 @@ func (t *translator) context(x *dmn.Context, s *scope) (*box, *valueType) {
 			if i < len(x.Entries)-1 {
 				t.refusals.refuse(entry.Element, "", "an entry without a name stands before the last", "a name for it")
 			}
-			result, resultOf := t.expression(entry.Value, s)
+			result, resultOf := t.expression(entry.Value, inside)
 			made.result = result
 			return made, resultOf
 		}
-		s = t.contextEntry(entry, made, of, s)
+		t.contextEntry(entry, made, of, inside)
 	}
 	return made, of
 }
 
-// contextEntry translates an entry with a name, and gives the scope of those behind it.
-func (t *translator) contextEntry(entry *dmn.ContextEntry, made *box, of *valueType, s *scope) *scope {
+// contextEntry translates an entry with a name, and puts it into scope for those behind it.
+func (t *translator) contextEntry(entry *dmn.ContextEntry, made *box, of *valueType, s *scope) {
 	name := feel.Canonical(entry.Variable.Name())
 	if _, twice := of.fields[name]; twice {
 		t.refusals.refuse(entry.Element, entry.Variable.Name(), "the entry's name stands twice", "another name")
-		return s
+		return
 	}
 	value, valueOf := t.expression(entry.Value, s)
 	if due := t.types.resolve(entry.Variable.Element, entry.Variable.TypeRef); due != nil {
@@ -138,9 +139,7 @@ func (t *translator) contextEntry(entry *dmn.ContextEntry, made *box, of *valueT
 	t.wrote(len(word) + bytesOfEntry)
 	made.entries = append(made.entries, boxEntry{word: word, value: value, origin: entry.Element})
 	of.setField(name, valueOf)
-	inside := newScope(s)
-	inside.bindWord(entry.Variable.Name(), word, valueOf)
-	return inside
+	s.bindWord(entry.Variable.Name(), word, valueOf)
 }
 
 // relation translates a relation: a list of contexts. A cell that names an earlier column may mean that or a name

@@ -122,7 +122,7 @@ func (t *translator) list(n *feel.List, s *scope) phrase {
 func (t *translator) contextLiteral(n *feel.Context, s *scope) (*box, *valueType) {
 	made := &box{kind: contextBox, entries: []boxEntry{}}
 	of := &valueType{kind: contextKind, fields: map[string]*valueType{}}
-	inside := s
+	inside := newScope(s)
 	for _, entry := range n.Entries {
 		if _, twice := of.fields[entry.Key]; twice {
 			t.refuse(n, "the key "+entry.Key+" stands twice", "another key")
@@ -139,7 +139,6 @@ func (t *translator) contextLiteral(n *feel.Context, s *scope) (*box, *valueType
 		t.wrote(len(word) + bytesOfEntry)
 		made.entries = append(made.entries, boxEntry{word: word, value: value})
 		of.setField(entry.Key, valueOf)
-		inside = newScope(inside)
 		inside.bindWord(entry.Key, word, valueOf)
 	}
 	return made, of

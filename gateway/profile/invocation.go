@@ -77,8 +77,10 @@ func (k *knowledge) scope() *scope {
 // placedArguments puts arguments in the order of the parameters. It tells what is wrong with their number or names.
 func placedArguments(k *knowledge, arguments []argument) (placed []argument, why string) {
 	parameters := make([]string, len(k.Logic.Parameters))
+	places := make(map[string]int, len(parameters))
 	for i, p := range k.Logic.Parameters {
 		parameters[i] = feel.Canonical(p.Name())
+		places[parameters[i]] = i
 	}
 	if len(arguments) != len(parameters) {
 		return nil, fmt.Sprintf("%d arguments, where %s has %d parameters: %s", len(arguments), k.name, len(parameters),
@@ -87,11 +89,11 @@ func placedArguments(k *knowledge, arguments []argument) (placed []argument, why
 	placed = make([]argument, len(arguments))
 	filled := make([]bool, len(arguments))
 	for i, a := range arguments {
-		at := i
+		at, found := i, true
 		if a.name != "" {
-			at = indexOf(parameters, a.name)
+			at, found = places[a.name]
 		}
-		if at < 0 || filled[at] {
+		if !found || filled[at] {
 			return nil, fmt.Sprintf("the argument %q is no parameter of %s, or stands twice", a.name, k.name)
 		}
 		filled[at], placed[at] = true, a

@@ -50,6 +50,8 @@ func (t *translator) sum(n *feel.Chain, operands []phrase) phrase {
 // binary translates a comparison.
 func (t *translator) binary(n *feel.Binary, s *scope) phrase {
 	if n.Operator == "**" {
+		t.operand(n.Left, s)
+		t.operand(n.Right, s)
 		return t.refuse(n, "there are no powers", "a * a for a ** 2")
 	}
 	return infix(t.operand(n.Left, s), n.Operator, t.operand(n.Right, s), rankComparison, booleanType)

@@ -136,17 +136,27 @@ func (r *refusals) inOrder(files []*dmn.File) []Refusal {
 	for i, f := range files {
 		rank[f.Path] = i
 	}
-	sort.SliceStable(r.all, func(i, j int) bool {
-		a, b := r.all[i], r.all[j]
-		if rank[a.File] != rank[b.File] {
+	order := make([]int, len(r.all))
+	for i := range order {
+		order[i] = i
+	}
+	sort.Slice(order, func(i, j int) bool {
+		a, b := &r.all[order[i]], &r.all[order[j]]
+		switch {
+		case rank[a.File] != rank[b.File]:
 			return rank[a.File] < rank[b.File]
-		}
-		if a.Line != b.Line {
+		case a.Line != b.Line:
 			return a.Line < b.Line
+		case a.Column != b.Column:
+			return a.Column < b.Column
 		}
-		return a.Column < b.Column
+		return order[i] < order[j]
 	})
-	return r.all
+	sorted := make([]Refusal, len(order))
+	for i, at := range order {
+		sorted[i] = r.all[at]
+	}
+	return sorted
 }
 
 // RefusalOf is the refusal of a file that is no DMN.

@@ -12,7 +12,7 @@ func expression(text, of string, parts ...string) string {
 	var needs []string
 	for _, part := range parts {
 		for _, name := range strings.Split(part, `inputData id="`)[1:] {
-			needs = append(needs, name[:strings.IndexByte(name, '"')])
+			needs = append(needs, strings.ReplaceAll(name[:strings.IndexByte(name, '"')], "&quot;", `"`))
 		}
 	}
 	return definitions(append(parts, decision("d", of, literal(text), needs...))...)

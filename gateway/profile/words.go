@@ -22,10 +22,13 @@ type words struct {
 	byName map[string]string
 	names  map[string]string
 	taken  map[string]bool
+	// next has the number to try next behind a word that was taken.
+	next map[string]int
 }
 
 func newWords() *words {
-	return &words{byName: map[string]string{}, names: map[string]string{}, taken: map[string]bool{}}
+	return &words{byName: map[string]string{}, names: map[string]string{}, taken: map[string]bool{},
+		next: map[string]int{}}
 }
 
 // of is the word of a name; a name that is new gets one.
@@ -59,12 +62,14 @@ func (w *words) fresh(base string) string { return w.free(asWord(base) + "_1") }
 func (w *words) free(word string) string {
 	base := strings.TrimSuffix(word, "_1")
 	candidate := word
-	for n := 2; w.taken[candidate] || reserved[candidate]; n++ {
-		suffix := fmt.Sprintf("_%d", n)
-		if len(base)+len(suffix) > mostWord {
-			base = base[:mostWord-len(suffix)]
+	for n := w.next[base]; w.taken[candidate] || reserved[candidate]; n++ {
+		suffix := fmt.Sprintf("_%d", n+2)
+		stem := base
+		if len(stem)+len(suffix) > mostWord {
+			stem = stem[:mostWord-len(suffix)]
 		}
-		candidate = base + suffix
+		candidate = stem + suffix
+		w.next[base] = n + 1
 	}
 	w.taken[candidate] = true
 	return candidate
@@ -72,6 +77,7 @@ func (w *words) free(word string) string {
 
 // forgetFresh gives the fresh words free, so that a second pass takes the same ones.
 func (w *words) forgetFresh() {
+	w.next = map[string]int{}
 	w.taken = make(map[string]bool, len(w.names))
 	for word := range w.names {
 		w.taken[word] = true
