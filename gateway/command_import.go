@@ -29,15 +29,21 @@ standard error with what to write instead, and the status is 3 then.
 func init() {
 	commands = append(commands, command{"import", "FILE.dmn.. > model.json: translates files of DMN to a model",
 		func(ctx context.Context, words []string) int {
-			done := make(chan int, 1)
-			go func() { done <- runImport(words, os.Stdout, os.Stderr) }()
-			select {
-			case status := <-done:
-				return status
-			case <-ctx.Done():
-				return statusFailed
-			}
+			done := make(chan struct{})
+			defer close(done)
+			go endWith(ctx, done)
+			return runImport(words, os.Stdout, os.Stderr)
 		}})
+}
+
+// endWith ends the program where it is told to stop before the work is done.
+func endWith(ctx context.Context, done <-chan struct{}) {
+	<-ctx.Done()
+	select {
+	case <-done:
+	default:
+		os.Exit(statusFailed)
+	}
 }
 
 // runImport reads the files, translates them and writes the model, or what is refused.

@@ -31,6 +31,10 @@ func (s *Service) servicesPath(w http.ResponseWriter, r *http.Request, id string
 	if err != nil {
 		return fail(problemPath.with(r.URL.Path))
 	}
+	explain, p := wantsExplanation(r.URL.RawQuery)
+	if p != nil {
+		return fail(p)
+	}
 	if s.journal != nil && s.journal.Fault() != nil {
 		return fail(problemJournal.with(""))
 	}
@@ -50,13 +54,33 @@ func (s *Service) servicesPath(w http.ResponseWriter, r *http.Request, id string
 	if err := c.wait(r.Context()); err != nil {
 		return statusGone
 	}
-	if p := c.keep(id); p != nil {
+	p = c.keep(id)
+	if p == nil && explain {
+		p = c.explain(r.Context())
+	}
+	if p != nil {
 		t.wait()
 		return fail(p)
 	}
 	s.metrics.asked(c)
 	t.wait()
 	return c.write(w, r, id, t != nil)
+}
+
+// wantsExplanation reads the parameters of a call: explain, true or false.
+func wantsExplanation(query string) (bool, *problem) {
+	if query == "" {
+		return false, nil
+	}
+	values, err := url.ParseQuery(query)
+	if err != nil {
+		return false, problemHeader.with("the parameters cannot be read: " + err.Error())
+	}
+	wanted := values.Get("explain")
+	if wanted != "" && wanted != "true" && wanted != "false" {
+		return false, problemHeader.with("explain is true or false")
+	}
+	return wanted == "true", nil
 }
 
 // ask makes a call and puts its requests in, under the model in force at that moment.
@@ -89,12 +113,11 @@ func (c *call) write(w http.ResponseWriter, r *http.Request, id string, inOrder 
 		text := c.appendList(nil)
 		limitWrite(r, len(text))
 		writeJSON(w, status, text)
-	} else if p := problemOf(c.outcomes[0]); p != nil {
+	} else if p := c.problemAt(0); p != nil {
 		status = p.Status
 		p.write(w, id)
 	} else {
-		value := c.outcomes[0].Value
-		text := c.appendResult(make([]byte, 0, len(value)+16), value)
+		text := c.appendResult(make([]byte, 0, len(c.outcomes[0].Value)+16), 0)
 		limitWrite(r, len(text))
 		writeJSON(w, status, append(text, '\n'))
 	}

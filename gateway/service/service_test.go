@@ -160,6 +160,12 @@ func TestCalls(t *testing.T) {
 				`"detail":"the inputs are a JSON object, and this is 7","pointer":""},{"type":"/problems/limit",` +
 				`"title":"A value breaks a limit on the way","status":422},{"result":7}]`},
 		{"POST", "/v1/services/s", `[]`, 200, `[]`},
+		{"POST", "/v1/services/s?explain=true", `{"a":4}`, 200, `{"result":5,"decisions":[{"name":"d","value":5}]}`},
+		{"POST", "/v1/services/s?explain=true", `[{"a":4},7]`, 200, `[{"result":5,"decisions":[{"name":"d","value":5}]},{"type"` +
+			`:"/problems/shape","title":"The inputs are no object","status":422,"detail":"the inputs are a JSON object, ` +
+			`and this is 7","pointer":""}]`},
+		{"POST", "/v1/services/s?explain=true", `{"a":9223372036854775807}`, 422, `"decisions":[{"name":"d","fault":"limit"}]`},
+		{"POST", "/v1/services/s?explain=1", `{"a":4}`, 400, `explain is true or false`},
 		{"POST", "/v1/services/s", `{"a":1.5}`, 422, `"pointer":"/a"`},
 		{"POST", "/v1/services/s", `{"a":[{"x":-0}]}`, 422, `"pointer":"/a/0/x"`},
 		{"POST", "/v1/services/s", `{"a":9223372036854775807}`, 422, `/problems/limit`},

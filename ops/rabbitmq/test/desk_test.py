@@ -322,6 +322,7 @@ def compare(cluster: Cluster, poison: dict[bytes, str], received: bytes) -> tupl
             same += 1
             if "id" in value:
                 counts[value["id"]] += 1
+            if value.get("id", -1) >= 0:
                 assert last.get(value["key"], -2) < value["id"], f"out of order: {line!r}"
                 last[value["key"]] = value["id"]
         assert not due, f"without an answer in partition {partition}: {len(due)}"
