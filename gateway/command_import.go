@@ -26,14 +26,13 @@ standard error with what to write instead, and the status is 3 then.
 
 `
 
-func init() {
-	commands = append(commands, command{"import", "FILE.dmn.. > model.json: translates files of DMN to a model",
-		func(ctx context.Context, words []string) int {
-			done := make(chan struct{})
-			defer close(done)
-			go endWith(ctx, done)
-			return runImport(words, os.Stdout, os.Stderr)
-		}})
+var importCommand = command{"import", "FILE.dmn.. > model.json: translates files of DMN to a model", importFiles}
+
+func importFiles(ctx context.Context, words []string) int {
+	done := make(chan struct{})
+	defer close(done)
+	go endWith(ctx, done)
+	return runImport(words, os.Stdout, os.Stderr)
 }
 
 // endWith ends the program where it is told to stop before the work is done.

@@ -14,10 +14,7 @@ import (
 	"gateway/rabbit/process"
 )
 
-func init() {
-	commands = append(commands, command{name: "partition", run: runPartition,
-		summary: "owns one partition on RabbitMQ at a time, and answers its lines"})
-}
+var partitionCommand = command{"partition", "owns one partition on RabbitMQ at a time, and answers its lines", runPartition}
 
 // readOptions reads the options of a command; it answers false where they are wrong, or help was asked for.
 func readOptions(flags *flag.FlagSet, given []string) bool {
