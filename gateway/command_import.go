@@ -69,26 +69,34 @@ func runImport(words []string, out, errs io.Writer) int {
 		return status
 	}
 	result, refusals := profile.Import(files, profile.Options{Service: *service})
-	if result == nil {
-		told := bufio.NewWriter(errs)
-		defer told.Flush()
-		for _, refusal := range refusals {
-			fmt.Fprintln(told, refusal)
-		}
+	if !tell(errs, result, refusals) {
 		return statusRefused
-	}
-	for _, note := range result.Notes {
-		fmt.Fprintf(errs, "note: %s\n", note)
-	}
-	for _, name := range result.LeftOut {
-		fmt.Fprintf(errs, "desk import: the decision %q has no service of its own: the model would be longer than a line; "+
-			"--service picks it\n", name)
 	}
 	if err := writeImported(out, result, *line); err != nil {
 		fmt.Fprintf(errs, "desk import: %v\n", err)
 		return statusFailed
 	}
 	return statusFine
+}
+
+// tell writes what is to be told of an import, a line each, and whether there is a result.
+func tell(errs io.Writer, result *profile.Result, refusals []profile.Refusal) bool {
+	told := bufio.NewWriter(errs)
+	defer told.Flush()
+	for _, refusal := range refusals {
+		fmt.Fprintln(told, refusal)
+	}
+	if result == nil {
+		return false
+	}
+	for _, note := range result.Notes {
+		fmt.Fprintf(told, "note: %s\n", note)
+	}
+	for _, name := range result.LeftOut {
+		fmt.Fprintf(told, "desk import: the decision %q has no service of its own: the model would be longer than a line; "+
+			"--service picks it\n", name)
+	}
+	return true
 }
 
 // readFiles reads each file. Those that are no DMN are all told.

@@ -71,7 +71,8 @@ func TestImportPicksAService(t *testing.T) {
 func TestImportTellsARefusedPlaceOnOneLine(t *testing.T) {
 	path := file(t, decided("a /\n 2"))
 	status, out, errs := imports(path)
-	due := path + `:1:137: literalExpression "my decision" (d): "a /\n 2": there is no division; instead: division by a boxed ` +
+	column := len(header) + len(`<decision id="d" name="my decision">`) + 1
+	due := fmt.Sprintf("%s:1:%d", path, column) + `: literalExpression "my decision" (d): "a /\n 2": there is no division; instead: division by a boxed ` +
 		"context: see docs/MODEL.md, Division\n"
 	if status != 3 || out != "" || !strings.Contains(errs, due) || strings.Count(errs, "\n") != 2 {
 		t.Errorf("status %d\n%s%s\ndue\n%s", status, out, errs, due)
