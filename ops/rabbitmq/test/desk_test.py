@@ -122,7 +122,7 @@ class Cluster:
         return {**self.environment, "DESK_BROKERS": f"amqp://127.0.0.1:{port}"}
 
     def run(self, *words: str) -> None:
-        subprocess.run([str(HERE / "cluster"), *words], check=True, timeout=300, env=self.environment,
+        subprocess.run([str(HERE / "cluster"), *words], check=True, timeout=600, env=self.environment,
                        stdout=subprocess.DEVNULL)
 
     def start(self) -> "subprocess.Popen[bytes]":
