@@ -4,12 +4,15 @@ use Rattle.std.specs.Prelude.{codes}
 use Rattle.json.specs.Print.{quoted}
 use Rattle.serde_json.specs.Data.{Data, boolean, string, object, array, Items, Members, no_members, member}
 use Rattle.serde_json.specs.Written.{comma_if, compact_text, items_text, members_text}
-use Rattle.feel_value.specs.Datum.{Datum}
+use Rattle.feel_value.specs.Datum.{Datum, list, items_of}
 use Rattle.feel_value.specs.Json.{json_of}
 use Rattle.json_writer.specs.Bounded.{longer}
 use Rattle.json_writer.proofs.Longer.{Text, longer_again, longer_thrice, keyed}
 pub use Rattle.json_writer.proofs.Longer.{row_more, row_ended, row_begun}
-use Rattle.dmn_explain.specs.How.{valued, told_as}
+use Rattle.feel_lang.specs.Meaning.{Bindings}
+use Rattle.dmn_table.specs.Hits.{values_of}
+use Rattle.dmn_table.specs.Table.{Rule, Table}
+use Rattle.dmn_explain.specs.How.{valued, told_as, members_from, numbered_hits, hits_and_defaults, inputs_and_hits, table_told}
 use Rattle.dmn_explain.specs.Text.{key_text, valued_text, name_text, entries_text}
 
 pub name_added : (t : Text) (key name : List ℕ) → longer (longer (longer t (123 ∷ [])) key) name ≡ longer t (123 ∷ (key ++ name))
@@ -92,3 +95,16 @@ valued_ended_by t t1 t2 later k o value end = end ∙ ap (λ s. longer s (125 �
 -- from the brace on
 pub object_begun : (t t1 t2 : Text) (ms : Members) → t1 ≡ longer t (123 ∷ []) → t2 ≡ longer t1 (members_text false ms) → t2 ≡ longer t (compact_text (object ms))
 object_begun t t1 t2 ms begin rest = rest ∙ ap (λ s. longer s (members_text false ms)) begin ∙ longer_again t (123 ∷ []) (members_text false ms)
+
+-- ---- tables
+
+-- What is written for a table whose input expressions have these values. `hits` are the rules that hit, or none where an entry broke
+-- a limit.
+pub table_added : (t0 t1 t2 t3 t4 : Text) (t : Table) (m : Bindings) (values : List Datum) (hits : Option (List (ℕ × Rule))) → Some values ≡ values_of m t.inputs → hits ≡ numbered_hits t m values
+    → t1 ≡ longer t0 (123 ∷ []) → t2 ≡ longer t1 (key_text false (codes "inputs")) → t3 ≡ longer t2 (compact_text (json_of (list (items_of values))))
+    → t4 ≡ longer t3 (members_text true (members_from (hits_and_defaults t.outputs m) hits)) → t4 ≡ longer t0 (compact_text (object (table_told t m)))
+table_added t0 t1 t2 t3 t4 t m values hits found are begin key written rest =
+    object_begun t0 t1 t4 (inputs_and_hits t m values) begin
+    (member_added_by t1 t2 t3 t4 false (codes "inputs") (json_of (list (items_of values))) (members_from (hits_and_defaults t.outputs m) (numbered_hits t m values)) key written
+    (rest ∙ ap (λ (o : Option (List (ℕ × Rule))). longer t3 (members_text true (members_from (hits_and_defaults t.outputs m) o))) are))
+    ∙ ap (λ (o : Option (List Datum)). longer t0 (compact_text (object (members_from (inputs_and_hits t m) o)))) found

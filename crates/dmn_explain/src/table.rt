@@ -139,7 +139,6 @@ fn add_bool(truth: bool, text: &mut BoundedText) -> Result<(), AllocError>
 }
 
 /// Adds the rules that hit, and whether the defaults stand in for them, as the last members of an object, with its end.
-#[tactic(auto, using(json_writer::proofs::Longer::longer_again))]
 fn add_hits_and_defaults(
     alloc: Global,
     hits: &[Hit<'_>],
@@ -159,7 +158,6 @@ fn add_hits_and_defaults(
 
 /// Adds what a table found: its input values, the rules that hit with their outputs, and whether the defaults stand in for them.
 /// It ends before the first of these that breaks a limit.
-#[tactic(auto, using(json_writer::proofs::Longer::longer_again))]
 pub(crate) fn add_table(
     alloc: Global,
     table: &Table,

@@ -29,11 +29,7 @@ impl BoundedText {
 fn add_comma(later: bool, text: &mut BoundedText) -> Result<(), AllocError>
     ensures { OnOk result (text.new ≡ longer text.old (comma_if later)) }
 {
-    if later {
-        text.add(b",")
-    } else {
-        text.add(b"")
-    }
+    if later { text.add(b",") } else { text.add(b"") }
 }
 
 /// Adds a part of a value. It goes as deep as that is.
@@ -74,10 +70,7 @@ fn add_items(alloc: Global, items: &[FeelValue], text: &mut BoundedText) -> Resu
 /// The places of a context's entries under their names, in the order of an object's members: that of the bytes of the names.
 ///
 /// From the last entry to the first, so that the first of a name would be the one that stays.
-fn places(
-    alloc: Global,
-    entries: &[(ArcStr, FeelValue)],
-) -> Result<Map<String, Value>, AllocError>
+fn places(alloc: Global, entries: &[(ArcStr, FeelValue)]) -> Result<Map<String, Value>, AllocError>
     ensures { IfOk result (λ m. each_member (json_at entries.now) (members_view m.entries) ≡ json_members (entries_view entries.now)) }
 {
     let mut places = Map::new(alloc);
