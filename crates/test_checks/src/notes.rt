@@ -1,7 +1,7 @@
 //! What is odd in requests.
 use crate::form::form_of;
 use dmn_form::WrittenModel;
-use request_notes::notes_of;
+use request_notes::RequestNotes;
 use std::alloc::{AllocError, Global};
 use std::test::Fail;
 
@@ -44,12 +44,24 @@ const LINES: &[(&str, &str)] = &[
     ("{", "no JSON text|"),
 ];
 
-/// What is said of a line.
-fn said(alloc: Global, model: &WrittenModel, line: &str) -> Result<String, AllocError> {
+/// What is said of a line, up to so many notes, and how many notes more there are.
+fn said_of(
+    alloc: Global,
+    model: &WrittenModel,
+    line: &str,
+    most: usize,
+) -> Result<(String, usize), AllocError> {
+    let notes = RequestNotes::new(alloc, model)?.of_line(alloc, line.as_bytes(), most)?;
     let mut told = String::new(alloc);
-    for note in &notes_of(alloc, model, line.as_bytes())? {
+    for note in &notes.told {
         write!(told, "{note}|")?;
     }
+    Ok((told, notes.more))
+}
+
+/// All that is said of a line.
+fn said(alloc: Global, model: &WrittenModel, line: &str) -> Result<String, AllocError> {
+    let (told, _) = said_of(alloc, model, line, usize::MAX)?;
     Ok(told)
 }
 
@@ -59,6 +71,21 @@ fn each_line_has_its_notes(rt: HostRuntime) -> Result<(), Fail> {
     for (line, due) in LINES {
         let told = said(rt.alloc(), &model, line)?;
         assert_eq!(rt; told.as_str(), *due, "{line}");
+    }
+    Ok(())
+}
+
+/// A line of three notes: a name that is no parameter, a value that is none, and a parameter that is missing.
+const OF_THREE: &str = r#"{"service":"limit","inputs":{"x":1,"requested":1.5}}"#;
+
+#[test]
+fn notes_past_the_most_are_counted(rt: HostRuntime) -> Result<(), Fail> {
+    let model = form_of(rt.alloc(), MODEL)?;
+    for (most, more) in [(0, 3), (1, 2), (2, 1), (3, 0), (4, 0)] {
+        let (told, left) = said_of(rt.alloc(), &model, OF_THREE, most)?;
+        let all = said(rt.alloc(), &model, OF_THREE)?;
+        assert!(rt; all.as_str().starts_with(told.as_str()), "{most}");
+        assert_eq!(rt; left, more, "{most}");
     }
     Ok(())
 }
