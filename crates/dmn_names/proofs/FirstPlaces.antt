@@ -1,8 +1,8 @@
 -- The first places of names that are put in one after another.
-use Rattle.std.proofs.Common.{◌≡◌, ℕ, ◌+◌, ◌<◌, ◌≤◌, suc, List, [], drop, length, get_or, Option, Some, None, is_some, option_map, refl, sym, ap, ◌∙◌, Bool, true, false, if◌then◌else◌, cond, Bor, String, Global, string_bytes, bytes_eq, arith}
+use Rattle.std.proofs.Common.{◌≡◌, ℕ, ◌+◌, ◌<◌, ◌≤◌, suc, List, drop, length, get_or, Option, Some, None, is_some, option_map, refl, sym, ap, ◌∙◌, Bool, true, false, if◌then◌else◌, cond, Bor, String, Global, string_bytes, bytes_eq, arith}
 use Rattle.std.specs.BTreeMap.{BTreeMap, get_by_text, Updates}
 use Rattle.std.specs.String.{string_cmp}
-use Rattle.std.proofs.lemmas.List.{at_drop_all}
+use Rattle.std.proofs.lemmas.List.{at_drop_all, get_or_default}
 use Rattle.std.proofs.lemmas.Map.Text.{btree_map_updates_text}
 use Rattle.feel_value.proofs.ByName.{flipped}
 use Rattle.feel_lang.proofs.Bindings.{same_text}
@@ -50,11 +50,12 @@ turn i (Some k) b p = refl
 turn i None true p = ap Some (omega arith)
 turn i None false p = a_turn i p
 
-pub one_put : (xs : List (Bor (List ℕ))) (i : ℕ) (x : Bor (List ℕ)) (old new : BTreeMap (String Global) ℕ) → SoFar xs i old → x ≡ get_or xs i x → i < length xs
-    → ((n : Name) → get_by_text new n ≡ first_of (get_by_text old n) (place_if (bytes_eq x.now n) i)) → SoFar xs (i + 1) new
-one_put xs i x old new before here more put n =
+pub one_put : (xs : List (Bor (List ℕ))) (i : ℕ) (d : Bor (List ℕ)) (old new : BTreeMap (String Global) ℕ) → SoFar xs i old → i < length xs
+    → ((n : Name) → get_by_text new n ≡ first_of (get_by_text old n) (place_if (bytes_eq (get_or xs i d).now n) i)) → SoFar xs (i + 1) new
+one_put xs i d old new before more put n =
+    let x = get_or xs i d in
     let rest = place_among (names_in (drop (i + 1) xs)) n in
-    before n ∙ ap (λ o. first_of (get_by_text old n) (from_place i o)) (at_place xs i x n here more)
+    before n ∙ ap (λ o. first_of (get_by_text old n) (from_place i o)) (at_place xs i x n (get_or_default xs i d x more) more)
     ∙ turn i (get_by_text old n) (bytes_eq n x.now) rest
     ∙ ap (λ b. first_of (first_of (get_by_text old n) (place_if b i)) (from_place (i + 1) rest)) (flipped n x.now)
     ∙ ap (λ o. first_of o (from_place (i + 1) rest)) (sym (put n))
