@@ -163,12 +163,12 @@ pub add_how-returns-in_ok-push-in-Table-clause-text : goal.add_how-returns-in_ok
 add_how-returns-in_ok-push-in-Table-clause-text t c =
     let m = c.args.env.now in
     let x = c.in-Table.table in
-    member_ended_by c.args.text.now c.add_key.new.text c.add_table.new.text c.push-in-Table.new.self true (codes "table") (object (table_told x m)) c.in_ok-add_key.ensures c.in_ok-add_table.ensures
+    member_ended_by c.args.text.now c.add_key.new.text c.add_table.new.text c.push-in-Table.new.self true (codes "table") (object (table_told x m)) c.in_ok-add_key-in-Table.ensures c.in_ok-add_table-in-Table.ensures
     c.in_ok-push-in-Table.ensures ∙ ap (λ l. longer c.args.text.now (members_text true (how l m))) (sym (ap logic_view c.in-Table.is ∙ seen_table x))
 
 pub add_result-returns-clause-text : goal.add_result-returns-clause-text
 add_result-returns-clause-text t c =
     let b = logic_view c.args.last.now in
     let m = c.args.env.now in
-    member_ended_by c.args.text.now c.add_key.new.text c.add_told.new.text c.push.new.self true (codes "result") (told_as (value_of (boxed b m)) (how b m)) c.in_ok-add_key.ensures
-    c.in_ok-add_told.ensures.text c.in_ok-push.ensures ∙ ap (λ all. longer c.args.text.now (result_text all b m)) (sym c.if-not-all.false)
+    member_ended_by c.args.text.now c.add_key.new.text c.add_told.new.text c.push-2.new.self true (codes "result") (told_as (value_of (boxed b m)) (how b m)) c.in_ok-add_key.ensures
+    c.in_ok-add_told.ensures.text c.in_ok-push-2.ensures ∙ ap (λ all. longer c.args.text.now (result_text all b m)) (sym c.if-not-all.false)
