@@ -1,4 +1,6 @@
 //! One worker's thread, as the others see it.
+ghost use Rattle.std.specs.Prelude.{◌≡◌};
+
 use crate::crew::Crew;
 use box_core::{Done, Job, Work};
 use lanes::{Signals, Stepped, Watch, Woken};
@@ -139,7 +141,9 @@ impl<'a, V> Post<'a, V> {
     }
 
     // It lacks no memory any more.
-    fn end_to_lack(&mut self) {
+    fn end_to_lack(&mut self)
+        ensures { self.new.watch ≡ self.old.watch }
+    {
         if self.lacks {
             self.lacks = false;
             self.signals.end_to_lack();

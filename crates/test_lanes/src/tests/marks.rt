@@ -8,9 +8,12 @@ use std::sync::Arc;
 use std::sync::atomic::{AtomicBool, AtomicU64, Ordering};
 use std::test::Fail;
 use std::thread::{self, Threads};
+use std::time::{Clock, Duration, Instant};
 
-/// How often two jobs are put into an empty lane.
+/// How often two jobs are put into an empty lane, unless that takes too long.
 const ROUNDS: u64 = 100_000;
+/// For how many milliseconds that is tried: where threads wait for processors a round takes long.
+const MOST_MILLIS: u64 = 5_000;
 /// Between marking the lane and putting the jobs pass fewer turns than this, in each round another number.
 const MOST_TURNS: u64 = 64;
 /// How often a client asks for a result before it counts as lost: for longer than any thread waits for a processor.
@@ -47,22 +50,40 @@ fn are_found(
     Ok(is_answered(client) && is_answered(client))
 }
 
-// In how many rounds both jobs were answered, up to the first in which they were not.
-fn rounds_found(
+// Whether both jobs of each round are answered.
+fn are_all_found<R: Clock>(
+    rt: &R,
     alloc: Global,
     client: &mut Client<Task>,
     runs: &Arc<AtomicU64>,
-) -> Result<u64, AllocError> {
+) -> Result<bool, Fail> {
+    let begun = Instant::now(rt)?;
     for round in 0..ROUNDS {
         if !are_found(alloc, client, runs, round)? {
-            return Ok(round);
+            return Ok(false);
+        }
+        if begun.elapsed(rt)? > Duration::from_millis(MOST_MILLIS) {
+            break;
         }
     }
-    Ok(ROUNDS)
+    Ok(true)
+}
+
+// The same, and tells the worker to stop then.
+fn ask<R: Clock>(
+    rt: &R,
+    alloc: Global,
+    client: &mut Client<Task>,
+    runs: Arc<AtomicU64>,
+    stopping: Arc<AtomicBool>,
+) -> Result<bool, Fail> {
+    let found = are_all_found(rt, alloc, client, &runs);
+    stopping.store(true, Ordering::SeqCst);
+    found
 }
 
 // Steps until it is told to stop, and never sleeps.
-fn step_on(worker: &mut Worker<Task>, stopping: &AtomicBool) {
+fn step_on(worker: &mut Worker<Task>, stopping: Arc<AtomicBool>) {
     for _ in 0..u64::MAX {
         if worker.step(&OpenGate) == Stepped::Idle && stopping.load(Ordering::SeqCst) {
             break;
@@ -70,33 +91,31 @@ fn step_on(worker: &mut Worker<Task>, stopping: &AtomicBool) {
     }
 }
 
-// The same, beside a worker in a thread of its own.
-fn rounds_found_beside<R: Threads + Sync>(
+// A client asks beside a worker in a thread of its own.
+fn are_all_found_beside<R: Threads + Clock + Sync>(
     rt: &R,
     alloc: Global,
     client: &mut Client<Task>,
     worker: &mut Worker<Task>,
-    runs: &Arc<AtomicU64>,
-) -> Result<u64, AllocError> {
-    let stopping = AtomicBool::new(false);
-    let ask = || {
-        let found = rounds_found(alloc, client, runs);
-        stopping.store(true, Ordering::SeqCst);
-        found
-    };
-    let (found, ()) = thread::join(rt, ask, || step_on(worker, &stopping));
+) -> Result<bool, Fail> {
+    let runs = Arc::new(alloc, AtomicU64::new(0))?;
+    let stopping = Arc::new(alloc, AtomicBool::new(false))?;
+    let theirs = Arc::try_clone(&stopping)?;
+    let (found, ()) = thread::join(
+        rt,
+        move || ask(rt, alloc, client, runs, stopping),
+        move || step_on(worker, theirs),
+    );
     found
 }
 
 #[test]
 fn no_job_is_passed_for_good(rt: HostRuntime) -> Result<(), Fail> {
     let alloc = rt.alloc();
-    let runs = Arc::new(alloc, AtomicU64::new(0))?;
     let (mut clients, mut workers) = ends_of(alloc, 1, 1, 4)?;
     let (Some(client), Some(worker)) = (clients.first_mut(), workers.first_mut()) else {
         panic!(rt; "there are a client and a worker");
     };
-    let found = rounds_found_beside(&rt, alloc, client, worker, &runs)?;
-    assert_eq!(rt; found, ROUNDS);
+    assert!(rt; are_all_found_beside(&rt, alloc, client, worker)?);
     Ok(())
 }
