@@ -52,11 +52,7 @@ impl Key {
 pub(crate) fn add_comma(later: bool, text: &mut BoundedText) -> Result<(), AllocError>
     ensures { OnOk result (text.new ≡ longer text.old (comma_if later)) }
 {
-    if later {
-        text.add(b",")
-    } else {
-        text.add(b"")
-    }
+    if later { text.add(b",") } else { text.add(b"") }
 }
 
 /// Adds a key with its colon, behind a comma where a member stands before.

@@ -1,21 +1,24 @@
-use Rattle.std.proofs.Common.{◌≡◌, ap, sym, ◌∙◌, subst, ◌++◌, ◌+◌, [], ◌∷◌, List, ℕ, true, false, drop, Option, OnOk, refl, Vec, Global}
+use Rattle.std.proofs.Common.{◌≡◌, length, arith, rules, ap, sym, ◌∙◌, subst, ◌++◌, ◌+◌, [], ◌∷◌, List, ℕ, true, false, drop, Option, OnOk, refl, Vec, Global}
 use Rattle.std.specs.Arc.{arc_str_bytes}
 use Rattle.std.specs.Prelude.{codes}
-use Rattle.serde_json.specs.Data.{array}
+use Rattle.std.proofs.lemmas.List.{take_all}
+use Rattle.serde_json.specs.Data.{array, object, no_members}
 use Rattle.serde_json.specs.Written.{compact_text, items_text, members_text}
 use Rattle.feel_value.specs.Datum.{Datum}
 use Rattle.feel_value.specs.Found.{value_of}
 use Rattle.feel_lang.specs.Meaning.{Bindings}
-use Rattle.dmn_form.specs.Model.{context}
+use Rattle.dmn_table.specs.Table.{Table}
+use Rattle.dmn_form.specs.Model.{context, table}
 use Rattle.dmn_logic.specs.Boxed.{boxed}
 use Rattle.dmn_logic.specs.LogicView.{logic_view, members_view, entries_view}
+use Rattle.dmn_logic.specs.declared.logic.Logic.{Table as TableOf, the_lemmas}
 use Rattle.dmn_logic.proofs.Boxes.{Named, logic_view-Context, bind_turn}
-use Rattle.dmn_explain.specs.How.{how, members_told, entries_told, named_as}
+use Rattle.dmn_explain.specs.How.{how, table_told, told_as, members_told, entries_told, named_as}
 use Rattle.dmn_explain.specs.Text.{valued_text, entries_text, result_text}
 use Rattle.json_writer.specs.Bounded.{longer}
 use Rattle.json_writer.proofs.Longer.{Text, stopped}
-use Rattle.dmn_explain.proofs.Pieces.{member_ended_by, told_added_by, named_added_by}
-use Rattle.dmn_explain.proofs.Telling.{context_with_added, member_told, member_more, member_last, members_ended, entry_more}
+use Rattle.dmn_explain.proofs.Pieces.{member_ended_by, told_added_by, named_added_by, entries_added_by, entries_begun}
+use Rattle.dmn_explain.proofs.Telling.{context_with_added, member_told, member_more, member_last, members_ended, entry_more, entry_last}
 use Rattle.dmn_explain.proofs.boxed.+add_how.Goals as goal
 use Rattle.dmn_explain.proofs.boxed.+add_how.Goals.{add_how-in-Ok, add_how-in-Err}
 
@@ -131,3 +134,41 @@ add_members-returns-then-is_long-clause-text t c = stopped c.loop-member.text _ 
 
 pub add_entries-returns-then-is_long-clause-text : goal.add_entries-returns-then-is_long-clause-text
 add_entries-returns-then-is_long-clause-text t c = stopped c.loop-name.text _ _ (sym c.is_long.ensures ∙ c.if-is_long.true) c.loop-name.invariant.text
+
+pub add_context-returns-clause-text : goal.add_context-returns-clause-text
+add_context-returns-clause-text t c =
+    entries_added_by c.args.text.now c.add_entries-all.new.text c.push.new.self (entries_told (entries_view c.args.entries.now) c.args.env.now) no_members c.in_ok-all.ensures.text c.in_ok-push.ensures
+
+pub add_entries-loop-name-init : goal.add_entries-loop-name-init
+add_entries-loop-name-init t c = record {
+  bound = (take_all (length c.args.env.now) c.args.env.now (omega arith), refl);
+  text = entries_begun c.args.text.now c.add_key.new.text c.push.new.self (entries_told (entries_view c.args.entries.now) c.args.env.now) c.in_ok-add_key.ensures c.in_ok-push.ensures;
+}
+
+pub add_entries-returns-in_default-clause-text : goal.add_entries-returns-in_default-clause-text
+add_entries-returns-in_default-clause-text t c =
+    let m = c.loop-name.env in
+    let x = c.loop-name-item.result in
+    let entries = c.args.entries.now in
+    let t1 = c.add_comma.new.text in
+    entry_last (longer c.args.text.now (entries_text (entries_told (entries_view entries) c.args.env.now))) c.loop-name.text t1 c.add_entry.new.text c.loop-name.later m c.loop-name.name-index
+    c.in_ok-add_comma.ensures entries x c.loop-name.invariant.text c.loop-name-item.is c.loop-name-test.true
+    (c.in_ok-value.ensures.text ∙ ap (λ (n : List ℕ). longer t1 (compact_text (named_as n (value_of (boxed (logic_view x.1) m)) (how (logic_view x.1) m)))) c.as_str.ensures.value)
+    c.push-in_default.new.self (sym c.in_default.is ∙ c.in_ok-value.ensures.value) c.in_ok-push-2.ensures
+
+seen_table : (x : Table) → logic_view (TableOf x) ≡ table x
+seen_table x = search (rules, the_lemmas)
+
+pub add_how-returns-in_ok-push-in-Table-clause-text : goal.add_how-returns-in_ok-push-in-Table-clause-text
+add_how-returns-in_ok-push-in-Table-clause-text t c =
+    let m = c.args.env.now in
+    let x = c.in-Table.table in
+    member_ended_by c.args.text.now c.add_key.new.text c.add_table.new.text c.push-in-Table.new.self true (codes "table") (object (table_told x m)) c.in_ok-add_key-in-Table.ensures c.in_ok-add_table-in-Table.ensures
+    c.in_ok-push-in-Table.ensures ∙ ap (λ l. longer c.args.text.now (members_text true (how l m))) (sym (ap logic_view c.in-Table.is ∙ seen_table x))
+
+pub add_result-returns-clause-text : goal.add_result-returns-clause-text
+add_result-returns-clause-text t c =
+    let b = logic_view c.args.last.now in
+    let m = c.args.env.now in
+    member_ended_by c.args.text.now c.add_key.new.text c.add_told.new.text c.push-2.new.self true (codes "result") (told_as (value_of (boxed b m)) (how b m)) c.in_ok-add_key.ensures
+    c.in_ok-add_told.ensures.text c.in_ok-push-2.ensures ∙ ap (λ all. longer c.args.text.now (result_text all b m)) (sym c.if-not-all.false)
