@@ -11,9 +11,7 @@ import (
 	"gateway/tck"
 )
 
-func init() {
-	commands = append(commands, command{"test", "FILE.dmn CASES.xml: runs test cases of the TCK against a file", runCases})
-}
+var casesCommand = command{"test", "FILE.dmn CASES.xml: runs test cases of the TCK against a file", runCases}
 
 // runCases runs test cases, and writes a line for each result node, and how many passed. Its status is 0; 1 where a test
 // failed, or something could not be read; 3 where the file is no DMN.

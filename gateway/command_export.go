@@ -16,9 +16,7 @@ import (
 	"gateway/profile"
 )
 
-func init() {
-	commands = append(commands, command{"export", "MODEL.json > FILE.dmn: writes a model as a file of DMN 1.3", runExport})
-}
+var exportCommand = command{"export", "MODEL.json > FILE.dmn: writes a model as a file of DMN 1.3", runExport}
 
 // Statuses of a command, beside statusUsage.
 const (

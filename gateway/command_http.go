@@ -55,9 +55,7 @@ type httpWords struct {
 	files   []string
 }
 
-func init() {
-	commands = append(commands, command{"http", "MODEL.json|FILE.dmn..: answers requests to a model's services over HTTP", runHTTP})
-}
+var httpCommand = command{"http", "MODEL.json|FILE.dmn..: answers requests to a model's services over HTTP", runHTTP}
 
 func runHTTP(ctx context.Context, words []string) int {
 	logger := log.New(os.Stderr, "desk http: ", log.LstdFlags|log.LUTC|log.Lmsgprefix)
@@ -82,7 +80,7 @@ func runHTTP(ctx context.Context, words []string) int {
 	}()
 	options.Turn = turn
 	if err := serveHTTP(ctx, parsed, options); err != nil {
-		return tellFault(logger, err)
+		return logFault(logger, err)
 	}
 	return 0
 }
@@ -104,8 +102,8 @@ func serveHTTP(ctx context.Context, parsed *httpWords, options service.Options) 
 	return service.Run(ctx, options)
 }
 
-// tellFault says why the service did not run, and gives the status.
-func tellFault(logger *log.Logger, err error) int {
+// logFault says why the service did not run, and gives the status.
+func logFault(logger *log.Logger, err error) int {
 	logger.Printf("%v", err)
 	var faulty *engine.FaultyModel
 	var refused refusedPlaces

@@ -26,18 +26,23 @@ standard error with what to write instead, and the status is 3 then.
 
 `
 
-func init() {
-	commands = append(commands, command{"import", "FILE.dmn.. > model.json: translates files of DMN to a model",
-		func(ctx context.Context, words []string) int {
-			done := make(chan int, 1)
-			go func() { done <- runImport(words, os.Stdout, os.Stderr) }()
-			select {
-			case status := <-done:
-				return status
-			case <-ctx.Done():
-				return statusFailed
-			}
-		}})
+var importCommand = command{"import", "FILE.dmn.. > model.json: translates files of DMN to a model", importFiles}
+
+func importFiles(ctx context.Context, words []string) int {
+	done := make(chan struct{})
+	defer close(done)
+	go endWith(ctx, done)
+	return runImport(words, os.Stdout, os.Stderr)
+}
+
+// endWith ends the program where it is told to stop before the work is done.
+func endWith(ctx context.Context, done <-chan struct{}) {
+	<-ctx.Done()
+	select {
+	case <-done:
+	default:
+		os.Exit(statusFailed)
+	}
 }
 
 // runImport reads the files, translates them and writes the model, or what is refused.
@@ -64,26 +69,34 @@ func runImport(words []string, out, errs io.Writer) int {
 		return status
 	}
 	result, refusals := profile.Import(files, profile.Options{Service: *service})
-	if result == nil {
-		told := bufio.NewWriter(errs)
-		defer told.Flush()
-		for _, refusal := range refusals {
-			fmt.Fprintln(told, refusal)
-		}
+	if !tell(errs, result, refusals) {
 		return statusRefused
-	}
-	for _, note := range result.Notes {
-		fmt.Fprintf(errs, "note: %s\n", note)
-	}
-	for _, name := range result.LeftOut {
-		fmt.Fprintf(errs, "desk import: the decision %q has no service of its own: the model would be longer than a line; "+
-			"--service picks it\n", name)
 	}
 	if err := writeImported(out, result, *line); err != nil {
 		fmt.Fprintf(errs, "desk import: %v\n", err)
 		return statusFailed
 	}
 	return statusFine
+}
+
+// tell writes what is to be told of an import, a line each, and whether there is a result.
+func tell(errs io.Writer, result *profile.Result, refusals []profile.Refusal) bool {
+	told := bufio.NewWriter(errs)
+	defer told.Flush()
+	for _, refusal := range refusals {
+		fmt.Fprintln(told, refusal)
+	}
+	if result == nil {
+		return false
+	}
+	for _, note := range result.Notes {
+		fmt.Fprintf(told, "note: %s\n", note)
+	}
+	for _, name := range result.LeftOut {
+		fmt.Fprintf(told, "desk import: the decision %q has no service of its own: the model would be longer than a line; "+
+			"--service picks it\n", name)
+	}
+	return true
 }
 
 // readFiles reads each file. Those that are no DMN are all told.

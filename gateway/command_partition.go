@@ -14,10 +14,7 @@ import (
 	"gateway/rabbit/process"
 )
 
-func init() {
-	commands = append(commands, command{name: "partition", run: runPartition,
-		summary: "owns one partition on RabbitMQ at a time, and answers its lines"})
-}
+var partitionCommand = command{"partition", "owns one partition on RabbitMQ at a time, and answers its lines", runPartition}
 
 // readOptions reads the options of a command; it answers false where they are wrong, or help was asked for.
 func readOptions(flags *flag.FlagSet, given []string) bool {
@@ -41,7 +38,7 @@ func runPartition(ctx context.Context, given []string) int {
 	workers := flags.Int("workers", 1, "workers of the engine, 1 to 8")
 	deadline := flags.Duration("deadline", time.Minute, "how long the evaluation of a line may take, from 1s")
 	longest := flags.Int("longest", 1<<20, "how many bytes an answer may have, from 1024 to 16777216")
-	address := flags.String("metrics", "", "the address at which /metrics and /health are shown, as 127.0.0.1:9100")
+	address := flags.String("metrics", "", "the address at which /metrics, /healthz and /readyz are shown, as 127.0.0.1:9100")
 	if !readOptions(flags, given) {
 		return statusUsage
 	}

@@ -11,10 +11,7 @@ import (
 	"gateway/rabbit/receiver"
 )
 
-func init() {
-	commands = append(commands, command{name: "receive", run: runReceive,
-		summary: "writes the answers of all partitions, each once"})
-}
+var receiveCommand = command{"receive", "writes the answers of all partitions, each once", runReceive}
 
 func runReceive(ctx context.Context, given []string) int {
 	flags := flag.NewFlagSet("receive", flag.ContinueOnError)

@@ -15,10 +15,7 @@ import (
 	"gateway/rabbit/sender"
 )
 
-func init() {
-	commands = append(commands, command{name: "send", run: runSend,
-		summary: "sends the lines of standard input to the partitions of their keys"})
-}
+var sendCommand = command{"send", "sends the lines of standard input to the partitions of their keys", runSend}
 
 func runSend(ctx context.Context, given []string) int {
 	flags := flag.NewFlagSet("send", flag.ContinueOnError)

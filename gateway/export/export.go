@@ -98,10 +98,8 @@ type requirement struct{ id, needed, by string }
 // A page is one file while it is written.
 type page struct {
 	Source
-	model *model.Model
 	// decisions are those of the model by their words.
 	decisions map[string]*model.Decision
-	title     string
 	services  []model.Service
 	shapes    map[string]shape
 	words     *dictionary
@@ -114,17 +112,16 @@ type page struct {
 }
 
 func newPage(source Source) *page {
-	p := &page{Source: source, model: source.Model, title: source.Title, services: source.Model.Services,
-		decisions: map[string]*model.Decision{}, shapes: map[string]shape{}, words: newDictionary(source.Names),
-		counts: map[string]int{}}
-	if p.title == "" {
-		p.title = "Model"
+	p := &page{Source: source, services: source.Model.Services, decisions: map[string]*model.Decision{},
+		shapes: map[string]shape{}, words: newDictionary(source.Names), counts: map[string]int{}}
+	if p.Title == "" {
+		p.Title = "Model"
 	}
 	p.ids = newIDs(source.Model)
-	for i := range p.model.Decisions {
-		p.decisions[p.model.Decisions[i].Name] = &p.model.Decisions[i]
+	for i := range p.Model.Decisions {
+		p.decisions[p.Model.Decisions[i].Name] = &p.Model.Decisions[i]
 	}
-	for _, input := range p.model.Inputs {
+	for _, input := range p.Model.Inputs {
 		p.shapes[input] = anything
 	}
 	for word, schema := range p.Types {
@@ -147,13 +144,13 @@ func (p *page) id(kind string) string {
 
 func (p *page) definitions() *element {
 	root := tag("definitions", "xmlns", modelSpace, "xmlns:dmndi", diagramSpace, "xmlns:dc", boundsSpace, "xmlns:di",
-		lineSpace, "id", "definitions", "name", p.title, "namespace", ownSpace, "exporter", "desk")
+		lineSpace, "id", "definitions", "name", p.Title, "namespace", ownSpace, "exporter", "desk")
 	p.checkNames()
 	var parts []*element
-	for _, input := range p.model.Inputs {
+	for _, input := range p.Model.Inputs {
 		parts = append(parts, p.input(input))
 	}
-	for i := range p.model.Decisions {
+	for i := range p.Model.Decisions {
 		parts = append(parts, p.decision(i))
 	}
 	if !p.servesByDefault() {
@@ -174,7 +171,7 @@ func (p *page) input(word string) *element {
 }
 
 func (p *page) decision(index int) *element {
-	d := p.model.Decisions[index]
+	d := p.Model.Decisions[index]
 	typeRef := p.typeOf(d.Name)
 	if typeRef == "" {
 		typeRef = p.scalar(p.shape(d.Name))

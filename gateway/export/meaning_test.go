@@ -115,7 +115,7 @@ func (t texts) bound() map[string]any {
 	return bound
 }
 
-const trials = 3000
+const trials = 500
 
 // TestRandomTextsMeanTheSame holds what the engine gives of a text against what the standard means by what is written.
 func TestRandomTextsMeanTheSame(t *testing.T) {

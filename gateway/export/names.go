@@ -46,10 +46,10 @@ func (p *page) checkNames() {
 		}
 		words[name] = word
 	}
-	for i, input := range p.model.Inputs {
+	for i, input := range p.Model.Inputs {
 		check(fmt.Sprintf("/inputs/%d", i), input)
 	}
-	for i, d := range p.model.Decisions {
+	for i, d := range p.Model.Decisions {
 		check(fmt.Sprintf("/decisions/%d/name", i), d.Name)
 		p.checkBoxed(fmt.Sprintf("/decisions/%d/expr", i), d.Expr, check)
 	}
@@ -80,13 +80,13 @@ func (p *page) checkBoxed(pointer string, e model.Expression, check func(pointer
 func (p *page) servesByDefault() bool {
 	var made []model.Service
 	needed := map[string]bool{}
-	for _, d := range p.model.Decisions {
+	for _, d := range p.Model.Decisions {
 		for _, need := range d.Needs {
 			needed[need] = true
 		}
 	}
 	for _, inner := range []bool{false, true} {
-		for _, d := range p.model.Decisions {
+		for _, d := range p.Model.Decisions {
 			if needed[d.Name] == inner {
 				made = append(made, p.serviceOf(d.Name))
 			}

@@ -16,6 +16,8 @@ type parser struct {
 	// members are the names that may stand behind a point: those of the components of types and of the entries of
 	// contexts.
 	members *Scope
+	// ranges are the tokens that open a range.
+	ranges map[int32]bool
 	// inEnd tells that the end of a range is read, where "[" may close it.
 	inEnd bool
 }
@@ -52,7 +54,9 @@ func newParser(source string, scope, members *Scope) *parser {
 	if fault != nil {
 		panic(fault)
 	}
-	return &parser{source: source, all: all, scope: scope, members: members}
+	p := &parser{source: source, all: all, scope: scope, members: members}
+	p.ranges = p.rangesOf()
+	return p
 }
 
 // caught answers the fault that a reader stopped with.

@@ -22,11 +22,7 @@ func parts(n Node) []Node {
 	case *List:
 		return n.Items
 	case *Context:
-		values := make([]Node, len(n.Entries))
-		for i, entry := range n.Entries {
-			values[i] = entry.Value
-		}
-		return values
+		return values(n)
 	case *Range:
 		return []Node{n.Low, n.High}
 	case *Unary:
@@ -61,6 +57,14 @@ func parts(n Node) []Node {
 		return n.Tests
 	}
 	return nil
+}
+
+func values(n *Context) []Node {
+	all := make([]Node, len(n.Entries))
+	for i, entry := range n.Entries {
+		all[i] = entry.Value
+	}
+	return all
 }
 
 func callParts(n *Call) []Node {

@@ -9,14 +9,15 @@ func Rename(text []byte, table map[string]string) ([]byte, error) {
 	if err != nil {
 		return nil, fmt.Errorf("renaming: %w", err)
 	}
-	return Compact(make([]byte, 0, len(text)), renamed(tree, table)), nil
+	return Compact(make([]byte, 0, len(text)), Renamed(tree, table)), nil
 }
 
-func renamed(value any, table map[string]string) any {
+// Renamed gives a value that Tree read other keys.
+func Renamed(value any, table map[string]string) any {
 	switch value := value.(type) {
 	case []any:
 		for at, item := range value {
-			value[at] = renamed(item, table)
+			value[at] = Renamed(item, table)
 		}
 	case map[string]any:
 		other := make(map[string]any, len(value))
@@ -25,7 +26,7 @@ func renamed(value any, table map[string]string) any {
 			if to, is := table[key]; is {
 				name = to
 			}
-			other[name] = renamed(value[key], table)
+			other[name] = Renamed(value[key], table)
 		}
 		return other
 	}

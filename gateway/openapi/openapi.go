@@ -85,11 +85,14 @@ func callHeaders() []object {
 			"description": "A name whose requests are answered in their order"},
 		{"name": "X-Request-Id", "in": "header", "schema": object{"type": "string", "maxLength": 57},
 			"description": "The request's id; one is made where it is missing"},
+		{"name": "explain", "in": "query", "schema": object{"type": "boolean"},
+			"description": "Adds how the result came about, as decisions"},
 	}
 }
 
 func responses() object {
-	result := object{"type": "object", "required": []string{"result"}, "properties": object{"result": object{"nullable": true}}}
+	result := object{"type": "object", "required": []string{"result"}, "properties": object{
+		"result": object{"nullable": true}, "decisions": object{"type": "array", "items": object{"type": "object"}}}}
 	problem := object{"$ref": "#/components/schemas/Problem"}
 	all := object{"200": object{
 		"description": "The result; of a list, each request's result or problem in order",

@@ -35,26 +35,32 @@ func translate(schema map[string]any) {
 			schema[map[string]string{"exclusiveMinimum": "minimum", "exclusiveMaximum": "maximum"}[key]] = limit
 		}
 	}
-	for _, key := range []string{"items", "not", "additionalProperties"} {
-		if part, is := schema[key].(map[string]any); is {
-			translate(part)
+	for _, part := range partsOf(schema) {
+		translate(part)
+	}
+}
+
+// partsOf are the schemas within a schema.
+func partsOf(schema map[string]any) (parts []map[string]any) {
+	add := func(part any) {
+		if part, is := part.(map[string]any); is {
+			parts = append(parts, part)
 		}
+	}
+	for _, key := range []string{"items", "not", "additionalProperties"} {
+		add(schema[key])
 	}
 	for _, key := range []string{"oneOf", "anyOf", "allOf"} {
-		parts, _ := schema[key].([]any)
-		for _, part := range parts {
-			if part, is := part.(map[string]any); is {
-				translate(part)
-			}
+		several, _ := schema[key].([]any)
+		for _, part := range several {
+			add(part)
 		}
 	}
-	if parts, is := schema["properties"].(map[string]any); is {
-		for _, part := range parts {
-			if part, is := part.(map[string]any); is {
-				translate(part)
-			}
-		}
+	properties, _ := schema["properties"].(map[string]any)
+	for _, part := range properties {
+		add(part)
 	}
+	return parts
 }
 
 // Example is a value that a schema takes, as far as its first words say.
@@ -62,7 +68,10 @@ func Example(schema map[string]any) any {
 	if values, is := schema["enum"].([]any); is && len(values) > 0 {
 		return values[0]
 	}
-	if least, is := schema["minimum"]; is {
+	if least, is := schema["minimum"].(float64); is {
+		if schema["exclusiveMinimum"] == true {
+			least++
+		}
 		return least
 	}
 	switch schema["type"] {

@@ -17,10 +17,7 @@ func (t *translator) value(n feel.Node, s *scope) phrase {
 	case *feel.String:
 		return constant(quotedText(n.Value), textType)
 	case *feel.Boolean:
-		if n.Value {
-			return constant("true", booleanType)
-		}
-		return constant("false", booleanType)
+		return constant(literalText(n), booleanType)
 	case *feel.Null:
 		return constant("null", nullType)
 	case *feel.Name:

@@ -93,7 +93,7 @@ func translate(g *graph, trees map[*dmn.Text]*tree) {
 // decision translates a decision over what it needs.
 func (t *translator) decision(n *node) {
 	n.logic = boxOf(refused)
-	t.types = n.file.types
+	t.types, t.near = n.file.types, n.element()
 	if n.decision.Logic == nil {
 		t.refusals.refuse(n.element(), n.name, "the decision has no logic", "an expression or a table")
 		n.of = refusedType
@@ -146,6 +146,7 @@ func (t *translator) unused(k *knowledge) {
 		arguments[i] = argument{value: boxOf(constant("null", nullType)), of: of}
 	}
 	used := k.used
+	t.types, t.near = k.types, k.Element
 	t.invoked(k, arguments, func(why, instead string) { t.refusals.refuse(k.Element, k.name, why, instead) })
 	k.used = used
 }

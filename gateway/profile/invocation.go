@@ -35,10 +35,10 @@ func (t *translator) invoked(k *knowledge, arguments []argument, refuse func(why
 	}
 	inside, entries := t.bound(k, placed, refuse)
 	t.active[k] = true
-	before, column := t.types, t.column
-	t.types, t.column = k.types, nil
+	before, column, near := t.types, t.column, t.near
+	t.types, t.column, t.near = k.types, nil, k.Element
 	body, of := t.expression(k.Logic.Body, inside)
-	t.types, t.column = before, column
+	t.types, t.column, t.near = before, column, near
 	delete(t.active, k)
 	if len(entries) == 0 {
 		return body, of

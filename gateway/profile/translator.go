@@ -26,6 +26,8 @@ type translator struct {
 	// text is the one that is translated, column what ? stands for in it; nil outside of input entries.
 	text   *dmn.Text
 	column *phrase
+	// near is the element of the decision or business knowledge that is translated.
+	near *dmn.Element
 	// active is the business knowledge that is being invoked, one in the other.
 	active map[*knowledge]bool
 	// written counts the bytes of the model so far.
@@ -81,11 +83,15 @@ func (t *translator) boxed(p phrase) *box {
 // wrote counts bytes of the model. The first text past a line is refused, and no more is invoked from there on.
 func (t *translator) wrote(bytes int) {
 	t.written += bytes
-	if t.written <= MostLine || t.full || t.text == nil {
+	if t.written <= MostLine || t.full {
 		return
 	}
 	t.full = true
-	t.refusals.refuse(t.text.Element, "", fmt.Sprintf("from here on the model is longer than a line of %d bytes; "+
+	at := t.near
+	if t.text != nil {
+		at = t.text.Element
+	}
+	t.refusals.refuse(at, "", fmt.Sprintf("from here on the model is longer than a line of %d bytes; "+
 		"each invocation takes what it invokes along", MostLine), "fewer invocations, or a decision in place of one")
 }
 

@@ -28,28 +28,30 @@ func newTypes(r *refusals, file *dmn.File) *types {
 		}
 		t.items[name] = item
 	}
+	state := map[*dmn.ItemDefinition]int{}
 	for _, item := range file.Types {
-		t.refuseCycle(item, item)
+		t.refuseCycles(item, state)
 	}
 	return t
 }
 
-// refuseCycle refuses a definition that is made of itself, also where nothing uses it.
-func (t *types) refuseCycle(item, part *dmn.ItemDefinition) {
-	if t.active[part] {
-		if part == item {
-			t.refusals.refuse(item.Element, item.Name(), "the type is made of itself", "a type that ends")
-		}
+// refuseCycles refuses definitions that are made of themselves, also where nothing uses them. Each is visited once.
+func (t *types) refuseCycles(item *dmn.ItemDefinition, state map[*dmn.ItemDefinition]int) {
+	switch state[item] {
+	case visited:
+		return
+	case visiting:
+		t.refusals.refuse(item.Element, item.Name(), "the type is made of itself", "a type that ends")
 		return
 	}
-	t.active[part] = true
-	defer delete(t.active, part)
-	if next := t.items[feel.Canonical(part.TypeRef)]; next != nil {
-		t.refuseCycle(item, next)
+	state[item] = visiting
+	if next := t.items[feel.Canonical(item.TypeRef)]; next != nil {
+		t.refuseCycles(next, state)
 	}
-	for _, component := range part.Components {
-		t.refuseCycle(item, component)
+	for _, component := range item.Components {
+		t.refuseCycles(component, state)
 	}
+	state[item] = visited
 }
 
 // builtinTypes are FEEL's own types, and those that older tools write, in lower case.

@@ -24,6 +24,8 @@ type call struct {
 	problems []*problem
 	outcomes []engine.Outcome
 	jobs     []*engine.Job
+	// explained has how each answer came about, where that was asked for.
+	explained []engine.Explanation
 	// left is how many jobs are out, users how many of the jobs and the handler still hold the bytes.
 	left, users atomic.Int32
 	// bytes is how much of the service's budget is held, answers how much of that are results.
@@ -211,8 +213,9 @@ func problemOf(outcome engine.Outcome) *problem {
 	return problemInside.with("the engine refused the request: " + outcome.Word)
 }
 
-// appendResult adds a result as an object.
-func (c *call) appendResult(to []byte, value []byte) []byte {
+// appendResult adds a result as an object, with how it came about where that was asked for.
+func (c *call) appendResult(to []byte, at int) []byte {
+	value := c.outcomes[at].Value
 	if len(c.model.words) > 0 {
 		if renamed, err := lines.Rename(value, c.model.source.Names); err == nil {
 			value = renamed
@@ -220,7 +223,23 @@ func (c *call) appendResult(to []byte, value []byte) []byte {
 	}
 	to = append(to, `{"result":`...)
 	to = append(to, value...)
+	if told := c.explanation(at); told != nil {
+		to = append(to, `,"decisions":`...)
+		to = append(to, told...)
+	}
 	return append(to, '}')
+}
+
+// problemAt is the problem of a request, or nil where it has a result.
+func (c *call) problemAt(at int) *problem {
+	if c.problems[at] != nil {
+		return c.problems[at]
+	}
+	p := problemOf(c.outcomes[at])
+	if p != nil {
+		p.Decisions = c.explanation(at)
+	}
+	return p
 }
 
 // appendList adds all answers of a list.
@@ -230,15 +249,11 @@ func (c *call) appendList(to []byte) []byte {
 		if at > 0 {
 			to = append(to, ',')
 		}
-		p := c.problems[at]
-		if p == nil {
-			p = problemOf(c.outcomes[at])
-		}
-		if p != nil {
+		if p := c.problemAt(at); p != nil {
 			to = append(to, p.text()...)
 			continue
 		}
-		to = c.appendResult(to, c.outcomes[at].Value)
+		to = c.appendResult(to, at)
 	}
 	return append(to, ']', '\n')
 }

@@ -14,61 +14,95 @@ import (
 // statusGone is what is counted where the caller went away before its answer.
 const statusGone = 499
 
+// An asking is what a call's head and body say.
+type asking struct {
+	who     caller
+	name    string
+	explain bool
+	body    []byte
+}
+
 // servicesPath answers POST /v1/services/SERVICE, and gives the status.
 func (s *Service) servicesPath(w http.ResponseWriter, r *http.Request, id string) int {
 	if !takes(w, r, http.MethodPost) {
 		return http.StatusMethodNotAllowed
 	}
-	fail := func(p *problem) int {
+	asked, p := s.readAsking(w, r)
+	if p != nil {
 		p.write(w, id)
 		return p.Status
 	}
-	who, p := s.caller(r)
+	c, t, p := s.ask(asked)
 	if p != nil {
-		return fail(p)
-	}
-	name, err := url.PathUnescape(strings.TrimPrefix(r.URL.EscapedPath(), servicesPath))
-	if err != nil {
-		return fail(problemPath.with(r.URL.Path))
-	}
-	if s.journal != nil && s.journal.Fault() != nil {
-		return fail(problemJournal.with(""))
-	}
-	body, p := s.readBody(w, r)
-	if p != nil {
-		return fail(p)
-	}
-	c, t, p := s.ask(who, name, body)
-	if p != nil {
-		s.bodies.give(int64(len(body)))
-		return fail(p)
+		s.bodies.give(int64(len(asked.body)))
+		p.write(w, id)
+		return p.Status
 	}
 	defer c.release()
 	defer s.clients.leave(c.client)
 	defer t.end()
-	w.Header()["Desk-Model"] = c.model.sum
 	if err := c.wait(r.Context()); err != nil {
 		return statusGone
 	}
-	if p := c.keep(id); p != nil {
-		t.wait()
-		return fail(p)
+	p = c.keep(id)
+	if p == nil && asked.explain {
+		p = c.explain(r.Context())
 	}
 	s.metrics.asked(c)
 	t.wait()
+	w.Header()["Desk-Model"] = c.model.sum
+	if p != nil {
+		p.write(w, id)
+		return p.Status
+	}
 	return c.write(w, r, id, t != nil)
 }
 
+// readAsking reads a call's head, and then its body, whose bytes are held in the budget of the service.
+func (s *Service) readAsking(w http.ResponseWriter, r *http.Request) (it asking, p *problem) {
+	if it.who, p = s.caller(r); p != nil {
+		return it, p
+	}
+	var err error
+	if it.name, err = url.PathUnescape(strings.TrimPrefix(r.URL.EscapedPath(), servicesPath)); err != nil {
+		return it, problemPath.with(r.URL.Path)
+	}
+	if it.explain, p = wantsExplanation(r.URL.RawQuery); p != nil {
+		return it, p
+	}
+	if s.journal != nil && s.journal.Fault() != nil {
+		return it, problemJournal.with("")
+	}
+	it.body, p = s.readBody(w, r)
+	return it, p
+}
+
+// wantsExplanation reads the parameters of a call: explain, true or false.
+func wantsExplanation(query string) (bool, *problem) {
+	if query == "" {
+		return false, nil
+	}
+	values, err := url.ParseQuery(query)
+	if err != nil {
+		return false, problemHeader.with("the parameters cannot be read: " + err.Error())
+	}
+	wanted := values.Get("explain")
+	if wanted != "" && wanted != "true" && wanted != "false" {
+		return false, problemHeader.with("explain is true or false")
+	}
+	return wanted == "true", nil
+}
+
 // ask makes a call and puts its requests in, under the model in force at that moment.
-func (s *Service) ask(who caller, name string, body []byte) (*call, *turn, *problem) {
+func (s *Service) ask(asked asking) (*call, *turn, *problem) {
 	for {
-		c, p := s.newCall(s.model.Load(), name, body)
+		c, p := s.newCall(s.model.Load(), asked.name, asked.body)
 		if p != nil {
 			return nil, nil, p
 		}
 		c.users.Store(1)
-		c.bytes.Store(int64(len(body)))
-		t, p, err := c.put(who)
+		c.bytes.Store(int64(len(asked.body)))
+		t, p, err := c.put(asked.who)
 		if errors.Is(err, engine.ErrSwitched) {
 			continue
 		}
@@ -89,12 +123,11 @@ func (c *call) write(w http.ResponseWriter, r *http.Request, id string, inOrder 
 		text := c.appendList(nil)
 		limitWrite(r, len(text))
 		writeJSON(w, status, text)
-	} else if p := problemOf(c.outcomes[0]); p != nil {
+	} else if p := c.problemAt(0); p != nil {
 		status = p.Status
 		p.write(w, id)
 	} else {
-		value := c.outcomes[0].Value
-		text := c.appendResult(make([]byte, 0, len(value)+16), value)
+		text := c.appendResult(make([]byte, 0, len(c.outcomes[0].Value)+16), 0)
 		limitWrite(r, len(text))
 		writeJSON(w, status, append(text, '\n'))
 	}

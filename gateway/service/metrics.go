@@ -24,9 +24,8 @@ type metrics struct {
 	journalSeconds                            prometheus.Histogram
 	// lastFault is the second at which a fault of the journal was last logged.
 	lastFault atomic.Int64
-	// byStatus and byOutcome keep the counters of frequent labels at hand.
-	ok     prometheus.Counter
-	result prometheus.Counter
+	// ok and result are the counters of the most frequent labels.
+	ok, result prometheus.Counter
 }
 
 func newMetrics(s *Service) *metrics {

@@ -101,6 +101,8 @@ type problem struct {
 	// Fault is the first fault of a model, and Errors has all its places.
 	Fault  string            `json:"fault,omitempty"`
 	Errors []json.RawMessage `json:"errors,omitempty"`
+	// Decisions tell how it came to the problem, where that was asked for.
+	Decisions json.RawMessage `json:"decisions,omitempty"`
 
 	allow string
 }

@@ -6,6 +6,7 @@ import (
 	"encoding/json"
 	"errors"
 	"net/http"
+	"strconv"
 	"strings"
 
 	"gateway/engine"
@@ -49,11 +50,11 @@ type putPage struct {
 func (s *Service) putPath(w http.ResponseWriter, r *http.Request, id string, who caller) {
 	page, model, p := s.putModel(w, r, who)
 	if p != nil {
-		s.metrics.puts.WithLabelValues(http.StatusText(p.Status)).Inc()
+		s.metrics.puts.WithLabelValues(strconv.Itoa(p.Status)).Inc()
 		p.write(w, id)
 		return
 	}
-	s.metrics.puts.WithLabelValues(http.StatusText(http.StatusOK)).Inc()
+	s.metrics.puts.WithLabelValues(strconv.Itoa(http.StatusOK)).Inc()
 	w.Header()["Desk-Model"] = model.sum
 	w.Header().Set("ETag", `"`+model.engine.Sum+`"`)
 	writePage(w, http.StatusOK, page)

@@ -34,6 +34,8 @@ type Service struct {
 	metrics      *metrics
 	model        atomic.Pointer[served]
 	tokens       atomic.Pointer[tokens]
+	// explaining bounds how many explanations are made at once.
+	explaining chan struct{}
 	// putting lets one model be put at a time.
 	putting sync.Mutex
 	// stopping says that the service is to end.
@@ -73,6 +75,7 @@ func newService(ctx context.Context, options Options) (*Service, error) {
 	s := &Service{options: options, version: version, engineHeader: []string{version}, statePath: options.State}
 	s.clients = newClients(options.ClientLimit, options.Limit)
 	s.bodies.limit = bodiesLimit
+	s.explaining = make(chan struct{}, options.Processes)
 	s.metrics = newMetrics(s)
 	if s.statePath == "" && options.Journal != "" {
 		s.statePath = filepath.Join(options.Journal, stateName)

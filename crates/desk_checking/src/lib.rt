@@ -1,4 +1,4 @@
-//! `desk check`: reads one model, and says whether it is lawful, or each place where it is wrong.
+//! `desk check`: reads one model, and says whether it is lawful, or where it is wrong.
 #![tactic(auto)]
 
 mod cut;

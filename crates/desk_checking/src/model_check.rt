@@ -191,8 +191,8 @@ fn write_told<W: Sink>(
 /// where the options say that lines of requests stand behind it. The model is what stands under the key `model`, or the whole.
 ///
 /// Writes what the model is, as lines of JSON where the options say so. What is written begins with the word of its first fault, or
-/// with that it is lawful. Behind a fault come the places of each fault that is told with places, at most 100 of each; behind
-/// that it is lawful its inputs, decisions and services, what is mostly a mistake, and what is odd in the lines of requests.
+/// with that it is lawful. Behind a fault come the places of it and of later faults, at most 100 of each (of refused tables 100
+/// tables and 100 rules), as far as they are looked for; behind that it is lawful its inputs, decisions and services, what is mostly a mistake, and what is odd in the lines of requests.
 ///
 /// The result is the first fault; None where the model is lawful. The faults of the run are those of `replay`, but that `Long`
 /// comes once more than 64 MiB came.

@@ -3,7 +3,7 @@
 use crate::quoted::Members;
 use desk_wire::is_blank;
 use dmn_form::WrittenModel;
-use request_notes::{Note, notes_of};
+use request_notes::{LineNotes, Note, RequestNotes};
 use std::alloc::{AllocError, Global};
 
 /// The most notes that are told.
@@ -44,14 +44,18 @@ impl Notes {
         Ok(())
     }
 
-    /// Tells these notes, if fewer than the most were told.
-    fn tell_all(&mut self, number: usize, notes: &[Note]) -> Result<(), AllocError> {
-        for note in notes {
-            if self.count < MOST_NOTES {
-                self.tell(number, note)?;
-            }
-            self.count = self.count.saturating_add(1);
+    /// How many notes may still be told.
+    fn left(&self) -> usize {
+        MOST_NOTES.saturating_sub(self.count)
+    }
+
+    /// Tells the notes on a line, of which no more are told than may be, and counts the others.
+    fn tell_all(&mut self, number: usize, notes: &LineNotes) -> Result<(), AllocError> {
+        for note in &notes.told {
+            self.tell(number, note)?;
         }
+        let count = notes.told.len().saturating_add(notes.more);
+        self.count = self.count.saturating_add(count);
         Ok(())
     }
 
@@ -81,6 +85,7 @@ pub(crate) fn request_notes(
     model: &WrittenModel,
     lines: &[u8],
 ) -> Result<String, AllocError> {
+    let requests = RequestNotes::new(alloc, model)?;
     let mut notes = Notes {
         alloc,
         is_json,
@@ -91,7 +96,7 @@ pub(crate) fn request_notes(
         if is_blank(line) {
             continue;
         }
-        let found = notes_of(alloc, model, line)?;
+        let found = requests.of_line(alloc, line, notes.left())?;
         notes.tell_all(index.saturating_add(1), &found)?;
     }
     notes.tell_more()?;

@@ -1,4 +1,5 @@
-//! `serve`: many clients at once. Each client's answers come in the order of its lines, and none waits for another client's.
+//! `serve`: many clients at once. Each client's answers come in the order of its lines. One that is ready is not kept back for
+//! another client's slow request; a line that is read behind that request is.
 #![tactic(auto)]
 
 mod answering;

@@ -1,6 +1,6 @@
 -- Names that are found by their order, or one after another.
 use Rattle.std.proofs.Common.{◌≡◌, ℕ, ◌+◌, ◌<◌, ◌≤◌, zero, suc, List, [], ◌∷◌, drop, length, get_or, Option, Some, None, option_map, MatchOption, refl, sym, ap, ap₂, ◌∙◌, Bool, true, false, if◌then◌else◌, Bor, bytes_eq, arith}
-use Rattle.std.proofs.lemmas.List.{at_drop_more, at_drop_all, get_or-map, length-map}
+use Rattle.std.proofs.lemmas.List.{at_drop_more, get_or-map, length-map}
 use Rattle.feel_lang.specs.NameOrder.{IsInOrder, IsNameAt}
 use Rattle.feel_lang.proofs.Bindings.{same_text, text_itself}
 use Rattle.feel_lang.proofs.Ordered.{same_position}
@@ -59,28 +59,12 @@ pub at_first : (o : Option ℕ) → o ≡ from_place 0 o
 at_first None = refl
 at_first (Some i) = ap Some (omega arith)
 
-a_turn : (i : ℕ) (o : Option ℕ) → from_place i (option_map suc o) ≡ from_place (i + 1) o
+pub a_turn : (i : ℕ) (o : Option ℕ) → from_place i (option_map suc o) ≡ from_place (i + 1) o
 a_turn i None = refl
 a_turn i (Some k) = ap Some (omega arith)
 
-at_place : (xs : List (Bor (List ℕ))) (i : ℕ) (x : Bor (List ℕ)) (n : Name) → x ≡ get_or xs i x → i < length xs
+pub at_place : (xs : List (Bor (List ℕ))) (i : ℕ) (x : Bor (List ℕ)) (n : Name) → x ≡ get_or xs i x → i < length xs
     → place_among (names_in (drop i xs)) n ≡ (if bytes_eq n x.now then Some 0 else option_map suc (place_among (names_in (drop (i + 1) xs)) n))
 at_place xs i x n e w =
     at_drop_more (λ ys. place_among (names_in ys) n) xs i x w
     ∙ ap (λ (y : Bor (List ℕ)). if bytes_eq n y.now then Some 0 else option_map suc (place_among (names_in (drop (i + 1) xs)) n)) (sym e)
-
-pub placed_here : (xs : List (Bor (List ℕ))) (i : ℕ) (x : Bor (List ℕ)) (n : Name) (whole : Option ℕ) → whole ≡ from_place i (place_among (names_in (drop i xs)) n) → x ≡ get_or xs i x → i < length xs
-    → bytes_eq n x.now ≡ true → Some i ≡ whole
-placed_here xs i x n whole before e w same =
-    sym (before ∙ ap (from_place i) (at_place xs i x n e w)
-    ∙ ap (λ b. from_place i (if b then Some 0 else option_map suc (place_among (names_in (drop (i + 1) xs)) n))) same ∙ ap Some (omega arith))
-
-pub placed_later : (xs : List (Bor (List ℕ))) (i : ℕ) (x : Bor (List ℕ)) (n : Name) (whole : Option ℕ) → whole ≡ from_place i (place_among (names_in (drop i xs)) n) → x ≡ get_or xs i x → i < length xs
-    → bytes_eq n x.now ≡ false → whole ≡ from_place (i + 1) (place_among (names_in (drop (i + 1) xs)) n)
-placed_later xs i x n whole before e w other =
-    before ∙ ap (from_place i) (at_place xs i x n e w)
-    ∙ ap (λ b. from_place i (if b then Some 0 else option_map suc (place_among (names_in (drop (i + 1) xs)) n))) other
-    ∙ a_turn i (place_among (names_in (drop (i + 1) xs)) n)
-
-pub placed_nowhere : (xs : List (Bor (List ℕ))) (i : ℕ) (n : Name) (whole : Option ℕ) → whole ≡ from_place i (place_among (names_in (drop i xs)) n) → length xs ≤ i → None ≡ whole
-placed_nowhere xs i n whole before past = sym (before ∙ at_drop_all (λ ys. from_place i (place_among (names_in ys) n)) xs i past)

@@ -5,7 +5,8 @@
 
 mod line;
 mod note;
+mod parameters;
 mod service;
 
-pub use line::notes_of;
-pub use note::{Note, ValueReason};
+pub use line::RequestNotes;
+pub use note::{LineNotes, Note, ValueReason};

@@ -52,6 +52,15 @@ pub enum Note {
     },
 }
 
+/// What is odd in a line: the notes that are told, and how many there are beside them.
+#[derive(Debug, Drop)]
+pub struct LineNotes {
+    /// The first notes, as many as were asked for.
+    pub told: Vec<Note>,
+    /// How many notes more there are.
+    pub more: usize,
+}
+
 impl Note {
     /// The word of what is odd.
     pub fn word(&self) -> &'static str {

@@ -1,24 +1,11 @@
 //! What is odd in a request to a service that the model has.
 
-use crate::note::{Note, ValueReason};
-use dmn_form::WrittenService;
+use crate::note::{LineNotes, Note, ValueReason};
+use crate::parameters::Parameters;
 use feel_hints::is_near;
 use feel_value::{Feel, ValueFault};
 use serde_json::{Map, Value};
 use std::alloc::{AllocError, Global};
-
-/// The names of a service's parameters: its input decisions, and then its input data.
-fn parameters(alloc: Global, service: &WrittenService) -> Result<Vec<&str>, AllocError> {
-    let mut names = Vec::new(alloc);
-    for name in service
-        .input_decisions
-        .iter()
-        .chain(service.input_data.iter())
-    {
-        names.push(name.as_str())?;
-    }
-    Ok(names)
-}
 
 /// The first of these names that differs from this one by one letter.
 pub(crate) fn near_name(
@@ -91,23 +78,26 @@ fn reason_of(alloc: Global, json: &Value) -> Result<Option<ValueReason>, AllocEr
     }
 }
 
-/// Adds a note for each name among the inputs that is no parameter.
+/// Adds a note for each name among the inputs that is no parameter, up to so many notes.
 fn note_strangers(
     alloc: Global,
     notes: &mut Vec<Note>,
-    service: &WrittenService,
-    names: &[&str],
+    service: &Parameters,
     inputs: &Map<String, Value>,
+    most: usize,
 ) -> Result<(), AllocError> {
     for key in inputs.keys() {
+        if notes.len() >= most {
+            break;
+        }
         let name = key.as_str();
-        if names.contains(&name) {
+        if service.has(name) {
             continue;
         }
         notes.push(Note::Stranger {
             name: String::from_str(alloc, name)?,
-            service: String::from_str(alloc, service.name.as_str())?,
-            near: near_name(alloc, names, name)?,
+            service: String::from_str(alloc, service.service_name())?,
+            near: near_name(alloc, service.names(), name)?,
         })?;
     }
     Ok(())
@@ -116,14 +106,14 @@ fn note_strangers(
 /// What is odd in what stands under the name of a parameter.
 fn note_of_parameter(
     alloc: Global,
-    service: &WrittenService,
+    service: &Parameters,
     name: &str,
     json: Option<&Value>,
 ) -> Result<Option<Note>, AllocError> {
     let Some(json) = json else {
         return Ok(Some(Note::Missing {
             name: String::from_str(alloc, name)?,
-            service: String::from_str(alloc, service.name.as_str())?,
+            service: String::from_str(alloc, service.service_name())?,
         }));
     };
     let Some(reason) = reason_of(alloc, json)? else {
@@ -135,20 +125,63 @@ fn note_of_parameter(
     }))
 }
 
-/// What is odd in the inputs of a request to a service: first the names that are no parameters, in the order of their bytes, and then
-/// the parameters that are missing or have no value, in their order.
-pub(crate) fn notes_of_inputs(
+/// Adds a note for each parameter that is missing or has no value, up to so many notes.
+fn note_parameters(
     alloc: Global,
-    service: &WrittenService,
+    notes: &mut Vec<Note>,
+    service: &Parameters,
     inputs: &Map<String, Value>,
-) -> Result<Vec<Note>, AllocError> {
-    let mut notes = Vec::new(alloc);
-    let names = parameters(alloc, service)?;
-    note_strangers(alloc, &mut notes, service, &names, inputs)?;
-    for name in &names {
+    most: usize,
+) -> Result<(), AllocError> {
+    for name in service.names() {
+        if notes.len() >= most {
+            break;
+        }
         if let Some(note) = note_of_parameter(alloc, service, name, inputs.get(*name))? {
             notes.push(note)?;
         }
     }
-    Ok(notes)
+    Ok(())
+}
+
+/// How many notes there are on the inputs of a request: what the inputs themselves tell, and a parameter that is none of them is
+/// missing.
+fn count_notes(
+    alloc: Global,
+    service: &Parameters,
+    inputs: &Map<String, Value>,
+) -> Result<usize, AllocError> {
+    let mut odd: usize = 0;
+    let mut present: usize = 0;
+    for (key, json) in inputs.iter() {
+        if !service.has(key.as_str()) {
+            odd = odd.saturating_add(1);
+            continue;
+        }
+        present = present.saturating_add(1);
+        if reason_of(alloc, json)?.is_some() {
+            odd = odd.saturating_add(1);
+        }
+    }
+    let missing = service.names().len().saturating_sub(present);
+    Ok(odd.saturating_add(missing))
+}
+
+/// What is odd in the inputs of a request to a service: first the names that are no parameters, in the order of their bytes, and then
+/// the parameters that are missing or have no value, in their order.
+pub(crate) fn notes_of_inputs(
+    alloc: Global,
+    service: &Parameters,
+    inputs: &Map<String, Value>,
+    most: usize,
+) -> Result<LineNotes, AllocError> {
+    let mut told = Vec::new(alloc);
+    note_strangers(alloc, &mut told, service, inputs, most)?;
+    note_parameters(alloc, &mut told, service, inputs, most)?;
+    if told.len() < most {
+        return Ok(LineNotes { told, more: 0 });
+    }
+    let count = count_notes(alloc, service, inputs)?;
+    let more = count.saturating_sub(told.len());
+    Ok(LineNotes { told, more })
 }

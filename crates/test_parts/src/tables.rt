@@ -1,4 +1,5 @@
-//! Tables that are refused, each for its own reason; and calls while the heap refuses requests.
+//! Tables that are refused, each for its own reason; wide tables; and calls while the heap refuses requests.
+mod columns;
 mod memory;
 
 use dmn_table::{Output, Rule, Table, TableFault};

@@ -76,7 +76,7 @@ func Read(text []byte) (Line, error) {
 		return Line{}, err
 	}
 	if model, is := found["model"]; is && len(found) == 1 {
-		return Line{Client: NoClient, Engine: concat(`{"model":`, model, `}`)}, nil
+		return Line{Client: NoClient, Engine: join([]byte(`{"model":`), model, []byte(`}`))}, nil
 	}
 	return request(found)
 }
@@ -98,22 +98,12 @@ func request(found map[string][]byte) (Line, error) {
 	}
 	digest := sha256.Sum256([]byte(name))
 	client := int(digest[8] % Clients)
-	engine := concat(`{"client":"`, ClientName(client), `","service":`, service, `,"inputs":`, inputs, `}`)
+	engine := join([]byte(`{"client":"`+ClientName(client)+`","service":`), service, []byte(`,"inputs":`), inputs, []byte(`}`))
 	return Line{Key: key, ID: id, Client: client, Engine: engine, hash: binary.BigEndian.Uint64(digest[:8])}, nil
 }
 
-func concat(parts ...interface{}) []byte {
-	var all []byte
-	for _, part := range parts {
-		switch part := part.(type) {
-		case string:
-			all = append(all, part...)
-		case []byte:
-			all = append(all, part...)
-		}
-	}
-	return all
-}
+// join is one text of several.
+func join(parts ...[]byte) []byte { return bytes.Join(parts, nil) }
 
 // members finds the members of an object, each with its value as it is spelt. The text is JSON.
 func members(text []byte) (map[string][]byte, error) {

@@ -2,9 +2,10 @@ package partition
 
 import (
 	"fmt"
-	"io"
 	"sync"
 	"time"
+
+	"github.com/prometheus/client_golang/prometheus"
 
 	"gateway/rabbit/answer"
 )
@@ -67,11 +68,11 @@ func (g *Gauges) lag(waiting int, unread int64, seconds float64) {
 	})
 }
 
-// stuck is how long lines may wait without one being answered, for the process to count as healthy.
+// stuck is how long lines may wait without one being answered, for the process to count as ready.
 const stuck = 2 * time.Minute
 
-// Healthy tells whether a broker is reached, and lines are answered if there are any.
-func (g *Gauges) Healthy() (bool, string) {
+// Ready tells whether a broker is reached, and lines are answered if there are any; and in words.
+func (g *Gauges) Ready() (bool, string) {
 	g.mutex.Lock()
 	defer g.mutex.Unlock()
 	switch {
@@ -85,28 +86,50 @@ func (g *Gauges) Healthy() (bool, string) {
 	return true, fmt.Sprintf("owns partition %d", g.partition)
 }
 
-// Write writes the gauges as text that Prometheus reads.
-func (g *Gauges) Write(to io.Writer) {
-	g.mutex.Lock()
-	defer g.mutex.Unlock()
-	write := func(name, kind, help string, value interface{}) {
-		fmt.Fprintf(to, "# HELP %s %s\n# TYPE %s %s\n%s %v\n", name, help, name, kind, name, value)
+// Collectors are the gauges as Prometheus reads them.
+func (g *Gauges) Collectors() []prometheus.Collector {
+	all := []prometheus.Collector{
+		g.gauge("connected", "1 where a broker is reached.", func() float64 {
+			if g.connected {
+				return 1
+			}
+			return 0
+		}),
+		g.gauge("owned", "The partition that is owned, or -1.", func() float64 { return float64(g.partition) }),
+		g.gauge("lag_lines", "Lines that were read and have no answer.", func() float64 { return float64(g.waiting) }),
+		g.gauge("lag_messages", "Messages of the log that were not read, some seconds late.",
+			func() float64 { return float64(g.unread) }),
+		g.gauge("lag_seconds", "How long ago the first line without an answer was sent.",
+			func() float64 { return g.seconds }),
+		g.counter("answers_total", "Lines that were answered.", nil, func() float64 { return float64(g.answers) }),
+		g.counter("takeovers_total", "Times that a partition was taken over.", nil,
+			func() float64 { return float64(g.takeovers) }),
+		g.counter("engine_restarts_total", "Times that the engine was begun anew.", nil,
+			func() float64 { return float64(g.restarts) }),
 	}
-	connected := 0
-	if g.connected {
-		connected = 1
-	}
-	write("desk_partition_connected", "gauge", "1 where a broker is reached", connected)
-	write("desk_partition_owned", "gauge", "The partition that is owned, or -1", g.partition)
-	write("desk_partition_lag_lines", "gauge", "Lines that were read and have no answer", g.waiting)
-	write("desk_partition_lag_messages", "gauge", "Messages of the log that were not read, some seconds late", g.unread)
-	write("desk_partition_lag_seconds", "gauge", "How long ago the first line without an answer was sent", g.seconds)
-	write("desk_partition_answers_total", "counter", "Lines that were answered", g.answers)
-	write("desk_partition_takeovers_total", "counter", "Times that a partition was taken over", g.takeovers)
-	write("desk_partition_engine_restarts_total", "counter", "Times that the engine was begun anew", g.restarts)
-	name := "desk_partition_refusals_total"
-	fmt.Fprintf(to, "# HELP %s Lines that were refused in the engine's stead\n# TYPE %s counter\n", name, name)
 	for _, reason := range []answer.Reason{answer.Deadline, answer.Died, answer.TooLong} {
-		fmt.Fprintf(to, "%s{reason=%q} %d\n", name, reason, g.refusals[reason])
+		reason := reason
+		all = append(all, g.counter("refusals_total", "Lines that were refused in the engine's stead.",
+			prometheus.Labels{"reason": string(reason)}, func() float64 { return float64(g.refusals[reason]) }))
+	}
+	return all
+}
+
+// namespace begins the name of every metric.
+const namespace = "desk_partition"
+
+func (g *Gauges) gauge(name, help string, read func() float64) prometheus.Collector {
+	return prometheus.NewGaugeFunc(prometheus.GaugeOpts{Namespace: namespace, Name: name, Help: help}, g.locked(read))
+}
+
+func (g *Gauges) counter(name, help string, labels prometheus.Labels, read func() float64) prometheus.Collector {
+	options := prometheus.CounterOpts{Namespace: namespace, Name: name, Help: help, ConstLabels: labels}
+	return prometheus.NewCounterFunc(options, g.locked(read))
+}
+
+func (g *Gauges) locked(read func() float64) func() float64 {
+	return func() (value float64) {
+		g.with(func() { value = read() })
+		return value
 	}
 }

@@ -40,6 +40,7 @@ type work struct {
 	died     *entry                     // the entry at which the engine died alone
 	oldest   *entry                     // the entry that is the first without an answer
 	age      int                        // for so many ticks
+	lonely   bool                       // whether the engine had no other entry all that time
 }
 
 // longestPause is how long an engine is left alone that has died at no line, at most.
@@ -176,20 +177,26 @@ func (w *work) tick() {
 		return
 	}
 	if head != w.oldest {
-		w.oldest, w.age = head, 0
+		w.oldest, w.age, w.lonely = head, 0, len(w.byLine) == 1
 		return
 	}
-	if w.age++; w.age < w.deadline {
-		return
+	w.lonely = w.lonely && len(w.byLine) == 1
+	if w.age++; w.age >= w.deadline {
+		w.late(head)
 	}
+}
+
+// late takes in that the engine has not answered the first entry in its time. If it had others meanwhile, these may be
+// at fault.
+func (w *work) late(head *entry) {
 	if w.greeting > 0 {
 		w.neverGreeted(errors.New("the engine does not answer"))
 		return
 	}
-	e := w.alone()
+	lonely := w.lonely
 	w.again(fmt.Errorf("the engine has not answered line %v in its time", head.place))
-	if e != nil {
-		w.refuse(e, answer.Deadline)
+	if lonely {
+		w.refuse(head, answer.Deadline)
 	}
 }
 

@@ -18,8 +18,8 @@ import (
 	"gateway/rabbit/ledger"
 )
 
-// savePause is how often the place is written, at most.
-const savePause = time.Second
+// savePause is how often the place is written, where something came.
+const savePause = 250 * time.Millisecond
 
 // Options say what is received, and where it goes.
 type Options struct {
@@ -38,8 +38,7 @@ type receiver struct {
 	written int64 // the length of the output's file
 	streams []int64
 	chains  []ledger.Chain
-	dirty   bool // whether something is written, and the place isn't
-	saved   time.Time
+	dirty   bool      // whether something is written, and the place isn't
 	moved   time.Time // when the last answer came
 }
 
@@ -138,7 +137,7 @@ func (r *receiver) run(ctx context.Context) error {
 		}
 		go forward(link, stream, partition, messages)
 	}
-	ticker := time.NewTicker(savePause / 4)
+	ticker := time.NewTicker(savePause)
 	defer ticker.Stop()
 	for {
 		select {
@@ -150,7 +149,7 @@ func (r *receiver) run(ctx context.Context) error {
 			if err := r.save(); err != nil {
 				return &final{err}
 			}
-			if r.idle(nil) == nil && r.idled() {
+			if r.idled() {
 				return nil
 			}
 		case <-link.Done():
@@ -244,7 +243,7 @@ func (r *receiver) write(m message, chain *ledger.Chain, part broker.Part) error
 	return nil
 }
 
-// save flushes the output, and writes the place, from time to time.
+// save flushes the output, and writes the place.
 func (r *receiver) save() error {
 	if err := r.output.Flush(); err != nil {
 		return fmt.Errorf("writing answers: %w", err)
@@ -264,6 +263,6 @@ func (r *receiver) save() error {
 	if err := p.write(r.options.Place); err != nil {
 		return err
 	}
-	r.dirty, r.saved = false, time.Now()
+	r.dirty = false
 	return nil
 }
