@@ -15,6 +15,7 @@ use std::thread::{self, Threads};
 mod full;
 mod gates;
 mod marks;
+mod places;
 mod refused;
 
 /// A request for a number. Its run counts itself, and is refused memory as often as it was told.

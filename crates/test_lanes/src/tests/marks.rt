@@ -10,12 +10,17 @@ use std::test::Fail;
 use std::thread::{self, Threads};
 use std::time::{Clock, Duration, Instant};
 
-/// How often two jobs are put into an empty lane, unless that takes too long.
-const ROUNDS: u64 = 100_000;
-/// For how many milliseconds that is tried: where threads wait for processors a round takes long.
-const MOST_MILLIS: u64 = 5_000;
-/// Between marking the lane and putting the jobs pass fewer turns than this, in each round another number.
-const MOST_TURNS: u64 = 64;
+/// How often two jobs are put into an empty lane at most, and for how many milliseconds that is tried. What is looked for needs a
+/// worker that loses its processor between two instructions, for as long as it takes to put the jobs.
+const ROUNDS: u64 = 50_000_000;
+
+const MOST_MILLIS: u64 = 4_000;
+/// After so many rounds the time is asked for.
+const BETWEEN: u64 = 64;
+/// How often the worker is made to look at the empty lane before the jobs are put, and how many turns it has for each look.
+const LOOKS: u64 = 32;
+
+const TURNS: u64 = 4;
 /// How often a client asks for a result before it counts as lost: for longer than any thread waits for a processor.
 const PATIENCE: u64 = 100_000_000;
 
@@ -30,8 +35,18 @@ fn is_answered(client: &mut Client<Task>) -> bool {
     false
 }
 
-// Has the worker look at the empty lane, and puts two jobs at about the moment at which it takes the mark away: the second may
-// be put while the mark that the worker is about to take away still stands. Tells whether both are answered.
+// Marks the empty lane again and again.
+fn keep_looking(client: &Client<Task>) {
+    for turn in 0..LOOKS.wrapping_mul(TURNS) {
+        if turn % TURNS == 0 {
+            client.signals().mark_all();
+        }
+        hint::spin_loop();
+    }
+}
+
+// Has the worker look at the empty lane again and again, and take its mark away, and then puts two jobs: where the worker stands
+// still between these two, both find the mark that it is about to take away. Tells whether both are answered.
 fn are_found(
     alloc: Global,
     client: &mut Client<Task>,
@@ -40,33 +55,30 @@ fn are_found(
 ) -> Result<bool, AllocError> {
     let first = Task::asking(alloc, round, 0, runs)?;
     let second = Task::asking(alloc, round, 0, runs)?;
-    client.signals().mark_all();
-    for _ in 0..round % MOST_TURNS {
-        hint::spin_loop();
-    }
+    keep_looking(client);
     if client.submit(first).is_err() || client.submit(second).is_err() {
         return Ok(false);
     }
     Ok(is_answered(client) && is_answered(client))
 }
 
-// Whether both jobs of each round are answered.
-fn are_all_found<R: Clock>(
+// The first round of which a job was lost, if one was.
+fn first_lost<R: Clock>(
     rt: &R,
     alloc: Global,
     client: &mut Client<Task>,
     runs: &Arc<AtomicU64>,
-) -> Result<bool, Fail> {
+) -> Result<Option<u64>, Fail> {
     let begun = Instant::now(rt)?;
     for round in 0..ROUNDS {
         if !are_found(alloc, client, runs, round)? {
-            return Ok(false);
+            return Ok(Some(round));
         }
-        if begun.elapsed(rt)? > Duration::from_millis(MOST_MILLIS) {
+        if round % BETWEEN == 0 && begun.elapsed(rt)? > Duration::from_millis(MOST_MILLIS) {
             break;
         }
     }
-    Ok(true)
+    Ok(None)
 }
 
 // The same, and tells the worker to stop then.
@@ -76,8 +88,8 @@ fn ask<R: Clock>(
     client: &mut Client<Task>,
     runs: Arc<AtomicU64>,
     stopping: Arc<AtomicBool>,
-) -> Result<bool, Fail> {
-    let found = are_all_found(rt, alloc, client, &runs);
+) -> Result<Option<u64>, Fail> {
+    let found = first_lost(rt, alloc, client, &runs);
     stopping.store(true, Ordering::SeqCst);
     found
 }
@@ -92,12 +104,12 @@ fn step_on(worker: &mut Worker<Task>, stopping: Arc<AtomicBool>) {
 }
 
 // A client asks beside a worker in a thread of its own.
-fn are_all_found_beside<R: Threads + Clock + Sync>(
+fn first_lost_beside<R: Threads + Clock + Sync>(
     rt: &R,
     alloc: Global,
     client: &mut Client<Task>,
     worker: &mut Worker<Task>,
-) -> Result<bool, Fail> {
+) -> Result<Option<u64>, Fail> {
     let runs = Arc::new(alloc, AtomicU64::new(0))?;
     let stopping = Arc::new(alloc, AtomicBool::new(false))?;
     let theirs = Arc::try_clone(&stopping)?;
@@ -116,6 +128,6 @@ fn no_job_is_passed_for_good(rt: HostRuntime) -> Result<(), Fail> {
     let (Some(client), Some(worker)) = (clients.first_mut(), workers.first_mut()) else {
         panic!(rt; "there are a client and a worker");
     };
-    assert!(rt; are_all_found_beside(&rt, alloc, client, worker)?);
+    assert_eq!(rt; first_lost_beside(&rt, alloc, client, worker)?, None);
     Ok(())
 }
