@@ -1,6 +1,7 @@
 package main
 
 import (
+	"bytes"
 	"context"
 	"fmt"
 	"io"
@@ -8,8 +9,11 @@ import (
 	"path/filepath"
 	"strings"
 
+	"gateway/dmn"
 	"gateway/engine"
 	"gateway/export"
+	"gateway/model"
+	"gateway/profile"
 )
 
 func init() {
@@ -51,7 +55,7 @@ func exportModel(ctx context.Context, path string, out, faults io.Writer) (int, 
 	if status, err := checkModel(ctx, source, faults); status != 0 || err != nil {
 		return status, err
 	}
-	file, refusals := export.File(source)
+	file, refusals := fileOf(source, faults)
 	for _, refusal := range refusals {
 		fmt.Fprintf(faults, "%s: %s\n", path, refusal)
 	}
@@ -62,6 +66,47 @@ func exportModel(ctx context.Context, path string, out, faults io.Writer) (int, 
 		return 0, fmt.Errorf("writing the file: %w", err)
 	}
 	return 0, nil
+}
+
+// fileOf writes the file of a model. One that was imported is written so that it is imported again to the same model: with
+// the names and types of its file, else with less of them. Where that can't be had, it is told.
+func fileOf(source export.Source, faults io.Writer) ([]byte, []export.Refusal) {
+	file, refusals := export.File(source)
+	if !source.Imported || len(refusals) > 0 {
+		return file, refusals
+	}
+	for _, without := range []func(*export.Source){
+		func(*export.Source) {},
+		func(s *export.Source) { s.Typed = false },
+		func(s *export.Source) { s.Names = nil },
+		func(s *export.Source) { s.Typed = true },
+	} {
+		without(&source)
+		again, refusals := export.File(source)
+		if len(refusals) == 0 && importsTo(again, source.Model) {
+			return again, nil
+		}
+	}
+	fmt.Fprintln(faults, "desk export: note: imported again, the file gives another model, or is refused")
+	return file, nil
+}
+
+// importsTo tells whether a file is imported to a model.
+func importsTo(file []byte, due *model.Model) bool {
+	read, err := dmn.Read("exported.dmn", bytes.NewReader(file))
+	if err != nil {
+		return false
+	}
+	result, refusals := profile.Import([]*dmn.File{read}, profile.Options{})
+	if len(refusals) > 0 {
+		return false
+	}
+	got, err := result.Model.JSON()
+	if err != nil {
+		return false
+	}
+	want, err := due.JSON()
+	return err == nil && bytes.Equal(got, want)
 }
 
 // checkModel asks the engine whether the model is lawful, and tells what it says of one that isn't.

@@ -14,7 +14,7 @@ import (
 const (
 	MostBytes    = 16 << 20
 	MostDepth    = 256
-	MostElements = 1_000_000
+	MostElements = 500_000
 )
 
 // An Element is an element of the file, with all that stands in it.

@@ -9,7 +9,7 @@ import (
 )
 
 // boxed writes the boxed expression at a place of the model.
-func (p *page) boxed(pointer string, e model.Expression, s scope) *element {
+func (p *page) boxed(pointer string, e model.Expression, s *scope) *element {
 	switch e := e.(type) {
 	case model.List:
 		list := tag("list", "id", p.id("list"))
@@ -22,7 +22,7 @@ func (p *page) boxed(pointer string, e model.Expression, s scope) *element {
 	case *model.Table:
 		return p.table(pointer+"/table", e, s)
 	case model.Literal:
-		return p.literal("literalExpression", p.expression(pointer, string(e), s), scalar(s.bound.ofText(string(e))))
+		return p.literal("literalExpression", p.expression(pointer, string(e), s), p.scalar(s.bound.ofText(string(e))))
 	}
 	return p.literal("literalExpression", "null", "")
 }
@@ -33,7 +33,7 @@ func (p *page) literal(name, content, typeRef string) *element {
 }
 
 // expression writes the text of a place, and refuses it where that can't be done.
-func (p *page) expression(pointer, content string, s scope) string {
+func (p *page) expression(pointer, content string, s *scope) string {
 	return p.written(pointer, content, s.expression)
 }
 
@@ -49,14 +49,15 @@ func (p *page) written(pointer, content string, write func(string) (string, erro
 	return written
 }
 
-func (p *page) context(pointer string, c model.Context, s scope) *element {
+func (p *page) context(pointer string, c model.Context, s *scope) *element {
 	e := tag("context", "id", p.id("context"))
+	s = s.inner()
 	for i, entry := range c.Entries {
 		value := s.bound.ofBoxed(entry.Expr)
-		variable := tag("variable", "id", p.id("variable"), "name", p.spell(entry.Name), "typeRef", scalar(value))
+		variable := tag("variable", "id", p.id("variable"), "name", p.spell(entry.Name), "typeRef", p.scalar(value))
 		expr := p.boxed(fmt.Sprintf("%s/context/%d/expr", pointer, i), entry.Expr, s)
 		e.add(tag("contextEntry", "id", p.id("entry")).add(variable, expr))
-		s = s.with(entry.Name, value)
+		s.bind(entry.Name, value)
 	}
 	if c.Result != nil {
 		e.add(tag("contextEntry", "id", p.id("entry")).add(p.boxed(pointer+"/result", c.Result, s)))
@@ -88,15 +89,15 @@ func policy(t *model.Table) [2]string {
 
 // table writes a decision table. A default of a table that gives a list stands outside of it: here it is given as it is,
 // and the standard doesn't say whether it is put into a list.
-func (p *page) table(pointer string, t *model.Table, s scope) *element {
-	if hasDefault(t) && (t.Hit == "R" || t.Hit == "O" || t.Hit == "C" || t.Hit == "C#") {
+func (p *page) table(pointer string, t *model.Table, s *scope) *element {
+	if hasDefault(t) && (t.Hit == "R" || t.Hit == "O" || t.Hit == "C") {
 		return p.withDefault(pointer, t, s)
 	}
 	hit := policy(t)
 	e := tag("decisionTable", "id", p.id("table"), "hitPolicy", hit[0], "aggregation", hit[1])
 	for i, input := range t.Inputs {
 		expr := p.literal("inputExpression", p.expression(fmt.Sprintf("%s/inputs/%d", pointer, i), input, s),
-			scalar(s.bound.ofText(input)))
+			p.scalar(s.bound.ofText(input)))
 		e.add(tag("input", "id", p.id("input")).add(expr))
 	}
 	for i := range t.Outputs {
@@ -117,8 +118,18 @@ func hasDefault(t *model.Table) bool {
 	return false
 }
 
+// alwaysHits tells whether some rule has no test.
+func alwaysHits(t *model.Table) bool {
+	for _, rule := range t.Rules {
+		if strings.Trim(strings.Join(rule.When, ""), "- \t\r\n") == "" {
+			return true
+		}
+	}
+	return false
+}
+
 // withDefault writes the table without its default as an entry, and behind it the default where no rule hits.
-func (p *page) withDefault(pointer string, t *model.Table, s scope) *element {
+func (p *page) withDefault(pointer string, t *model.Table, s *scope) *element {
 	bare := *t
 	bare.Outputs = append([]model.Output(nil), t.Outputs...)
 	for i := range bare.Outputs {
@@ -136,16 +147,18 @@ func (p *page) withDefault(pointer string, t *model.Table, s scope) *element {
 }
 
 // taken tells whether a name is bound or spelled so.
-func (s scope) taken(name string) bool {
-	for word := range s.bound {
-		if s.spell(word) == name {
-			return true
+func (s *scope) taken(name string) bool {
+	for ; s != nil; s = s.outer {
+		for word := range s.bound.shapes {
+			if s.spell(word) == name {
+				return true
+			}
 		}
 	}
 	return false
 }
 
-func (p *page) defaults(pointer string, t *model.Table, s scope) string {
+func (p *page) defaults(pointer string, t *model.Table, s *scope) string {
 	values := make([]string, 0, len(t.Outputs))
 	for i, output := range t.Outputs {
 		value := "null"
@@ -160,16 +173,20 @@ func (p *page) defaults(pointer string, t *model.Table, s scope) string {
 	return "{" + strings.Join(values, ", ") + "}"
 }
 
-func (p *page) output(pointer string, t *model.Table, column int, s scope) *element {
+func (p *page) output(pointer string, t *model.Table, column int, s *scope) *element {
 	output := t.Outputs[column]
 	value := s.bound.ofColumn(t, column)
-	e := tag("output", "id", p.id("output"), "name", p.spell(output.Name), "typeRef", scalar(value))
+	e := tag("output", "id", p.id("output"), "name", p.spell(output.Name), "typeRef", p.scalar(value))
 	place := fmt.Sprintf("%s/outputs/%d", pointer, column)
 	if p.keepsValues(place, t, column) {
 		e.add(tag("outputValues", "id", p.id("values")).add(text(strings.Join(output.Values, ", "))))
 	}
-	if output.Default != nil {
+	switch {
+	case output.Default != nil:
 		e.add(p.literal("defaultOutputEntry", p.expression(place+"/default", *output.Default, s), ""))
+	case t.Hit == "C#" && !p.Imported && !alwaysHits(t):
+		// Without it some tools take the count of no hits for 0, which is null here and in the standard.
+		e.add(p.literal("defaultOutputEntry", "null", ""))
 	}
 	return e
 }
@@ -222,10 +239,12 @@ func squeezed(literal string) string {
 	return literal
 }
 
-func (p *page) rule(pointer string, t *model.Table, rule model.Rule, s scope) *element {
+func (p *page) rule(pointer string, t *model.Table, rule model.Rule, s *scope) *element {
 	e := tag("rule", "id", p.id("rule"))
 	for i, when := range rule.When {
-		written := p.written(fmt.Sprintf("%s/when/%d", pointer, i), when, s.tests)
+		written := p.written(fmt.Sprintf("%s/when/%d", pointer, i), when, func(content string) (string, error) {
+			return s.tests(content, s.bound.ofText(t.Inputs[i]))
+		})
 		e.add(tag("inputEntry", "id", p.id("tests")).add(text(written)))
 	}
 	for i, then := range rule.Then {

@@ -22,12 +22,14 @@ type Source struct {
 	Model *model.Model
 	// Names has how a word is spelled in the file; a word without a line is spelled as it is.
 	Names map[string]string
-	// Types has the JSON Schema of the values of an input, by its word.
+	// Types has the JSON Schema of the values of an input or a decision, by its word.
 	Types map[string]Schema
 	// Title is the name of the model; it may be empty.
 	Title string
 	// Imported tells that the model came from a file.
 	Imported bool
+	// Typed tells that decisions and outputs get the types that are known of them, and not the inputs alone.
+	Typed bool
 }
 
 // A Refusal is a place of the model that can't be written so that the standard means the same.
@@ -62,7 +64,7 @@ func Read(data []byte) (Source, error) {
 	if err := json.Unmarshal(data, &whole); err != nil {
 		return Source{}, fmt.Errorf("reading the model: %w", err)
 	}
-	source := Source{Names: whole.Names, Types: whole.Types, Imported: whole.Names != nil}
+	source := Source{Names: whole.Names, Types: whole.Types, Imported: whole.Names != nil, Typed: true}
 	if whole.Model == nil {
 		whole.Model = data
 	}
@@ -96,13 +98,13 @@ type requirement struct{ id, needed, by string }
 // A page is one file while it is written.
 type page struct {
 	Source
-	model    *model.Model
-	title    string
-	services []model.Service
-	shapes   map[string]shape
-	spelled  map[string]string
-	ids      ids
-	counts   map[string]int
+	// decisions are those of the model by their words.
+	decisions map[string]*model.Decision
+	services  []model.Service
+	shapes    map[string]shape
+	words     *dictionary
+	ids       ids
+	counts    map[string]int
 
 	requirements []requirement
 	types        []*element
@@ -110,19 +112,21 @@ type page struct {
 }
 
 func newPage(source Source) *page {
-	p := &page{Source: source, model: source.Model, title: source.Title, services: source.Model.Services,
-		shapes: map[string]shape{}, spelled: map[string]string{}, counts: map[string]int{}}
-	if p.title == "" {
-		p.title = "Model"
-	}
-	for word, name := range source.Names {
-		p.spelled[word] = name
+	p := &page{Source: source, services: source.Model.Services, decisions: map[string]*model.Decision{},
+		shapes: map[string]shape{}, words: newDictionary(source.Names), counts: map[string]int{}}
+	if p.Title == "" {
+		p.Title = "Model"
 	}
 	p.ids = newIDs(source.Model)
-	for _, input := range p.model.Inputs {
+	for i := range p.Model.Decisions {
+		p.decisions[p.Model.Decisions[i].Name] = &p.Model.Decisions[i]
+	}
+	for _, input := range p.Model.Inputs {
 		p.shapes[input] = anything
-		if schema, typed := p.Types[input]; typed {
-			p.shapes[input] = schema.shape()
+	}
+	for word, schema := range p.Types {
+		if s := schema.shape(); s.kinds != isAnything {
+			p.shapes[word] = s
 		}
 	}
 	return p
@@ -140,13 +144,13 @@ func (p *page) id(kind string) string {
 
 func (p *page) definitions() *element {
 	root := tag("definitions", "xmlns", modelSpace, "xmlns:dmndi", diagramSpace, "xmlns:dc", boundsSpace, "xmlns:di",
-		lineSpace, "id", "definitions", "name", p.title, "namespace", ownSpace, "exporter", "desk")
+		lineSpace, "id", "definitions", "name", p.Title, "namespace", ownSpace, "exporter", "desk")
 	p.checkNames()
 	var parts []*element
-	for _, input := range p.model.Inputs {
+	for _, input := range p.Model.Inputs {
 		parts = append(parts, p.input(input))
 	}
-	for i := range p.model.Decisions {
+	for i := range p.Model.Decisions {
 		parts = append(parts, p.decision(i))
 	}
 	if !p.servesByDefault() {
@@ -159,9 +163,7 @@ func (p *page) definitions() *element {
 	return root.add(p.types...).add(parts...).add(p.diagram())
 }
 
-func (p *page) spell(word string) string {
-	return scope{spelled: p.spelled}.spell(word)
-}
+func (p *page) spell(word string) string { return p.words.spell(word) }
 
 func (p *page) input(word string) *element {
 	variable := tag("variable", "id", p.id("variable"), "name", p.spell(word), "typeRef", p.typeOf(word))
@@ -169,22 +171,29 @@ func (p *page) input(word string) *element {
 }
 
 func (p *page) decision(index int) *element {
-	d := p.model.Decisions[index]
-	variable := tag("variable", "id", p.id("variable"), "name", p.spell(d.Name), "typeRef", scalar(p.shape(d.Name)))
+	d := p.Model.Decisions[index]
+	typeRef := p.typeOf(d.Name)
+	if typeRef == "" {
+		typeRef = p.scalar(p.shape(d.Name))
+	}
+	if !p.Typed {
+		typeRef = ""
+	}
+	variable := tag("variable", "id", p.id("variable"), "name", p.spell(d.Name), "typeRef", typeRef)
 	e := tag("decision", "id", p.ids.node(d.Name), "name", p.spell(d.Name)).add(variable)
-	bound := names{}
+	place := newScope(p.words)
 	for _, need := range d.Needs {
-		bound[need] = p.shape(need)
+		place.bind(need, p.shape(need))
 		e.add(p.requires(need, d.Name))
 	}
-	return e.add(p.boxed(fmt.Sprintf("/decisions/%d/expr", index), d.Expr, scope{bound, p.spelled}))
+	return e.add(p.boxed(fmt.Sprintf("/decisions/%d/expr", index), d.Expr, place))
 }
 
 func (p *page) requires(needed, by string) *element {
 	r := requirement{p.id("requirement"), needed, by}
 	p.requirements = append(p.requirements, r)
 	kind := "requiredInput"
-	if p.model.Decision(needed) != nil {
+	if p.decisions[needed] != nil {
 		kind = "requiredDecision"
 	}
 	return tag("informationRequirement", "id", r.id).add(tag(kind, "href", "#"+p.ids.node(needed)))
@@ -195,14 +204,14 @@ func (p *page) shape(word string) shape {
 	if s, known := p.shapes[word]; known {
 		return s
 	}
-	d := p.model.Decision(word)
+	d := p.decisions[word]
 	if d == nil {
 		return anything
 	}
 	p.shapes[word] = anything
-	bound := names{}
+	bound := newNames(nil)
 	for _, need := range d.Needs {
-		bound[need] = p.shape(need)
+		bound.bind(need, p.shape(need))
 	}
 	p.shapes[word] = bound.ofBoxed(d.Expr)
 	return p.shapes[word]

@@ -96,20 +96,42 @@ func (s shape) path(name string) shape {
 	return found
 }
 
-// names is a list of names with what is known of their values. A name that is missing is null.
-type names map[string]shape
+// names are the names that are bound at a place, with what is known of their values. A name that is missing is null.
+type names struct {
+	outer  *names
+	shapes map[string]shape
+	// reads has the names for the reader of texts.
+	reads *feel.Scope
+}
 
-func (n names) with(name string, s shape) names {
-	more := make(names, len(n)+1)
-	for k, v := range n {
-		more[k] = v
+// newNames is a place inside another one, which may be nil.
+func newNames(outer *names) *names {
+	n := &names{outer: outer, shapes: map[string]shape{}}
+	if outer != nil {
+		n.reads = feel.NewScope(outer.reads)
+	} else {
+		n.reads = feel.NewScope(nil)
 	}
-	more[name] = s
-	return more
+	return n
+}
+
+// bind binds a name; what is bound outside under this name is hidden.
+func (n *names) bind(name string, s shape) {
+	n.shapes[name] = s
+	n.reads.Add(name)
+}
+
+func (n *names) find(name string) (shape, bool) {
+	for ; n != nil; n = n.outer {
+		if s, bound := n.shapes[name]; bound {
+			return s, true
+		}
+	}
+	return shape{}, false
 }
 
 // of is what is known of the value of an expression of ours.
-func (n names) of(node feel.Node) shape {
+func (n *names) of(node feel.Node) shape {
 	switch e := node.(type) {
 	case *feel.Number, *feel.Negation:
 		return number
@@ -120,7 +142,7 @@ func (n names) of(node feel.Node) shape {
 	case *feel.Null:
 		return shape{kinds: isNull}
 	case *feel.Name:
-		if s, bound := n[e.Name]; bound {
+		if s, bound := n.find(e.Name); bound {
 			return s
 		}
 		return shape{kinds: isNull}
@@ -144,7 +166,7 @@ func (n names) of(node feel.Node) shape {
 	return anything
 }
 
-func (n names) ofList(list *feel.List) shape {
+func (n *names) ofList(list *feel.List) shape {
 	if len(list.Items) == 0 {
 		return shape{kinds: isList}
 	}
@@ -164,24 +186,16 @@ func function(call *feel.Call) string {
 }
 
 // ofText is what is known of the value of a text, anything where it can't be read.
-func (n names) ofText(text string) shape {
-	node, fault := feel.Expression(text, n.scope(), nil)
+func (n *names) ofText(text string) shape {
+	node, fault := feel.Expression(text, n.reads, nil)
 	if fault != nil {
 		return anything
 	}
 	return n.of(node)
 }
 
-func (n names) scope() *feel.Scope {
-	scope := feel.NewScope(nil)
-	for name := range n {
-		scope.Add(name)
-	}
-	return scope
-}
-
 // ofBoxed is what is known of the value of a boxed expression.
-func (n names) ofBoxed(e model.Expression) shape {
+func (n *names) ofBoxed(e model.Expression) shape {
 	switch e := e.(type) {
 	case model.Literal:
 		return n.ofText(string(e))
@@ -195,7 +209,7 @@ func (n names) ofBoxed(e model.Expression) shape {
 	return anything
 }
 
-func (n names) ofMembers(list model.List) shape {
+func (n *names) ofMembers(list model.List) shape {
 	if len(list) == 0 {
 		return shape{kinds: isList}
 	}
@@ -206,19 +220,20 @@ func (n names) ofMembers(list model.List) shape {
 	return shape{kinds: isList, members: &member}
 }
 
-func (n names) ofContext(c model.Context) shape {
+func (n *names) ofContext(c model.Context) shape {
 	entries := map[string]shape{}
+	inside := newNames(n)
 	for _, entry := range c.Entries {
-		entries[entry.Name] = n.ofBoxed(entry.Expr)
-		n = n.with(entry.Name, entries[entry.Name])
+		entries[entry.Name] = inside.ofBoxed(entry.Expr)
+		inside.bind(entry.Name, entries[entry.Name])
 	}
 	if c.Result != nil {
-		return n.ofBoxed(c.Result)
+		return inside.ofBoxed(c.Result)
 	}
 	return shape{kinds: isContext, entries: entries}
 }
 
-func (n names) ofTable(t *model.Table) shape {
+func (n *names) ofTable(t *model.Table) shape {
 	switch t.Hit {
 	case "C#", "C+", "C<", "C>":
 		return number.either(n.ofDefaults(t))
@@ -228,11 +243,11 @@ func (n names) ofTable(t *model.Table) shape {
 	case "R", "O", "C":
 		return shape{kinds: isList, members: &hit}.either(n.ofDefaults(t))
 	}
-	return hit.either(n.ofDefaults(t))
+	return hit.either(n.ofDefaults(t)).either(shape{kinds: isNull})
 }
 
 // ofHit is what is known of the output of a rule that hits.
-func (n names) ofHit(t *model.Table) shape {
+func (n *names) ofHit(t *model.Table) shape {
 	entries := map[string]shape{}
 	for i, output := range t.Outputs {
 		entries[output.Name] = n.ofColumn(t, i)
@@ -243,7 +258,7 @@ func (n names) ofHit(t *model.Table) shape {
 	return shape{kinds: isContext, entries: entries}
 }
 
-func (n names) ofColumn(t *model.Table, column int) shape {
+func (n *names) ofColumn(t *model.Table, column int) shape {
 	var found shape
 	for _, rule := range t.Rules {
 		if column < len(rule.Then) {
@@ -254,7 +269,7 @@ func (n names) ofColumn(t *model.Table, column int) shape {
 }
 
 // ofDefaults is what is known of the result of a table where no rule hits.
-func (n names) ofDefaults(t *model.Table) shape {
+func (n *names) ofDefaults(t *model.Table) shape {
 	entries := map[string]shape{}
 	found := false
 	for _, output := range t.Outputs {

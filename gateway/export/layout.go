@@ -119,19 +119,19 @@ func (g graph) box(word string, place float64, most, row int) box {
 
 // diagram draws the services in a row, collapsed, and below them the graph.
 func (p *page) diagram() *element {
-	g := graph{inputs: p.model.Inputs, needs: map[string][]string{}}
-	for _, d := range p.model.Decisions {
+	g := graph{inputs: p.Model.Inputs, needs: map[string][]string{}}
+	for _, d := range p.Model.Decisions {
 		g.decisions = append(g.decisions, d.Name)
 		g.needs[d.Name] = append([]string{}, d.Needs...)
 	}
 	boxes := g.boxes()
-	diagram := tag("dmndi:DMNDiagram", "id", "diagram", "name", p.title)
+	diagram := tag("dmndi:DMNDiagram", "id", "diagram", "name", p.Title)
 	for i, s := range p.services {
 		b := box{margin + columnWidth*i, margin, serviceWidth, serviceHeight}
-		diagram.add(shape0("shape_service_"+strconv.Itoa(i+1), p.ids.of("service", s.Name), b, "isCollapsed", "true"))
+		diagram.add(drawn("shape_service_"+strconv.Itoa(i+1), p.ids.of("service", s.Name), b, "isCollapsed", "true"))
 	}
-	for i, word := range append(append([]string{}, p.model.Inputs...), g.decisions...) {
-		diagram.add(shape0("shape_"+strconv.Itoa(i+1), p.ids.node(word), boxes[word]))
+	for i, word := range append(append([]string{}, p.Model.Inputs...), g.decisions...) {
+		diagram.add(drawn("shape_"+strconv.Itoa(i+1), p.ids.node(word), boxes[word]))
 	}
 	for i, requirement := range p.requirements {
 		diagram.add(edge("edge_"+strconv.Itoa(i+1), requirement.id, boxes[requirement.needed], boxes[requirement.by]))
@@ -139,8 +139,8 @@ func (p *page) diagram() *element {
 	return tag("dmndi:DMNDI").add(diagram)
 }
 
-// shape0 is the shape of an element in a box.
-func shape0(id, of string, b box, more ...string) *element {
+// drawn is the shape of an element in a box.
+func drawn(id, of string, b box, more ...string) *element {
 	bounds := tag("dc:Bounds", "height", strconv.Itoa(b.height), "width", strconv.Itoa(b.width), "x", strconv.Itoa(b.x),
 		"y", strconv.Itoa(b.y))
 	return tag("dmndi:DMNShape", append([]string{"id", id, "dmnElementRef", of}, more...)...).add(bounds)

@@ -29,8 +29,8 @@ func (i ids) of(kind, word string) string { return kind + "_" + word }
 
 // keywords are words that FEEL has forms for, and the language of texts not, so that they may be names here.
 var keywords = map[string]bool{
-	"for": true, "in": true, "return": true, "some": true, "every": true, "satisfies": true, "instance": true, "of": true,
-	"function": true, "external": true, "list": true, "context": true, "date": true, "time": true, "duration": true,
+	"for": true, "in": true, "return": true, "some": true, "every": true, "satisfies": true, "instance": true,
+	"function": true, "external": true,
 }
 
 // checkNames refuses what is no name in the standard. Two words of one spelling would be one name there.
@@ -39,17 +39,17 @@ func (p *page) checkNames() {
 	check := func(pointer, word string) {
 		name := p.spell(word)
 		if keywords[name] {
-			p.refuse(pointer, name, "FEEL has a form that begins so, or a type of this name", "another name")
+			p.refuse(pointer, name, "it is a keyword of FEEL", "another name")
 		}
 		if other, found := words[name]; found && other != word {
 			p.refuse(pointer, name, fmt.Sprintf("%s and %s have one name", other, word), "another name for one of them")
 		}
 		words[name] = word
 	}
-	for i, input := range p.model.Inputs {
+	for i, input := range p.Model.Inputs {
 		check(fmt.Sprintf("/inputs/%d", i), input)
 	}
-	for i, d := range p.model.Decisions {
+	for i, d := range p.Model.Decisions {
 		check(fmt.Sprintf("/decisions/%d/name", i), d.Name)
 		p.checkBoxed(fmt.Sprintf("/decisions/%d/expr", i), d.Expr, check)
 	}
@@ -80,13 +80,13 @@ func (p *page) checkBoxed(pointer string, e model.Expression, check func(pointer
 func (p *page) servesByDefault() bool {
 	var made []model.Service
 	needed := map[string]bool{}
-	for _, d := range p.model.Decisions {
+	for _, d := range p.Model.Decisions {
 		for _, need := range d.Needs {
 			needed[need] = true
 		}
 	}
 	for _, inner := range []bool{false, true} {
-		for _, d := range p.model.Decisions {
+		for _, d := range p.Model.Decisions {
 			if needed[d.Name] == inner {
 				made = append(made, p.serviceOf(d.Name))
 			}
@@ -95,34 +95,28 @@ func (p *page) servesByDefault() bool {
 	return len(made) > 0 && reflect.DeepEqual(made, p.services)
 }
 
-// serviceOf is the service that answers a decision.
+// serviceOf is the service that answers a decision: what it needs, and what that needs, nearest first.
 func (p *page) serviceOf(word string) model.Service {
 	s := model.Service{Name: word, Outputs: []string{word}, Encapsulated: []string{}, InputDecisions: []string{},
 		InputData: []string{}}
-	reached := map[string]bool{}
-	waiting := []string{word}
-	for len(waiting) > 0 {
-		d := p.model.Decision(waiting[0])
-		waiting = waiting[1:]
-		if d == nil {
+	seen := map[string]bool{}
+	open := []string{word}
+	for len(open) > 0 {
+		next := open[0]
+		open = open[1:]
+		if seen[next] {
 			continue
 		}
-		for _, need := range d.Needs {
-			if !reached[need] {
-				reached[need] = true
-				waiting = append(waiting, need)
-			}
+		seen[next] = true
+		d := p.decisions[next]
+		switch {
+		case d == nil:
+			s.InputData = append(s.InputData, next)
+			continue
+		case next != word:
+			s.Encapsulated = append(s.Encapsulated, next)
 		}
-	}
-	for _, d := range p.model.Decisions {
-		if reached[d.Name] {
-			s.Encapsulated = append(s.Encapsulated, d.Name)
-		}
-	}
-	for _, input := range p.model.Inputs {
-		if reached[input] {
-			s.InputData = append(s.InputData, input)
-		}
+		open = append(open, d.Needs...)
 	}
 	return s
 }

@@ -12,34 +12,63 @@ type fault struct{ why, instead string }
 
 func (f *fault) Error() string { return f.why }
 
-// A scope writes the texts of a place of the model: it knows what is bound there and how words are spelled in the file.
-type scope struct {
-	bound   names
+// A dictionary has how words are spelled in the file.
+type dictionary struct {
 	spelled map[string]string
+	// members are all names, any of which may stand behind a point.
+	members *feel.Scope
+}
+
+func newDictionary(spelled map[string]string) *dictionary {
+	d := &dictionary{spelled, feel.NewScope(nil)}
+	for _, name := range spelled {
+		d.members.Add(name)
+	}
+	return d
 }
 
 // spell is a word as the file writes it.
-func (s scope) spell(word string) string {
-	if name, found := s.spelled[word]; found {
+func (d *dictionary) spell(word string) string {
+	if name, found := d.spelled[word]; found {
 		return name
 	}
 	return word
 }
 
-// with is the scope with one more name.
-func (s scope) with(name string, value shape) scope {
-	return scope{s.bound.with(name, value), s.spelled}
+// A scope writes the texts of a place of the model: it knows what is bound there.
+type scope struct {
+	*dictionary
+	outer *scope
+	bound *names
+	// file has the names that are bound, as the file spells them.
+	file *feel.Scope
+}
+
+// newScope is a place of no other one, where nothing is bound.
+func newScope(d *dictionary) *scope {
+	return &scope{dictionary: d, bound: newNames(nil), file: feel.NewScope(nil)}
+}
+
+// inner is a place inside of this one.
+func (s *scope) inner() *scope {
+	return &scope{dictionary: s.dictionary, outer: s, bound: newNames(s.bound), file: feel.NewScope(s.file)}
+}
+
+// bind binds a word.
+func (s *scope) bind(word string, value shape) {
+	s.bound.bind(word, value)
+	s.file.Add(s.spell(word))
 }
 
 // expression writes an expression.
-func (s scope) expression(text string) (string, error) {
-	node, stopped := feel.Expression(text, s.bound.scope(), nil)
+func (s *scope) expression(text string) (string, error) {
+	node, stopped := feel.Expression(text, s.bound.reads, nil)
 	if stopped != nil {
 		return "", &fault{why: stopped.Why, instead: stopped.Instead}
 	}
 	w := &writer{scope: s, source: text}
 	return w.finish(w.splice(feel.Span{Start: 0, End: len(text)}, node), func(written string) error {
-		again, stopped := feel.Expression(written, s.fileScope(), s.fileMembers())
+		again, stopped := feel.Expression(written, s.file, s.members)
 		if stopped != nil {
 			return &fault{why: stopped.Why}
 		}
@@ -47,15 +76,15 @@ func (s scope) expression(text string) (string, error) {
 	})
 }
 
-// tests writes the unary tests of a column whose input has a shape.
-func (s scope) tests(text string) (string, error) {
-	nodes, stopped := feel.Tests(text, s.bound.scope(), nil)
+// tests writes the unary tests of a column, whose input has a shape.
+func (s *scope) tests(text string, input shape) (string, error) {
+	nodes, stopped := feel.Tests(text, s.bound.reads, nil)
 	if stopped != nil {
 		return "", &fault{why: stopped.Why, instead: stopped.Instead}
 	}
-	w := &writer{scope: s, source: text}
+	w := &writer{scope: s, source: text, input: input}
 	return w.finish(w.tests(feel.Span{Start: 0, End: len(text)}, nodes, false), func(written string) error {
-		again, stopped := feel.Tests(written, s.fileScope(), s.fileMembers())
+		again, stopped := feel.Tests(written, s.file, s.members)
 		if stopped != nil {
 			return &fault{why: stopped.Why}
 		}
@@ -63,31 +92,15 @@ func (s scope) tests(text string) (string, error) {
 	})
 }
 
-// fileScope has the names that are bound, as the file spells them.
-func (s scope) fileScope() *feel.Scope {
-	scope := feel.NewScope(nil)
-	for word := range s.bound {
-		scope.Add(s.spell(word))
-	}
-	return scope
-}
-
-// fileMembers has all names that may stand behind a point.
-func (s scope) fileMembers() *feel.Scope {
-	scope := feel.NewScope(nil)
-	for _, name := range s.spelled {
-		scope.Add(name)
-	}
-	return scope
-}
-
 // mostText is how long a text may get.
 const mostText = 1 << 20
 
 // A writer writes one text anew: it goes over the tree, and what it need not change it takes as it stands.
 type writer struct {
-	scope
+	*scope
 	source string
+	// input is what is known of the value that tests are asked of.
+	input shape
 	// used are the names of the text in their order, as the file spells them.
 	used []string
 	err  error
@@ -95,7 +108,7 @@ type writer struct {
 
 // finish checks that the text that was written is read with the same names.
 func (w *writer) finish(written string, check func(string) error) (string, error) {
-	if w.err == nil && written != w.source {
+	if w.err == nil {
 		w.err = check(written)
 	}
 	return written, w.err
@@ -149,6 +162,10 @@ func (w *writer) form(node feel.Node) string {
 		return w.chain(e)
 	case *feel.Call:
 		return w.call(e)
+	case *feel.If:
+		if list := w.sumOfEither(e); list != nil {
+			return "sum(" + w.splice(list.At(), list) + ")"
+		}
 	}
 	return w.splice(node.At(), parts(node)...)
 }
@@ -181,7 +198,8 @@ func (w *writer) chain(e *feel.Chain) string {
 		operand := e.Operands[i+1]
 		between := w.source[e.Operands[i].At().End:operand.At().Start]
 		if operator == "+" && left.maybe(isText) && w.bound.of(operand).maybe(isText) {
-			between = strings.Replace(between, "+", "- -", 1)
+			sign := strings.IndexByte(between, '+')
+			between = between[:sign] + "- -" + strings.TrimLeft(between[sign+1:], " \t\r\n")
 		}
 		text.WriteString(between)
 		text.WriteString(w.form(operand))
@@ -195,7 +213,7 @@ func (w *writer) chain(e *feel.Chain) string {
 // is no list of numbers; the standard takes a single value for a list, and has the least text.
 func (w *writer) call(e *feel.Call) string {
 	called := function(e)
-	if _, hidden := w.bound[called]; hidden {
+	if _, hidden := w.bound.find(called); hidden {
 		w.fail(fmt.Sprintf("%s is called, and is the name of a value too", called), "another name for the value")
 		return ""
 	}
@@ -232,6 +250,36 @@ func (w *writer) overList(e *feel.Call, called string, value feel.Node) string {
 	return "(if (" + w.splice(value.At(), value) + ") instance of list<Any> then " + text + " else null)"
 }
 
+// sumOfEither is x where a condition is "if count(x) >= 0 then sum(x) else sum([x])", which is what sum(x) means in the
+// standard: of a list its sum, and of what is no list that of the list with this one member. It is nil for any other.
+func (w *writer) sumOfEither(e *feel.If) feel.Node {
+	isList, _ := e.Condition.(*feel.Binary)
+	if isList == nil || isList.Operator != ">=" || w.text(isList.Right) != "0" {
+		return nil
+	}
+	counted, summed, single := argument(isList.Left, "count"), argument(e.Then, "sum"), argument(e.Else, "sum")
+	list, _ := single.(*feel.List)
+	if counted == nil || summed == nil || list == nil || len(list.Items) != 1 {
+		return nil
+	}
+	if x := w.text(counted); x != w.text(summed) || x != w.text(list.Items[0]) {
+		return nil
+	}
+	return counted
+}
+
+// text is a form as the source has it.
+func (w *writer) text(node feel.Node) string { return w.source[node.At().Start:node.At().End] }
+
+// argument is the one argument of a call of a function; nil where the form is none.
+func argument(node feel.Node, called string) feel.Node {
+	call, _ := node.(*feel.Call)
+	if call == nil || function(call) != called || len(call.Arguments) != 1 {
+		return nil
+	}
+	return call.Arguments[0].Value
+}
+
 // tests writes tests of which one has to hold. In a negation a test may not be unknown.
 func (w *writer) tests(span feel.Span, tests []feel.Node, negated bool) string {
 	var text strings.Builder
@@ -246,27 +294,39 @@ func (w *writer) tests(span feel.Span, tests []feel.Node, negated bool) string {
 }
 
 // test writes one test. An expression is compared with the input here; the standard takes one that is true for a
-// condition that is met, so one that may be true is written as a comparison.
+// condition that is met, so one that may be true is written as a comparison. In a negation a comparison of two kinds of
+// values would be unknown there; here it is no, so that the negation holds.
 func (w *writer) test(test feel.Node, negated bool) string {
 	switch e := test.(type) {
-	case *feel.Anything, *feel.Unary, *feel.Range, *feel.Boolean:
+	case *feel.Anything, *feel.Unary, *feel.Range:
 		return w.form(test)
 	case *feel.NotTests:
 		return w.tests(e.Span, e.Tests, true)
 	}
+	_, literal := test.(*feel.Boolean)
 	value := w.bound.of(test)
-	if !value.maybe(isBoolean) {
+	isPlain := literal || !value.maybe(isBoolean)
+	if isPlain && (!negated || w.isOfOneKind(value)) {
 		return w.form(test)
 	}
 	written := "? = (" + w.form(test) + ")"
 	if value.maybe(isList) {
-		again := w.form(test)
-		written = fmt.Sprintf("%s or (%s) instance of list<Any> and list contains(%s, ?)", written, again, again)
+		written = fmt.Sprintf("%s or (%s) instance of list<Any> and list contains(%s, ?)", written, w.form(test), w.form(test))
 	}
 	if negated {
 		return "((" + written + ") = true)"
 	}
 	return written
+}
+
+// isOfOneKind tells whether a comparison of the input with a value is never unknown: both are of one kind, or one is
+// null; a list that holds the input or not is no comparison.
+func (w *writer) isOfOneKind(value shape) bool {
+	kinds := value.kinds &^ isNull
+	if kinds == 0 || kinds == isList {
+		return true
+	}
+	return kinds&(kinds-1) == 0 && w.input.kinds&^isNull&^kinds == 0
 }
 
 // quote writes a string literal. What may stand for itself in a literal here but not in one of the standard, or not in

@@ -14,6 +14,11 @@ type Schema struct {
 	Enum       []json.RawMessage `json:"enum"`
 	Items      *Schema           `json:"items"`
 	Properties map[string]Schema `json:"properties"`
+	// The ends of a range of numbers.
+	Minimum json.Number `json:"minimum"`
+	Above   json.Number `json:"exclusiveMinimum"`
+	Maximum json.Number `json:"maximum"`
+	Below   json.Number `json:"exclusiveMaximum"`
 }
 
 // kindsOf are the kinds of values of each type of JSON Schema.
@@ -70,19 +75,47 @@ func scalar(s shape) string {
 	return ""
 }
 
-// typeOf is the type of an input, which gets a definition of its own where it is no plain one.
+// scalar is the name of a scalar type where types are written.
+func (p *page) scalar(s shape) string {
+	if !p.Typed {
+		return ""
+	}
+	return scalar(s)
+}
+
+// isNarrowed tells whether the schema has fewer values than its type.
+func (s Schema) isNarrowed() bool {
+	return len(s.Enum) > 0 || s.interval() != ""
+}
+
+// interval is the range of the numbers, where it has two ends; a range of FEEL has no end that is left out.
+func (s Schema) interval() string {
+	low, high := "["+s.Minimum.String(), s.Maximum.String()+"]"
+	if s.Above != "" {
+		low = "(" + s.Above.String()
+	}
+	if s.Below != "" {
+		high = s.Below.String() + ")"
+	}
+	if len(low) == 1 || len(high) == 1 {
+		return ""
+	}
+	return low + ".." + high
+}
+
+// typeOf is the type of an input or a decision, which gets a definition of its own where it is no plain one.
 func (p *page) typeOf(word string) string {
 	schema, typed := p.Types[word]
 	if !typed {
 		return ""
 	}
-	if plain := scalar(schema.shape()); plain != "" && len(schema.Enum) == 0 {
+	if plain := scalar(schema.shape()); plain != "" && !schema.isNarrowed() {
 		return plain
 	}
-	if schema.Items == nil && schema.Properties == nil && len(schema.Enum) == 0 {
+	if schema.Items == nil && schema.Properties == nil && !schema.isNarrowed() {
 		return ""
 	}
-	name := "t " + p.spell(word)
+	name := "t" + p.spell(word)
 	p.types = append(p.types, p.item("itemDefinition", name, schema))
 	return name
 }
@@ -126,6 +159,9 @@ func typeRef(name string) *element {
 // allowed are the values that a type is narrowed to.
 func (p *page) allowed(schema Schema) []*element {
 	var values []string
+	if interval := schema.interval(); interval != "" {
+		values = append(values, interval)
+	}
 	for _, value := range schema.Enum {
 		if literal := string(value); literal != "null" {
 			values = append(values, feelOf(literal))

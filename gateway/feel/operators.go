@@ -106,27 +106,37 @@ func (p *parser) inTests() []Node {
 	return tests
 }
 
-// isRange tells whether the parenthesis at hand opens a range: ".." stands inside it at its own depth.
-func (p *parser) isRange() bool {
-	depth := 0
-	for i := p.at; i < len(p.all); i++ {
-		switch p.spell(p.all[i]) {
+// isRange tells whether the bracket at hand opens a range: ".." stands inside it at its own depth, and no comma before.
+func (p *parser) isRange() bool { return p.ranges[int32(p.at)] }
+
+// rangesOf finds the brackets that open a range, in one walk over the tokens.
+func (p *parser) rangesOf() map[int32]bool {
+	found := map[int32]bool{}
+	var open []int32
+	for i, t := range p.all {
+		if t.kind != sign {
+			continue
+		}
+		last := len(open) - 1
+		switch p.spell(t) {
 		case "(", "[", "{":
-			depth++
+			open = append(open, int32(i))
 		case ")", "]", "}":
-			depth--
+			if last >= 0 {
+				open = open[:last]
+			}
 		case "..":
-			return depth == 1
+			if last >= 0 && open[last] >= 0 {
+				found[open[last]] = true
+			}
 		case ",":
-			if depth == 1 {
-				return false
+			if last >= 0 && !found[open[last]] {
+				// What has a comma first is a list.
+				open[last] = -1
 			}
 		}
-		if depth == 0 {
-			return false
-		}
 	}
-	return false
+	return found
 }
 
 // tests reads tests with commas between them.

@@ -16,6 +16,8 @@ type parser struct {
 	// members are the names that may stand behind a point: those of the components of types and of the entries of
 	// contexts.
 	members *Scope
+	// ranges are the tokens that open a range.
+	ranges map[int32]bool
 	// inEnd tells that the end of a range is read, where "[" may close it.
 	inEnd bool
 }
@@ -36,11 +38,7 @@ func Tests(source string, scope, members *Scope) (tests []Node, fault *Fault) {
 	if p.peekIs(0, "-") && p.all[1].kind == endOfText {
 		return []Node{&Anything{p.spanOf(0)}}, nil
 	}
-	if p.isNotAsAWhole() {
-		p.at = 2
-		inside := p.tests()
-		p.expect(")")
-		p.finish()
+	if inside := p.notAsAWhole(); inside != nil {
 		return []Node{&NotTests{Span{0, len(source)}, inside}}, nil
 	}
 	tests = p.tests()
@@ -56,7 +54,9 @@ func newParser(source string, scope, members *Scope) *parser {
 	if fault != nil {
 		panic(fault)
 	}
-	return &parser{source: source, all: all, scope: scope, members: members}
+	p := &parser{source: source, all: all, scope: scope, members: members}
+	p.ranges = p.rangesOf()
+	return p
 }
 
 // caught answers the fault that a reader stopped with.
@@ -70,27 +70,31 @@ func caught(fault **Fault) {
 	}
 }
 
-// isNotAsAWhole tells whether the text is "not", a parenthesis, and its other half as the last token.
-func (p *parser) isNotAsAWhole() bool {
-	if !p.peekIs(0, "not") || !p.peekIs(1, "(") {
-		return false
+// notAsAWhole reads the tests of a text that is not( tests ) as a whole. It is nil for any other text, which is read from
+// its start then: parentheses can't tell, for those of ranges need no other half.
+func (p *parser) notAsAWhole() (inside []Node) {
+	last := len(p.all) - 2
+	if !p.peekIs(0, "not") || !p.peekIs(1, "(") || p.spell(p.all[last]) != ")" {
+		return nil
 	}
 	if taken, _ := p.scope.longest(p.source, p.all); taken > 0 {
-		return false
+		return nil
 	}
-	depth := 0
-	for i, t := range p.all[1:] {
-		switch p.source[t.start:t.end] {
-		case "(":
-			depth++
-		case ")":
-			depth--
+	var fault *Fault
+	defer func() {
+		if fault != nil {
+			inside = nil
+			p.at, p.depth, p.inEnd = 0, 0, false
 		}
-		if depth == 0 {
-			return p.all[i+2].kind == endOfText
-		}
-	}
-	return false
+	}()
+	defer caught(&fault)
+	scope := p.scope
+	defer func() { p.scope = scope }()
+	p.at = 2
+	inside = p.tests()
+	p.expect(")")
+	p.finish()
+	return inside
 }
 
 func (p *parser) spell(t token) string { return p.source[t.start:t.end] }

@@ -114,6 +114,7 @@ func (p *parser) context() Node {
 	start := p.at
 	p.at++
 	c := &Context{}
+	p.scope = NewScope(p.scope)
 	for !p.is("}") {
 		if len(c.Entries) > 0 {
 			p.expect(",")
@@ -123,7 +124,7 @@ func (p *parser) context() Node {
 		p.expect(":")
 		value := p.expression()
 		c.Entries = append(c.Entries, Entry{p.from(entry), key, value})
-		p.scope = NewScope(p.scope, key)
+		p.scope.Add(key)
 	}
 	p.at++
 	c.Span = p.from(start)

@@ -22,15 +22,15 @@ type Decision struct {
 
 // Service answers the values of its outputs, for values of its input decisions and its input data.
 type Service struct {
-	Name string
+	Name string `json:"name"`
 	// Outputs are decisions, at least one, in the order of the answer.
-	Outputs []string
+	Outputs []string `json:"outputs"`
 	// Encapsulated are decisions that are evaluated and not answered.
-	Encapsulated []string
+	Encapsulated []string `json:"encapsulated"`
 	// InputDecisions are decisions whose values the request brings.
-	InputDecisions []string
+	InputDecisions []string `json:"inputDecisions"`
 	// InputData are inputs.
-	InputData []string
+	InputData []string `json:"inputData"`
 }
 
 // Expression is a boxed expression: a Literal, a List, a Context or a *Table.
@@ -90,13 +90,3 @@ func (Literal) boxed() {}
 func (List) boxed()    {}
 func (Context) boxed() {}
 func (*Table) boxed()  {}
-
-// Decision gives the decision of a name, nil where there is none.
-func (m *Model) Decision(name string) *Decision {
-	for i := range m.Decisions {
-		if m.Decisions[i].Name == name {
-			return &m.Decisions[i]
-		}
-	}
-	return nil
-}

@@ -11,19 +11,12 @@ type (
 	modelForm struct {
 		Inputs    []string       `json:"inputs"`
 		Decisions []decisionForm `json:"decisions"`
-		Services  []serviceForm  `json:"services"`
+		Services  []Service      `json:"services"`
 	}
 	decisionForm struct {
 		Name  string   `json:"name"`
 		Needs []string `json:"needs"`
 		Expr  any      `json:"expr"`
-	}
-	serviceForm struct {
-		Name           string   `json:"name"`
-		Outputs        []string `json:"outputs"`
-		Encapsulated   []string `json:"encapsulated"`
-		InputDecisions []string `json:"inputDecisions"`
-		InputData      []string `json:"inputData"`
 	}
 	listForm struct {
 		List []any `json:"list"`
@@ -57,7 +50,7 @@ type (
 )
 
 // JSON is the model as one line of compact JSON without a newline. Signs such as < stand as they are.
-func (m *Model) JSON() ([]byte, error) {
+func (m Model) JSON() ([]byte, error) {
 	var line bytes.Buffer
 	encoder := json.NewEncoder(&line)
 	encoder.SetEscapeHTML(false)
@@ -68,18 +61,18 @@ func (m *Model) JSON() ([]byte, error) {
 }
 
 // MarshalJSON is JSON, so that a model may stand inside other values.
-func (m *Model) MarshalJSON() ([]byte, error) {
+func (m Model) MarshalJSON() ([]byte, error) {
 	return m.JSON()
 }
 
-func (m *Model) form() modelForm {
-	form := modelForm{Inputs: texts(m.Inputs), Decisions: []decisionForm{}, Services: []serviceForm{}}
+func (m Model) form() modelForm {
+	form := modelForm{Inputs: texts(m.Inputs), Decisions: []decisionForm{}, Services: []Service{}}
 	for _, d := range m.Decisions {
 		form.Decisions = append(form.Decisions, decisionForm{d.Name, texts(d.Needs), formOf(d.Expr)})
 	}
 	for _, s := range m.Services {
 		form.Services = append(form.Services,
-			serviceForm{s.Name, texts(s.Outputs), texts(s.Encapsulated), texts(s.InputDecisions), texts(s.InputData)})
+			Service{s.Name, texts(s.Outputs), texts(s.Encapsulated), texts(s.InputDecisions), texts(s.InputData)})
 	}
 	return form
 }

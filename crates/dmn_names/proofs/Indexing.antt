@@ -63,7 +63,7 @@ a_turn : (i : ℕ) (o : Option ℕ) → from_place i (option_map suc o) ≡ from
 a_turn i None = refl
 a_turn i (Some k) = ap Some (omega arith)
 
-at_place : (xs : List (Bor (List ℕ))) (i : ℕ) (x : Bor (List ℕ)) (n : Name) → x ≡ get_or xs i x → i < length xs
+pub at_place : (xs : List (Bor (List ℕ))) (i : ℕ) (x : Bor (List ℕ)) (n : Name) → x ≡ get_or xs i x → i < length xs
     → place_among (names_in (drop i xs)) n ≡ (if bytes_eq n x.now then Some 0 else option_map suc (place_among (names_in (drop (i + 1) xs)) n))
 at_place xs i x n e w =
     at_drop_more (λ ys. place_among (names_in ys) n) xs i x w

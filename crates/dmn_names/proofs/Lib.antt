@@ -5,5 +5,6 @@ pub mod Strangers
 pub mod Within
 pub mod NamesBack
 pub mod Indexing
+pub mod FirstPlaces
 pub mod Parameters
 pub mod Rising

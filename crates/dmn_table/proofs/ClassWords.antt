@@ -1,17 +1,18 @@
 -- Words that tell which rules a class of values misses.
 use Rattle.std.proofs.Common.{◌≡◌, ◌∙◌, sym, ap, refl, subst, ℕ, zero, suc, ◌⊎◌, ◌+◌, ◌*◌, ◌^◌, ◌%◌, w64, ◌<◌, List, [], ◌∷◌, ◌++◌, length, drop, get_or, true, Option, Some, arith, inl, inr, min, max}
-use Rattle.std.specs.List.{slice_get}
+use Rattle.std.specs.List.{slice_get, All}
 use Rattle.std.specs.Int.{bit_at}
 use denote.Ref.{Bor}
 use Rattle.std.specs.Prelude.{bit_or, bit_and, IfSome}
 use Rattle.std.proofs.lemmas.Bool.{cases_lt}
 use Rattle.std.proofs.lemmas.List.{drop_min, drop-drop}
+use Rattle.std.proofs.lemmas.List.Elements.{All-get_or}
 use Rattle.std.proofs.lemmas.Nat.Bits.{bit_at_set_same, bit_at_set_other, bit_at_and, bit_at_or}
-use Rattle.std.proofs.lemmas.Option.{get_or_from_slice_get, same_Some}
+use Rattle.std.proofs.lemmas.Option.{get_or_from_slice_get, same_Some, slice_get-get_or}
 use Rattle.feel_value.specs.Datum.{Datum}
 use Rattle.feel_value.specs.Limits.{is_value}
 use Rattle.feel_lang.specs.declared.class.Class.{Class}
-use Rattle.dmn_table.specs.Classes.{AreRowsOf, IsBlockWord, IsRowOf, IsUnsetIn, KeepsLimits, MissesAt, TellsBlock, TellsBlocks, TellsColumn, TellsColumns, TellsUnset, TellsWord}
+use Rattle.dmn_table.specs.Classes.{AreRowsOf, IsBlockWord, IsRowOf, IsUnsetIn, KeepsLimits, MissesAt, TellsBlock, TellsBlocks, TellsBreaking, TellsColumn, TellsColumns, TellsRules, TellsUnset, TellsWord}
 use Rattle.dmn_table.specs.declared.classes.BlockWords.{BlockWords}
 use Rattle.dmn_table.specs.declared.classes.ClassRules.{ClassRules}
 use Rattle.dmn_table.specs.declared.classes.ColumnClasses.{ColumnClasses}
@@ -88,6 +89,17 @@ block_told rules column classes old new last rest h more left told =
     told_more (λ w (block : BlockWords). TellsBlock (drop (64 * w) rules) column classes block.words.items) old new last h more
     (subst (λ rs. TellsBlock rs column classes last.words.items) left told)
 
+-- one word more of the rules that may break a limit
+pub breaking_more : (rules : List Rule) (old new : List ℕ) (last : ℕ) (rest : List Rule) → TellsBreaking rules old → new ≡ old ++ last ∷ [] → rest ≡ drop (64 * length old) rules
+    → TellsUnset KeepsLimits rest last → TellsBreaking rules new
+breaking_more rules old new last rest h more left told =
+    told_more (λ w word. TellsUnset KeepsLimits (drop (64 * w) rules) word) old new last h more (subst (λ rs. TellsUnset KeepsLimits rs last) left told)
+
+-- the word of the rules from a place on
+pub breaking_at : (rules : List Rule) (words : List ℕ) (n w : ℕ) (rest : List Rule) → TellsBreaking rules words → n ≡ w → rest ≡ drop (64 * n) rules → w < length words → TellsUnset KeepsLimits rest (get_or words w 0)
+breaking_at rules words n w rest told count left within =
+    subst (λ rs. TellsUnset KeepsLimits rs (get_or words w 0)) (sym (left ∙ ap (λ k. drop (64 * k) rules) count)) (told w (get_or words w 0) (slice_get-get_or words w 0 within))
+
 -- one word more of a class, from a block
 pub from_block_more : (blocks : List BlockWords) (place : ℕ) (old new : List ℕ) (last : ℕ) (block : BlockWords)
     → ((w word : ℕ) → slice_get old w ≡ Some word → (i : ℕ) → i < 64 → bit_at word i ≡ 0 → IsBlockWord blocks place w word) → new ≡ old ++ last ∷ []
@@ -126,6 +138,12 @@ rows_more rules values old new o v h more here lawful told = λ k row there.
             of_class = subst (λ n. IsRowOf rules n v row.now) (sym at.0) row_told;
           }
     ]
+
+-- a row that was looked up among those of a column
+pub row_found : (rules : List Rule) (column : ℕ) (rows seen : List ClassRules) (place : ℕ) (row : ClassRules) → seen ≡ rows → row ≡ get_or seen place row → place < length seen → All (TellsRules rules column) rows
+    → TellsRules rules column row
+row_found rules column rows seen place row same here within told =
+    subst (TellsRules rules column) (sym here) (All-get_or (TellsRules rules column) seen place row within (subst (All (TellsRules rules column)) (sym same) told))
 
 -- one column more
 pub column_more : (rules : List Rule) (old new : List ColumnClasses) (last : ColumnClasses) → TellsColumns rules old → new ≡ old ++ last ∷ [] → TellsColumn rules (length old) last → TellsColumns rules new

@@ -6,25 +6,27 @@ use Rattle.feel_value.specs.declared.feel.Outcome.{Outcome}
 use Rattle.feel_lang.specs.Meaning.{Bindings}
 use Rattle.dmn_table.specs.declared.table.Rule as rule
 use Rattle.feel_value.specs.Found.{◌>>=◌, each, outcome_from}
-use Rattle.dmn_table.specs.Hits.{does_hit, kept, hit_of, values_of}
+use Rattle.dmn_table.specs.Hits.{hits, hit_of, values_of}
 use Rattle.dmn_table.specs.Priority.{Hit}
 use Rattle.dmn_table.specs.Result.{table_result, result_from, policy_result}
 use Rattle.dmn_table.specs.RuleOutputs.{hits_among, rules_view}
 use Rattle.dmn_table.specs.Table.{Rule, Table}
 
--- the outcome of a table by the values of its input expressions, and by the rules that hit
-abbrev by_values : Table → Bindings → Option (List Datum) → Outcome
-by_values t m o = outcome_from (result_from t m) ((o >>= λ values. each (does_hit m values) t.rules >>= λ answers. Some (kept t.rules answers)) >>= λ rules. each (hit_of t.outputs m) rules)
-
+-- the outcome of a table by the rules that hit
 abbrev by_rules : Table → Bindings → Option (List Rule) → Outcome
 by_rules t m o = outcome_from (result_from t m) (o >>= λ rules. each (hit_of t.outputs m) rules)
 
-by_hits : (t : Table) (m : Bindings) (values : List Datum) (o : Option (List Rule)) → Some values ≡ values_of m t.inputs → o ≡ hits_among m values t.rules → by_rules t m o ≡ table_result t m
-by_hits t m values o e f = ap (by_rules t m) f ∙ ap (by_values t m) e
+-- where rules hit, the input expressions have values
+pub values_behind : (t : Table) (m : Bindings) (rules : List Rule) → Some rules ≡ hits t m → (values : List Datum) × (Some rules ≡ hits_among m values t.rules)
+values_behind t m rules e = go (values_of m t.inputs) e
+  where
+    go : (o : Option (List Datum)) → Some rules ≡ (o >>= λ values. hits_among m values t.rules) → (values : List Datum) × (Some rules ≡ hits_among m values t.rules)
+    go None f = cc
+    go (Some values) f = (values, f)
 
-pub by_policy : (t : Table) (m : Bindings) (values : List Datum) (rules : List Rule) → (rules ≡ [] → ⊥) → Some values ≡ values_of m t.inputs → Some rules ≡ hits_among m values t.rules
+pub by_policy : (t : Table) (m : Bindings) (rules : List Rule) → (rules ≡ [] → ⊥) → Some rules ≡ hits t m
     → outcome_from (policy_result t.policy) (each (hit_of t.outputs m) rules) ≡ table_result t m
-by_policy t m values rules some e f = some_hits rules some ∙ by_hits t m values (Some rules) e f
+by_policy t m rules some f = some_hits rules some ∙ ap (by_rules t m) f
   where
     first_hit : (o : Option Hit) (p : Option (List Hit)) → outcome_from (policy_result t.policy) (o >>= λ h. p >>= λ hs. Some (h ∷ hs)) ≡ outcome_from (result_from t m) (o >>= λ h. p >>= λ hs. Some (h ∷ hs))
     first_hit None p = refl

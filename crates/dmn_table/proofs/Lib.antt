@@ -16,6 +16,7 @@ pub mod FirstInPriority
 pub mod FittingHits
 pub mod Unbroken
 pub mod ClassWords
+pub mod OneByOne
 pub mod WordHits
 pub mod Scalars
 pub mod LawfulValues

@@ -37,6 +37,10 @@ TellsUnset P rules word = (i : ℕ) (r : rule.Rule) → i < 64 → slice_get rul
 abbrev pub KeepsLimits : rule.Rule → Type 0
 KeepsLimits r = KeepLimits r.tests.items
 
+-- of these rules, 64 to a word, none breaks a limit whose bit is not set
+abbrev pub TellsBreaking : List rule.Rule → List ℕ → Type 0
+TellsBreaking rules words = (w word : ℕ) → slice_get words w ≡ Some word → TellsUnset KeepsLimits (drop (64 * w) rules) word
+
 -- no entry of the rule breaks a limit, and no value of the class meets the one in this column
 pub record IsPassedOver (class : Class) (column : ℕ) (r : rule.Rule) : Type 0 where
   pub missed : MissesAt class column r

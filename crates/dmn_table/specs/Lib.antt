@@ -10,3 +10,4 @@ pub mod Result
 pub mod Parts
 pub mod View
 pub mod Code
+pub mod Columns

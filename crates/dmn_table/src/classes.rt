@@ -1,10 +1,11 @@
 //! Which rules a value can't hit, told by the class that it has in its column.
-ghost use Rattle.std.specs.Prelude.{◌≡◌, ◌<◌, ℕ, All, List, IfOk, IfSome, IsFalse, Some, slice_get};
+ghost use Rattle.std.specs.Prelude.{◌≡◌, ◌<◌, ℕ, All, List, IfOk, IfSome, IsFalse, IsTrue, true, Some, slice_get};
 ghost use Rattle.std.specs.Int.{bit_at};
 ghost use Rattle.feel_lang.specs.Classes.{is_in_class};
 ghost use Rattle.feel_lang.specs.declared.class.Class.{Class as ClassData};
+ghost use Rattle.feel_value.specs.Datum.{text as text_datum};
 ghost use Rattle.feel_value.specs.View.{datum_of};
-ghost use Rattle.dmn_table.specs.Classes.{AreRowsOf, IsRowOf, IsUnsetIn, KeepsLimits, MissesAt, TellsBlock, TellsBlocks, TellsColumn, TellsColumns, TellsRules, TellsUnset};
+ghost use Rattle.dmn_table.specs.Classes.{AreRowsOf, IsRowOf, IsUnsetIn, KeepsLimits, MissesAt, TellsBlock, TellsBreaking, TellsBlocks, TellsColumn, TellsColumns, TellsRules, TellsUnset};
 ghost use Rattle.dmn_table.specs.declared.table.Rule.{Rule as RuleData};
 
 use crate::table::Rule;
@@ -14,6 +15,9 @@ use std::alloc::{AllocError, Global};
 
 /// The most numbers at which the numbers of a column are cut into classes.
 const MOST_CUTS: usize = 63;
+
+/// The classes of a column before those of texts, but for one for each cut: one more of numbers, null and two of booleans.
+const BEFORE_TEXTS: usize = 4;
 
 /// The rules of a word.
 pub(crate) const WORD: usize = 64;
@@ -49,13 +53,12 @@ pub(crate) struct ColumnClasses {
     rows: Vec<ClassRules>,
 }
 
-/// Whether a value is of a class.
+/// Whether a value that is no text is of a class; false of a text.
 fn is_in(class: Class, value: &Value) -> bool
-    ensures { result ≡ is_in_class class (datum_of value.now) }
+    ensures { IsTrue result → is_in_class class (datum_of value.now) ≡ true }
 {
     match (class, value) {
         (Class::Numbers(low, high), Value::Number(n)) => low <= *n && *n <= high,
-        (Class::Texts(other), Value::Text(text)) => mark(text.as_str()) == other,
         (Class::Truth(other), Value::Bool(holds)) => *holds == other,
         (Class::Null, Value::Null) => true,
         _ => false,
@@ -98,16 +101,31 @@ fn word_of_breaking(rules: &[Rule]) -> u64
     breaking
 }
 
-/// The words of the first 64 of these rules, one for each class.
+/// The bits of the rules an entry of which may break a limit, 64 to a word.
+fn words_of_breaking(alloc: Global, rules: &[Rule]) -> Result<Vec<u64>, AllocError>
+    ensures { IfOk result (λ words. TellsBreaking rules.now words.items) }
+{
+    let mut words = Vec::with_capacity(alloc, rules.len() / WORD + 1)?;
+    let mut rest = rules;
+    while !rest.is_empty() {
+        words.push(word_of_breaking(rest))?;
+        let (_, others) = rest.split_at(WORD.min(rest.len()));
+        rest = others;
+    }
+    Ok(words)
+}
+
+/// The words of the first 64 of these rules, one for each class. An entry of those of the bits `breaking` may break a limit.
 fn block_words(
     alloc: Global,
     rules: &[Rule],
+    breaking: u64,
     column: usize,
     classes: &[Class],
 ) -> Result<BlockWords, AllocError>
+    requires { TellsUnset KeepsLimits rules.now breaking }
     ensures { IfOk result (λ block. TellsBlock rules.now column classes.now block.words.items) }
 {
-    let breaking = word_of_breaking(rules);
     let mut words = Vec::with_capacity(alloc, classes.len())?;
     for class in classes {
         let word = word_for(rules, column, *class) | breaking;
@@ -120,15 +138,17 @@ fn block_words(
 fn blocks_of(
     alloc: Global,
     rules: &[Rule],
+    breaking: &[u64],
     column: usize,
     classes: &[Class],
 ) -> Result<Vec<BlockWords>, AllocError>
+    requires { TellsBreaking rules.now breaking.now }
     ensures { IfOk result (λ blocks. TellsBlocks rules.now column classes.now blocks.items) }
 {
-    let mut all = Vec::with_capacity(alloc, rules.len() / WORD + 1)?;
+    let mut all = Vec::with_capacity(alloc, breaking.len())?;
     let mut rest = rules;
-    while !rest.is_empty() {
-        all.push(block_words(alloc, rest, column, classes)?)?;
+    for word in breaking {
+        all.push(block_words(alloc, rest, *word, column, classes)?)?;
         let (_, others) = rest.split_at(WORD.min(rest.len()));
         rest = others;
     }
@@ -240,9 +260,11 @@ impl ColumnClasses {
     fn of(
         alloc: Global,
         rules: &[Rule],
+        breaking: &[u64],
         column: usize,
         room: usize,
     ) -> Result<ColumnClasses, AllocError>
+        requires { TellsBreaking rules.now breaking.now }
         ensures { IfOk result (TellsColumn rules.now column) }
     {
         let cuts = cuts_of(alloc, rules, column)?;
@@ -250,20 +272,36 @@ impl ColumnClasses {
         if bytes_of(classes.len(), rules.len()) > room {
             classes.clear();
         }
-        let blocks = blocks_of(alloc, rules, column, &classes)?;
+        let blocks = blocks_of(alloc, rules, breaking, column, &classes)?;
         let rows = rows_from(alloc, &blocks, &classes)?;
         Ok(ColumnClasses { cuts, rows })
     }
 
-    /// Where the class of a value stands among the classes.
+    /// Where the class of a value that is no text stands among the classes.
     fn place_of(&self, value: &Value) -> usize {
         let others = self.cuts.len() + 1;
         match value {
             Value::Number(n) => self.cuts.partition_point(|cut| *cut <= *n),
             Value::Null => others,
             Value::Bool(holds) => others + 1 + usize::from(*holds),
-            Value::Text(text) => others + 3 + usize::from(mark(text.as_str())),
-            Value::List(_) | Value::Context(_) => usize::MAX,
+            Value::Text(_) | Value::List(_) | Value::Context(_) => usize::MAX,
+        }
+    }
+
+    /// The class of a text with its rules; none where the column has no classes of texts. The mark of the text is worked out
+    /// where it has some.
+    fn row_of_text(&self, text: &str) -> Option<&ClassRules>
+        ensures { IfSome result (λ row. (rules : List RuleData) (column : ℕ) → TellsColumn rules column self.now → IsRowOf rules column (text_datum text.now) row.now) }
+    {
+        let first = self.cuts.len() + BEFORE_TEXTS;
+        if self.rows.len() <= first {
+            return None;
+        }
+        let mark = mark(text);
+        let row = self.rows.get(first + usize::from(mark))?;
+        match row.class {
+            Class::Texts(other) if other == mark => Some(row),
+            _ => None,
         }
     }
 
@@ -271,6 +309,9 @@ impl ColumnClasses {
     fn row_of(&self, value: &Value) -> Option<&ClassRules>
         ensures { IfSome result (λ row. (rules : List RuleData) (column : ℕ) → TellsColumn rules column self.now → IsRowOf rules column (datum_of value.now) row.now) }
     {
+        if let Value::Text(text) = value {
+            return self.row_of_text(text.as_str());
+        }
         let row = self.rows.get(self.place_of(value))?;
         if is_in(row.class, value) {
             return Some(row);
@@ -290,9 +331,10 @@ pub(crate) fn classes_of_columns(
 {
     let text = count.saturating_mul(ENTRY_TEXT).saturating_add(RULE_TEXT);
     let mut room = rules.len().saturating_mul(text).saturating_mul(8);
+    let breaking = words_of_breaking(alloc, rules)?;
     let mut columns = Vec::with_capacity(alloc, count)?;
     for column in 0..count {
-        let classes = ColumnClasses::of(alloc, rules, column, room)?;
+        let classes = ColumnClasses::of(alloc, rules, &breaking, column, room)?;
         room = room.saturating_sub(bytes_of(classes.rows.len(), rules.len()));
         columns.push(classes)?;
     }

@@ -4,6 +4,7 @@
 
 mod classes;
 mod collected;
+mod columns;
 mod decision;
 mod fault;
 mod hit_policy;

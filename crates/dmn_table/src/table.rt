@@ -8,6 +8,7 @@ ghost use Rattle.dmn_table.specs.Parts.{names_of, entry_counts, fault_of_parts, 
 ghost use Rattle.dmn_table.specs.Unbroken.{KeepLimits, AllKeepLimits};
 
 use crate::classes::{ColumnClasses, classes_of_columns};
+use crate::columns::MOST_KEPT;
 use crate::fault::TableFault;
 use crate::hit_policy::HitPolicy;
 use crate::output::one_or_context;
@@ -182,12 +183,15 @@ impl Table {
     }
 
     /// The same table with the classes of its columns, by which a decision finds the rules that hit without asking each, where it
-    /// has many rules; otherwise it stays as it is. A rule an entry of which may break a limit is always asked. Its value is the
+    /// has many rules and its columns are few; otherwise it stays as it is. A rule an entry of which may break a limit is always asked. Its value is the
     /// same. On an error the table is let go.
     pub fn with_classes(mut self, alloc: Global) -> Result<Table, AllocError>
         ensures { IfOk result (λ t. t ≡ self) }
     {
-        if self.rules.len() < FEWEST_RULES || !self.rules.iter().any(|rule| rule.keeps_limits()) {
+        if self.rules.len() < FEWEST_RULES || self.inputs.len() > MOST_KEPT {
+            return Ok(self);
+        }
+        if !self.rules.iter().any(|rule| rule.keeps_limits()) {
             return Ok(self);
         }
         let classes = classes_of_columns(alloc, &self.rules, self.inputs.len())?;

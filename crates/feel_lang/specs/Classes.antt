@@ -1,5 +1,5 @@
 -- Internal but for `is_in_class`, `mark_of`, `marked` and `same_truth`: classes of values.
-use Rattle.std.specs.Prelude.{◌≡◌, ℕ, ◌+◌, ◌*◌, ◌%◌, List, [], ◌∷◌, int_le, nat_eq, Bool, true, false, ◌&&◌}
+use Rattle.std.specs.Prelude.{◌≡◌, ℕ, ◌+◌, ◌*◌, ◌%◌, List, [], ◌∷◌, length, take, int_le, nat_eq, Bool, true, false, ◌&&◌}
 use Rattle.feel_value.specs.Datum.{Datum, null, boolean, number, text}
 use Rattle.feel_value.specs.Comparison.{equal}
 use Rattle.feel_value.specs.Logic.{is_yes}
@@ -13,8 +13,9 @@ abbrev pub marked : ℕ → List ℕ → ℕ
 marked mark [] = mark
 marked mark (b ∷ bs) = marked ((mark * 31 + b) % 64) bs
 
+-- the mark of a text: of its length and its first 64 bytes
 abbrev pub mark_of : List ℕ → ℕ
-mark_of = marked 0
+mark_of s = marked (length s % 64) (take 64 s)
 
 abbrev pub same_truth : Bool → Bool → Bool
 same_truth true true = true

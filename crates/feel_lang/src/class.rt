@@ -25,13 +25,19 @@ pub enum Class {
     Null,
 }
 
-/// The mark of a text, below `MARKS`: a number that is told by its bytes, and differs for most texts that do.
+/// So many bytes of a text make its mark.
+const MARKED_BYTES: usize = 64;
+
+/// The mark of a text, below `MARKS`: a number that is told by its length and its first 64 bytes, and differs for most texts
+/// that differ in these. The time is constant, however long the text is.
 pub fn mark(text: &str) -> u8
     ensures mark { result ≡ mark_of text.now }
     ensures below { result < 64 }
 {
-    let mut mark: u8 = 0;
-    for byte in text.as_bytes() {
+    let bytes = text.as_bytes();
+    let first = &bytes[..MARKED_BYTES.min(bytes.len())];
+    let mut mark = (bytes.len() % 64) as u8;
+    for byte in first {
         mark = ((u32::from(mark) * 31 + u32::from(*byte)) % 64) as u8;
     }
     mark

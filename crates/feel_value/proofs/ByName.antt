@@ -78,7 +78,7 @@ has_none : (n : List ℕ) (xs : List Entry) → AllByRecursion (λ m. bytes_eq n
 has_none n [] h = refl
 has_none n (x ∷ xs) h = ap₂ (λ a b. a || b) h.0 (has_none n xs h.1)
 
-distinct_names : (xs : List Entry) → names_differ (entries_view xs) ≡ true → IsDistinct bytes_eq (map name_of xs)
+pub distinct_names : (xs : List Entry) → names_differ (entries_view xs) ≡ true → IsDistinct bytes_eq (map name_of xs)
 unfolding IsDistinct
 distinct_names [] h = tt
 distinct_names (x ∷ xs) h =

@@ -10,6 +10,7 @@ pub mod DistinctNames
 pub mod ByName
 pub mod Same
 pub mod Pairs
+pub mod OtherCounts
 pub mod FromJson
 pub mod ToJson
 pub mod CodePoints

@@ -1,5 +1,5 @@
 //! Which values are equal, and which is less.
-ghost use Rattle.std.specs.Prelude.{◌≡◌, ◌&&◌, IfSome};
+ghost use Rattle.std.specs.Prelude.{◌≡◌, ◌&&◌, IfSome, IsTrue, false};
 ghost use Rattle.feel_value.specs.Comparison.{equal as equal_of, less as less_of, items_equal, values_equal as values_match, names_within as has_names, has_entry};
 ghost use Rattle.feel_value.specs.Limits.{has_name as is_name_of};
 ghost use Rattle.feel_value.specs.Names.{lent, same_names, pairs_equal};
@@ -10,15 +10,16 @@ use crate::by_name::{FEW, by_name};
 use crate::feel::Feel;
 use crate::logic::{Truth, decided};
 use crate::names::find;
-use crate::value::Value;
+use crate::value::{Value, ValueContext};
 use std::sync::ArcStr;
 
 /// Whether two values are equal.
 ///
 /// Lists and contexts are compared part by part. Nothing but null is equal to null, and of values of two other kinds the
-/// answer is unknown. The time is linear in the nodes where the entries of two contexts come in one order, or one of the two
-/// has at most 16. Others are put in the order of their names: for `n` entries that takes about `n * log n` comparisons of
-/// names, and memory that is given back. Where the heap has none left each name is looked for, in up to `2 * n * n` comparisons.
+/// answer is unknown. Two contexts with other numbers of entries are told apart in constant time. The time is linear in the
+/// nodes where the entries of two contexts come in one order, or one of the two has at most 16. Others are put in the order of
+/// their names: for `n` entries that takes about `n * log n` comparisons of names, and memory that is given back. Where the heap
+/// has none left each name is looked for, in up to `2 * n * n` comparisons.
 pub fn equal(a: &Feel, b: &Feel) -> Truth
     ensures answer { result ≡ equal_of a.now b.now }
     ensures itself { a.now ≡ b.now → result ≡ Truth.Yes }
@@ -56,10 +57,24 @@ pub(crate) fn same_value(a: &Value, b: &Value) -> Truth
         (Value::Text(x), Value::Text(y)) => decided(x.as_str() == y.as_str()),
         (Value::List(x), Value::List(y)) => decided(same_items(x.values(), y.values())),
         (Value::Context(x), Value::Context(y)) => {
+            if differ_in_count(x, y) {
+                return Truth::No;
+            }
             decided(same_contexts(x.entries_on_heap(), y.entries_on_heap()))
         }
         _ => Truth::Unknown,
     }
+}
+
+// Whether they have other numbers of entries, and the names of each are known to be distinct: then one of them has a name that
+// the other lacks.
+fn differ_in_count(a: &ValueContext, b: &ValueContext) -> bool
+    ensures { IsTrue result → (values_match a.now b.now && has_names b.now a.now) ≡ false }
+{
+    if a.entries().len() == b.entries().len() {
+        return false;
+    }
+    a.size().is_some() && b.size().is_some()
 }
 
 // Whether the lists have one length and equal members.

@@ -1,4 +1,3 @@
 pub mod Reading
-pub mod Numbers
 pub mod Listing
 pub mod Putting

@@ -40,7 +40,7 @@ pub(crate) fn value_from(
 {
     match token {
         Token::String(text) => Ok(Some(Value::String(String::from_str(alloc, text)?))),
-        Token::Number(text) => number_in(alloc, text),
+        Token::Number(text) => Ok(number_in(text)),
         Token::Bool(b) => Ok(Some(Value::Bool(b))),
         Token::Null => Ok(Some(Value::Null)),
         Token::BeginArray if depth == 0 => Ok(None),

@@ -8,9 +8,9 @@ use Rattle.dmn_table.proofs.classes.block_words.Goals as goal
 pub loop-class-preserved : goal.loop-class-preserved
 loop-class-preserved c =
     let words = c.loop-class.words.items in
-    let last = bit_or c.word_for.result c.word_of_breaking-breaking.result in (
+    let last = bit_or c.word_for.result c.args.breaking in (
       omega (arith, ap length c.in_ok-push.ensures.items, length_push words last, c.loop-class.invariant.0),
       class_more c.args.rules.now c.args.column c.args.classes.now words c.push.new.self.items last _ c.loop-class.invariant.1 c.in_ok-push.ensures.items
           (ap (slice_get c.args.classes.now) c.loop-class.invariant.0 ∙ slice_get-get_or c.args.classes.now c.loop-class.class-index _ c.loop-class-test.true)
-          (both_told _ c.args.column c.args.rules.now c.word_for.result c.word_of_breaking-breaking.result last c.word_for.ensures c.word_of_breaking-breaking.ensures refl),
+          (both_told _ c.args.column c.args.rules.now c.word_for.result c.args.breaking last c.word_for.ensures c.requires refl),
     )

@@ -1,15 +1,22 @@
-use Rattle.std.proofs.Common.{◌∙◌, ap, sym, Some, arith, option_map}
+use Rattle.std.proofs.Common.{◌≡◌, drop, get_or, true, false, option_map, ◌==◌, sym, ap, ◌∙◌, arith, take_all, length-drop}
+use Rattle.fast_float.specs.Text.{scan}
 use Rattle.serde_json.specs.Data.{number}
-use Rattle.json_reader.proofs.Numbers.{number_of-parsed, read-number}
+use Rattle.serde_json.specs.Read.{number_of, number_from}
 use Rattle.json_reader.proofs.number.number_in.Goals as goal
 
-pub returns-in-Ok : goal.returns-in-Ok
-returns-in-Ok c =
-    let parsed = c.in-Ok.ensures.value.0 in
-    ap Some c.from.ensures ∙ ap (option_map number) (sym (number_of-parsed c.args.text.now c.in-Ok.n c.requires.number parsed.0.0 parsed.0.1 parsed.1))
+pub returns-then-begins_with_minus : goal.returns-then-begins_with_minus
+unfolding number_of
+returns-then-begins_with_minus c =
+    let s = c.as_bytes-bytes.result.now in
+    let signed : (get_or s 0 0 == 45) ≡ true = sym c.if-begins_with_minus.ensures.value in
+    let parts : c.scan.result ≡ scan (drop 1 s) = c.scan.ensures.parts ∙ ap scan (take_all _ (drop 1 s) (omega (arith, length-drop 1 s))) in
+    let read : number_from true (scan (drop 1 s)) ≡ number_of s = rw signed in
+    c.negative.ensures ∙ ap (option_map number) (ap (number_from true) parts ∙ read ∙ ap number_of c.as_bytes-bytes.ensures.value)
 
-pub returns-in-Ok-from_str : goal.returns-in-Ok-from_str
-returns-in-Ok-from_str c = sym c.in-Ok-from_str.ensures.ok ∙ read-number c.args.text.now c.requires.number
-
-pub returns-in-Err-2 : goal.returns-in-Err-2
-returns-in-Err-2 c = sym (c.in-Err-2.ensures.err (λ m. grind (arith, m, c.is_memory.ensures, c.if-is_memory.false))) ∙ read-number c.args.text.now c.requires.number
+pub returns-else-begins_with_minus : goal.returns-else-begins_with_minus
+unfolding number_of
+returns-else-begins_with_minus c =
+    let s = c.as_bytes-bytes.result.now in
+    let unsigned : (get_or s 0 0 == 45) ≡ false = sym c.if-begins_with_minus.ensures.value in
+    let read : number_from false (scan s) ≡ number_of s = rw unsigned in
+    c.positive.ensures ∙ ap (option_map number) (ap (number_from false) c.scan-else-begins_with_minus.ensures.parts ∙ read ∙ ap number_of c.as_bytes-bytes.ensures.value)

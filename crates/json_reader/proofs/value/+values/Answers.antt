@@ -1,6 +1,5 @@
 use Rattle.std.proofs.Common.{◌≡◌, ◌∙◌, ◌∷◌, [], ◌++◌, ◌-◌, ◌<◌, IfOk, MatchOption, None, Some, ap, ap₂, arith, length, map, rules, string_bytes, subst, sym}
 use Rattle.std.proofs.lemmas.List.{map-append}
-use Rattle.std.proofs.lemmas.Result.{IfOk-weaker}
 use Rattle.json.specs.Token.{Token}
 use Rattle.json.specs.Json.{after_end_array, items, members, parse_map, read_key, value}
 use Rattle.json.specs.Reads.{token_of}
@@ -136,9 +135,7 @@ pub value_from-returns-in-Number-clause-found : goal.value_from-returns-in-Numbe
 value_from-returns-in-Number-clause-found t c =
     let r = c.args.reader.now in
     let is : token_of c.args.token ≡ Token.number c.in-Number.text.now = grind arith in
-    IfOk-weaker c.number_in.result _ _
-    (λ o h. found_as o _ r (value_read c.args.depth (token_of c.args.token ∷ r)) (ap (converted of_json) (ap (λ u. value c.args.depth (u ∷ r)) is ∙ value_is c.args.depth _)) h)
-    c.number_in.ensures
+    found_as c.number_in.result _ r (value_read c.args.depth (token_of c.args.token ∷ r)) (ap (converted of_json) (ap (λ u. value c.args.depth (u ∷ r)) is ∙ value_is c.args.depth _)) c.number_in.ensures
 
 pub value_from-returns-in-Bool-clause-found : goal.value_from-returns-in-Bool-clause-found
 value_from-returns-in-Bool-clause-found t c =

@@ -1,13 +1,16 @@
-use Rattle.std.proofs.Common.{◌≡◌, ◌∙◌, ◌<◌, sym, ap, subst, get_or, length}
-use Rattle.std.proofs.lemmas.List.Elements.{All-get_or}
-use Rattle.dmn_table.specs.Classes.{TellsRules}
+use Rattle.std.proofs.Common.{◌≡◌, ◌∙◌, ℕ, List, IfSome, sym, ap, subst}
+use Rattle.feel_value.specs.Datum.{Datum, text}
+use Rattle.feel_value.specs.View.{datum_of}
+use Rattle.dmn_table.specs.Classes.{IsRowOf, TellsColumn}
+use Rattle.dmn_table.specs.declared.table.Rule as rule
+use Rattle.dmn_table.proofs.ClassWords.{row_found}
 use Rattle.dmn_table.proofs.classes.ColumnClasses.row_of.Goals as goal
 
 pub returns-then-is_in : goal.returns-then-is_in
 returns-then-is_in c = λ rules column told.
-    let rows = c.args.self.now.rows.items in
-    let row = c.in_ok-row.row.now in
-    let place = c.place_of.result in
-    let same : row ≡ get_or rows place row = c.in_ok-row.ensures.lookup.1 ∙ ap (λ xs. get_or xs place row) c.deref.ensures.value in
-    let within : place < length rows = subst (λ xs. place < length xs) c.deref.ensures.value c.in_ok-row.ensures.lookup.3.0 in
-    (sym c.is_in.ensures ∙ c.if-is_in.true, subst (TellsRules rules column) (sym same) (All-get_or (TellsRules rules column) rows place row within told))
+    (c.is_in.ensures c.if-is_in.true, row_found rules column c.args.self.now.rows.items c.deref.result.now _ c.in_ok-row.row.now c.deref.ensures.value c.in_ok-row.ensures.lookup.1 c.in_ok-row.ensures.lookup.3.0 told)
+
+pub returns-in-Text : goal.returns-in-Text
+returns-in-Text c =
+    let same : text c.as_str.result.now ≡ datum_of c.args.value.now = ap text c.as_str.ensures.value ∙ sym (ap datum_of c.in-Text.is) in
+    subst (λ (d : Datum). IfSome c.row_of_text.result (λ row. (rules : List rule.Rule) (column : ℕ) → TellsColumn rules column c.args.self.now → IsRowOf rules column d row.now)) same c.row_of_text.ensures

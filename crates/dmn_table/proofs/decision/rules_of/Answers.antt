@@ -1,0 +1,7 @@
+use Rattle.std.proofs.Common.{sym, subst, IfSome}
+use Rattle.dmn_table.specs.Classes.{TellsColumns}
+use Rattle.dmn_table.proofs.decision.rules_of.Goals as goal
+
+pub rules_that_hit-requires-clause-tell : goal.rules_that_hit-requires-clause-tell
+rules_that_hit-requires-clause-tell c =
+    subst (λ rules. IfSome c.table.inside.classes (λ columns. TellsColumns rules columns.items)) (sym c.deref-3.ensures.value) c.table.invariant.3
