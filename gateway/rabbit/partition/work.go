@@ -251,7 +251,7 @@ func (w *work) greeted(a answer.Answer) error {
 		return errConfused
 	}
 	if w.greeting--; w.greeting == 0 {
-		w.failed = 0
+		w.failed, w.oldest = 0, nil // the time of the first line begins now
 	}
 	return nil
 }
