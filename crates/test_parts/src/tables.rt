@@ -1,9 +1,9 @@
-//! Tables that are refused, each for its own reason; entries behind a miss; rules by classes; and calls while the heap refuses
-//! requests.
+//! Tables that are refused, each for its own reason; entries behind a miss; rules by classes; tables of many columns; and calls
+//! while the heap refuses requests.
 mod classes;
-mod columns;
 mod listed;
 mod memory;
+mod wide;
 
 use crate::logic::{env_of, logic, shown};
 use dmn_logic::Logic;
