@@ -19,7 +19,9 @@ type command struct {
 }
 
 // commands lists what this program does, in the order of the help text.
-var commands = []command{}
+var commands = []command{
+	importCommand, exportCommand, casesCommand, httpCommand, sendCommand, partitionCommand, receiveCommand,
+}
 
 // statusUsage is the exit status of a command line that asks for nothing that there is.
 const statusUsage = 2

@@ -11,13 +11,17 @@ from .reach import Reach
 from .sources import Item, Key
 
 WIDTH = 118
-# The calls of which the page speaks: where each stands, and what it is.
+# The calls of which the page speaks: where each stands, and what it is. A folder stands for all public functions in it.
 CALLS = {
     "Broker::run": ("crates/box_core/src/broker.rt", "a list of events, each reported: the mailboxes and their order"),
     "replay": ("crates/desk_replaying/src/run.rt", "a script of lines, each answered before the next is read"),
     "serve": ("crates/desk_serving/src/run.rt", "many clients at once, with workers in threads"),
+    "explain": ("crates/desk_explaining/src/run.rt", "each line answered with how its result came about"),
+    "dmn_check": ("crates/dmn_check/src/", "each place where a model has a fault, by all calls of the crate"),
+    "check": ("crates/desk_checking/src/model_check.rt", "a model, and what is written of it and of its places"),
     "run_desk": ("crates/desk_commands/src/run.rt", "the program: its words, its streams and its status"),
 }
+LETTERS = "BRSEPCD"
 
 INTRODUCTION = """
 # What has to be believed
@@ -27,8 +31,8 @@ This page is for a reader who wants to know on what the promises of the program 
 
 **What this list is.** A proof shows that a function does what its contract says. It doesn't show that the contract
 says what was meant. That is for a person to judge, by reading the contract and the definitions that it is made of. For
-each of the four main calls this page lists these definitions, down to the words of the toolchain's own library, in an
-order in which they can be read: what is used stands before what uses it, and the lowest crate first.
+each of the main calls this page lists these definitions, down to the words of the toolchain's own library, in an order
+in which they can be read: what is used stands before what uses it, and the lowest crate first.
 
 **Why these and no others.** A contract means what its words mean, and each word is one of these definitions. The
 program's code, its proofs and lemmas need not be read: where code doesn't meet its contract, or a proof is wrong, the
@@ -38,7 +42,8 @@ prover, the compiler, the ported libraries' own statements, and the C library.
 **How to read it.** Take a call's contract, then its list from the top. Lines of `specs/*.antt` are definitions. Lines
 of `src/*.rt` are the types that they speak of, the models by which a contract sees a type, and the traits whose
 clauses say what a reader, a writer or a work is. Begin with `Broker::run`: its list is short, and `replay` and
-`run_desk` use most of it.
+`run_desk` use most of it. `dmn_check` is a crate and no call: its list is that of all its public functions, on which
+`check` rests. The contract of `check` names their definitions for what it writes with `--json` alone.
 
 Where a type and the definitions over it name each other, the type may stand first or last.
 
@@ -81,7 +86,8 @@ name these definitions beside those above.
 
 KIT = """
 These names come from the toolchain's library and from its ported crates, whose folders have their definitions. The
-letters say which calls reach a module: `Broker::run` (B), `replay` (R), `serve` (S), `run_desk` (D).
+letters say which calls reach a module: `Broker::run` (B), `replay` (R), `serve` (S), `explain` (E), `dmn_check` (P),
+`check` (C), `run_desk` (D).
 """
 
 
@@ -126,8 +132,20 @@ class Page:
         self.all: set[Key] = set().union(*self.called.values())
         self.texts: dict[str, list[str]] = {}
 
+    def contracts_of(self, call: str) -> list[Item]:
+        """The contract of a call, or those of all public functions of a crate."""
+        where = CALLS[call][0]
+        if where.endswith(".rt"):
+            return [self.sources.contracts[(where, call)]]
+        public = [item for item in self.sources.public if item.key[0].startswith(where)]
+        return [item for item in public if item.key in self.sources.contracts]
+
+    def roots(self, call: str) -> set[Key]:
+        """What the contracts of a call name."""
+        return set().union(*(item.refs for item in self.contracts_of(call)))
+
     def reached_by(self, call: str) -> set[Key]:
-        return self.reach.closure(self.sources.contracts[(CALLS[call][0], call)].refs)
+        return self.reach.closure(self.roots(call))
 
     def lines_of(self, file: str) -> list[str]:
         if file not in self.texts:
@@ -190,24 +208,25 @@ class Page:
     def totals(self) -> list[str]:
         head = ["## Totals", "", "| Call | Definitions in specs/ | Their lines | Files | All lines of these files |"]
         rows = [f"| `{name}` | {self.count(keys, '.antt').cells()} |" for name, keys in self.called.items()]
-        total = f"| all four | {self.count(self.all, '.antt').cells()} |"
+        total = f"| all | {self.count(self.all, '.antt').cells()} |"
         types = [f"| `{name}` | {self.count(keys, '.rt').cells()} |" for name, keys in self.called.items()]
-        typed = f"| all four | {self.count(self.all, '.rt').cells()} |"
+        typed = f"| all | {self.count(self.all, '.rt').cells()} |"
         below = "| Call | Declarations in src/ | Their lines | Files | All lines of these files |"
         rule = "|---|---|---|---|---|"
         return [*head, rule, *rows, total, "", below, rule, *types, typed]
 
     def call(self, name: str) -> list[str]:
-        file, about = CALLS[name]
-        lines = self.sources.contracts[(file, name)].lines
-        where = f"Its contract: `{file}`, lines {min(lines)}-{max(lines)}."
-        head = [f"## `{name}`: {about}", "", where, ""]
-        return [*head, *self.table(self.called[name])]
+        by_file: dict[str, list[str]] = defaultdict(list)
+        for item in sorted(self.contracts_of(name), key=lambda item: (item.key[0], min(item.lines))):
+            by_file[item.key[0]].append(f"{min(item.lines)}-{max(item.lines)}")
+        places = "; ".join(f"`{short(file)}`, lines {', '.join(lines)}" for file, lines in by_file.items())
+        where = f"{'Its contract' if CALLS[name][0].endswith('.rt') else 'Their contracts'}: {places}."
+        return [f"## `{name}`: {CALLS[name][1]}", "", *wrapped(where, ""), "", *self.table(self.called[name])]
 
     def behind_laws(self) -> set[Key]:
         everything: set[Key] = set()
-        for name, (file, _) in CALLS.items():
-            everything |= self.reach.closure(self.sources.contracts[(file, name)].refs, by_laws=False)
+        for name in CALLS:
+            everything |= self.reach.closure(self.roots(name), by_laws=False)
         return everything - self.all
 
     def behind(self) -> list[str]:
@@ -228,7 +247,7 @@ class Page:
         return lines
 
     def kept(self) -> list[str]:
-        roots = {key for name, (file, _) in CALLS.items() for key in self.sources.contracts[(file, name)].refs}
+        roots = set().union(*(self.roots(name) for name in CALLS))
         keys = self.reach.closure(roots, with_kept=True) - self.all
         count = self.count(keys, "")
         lines = ["## Facts that types keep", *KEPT.rstrip().splitlines(), ""]
@@ -252,7 +271,7 @@ class Page:
                 by_module[module].add(name)
         lines = ["## Words of the kit", *KIT.rstrip().splitlines(), ""]
         for module, names in sorted(by_module.items()):
-            letters = zip("BRSD", self.called.values())
+            letters = zip(LETTERS, self.called.values())
             calls = "".join(letter for letter, keys in letters if any(key[0] == module for key in keys))
             lines += wrapped(f"- `{module}` ({calls}): " + ", ".join(f"`{name}`" for name in sorted(names)))
         return lines

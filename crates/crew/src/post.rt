@@ -1,11 +1,11 @@
 //! One worker's thread, as the others see it.
+ghost use Rattle.std.specs.Prelude.{◌≡◌};
+
 use crate::crew::Crew;
 use box_core::{Done, Job, Work};
 use lanes::{Signals, Stepped, Watch, Woken};
 use std::hint;
 use std::sync::Wait;
-use std::thread::Parker;
-use std::time::Duration;
 
 /// For how many turns a worker that has nothing to do, or can't get rid of what it holds, stays awake.
 const TURNS: u32 = 200;
@@ -14,10 +14,10 @@ const TURNS: u32 = 200;
 const EARLY_TURNS: u32 = 10_000;
 /// How many turns pass between two tries to get rid of what it holds.
 const BETWEEN: u32 = 50;
-/// The first and the longest pause, in microseconds, of a worker that holds what it can't get rid of.
-const FIRST_PAUSE: u64 = 20;
+/// The first and the longest pause, in milliseconds, of a worker that holds a job that was refused memory.
+const FIRST_PAUSE: u64 = 1;
 
-const LONGEST_PAUSE: u64 = 200;
+const LONGEST_PAUSE: u64 = 100;
 
 /// What a worker does.
 #[derive(Clone, Copy, Drop, PartialEq, Eq)]
@@ -36,9 +36,14 @@ pub(crate) struct Post<'a, V> {
     does: Does,
     // For how many turns it stays awake before it sleeps.
     turns: u32,
-    // How long its next pause is.
+    // Whether it holds a job that was refused memory, how often something was freed before that was last tried, and how long its
+    // next pause is.
+    lacks: bool,
+    freed: u64,
     pause: u64,
-    bed: Parker,
+    // The lane of its last answer, and how often that lane's client had taken answers before this one was last tried.
+    lane: u32,
+    takes: u64,
 }
 
 impl<'a, V> Post<'a, V> {
@@ -51,8 +56,11 @@ impl<'a, V> Post<'a, V> {
             signals,
             does: Does::Looks,
             turns: TURNS,
+            lacks: false,
+            freed: 0,
             pause: FIRST_PAUSE,
-            bed: Parker::new(),
+            lane: 0,
+            takes: 0,
         }
     }
 
@@ -70,14 +78,8 @@ impl<'a, V> Post<'a, V> {
             }
             Stepped::Again => hint::spin_loop(),
             Stepped::Idle => self.rest(rt, seen),
-            Stepped::NoMemory => {
-                self.signals.add_refusal();
-                self.pause(rt);
-            }
-            Stepped::RingFull => {
-                self.signals.end_to_post();
-                self.pause(rt);
-            }
+            Stepped::NoMemory => self.await_memory(rt),
+            Stepped::RingFull => self.await_place(rt),
         }
     }
 
@@ -101,25 +103,59 @@ impl<'a, V> Post<'a, V> {
         }
     }
 
-    // It holds what it can't get rid of: it tries again after a few turns, and later after pauses that grow.
-    fn pause<R: Wait>(&mut self, rt: &R) {
+    // It holds an answer for which there was no place: it tries again after a few turns, and later once the client took answers
+    // in. The count of these is read before each try but the first, behind which it stays awake.
+    fn await_place<R: Wait>(&mut self, rt: &R) {
+        self.signals.add_full();
         if self.turns > 0 {
-            self.turns = self.turns.saturating_sub(BETWEEN);
-            for _ in 0..BETWEEN {
-                hint::spin_loop();
-            }
-            return;
+            self.stay_awake();
+        } else {
+            self.signals.await_place(rt, self.lane, self.takes);
         }
-        let pause = self.pause.min(LONGEST_PAUSE);
-        self.bed.park_timeout(rt, Duration::from_micros(pause));
-        self.pause = pause * 2;
+        self.takes = self.signals.takes(self.lane);
     }
 
-    // It looks no more.
-    pub(crate) fn end(&self) {
+    // Some of its turns pass.
+    fn stay_awake(&mut self) {
+        self.turns = self.turns.saturating_sub(BETWEEN);
+        for _ in 0..BETWEEN {
+            hint::spin_loop();
+        }
+    }
+
+    // It holds a job that was refused memory: it tries again after a few turns, and later once something was freed, or after
+    // pauses that grow. What was freed is read before each try but the first, behind which it stays awake.
+    fn await_memory<R: Wait>(&mut self, rt: &R) {
+        if !self.lacks {
+            self.lacks = true;
+            self.signals.begin_to_lack();
+        }
+        self.signals.add_refusal();
+        if self.turns > 0 {
+            self.stay_awake();
+        } else {
+            self.signals.await_memory(rt, self.freed, self.pause);
+            self.pause = LONGEST_PAUSE.min(self.pause.saturating_mul(2));
+        }
+        self.freed = self.signals.freed();
+    }
+
+    // It lacks no memory any more.
+    fn end_to_lack(&mut self)
+        ensures { self.new.watch ≡ self.old.watch }
+    {
+        if self.lacks {
+            self.lacks = false;
+            self.signals.end_to_lack();
+        }
+    }
+
+    // It looks no more, and tries nothing again.
+    pub(crate) fn end(&mut self) {
         if self.does == Does::Looks {
             self.signals.end_to_look();
         }
+        self.end_to_lack();
     }
 }
 
@@ -148,6 +184,9 @@ impl<'a, V: Watch> Watch for Post<'a, V> {
     }
 
     fn leave<W: Work>(&mut self, client: u32, done: &Done<W>) {
+        self.end_to_lack();
+        self.lane = client;
+        self.turns = TURNS;
         self.watch.leave(client, done);
     }
 }

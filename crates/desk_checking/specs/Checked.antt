@@ -1,13 +1,16 @@
 -- How a check ended.
-use Rattle.std.specs.Prelude.{◌≡◌, ◌<◌, ℕ, List, Option, Result, Err, OnOk, IfOk, length}
+use Rattle.std.specs.Prelude.{◌≡◌, ◌≢◌, ◌<◌, ◌++◌, ℕ, List, [], Option, Some, IsUtf8, true, Result, Err, OnOk, IfOk, IfErr, length}
 use Rattle.std.specs.Io.KnownBytes.{Appends, Consumes, IsAtEnd}
+use Rattle.serde_json.specs.Data.{Data}
+use Rattle.serde_json.specs.Read as json
 use Rattle.desk_lines.specs.Device.{Reader, Writer}
 use Rattle.desk_lines.specs.declared.fault.FrontFault.{FrontFault}
 use Rattle.desk_lines.specs.declared.fault.FrontFault.TheVariants.{Long, Read, Write}
 use Rattle.dmn_plan.specs.declared.fault.ModelFault.{ModelFault}
-use Rattle.desk_checking.specs.FirstFault.{IsFirstFault}
+use Rattle.desk_checking.specs.FirstFault.{IsFirstFault, subject}
 use Rattle.desk_checking.specs.Input.{model_text, most_bytes}
-use Rattle.desk_checking.specs.Told.{Begins}
+use Rattle.desk_checking.specs.Placed.{TellsPlaces}
+use Rattle.desk_checking.specs.Told.{Begins, head}
 use Rattle.desk_checking.specs.declared.options.CheckOptions.{CheckOptions}
 
 -- the reader was read to its end, and what it gave has a model with this first fault, or with none
@@ -23,6 +26,27 @@ pub record Tells (options : CheckOptions) (writer writer' : Writer) (fault : Opt
   pub written : Appends writer.contents writer'.contents told
   pub begins : Begins options.json fault told
 
+-- as lines of JSON: the model's fault was written, and behind it the lines of all its places
+pub record TellsAll (options : CheckOptions) (reader reader' : Reader) (writer writer' : Writer) (fault : Option ModelFault) : Type 0 where
+  pub text : List ℕ
+  pub read : Consumes reader.remaining reader'.remaining text
+  pub rest : List ℕ
+  pub written : Appends writer.contents writer'.contents (head true fault ++ rest)
+  pub places : (d : Data) → IsUtf8 (model_text options text) → json.read (model_text options text) ≡ Some d → TellsPlaces (subject d) fault rest
+
+-- a beginning of such a text was written, up to any byte
+pub record TellsInPart (options : CheckOptions) (writer writer' : Writer) (fault : Option ModelFault) : Type 0 where
+  pub told : List ℕ
+  pub untold : List ℕ
+  pub begins : Begins options.json fault (told ++ untold)
+  pub written : Appends writer.contents writer'.contents told
+
+-- the writer failed: the model was read and checked, and a beginning of what it is was written
+pub record Breaks (options : CheckOptions) (reader reader' : Reader) (writer writer' : Writer) : Type 0 where
+  pub fault : Option ModelFault
+  pub finds : Finds options reader reader' fault
+  pub tells : TellsInPart options writer writer' fault
+
 -- more came than is checked
 pub record Overflows (reader reader' : Reader) : Type 0 where
   pub text : List ℕ
@@ -33,8 +57,13 @@ pub record Overflows (reader reader' : Reader) : Type 0 where
 pub record Checked (options : CheckOptions) (reader reader' : Reader) (writer writer' : Writer) (found : Result (Option ModelFault) FrontFault) : Type 0 where
   pub finds : IfOk found (λ fault. Finds options reader reader' fault)
   pub tells : IfOk found (λ fault. Tells options writer writer' fault)
+  pub places : IfOk found (λ fault. options.json ≡ true → TellsAll options reader reader' writer writer' fault)
   pub long : (found ≡ Err Long) → Overflows reader reader'
+  pub cut : (found ≡ Err Write) → Breaks options reader reader' writer writer'
+  pub unwritten : IfErr found (λ e. e ≢ Write → Appends writer.contents writer'.contents [])
   -- A fault of a device is never made up, and none is passed over.
   pub read_only_at_fault : (found ≡ Err Read) → reader.faults < reader'.faults
   pub write_only_at_fault : (found ≡ Err Write) → writer.faults < writer'.faults
   pub ok_without_fault : OnOk found ((reader'.faults ≡ reader.faults) × (writer'.faults ≡ writer.faults))
+  pub write_told : (found ≢ Err Write) → writer'.faults ≡ writer.faults
+  pub read_told : (found ≢ Err Read) → reader'.faults ≡ reader.faults

@@ -1,4 +1,6 @@
 pub mod Input
 pub mod Told
 pub mod FirstFault
+pub mod Placed
+pub mod GoesOn
 pub mod Checked

@@ -48,7 +48,7 @@ pub(crate) fn read_whole<R: Source>(alloc: Global, reader: &mut R) -> Result<Vec
     ensures long { (result ≡ Err FrontFault.Long) → Overflows (R.seen reader.old) (R.seen reader.new) }
     ensures read { (result ≡ Err FrontFault.Read) → (R.seen reader.old).faults < (R.seen reader.new).faults }
     ensures only { IfErr result (λ e. e ≢ FrontFault.Write) }
-    ensures counts { OnOk result ((R.seen reader.new).faults ≡ (R.seen reader.old).faults) }
+    ensures counts { (result ≢ Err FrontFault.Read) → (R.seen reader.new).faults ≡ (R.seen reader.old).faults }
 {
     let mut buffer = vec![in alloc; 0; PIECE]?;
     let mut text = Vec::new(alloc);

@@ -1,10 +1,11 @@
-//! `desk check`: reads one model, and says whether it is lawful, or each place where it is wrong.
+//! `desk check`: reads one model, and says whether it is lawful, or where it is wrong.
 #![tactic(auto)]
 
 mod cut;
 mod faults;
 mod helping;
 mod input;
+mod lines;
 mod model_check;
 mod options;
 mod place_words;

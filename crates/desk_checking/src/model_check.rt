@@ -1,10 +1,14 @@
 //! Checks one model.
-ghost use Rattle.std.specs.Prelude.{◌≡◌, ◌≢◌, ◌<◌, ◌-◌, ◌^◌, None, Some, Err, OnOk, IfOk, IfErr};
+ghost use Rattle.std.specs.Prelude.{◌≡◌, ◌≢◌, ◌++◌, ◌<◌, ◌-◌, ◌^◌, None, Some, Err, OnOk, IfOk, IfErr, IsTrue, IsUtf8, codes, string_bytes};
+ghost use Rattle.std.specs.Io.KnownBytes.{Appends};
+ghost use Rattle.serde_json.specs.Data.{Data};
 ghost use Rattle.serde_json.specs.Read.{read};
 ghost use Rattle.serde_json.specs.View.{view};
 ghost use Rattle.dmn_plan.specs.ReadModel.{read_model};
-ghost use Rattle.desk_checking.specs.Checked.{Checked, Tells};
-ghost use Rattle.desk_checking.specs.FirstFault.{IsFirstFault, fault_in};
+ghost use Rattle.desk_checking.specs.Checked.{Checked, Tells, TellsInPart};
+ghost use Rattle.desk_checking.specs.FirstFault.{IsFirstFault, fault_in, subject as subject_of};
+ghost use Rattle.desk_checking.specs.Placed.{TellsPlaces};
+ghost use Rattle.desk_checking.specs.Told.{head};
 
 use crate::cut::model_and_rest;
 use crate::faults::tell_faults;
@@ -12,7 +16,6 @@ use crate::helping::Subject;
 use crate::input::read_whole;
 use crate::options::CheckOptions;
 use crate::quoted::Members;
-use crate::report::Report;
 use crate::requests::request_notes;
 use crate::shaped::shape_lines;
 use crate::subject::subject;
@@ -32,26 +35,37 @@ struct Verdict {
     rest: String,
 }
 
+/// The rest of the line that has the fault's word.
+fn behind_word(alloc: Global, is_json: bool, fault: ModelFault) -> Result<String, AllocError>
+    ensures { IsTrue is_json → IfOk result (λ text. string_bytes text ≡ codes "\n") }
+{
+    if is_json {
+        return String::from_str(alloc, "\n");
+    }
+    format!(in alloc; "{fault}\n")
+}
+
 /// What is told of a model with this fault, behind its word.
 fn said_of_fault(
     alloc: Global,
     is_json: bool,
     json: &Value,
     fault: ModelFault,
-) -> Result<String, AllocError> {
-    let mut report = Report::new(alloc, is_json);
-    report.begin(fault)?;
+) -> Result<String, AllocError>
+    ensures { IsTrue is_json → IfOk result (λ text. TellsPlaces (view json.now) (Some fault) (string_bytes text)) }
+{
+    let mut text = behind_word(alloc, is_json, fault)?;
     let Some(model) = read_form(alloc, json)? else {
         let lines = shape_lines(alloc, is_json, json)?;
-        report.text.push_str(&lines)?;
-        return Ok(report.text);
+        text.push_str(&lines)?;
+        return Ok(text);
     };
     let subject = Subject {
         json,
         model: &model,
     };
-    tell_faults(alloc, &mut report, subject)?;
-    Ok(report.text)
+    tell_faults(alloc, is_json, subject, &mut text)?;
+    Ok(text)
 }
 
 /// What is told of a lawful model by its parts, what is mostly a mistake, and of the lines of requests behind it.
@@ -89,23 +103,22 @@ fn said_of_lawful(
 
 /// What is told of a text that is no JSON, behind the fault's word: the line and the column at which it stops.
 fn said_of_syntax(alloc: Global, is_json: bool, error: &Error) -> Result<String, AllocError> {
-    let mut report = Report::new(alloc, is_json);
-    report.begin(ModelFault::Syntax)?;
+    let mut text = behind_word(alloc, is_json, ModelFault::Syntax)?;
     let (line, column) = (error.line(), error.column());
     if line == 0 {
-        return Ok(report.text);
+        return Ok(text);
     }
     if !is_json {
-        write!(report.text, "  line {line}, column {column}\n")?;
-        return Ok(report.text);
+        write!(text, "  line {line}, column {column}\n")?;
+        return Ok(text);
     }
     let mut members = Members::new(alloc);
     members.add_text("fault", "syntax")?;
     members.add_number("line", line)?;
     members.add_number("column", column)?;
     let line = members.into_line()?;
-    report.text.push_str(&line)?;
-    Ok(report.text)
+    text.push_str(&line)?;
+    Ok(text)
 }
 
 /// What the model of a JSON value is, with these lines of requests behind it.
@@ -115,7 +128,8 @@ fn check_json(
     json: &Value,
     lines: &[u8],
 ) -> Result<Verdict, AllocError>
-    ensures { IfOk result (λ verdict. verdict.fault ≡ fault_in (read_model (view json.now))) }
+    ensures fault { IfOk result (λ verdict. verdict.fault ≡ fault_in (read_model (view json.now))) }
+    ensures places { IsTrue is_json → IfOk result (λ verdict. TellsPlaces (view json.now) verdict.fault (string_bytes verdict.rest)) }
 {
     match Plan::of(alloc, json) {
         Ok(_) => Ok(Verdict {
@@ -138,7 +152,9 @@ fn check_text(
     text: &[u8],
     lines: &[u8],
 ) -> Result<Verdict, AllocError>
-    ensures { IfOk result (λ verdict. IsFirstFault text.now verdict.fault) }
+    ensures first { IfOk result (λ verdict. IsFirstFault text.now verdict.fault) }
+    ensures places { IsTrue is_json → IfOk result (λ verdict. (d : Data) → IsUtf8 text.now → read text.now ≡ Some d →
+        TellsPlaces (subject_of d) verdict.fault (string_bytes verdict.rest)) }
 {
     match Value::from_slice(alloc, text) {
         Ok(json) => check_json(alloc, is_json, subject(&json), lines),
@@ -158,10 +174,14 @@ fn write_told<W: Sink>(
     writer: &mut W,
 ) -> Result<(), FrontFault>
     requires counts { (W.seen writer.old).faults < 2 ^ 64 - 1 }
+    ensures all { OnOk result (Appends (W.seen writer.old).contents (W.seen writer.new).contents
+        (head options.json verdict.now.fault ++ string_bytes verdict.now.rest)) }
     ensures tells { OnOk result (Tells options (W.seen writer.old) (W.seen writer.new) verdict.now.fault) }
+    ensures cut { (result ≡ Err FrontFault.Write) → TellsInPart options (W.seen writer.old) (W.seen writer.new) verdict.now.fault }
+    ensures unwritten { IfErr result (λ e. e ≢ FrontFault.Write → writer.new ≡ writer.old) }
     ensures only { IfErr result (λ e. (e ≢ FrontFault.Long) × (e ≢ FrontFault.Read)) }
     ensures fault { (result ≡ Err FrontFault.Write) → (W.seen writer.old).faults < (W.seen writer.new).faults }
-    ensures counts { OnOk result ((W.seen writer.new).faults ≡ (W.seen writer.old).faults) }
+    ensures counts { (result ≢ Err FrontFault.Write) → (W.seen writer.new).faults ≡ (W.seen writer.old).faults }
 {
     let told = told_of(alloc, options.json, verdict.fault, &verdict.rest)?;
     write_all(writer, told.as_bytes())
@@ -171,8 +191,8 @@ fn write_told<W: Sink>(
 /// where the options say that lines of requests stand behind it. The model is what stands under the key `model`, or the whole.
 ///
 /// Writes what the model is, as lines of JSON where the options say so. What is written begins with the word of its first fault, or
-/// with that it is lawful. Behind a fault come the places of each fault that is told with places, at most 100 of each; behind
-/// that it is lawful its inputs, decisions and services, what is mostly a mistake, and what is odd in the lines of requests.
+/// with that it is lawful. Behind a fault come the places of it and of later faults, at most 100 of each (of refused tables 100
+/// tables and 100 rules), as far as they are looked for; behind that it is lawful its inputs, decisions and services, what is mostly a mistake, and what is odd in the lines of requests.
 ///
 /// The result is the first fault; None where the model is lawful. The faults of the run are those of `replay`, but that `Long`
 /// comes once more than 64 MiB came.

@@ -1,11 +1,15 @@
 //! Texts in quotes, and objects of JSON.
+ghost use Rattle.std.specs.Prelude.{◌≡◌, IfOk, string_bytes};
+ghost use Rattle.json.specs.Print.{quoted as in_quotes};
 
 use serde_json::Value;
 use std::alloc::{AllocError, Global};
 
 /// A text in quotes, as JSON writes it.
-pub(crate) fn quoted(alloc: Global, text: &str) -> Result<String, AllocError> {
-    Value::String(String::from_str(alloc, text)?).to_string(alloc)
+pub(crate) fn quoted(alloc: Global, text: &str) -> Result<String, AllocError>
+    ensures { IfOk result (λ it. string_bytes it ≡ in_quotes text.now) }
+{
+    Value::try_from_str(alloc, text)?.to_string(alloc)
 }
 
 /// The members of a JSON object, one behind the other.

@@ -15,6 +15,8 @@ module _ (Whole Part : List (List ℕ) → List (List ℕ) → Type 0) (reader r
     read_only_at_fault = λ e. let wrong : ⊥ = cc in absurd wrong;
     write_only_at_fault = λ e. let wrong : ⊥ = cc in absurd wrong;
     ok_without_fault = ran.ok_without_fault;
+    write_told = λ n. ran.write_told (λ e. let wrong : ⊥ = cc in wrong);
+    read_told = λ e. let wrong : ⊥ = cc in absurd wrong;
     long_only_past_limit = λ e. let wrong : ⊥ = cc in absurd wrong;
     ok_within_limit = ran.ok_within_limit;
     read_within_limit = λ e. let wrong : ⊥ = cc in absurd wrong;
@@ -27,6 +29,8 @@ module _ (Whole Part : List (List ℕ) → List (List ℕ) → Type 0) (reader r
     read_only_at_fault = λ e. let is : why ≡ Read = cc in ran.read_only_at_fault (ap Err is);
     write_only_at_fault = λ e. let is : why ≡ Write = cc in ran.write_only_at_fault (ap Err is);
     ok_without_fault = tt;
+    write_told = λ n. ran.write_told (λ e. let is : why ≡ Write = cc in n (ap Err is));
+    read_told = λ e. let is : why ≡ Long = cc in ran.read_told (ap Err is);
     long_only_past_limit = λ e. let is : why ≡ Long = cc in ran.long_only_past_limit (ap Err is);
     ok_within_limit = tt;
     read_within_limit = λ e. let is : why ≡ Read = cc in ran.read_within_limit (ap Err is);

@@ -1,5 +1,5 @@
 -- What the program does with its words, what its status says of that, and what it tells.
-use Rattle.std.specs.Prelude.{◌≡◌, ◌≢◌, ◌⊎◌, ℕ, List, [], codes, Bool, true, false, Option, Some, None, Result, Ok, Err}
+use Rattle.std.specs.Prelude.{◌≡◌, ◌≢◌, ◌⊎◌, ◌<◌, ℕ, List, [], length, codes, Bool, true, false, Option, Some, None, Result, Ok, Err}
 use Rattle.clap.specs.Kinds.{Kinds, IsAmong}
 use Rattle.clap.specs.Words.{first_of}
 use Rattle.clap.specs.declared.error.kind.ErrorKind.{ErrorKind}
@@ -8,7 +8,7 @@ use Rattle.dmn_plan.specs.declared.fault.ModelFault.{ModelFault}
 use Rattle.desk_lines.specs.Device.{Reader, Writer}
 use Rattle.desk_lines.specs.Fault.{fault_word}
 use Rattle.desk_lines.specs.Lines.{ended}
-use Rattle.desk_lines.specs.Ran.{Ran}
+use Rattle.desk_lines.specs.Ran.{Ran, RanAtOnce}
 use Rattle.desk_lines.specs.Told.{IsTold}
 use Rattle.desk_lines.specs.declared.fault.FrontFault.{FrontFault}
 use Rattle.desk_lines.specs.declared.fault.FrontFault.TheVariants.{Memory}
@@ -70,9 +70,10 @@ fault_line why = ended (fault_word why)
 abbrev pub no_utf8_line : List ℕ
 no_utf8_line = ended (codes "error: a word of the command line is not UTF-8")
 
--- some text is told, and nothing is said of which
+-- some text is told that is not empty, and nothing else is said of which
 pub record IsSomethingTold (old new : Writer) : Type 0 where
   pub text : List ℕ
+  pub some : 0 < length text
   pub told : IsTold old new text
 
 -- what is told of how a command ended: a fault on a line of its own, and nothing else
@@ -91,7 +92,7 @@ pub record EndsBy {X : Type 0} (Did : Result X FrontFault → Type 0) (status_by
 
 module _ (reader reader' : Reader) (writer writer' : Writer) where
   abbrev pub Replayed : Result (Unit {0}) FrontFault → Type 0
-  Replayed end = Ran replaying.Script replaying.Script reader reader' writer writer' end
+  Replayed end = RanAtOnce replaying.Script reader reader' writer writer' end
 
   -- with so many lanes
   abbrev pub ServedWith : ℕ → Result (Unit {0}) FrontFault → Type 0
@@ -99,8 +100,8 @@ module _ (reader reader' : Reader) (writer writer' : Writer) where
 
   -- in texts for people, of which nothing is said, or in lines
   abbrev pub Explained : Bool → Result (Unit {0}) FrontFault → Type 0
-  Explained true end = Ran AnyLines AnyLines reader reader' writer writer' end
-  Explained false end = Ran explaining.Script explaining.Script reader reader' writer writer' end
+  Explained true end = RanAtOnce AnyLines reader reader' writer writer' end
+  Explained false end = RanAtOnce explaining.Script reader reader' writer writer' end
 
   module _ (faults faults' : Writer) (status : ℕ) where
     -- what is promised of each command

@@ -35,10 +35,13 @@ Status:
   3  the model that was checked has a fault
 
 Documents, in the repository:
-  README.md      a first run, and a model of one's own
-  docs/LINES.md  every line, its answers, and the status
-  docs/MODEL.md  models and their expressions
-  docs/desk.1    this as a manual page (man -l docs/desk.1)"#;
+  README.md           a first run, and a model of one's own
+  docs/LINES.md       every line, its answers, and the status
+  docs/MODEL.md       models and their expressions
+  docs/OPERATIONS.md  running it: options, systemd, limits, a new model or program, stopping
+  docs/desk.1         this as a manual page (man -l docs/desk.1)
+
+Licence: MIT or Apache-2.0, as you choose (LICENSE, NOTICE)."#;
 
 /// The lines of `replay`.
 pub const REPLAY: &str = r#"Each line is one JSON object:
@@ -69,7 +72,7 @@ pub const SERVE: &str = r#"Each line is one JSON object:
   {"resize":"ann","capacity":3}                    the client has room for three requests
 
 A client's answers come in the order of its lines. Before the program waits for more input, all that
-was asked for is answered.
+was asked for is answered. So a slow request holds up every line that is read after it.
 
 Example:
   desk serve --workers 4 < examples/clients.jsonl
@@ -85,10 +88,11 @@ pub const CHECK: &str =
 serve. With --requests it is the first line, and behind it stand lines of requests as in serve.
 
 Of a lawful model it tells the inputs, the decisions with their kinds, and the services with their
-parameters, and then what is odd in the requests: a name that is no parameter, a parameter that is
-missing, an unknown service, and what is no value. Otherwise it tells the first fault, and for each
-fault the places where the model has it, at most 100 of each. Of a text it tells where its reading
-stops and what could stand there, and what to write in its place, where that is known:
+parameters; then warnings, of what is lawful and mostly a mistake, at most 100 of each kind; and then
+what is odd in the requests, the first 1,000 of these: a name that is no parameter, a parameter that is
+missing, an unknown service, and what is no value. Otherwise it tells the first fault, and the places of
+this fault and of later ones, at most 100 of each (of table 100 tables and 100 rules). Of a text it tells
+where its reading stops and what could stand there, and what to write in its place, where that is known:
 
   expression: a text has no reading
   expression: 1 place
@@ -104,8 +108,8 @@ Examples:
   desk check --json < examples/loan.json
   desk check --requests < examples/clients.jsonl
 
-The status is 0 where the model is lawful, whatever the requests are, 3 where it has a fault, and 1
-where a fault ended the run. Standard error then has one word: read, write, long (more than 64 MiB
+The status is 0 where the model is lawful, whatever the warnings and the requests are, 3 where it has a
+fault, and 1 where a fault ended the run. Standard error then has one word: read, write, long (more than 64 MiB
 came) or memory.
 
 docs/MODEL.md in the repository says what a model is and what each fault means, docs/LINES.md what
@@ -116,8 +120,9 @@ pub const EXPLAIN: &str = r#"Each line is one JSON object, as those of serve:
   {"model":M}                                      a model, in force from the next line on
   {"client":"ann","service":"s","inputs":{"a":4}}  a request
 
-A request is answered by its result, behind what each decision on the way came to: its value, and of a
-table the values of its inputs and the rules that hit, of a list its members, of a context its entries.
+A request is answered by its result, behind the input decisions with what was given for them, and what
+each decision on the way came to: its value, and of a table the values of its inputs and the rules that
+hit, of a list its members, of a context its entries.
 
   {"client":"ann","line":2,"service":"s","decisions":[{"name":"d","value":5}],"result":5}
 

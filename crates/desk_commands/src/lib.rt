@@ -1,4 +1,5 @@
-//! What the program does with its words: it replays, serves, gives help or its version, or tells what is wrong with them.
+//! What the program does with its words: it replays, serves, checks, explains, gives help or its version,
+//! or tells what is wrong with them.
 #![tactic(auto)]
 
 mod command;

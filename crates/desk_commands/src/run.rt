@@ -1,5 +1,5 @@
 //! What the program does with its words, as a function of them and of its streams.
-ghost use Rattle.std.specs.Prelude.{◌≡◌, ◌≢◌, ◌⊎◌, ◌<◌, ◌-◌, ◌^◌, [], None};
+ghost use Rattle.std.specs.Prelude.{◌≡◌, ◌≢◌, ◌⊎◌, ◌<◌, ◌-◌, ◌^◌, [], None, IfOk, string_len};
 ghost use Rattle.std.specs.IoError.{error_kind};
 ghost use Rattle.clap.specs.Words.{kind_of, subcommand_rows_of};
 ghost use Rattle.desk_lines.specs.Told.{IsTold};
@@ -17,7 +17,7 @@ use desk_front::{
     serve, write_all,
 };
 use lanes::OpenGate;
-use std::alloc::Global;
+use std::alloc::{AllocError, Global};
 use std::io::{self, ErrorKind as IoKind};
 use std::sync::Wait;
 use std::thread::Threads;
@@ -165,6 +165,20 @@ fn run_command<T: Threads + Wait + Sync, R: Source, W: Sink, F: Sink>(
     tell_end(replay(alloc, reader, writer), faults)
 }
 
+/// What is said where `clap` has no words.
+const NO_WORDS: &str = "error: desk --help tells how the program is called\n";
+
+/// What is said of words that name no command: the text of `clap`, which is never left empty.
+fn said_of(alloc: Global, error: &Error) -> Result<String, AllocError>
+    ensures { IfOk result (λ text. 0 < string_len text) }
+{
+    let text = error.to_string(alloc)?;
+    if text.is_empty() {
+        return String::from_str(alloc, NO_WORDS);
+    }
+    Ok(text)
+}
+
 /// Tells why the words name no command, or the help or the version that they ask for.
 fn tell_of_command<W: Sink, F: Sink>(
     alloc: Global,
@@ -181,7 +195,7 @@ fn tell_of_command<W: Sink, F: Sink>(
     if error.kind() == ErrorKind::OutOfMemory {
         return tell_fault(FrontFault::Memory, faults);
     }
-    let Ok(text) = error.to_string(alloc) else {
+    let Ok(text) = said_of(alloc, error) else {
         return tell_fault(FrontFault::Memory, faults);
     };
     if error.use_stderr() {

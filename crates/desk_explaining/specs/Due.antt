@@ -2,7 +2,7 @@
 --
 -- It follows from the line's number and from the model in force. Only the order in which an answer tells decisions is left open: it
 -- is any in which each decision stands behind those that it needs.
-use Rattle.std.specs.Prelude.{◌≡◌, ℕ, List, [], ◌∷◌, Option, Some, None, Result, Ok, Err, codes}
+use Rattle.std.specs.Prelude.{◌≡◌, ℕ, List, [], ◌∷◌, length, nat_le, if◌then◌else◌, Option, Some, None, Result, Ok, Err, codes}
 use Rattle.std.specs.List.{zip}
 use Rattle.serde_json.specs.Data.{Data, Items, Members, array, object, member, no_members}
 use Rattle.serde_json.specs.Written.{compact_text}
@@ -15,6 +15,7 @@ use Rattle.dmn_plan.specs.ReadModel.{read_model}
 use Rattle.dmn_plan.specs.Request as plan
 use Rattle.dmn_plan.specs.declared.course.Course.{Course}
 use Rattle.dmn_plan.specs.declared.fault.TaskFault.{TaskFault}
+use Rattle.json_writer.specs.Bounded.{most_bytes}
 use Rattle.dmn_explain.specs.Explanation.{decisions_told}
 use Rattle.desk_wire.specs.Parts.{with_name, with_number, with_word}
 use Rattle.desk_wire.specs.Reading.{Reading, Blank, Long, Syntax, Shape, Says}
@@ -32,12 +33,19 @@ abbrev pub result_told : Outcome → Members
 result_told (Is value) = member (codes "result") (json_of value) no_members
 result_told Limit = with_word (codes "fault") word.Limit no_members
 
--- `{"client":name,"line":k,"service":s,"decisions":[..],"result":V}`, and `"fault":"limit"` in place of the result where a limit was
--- broken
+-- the decisions; where their compact text is over 64 MiB, that they are long
+abbrev pub decisions_or_long : Items → Members → Members
+decisions_or_long decisions rest =
+    if nat_le (length (compact_text (array decisions))) most_bytes
+    then member (codes "decisions") (array decisions) rest
+    else with_word (codes "explained") word.Long rest
+
+-- `{"client":name,"line":k,"service":s,"decisions":[..],"result":V}`, with `"explained":"long"` in place of the decisions where they
+-- are long, and `"fault":"limit"` in place of the result where a limit was broken
 abbrev pub explanation : List ℕ → ℕ → List ℕ → Items → Outcome → Data
 explanation name k service decisions outcome =
     object (with_name (codes "client") name (with_number (codes "line") k (with_name (codes "service") service
-    (member (codes "decisions") (array decisions) (result_told outcome)))))
+    (decisions_or_long decisions (result_told outcome)))))
 
 -- what is told of the decisions on the way to the answer of a request
 pub record AreDecisionsOf (q : plan.Request) (decisions : Items) : Type 0 where

@@ -1,5 +1,5 @@
--- Internal: no public contract cites these words. The line that explains an answer, up to its decisions and from there on.
-use Rattle.std.specs.Prelude.{ℕ, List, ◌++◌, codes, decimal}
+-- Internal: no public contract cites these words. The pieces of the line that explains an answer.
+use Rattle.std.specs.Prelude.{ℕ, List, ◌++◌, codes, decimal, Option, Some, None}
 use Rattle.json.specs.Print.{quoted}
 use Rattle.serde_json.specs.Written.{compact_text}
 use Rattle.feel_value.specs.Json.{json_of}
@@ -10,9 +10,14 @@ use Rattle.feel_value.specs.declared.feel.Outcome.TheVariants.{Is, Limit}
 abbrev pub begin_of : List ℕ → ℕ → List ℕ
 begin_of name k = codes "{\"client\":" ++ (quoted name ++ (codes ",\"line\":" ++ decimal k))
 
--- `{"client":name,"line":k,"service":s,"decisions":`
+-- `{"client":name,"line":k,"service":s`
 abbrev pub head_of : List ℕ → ℕ → List ℕ → List ℕ
-head_of name k service = begin_of name k ++ (codes ",\"service\":" ++ (quoted service ++ codes ",\"decisions\":"))
+head_of name k service = begin_of name k ++ (codes ",\"service\":" ++ quoted service)
+
+-- `,"decisions":[..]`, or `,"explained":"long"` where these grew too long
+abbrev pub middle_of : Option (List ℕ) → List ℕ
+middle_of (Some decisions) = codes ",\"decisions\":" ++ decisions
+middle_of None = codes ",\"explained\":\"long\""
 
 -- `,"result":V}`, or `,"fault":"limit"}` where a limit was broken, with the newline
 abbrev pub tail_of : Outcome → List ℕ

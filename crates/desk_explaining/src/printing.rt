@@ -1,7 +1,7 @@
 //! `explain --text`: the same answers as texts for people.
 ghost use Rattle.std.specs.Prelude.{◌≡◌, ◌<◌, ◌-◌, ◌^◌, ◌++◌, OnOk};
 ghost use Rattle.desk_lines.specs.Lines.{ended};
-ghost use Rattle.desk_lines.specs.Ran.{Ran};
+ghost use Rattle.desk_lines.specs.Ran.{RanAtOnce};
 ghost use Rattle.desk_explaining.specs.Printed.{AnyLines};
 
 use crate::state::State;
@@ -99,7 +99,7 @@ pub fn explain_in_text<R: Source, W: Sink>(
 ) -> Result<(), FrontFault>
     requires read_counts { (R.seen reader.old).faults < 2 ^ 64 - 1 }
     requires write_counts { (W.seen writer.old).faults < 2 ^ 64 - 1 }
-    ensures { Ran AnyLines AnyLines (R.seen reader.old) (R.seen reader.new) (W.seen writer.old) (W.seen writer.new) result }
+    ensures { RanAtOnce AnyLines (R.seen reader.old) (R.seen reader.new) (W.seen writer.old) (W.seen writer.new) result }
 {
     let mut session = Session::new(Printer {
         state: State { plan: None },

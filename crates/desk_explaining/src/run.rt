@@ -1,6 +1,6 @@
 //! `explain`: each line is answered before the next is read.
 ghost use Rattle.std.specs.Prelude.{◌<◌, ◌-◌, ◌^◌};
-ghost use Rattle.desk_lines.specs.Ran.{Ran};
+ghost use Rattle.desk_lines.specs.Ran.{RanAtOnce};
 ghost use Rattle.desk_explaining.specs.Script.{Script};
 
 use crate::state::State;
@@ -17,7 +17,7 @@ pub fn explain<R: Source, W: Sink>(
 ) -> Result<(), FrontFault>
     requires read_counts { (R.seen reader.old).faults < 2 ^ 64 - 1 }
     requires write_counts { (W.seen writer.old).faults < 2 ^ 64 - 1 }
-    ensures { Ran Script Script (R.seen reader.old) (R.seen reader.new) (W.seen writer.old) (W.seen writer.new) result }
+    ensures { RanAtOnce Script (R.seen reader.old) (R.seen reader.new) (W.seen writer.old) (W.seen writer.new) result }
 {
     let mut session = Session::new(State { plan: None });
     answer_at_once(alloc, &mut session, reader, writer)

@@ -1,5 +1,5 @@
 -- How a run ended.
-use Rattle.std.proofs.Common.{◌≡◌, ℕ, ◌<◌, List, Result, Ok, Err, OnOk, IfErr}
+use Rattle.std.proofs.Common.{◌≡◌, ℕ, ◌<◌, List, Result, Ok, Err, OnOk, IfErr, refl}
 use Rattle.desk_lines.specs.Device.{Reader, Writer}
 use Rattle.desk_lines.specs.Ran.{Ran}
 use Rattle.desk_lines.specs.Talk.{EndsAs, IsCut, IsWithin, Replays}
@@ -17,6 +17,8 @@ module _ (Whole Part : List (List ℕ) → List (List ℕ) → Type 0) (reader r
     read_only_at_fault = λ e. let wrong : ⊥ = cc in absurd wrong;
     write_only_at_fault = λ e. failed;
     ok_without_fault = tt;
+    write_told = λ n. absurd (n refl);
+    read_told = λ e. let wrong : ⊥ = cc in absurd wrong;
     long_only_past_limit = λ e. let wrong : ⊥ = cc in absurd wrong;
     ok_within_limit = tt;
     read_within_limit = λ e. let wrong : ⊥ = cc in absurd wrong;
@@ -45,6 +47,8 @@ module _ {Whole Whole' Part Part' : List (List ℕ) → List (List ℕ) → Type
     read_only_at_fault = r.read_only_at_fault;
     write_only_at_fault = r.write_only_at_fault;
     ok_without_fault = r.ok_without_fault;
+    write_told = r.write_told;
+    read_told = r.read_told;
     long_only_past_limit = r.long_only_past_limit;
     ok_within_limit = r.ok_within_limit;
     read_within_limit = r.read_within_limit;

@@ -1,7 +1,7 @@
 //! Lines that are each answered at once.
 ghost use Rattle.std.specs.Prelude.{◌<◌, ◌-◌, ◌^◌, [], ℕ, List, IfOk};
 ghost use Rattle.desk_lines.specs.Answering.{AnswersAtOnce};
-ghost use Rattle.desk_lines.specs.Ran.{Ran};
+ghost use Rattle.desk_lines.specs.Ran.{RanAtOnce};
 ghost use Rattle.desk_lines.specs.Talk.{IsWithin};
 
 use crate::device::{Sink, Source};
@@ -77,7 +77,7 @@ pub fn answer_at_once<R: Source, W: Sink, T: Answerer>(
     requires read_counts { (R.seen reader.old).faults < 2 ^ 64 - 1 }
     requires write_counts { (W.seen writer.old).faults < 2 ^ 64 - 1 }
     requires starts { T.After answerer.old [] [] }
-    ensures { Ran T.Script T.Script
+    ensures { RanAtOnce T.Script
         (R.seen reader.old) (R.seen reader.new) (W.seen writer.old) (W.seen writer.new) result }
 {
     let mut clerk = AtOnce { answerer };

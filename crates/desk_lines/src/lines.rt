@@ -202,7 +202,7 @@ impl LineReader {
             ((R.seen source.old).faults < (R.seen source.new).faults) × (self.new.came ≤ max_input) }
         ensures long { (result ≡ Err FrontFault.Long) → max_input < self.new.came }
         ensures only { IfErr result (λ e. (e ≢ FrontFault.Write) × (e ≢ FrontFault.Memory)) }
-        ensures counts { OnOk result ((R.seen source.new).faults ≡ (R.seen source.old).faults) }
+        ensures counts { (result ≢ Err FrontFault.Read) → (R.seen source.new).faults ≡ (R.seen source.old).faults }
         ensures in_step { StaysInStep (R.seen source.old).came (R.seen source.new).came self.old.came self.new.came }
     {
         if self.came > MAX_INPUT {
@@ -236,7 +236,7 @@ impl LineReader {
             ((R.seen source.old).faults < (R.seen source.new).faults) × (self.new.came ≤ max_input) }
         ensures long { (result ≡ Err FrontFault.Long) → max_input < self.new.came }
         ensures only { IfErr result (λ e. (e ≢ FrontFault.Write) × (e ≢ FrontFault.Memory)) }
-        ensures counts { OnOk result ((R.seen source.new).faults ≡ (R.seen source.old).faults) }
+        ensures counts { (result ≢ Err FrontFault.Read) → (R.seen source.new).faults ≡ (R.seen source.old).faults }
         ensures in_step { StaysInStep (R.seen source.old).came (R.seen source.new).came self.old.came self.new.came }
     {
         if self.at < self.end {
@@ -287,7 +287,7 @@ impl LineReader {
             ((R.seen source.old).faults < (R.seen source.new).faults) × (self.new.came ≤ max_input) }
         ensures long { (result ≡ Err FrontFault.Long) → max_input < self.new.came }
         ensures never { result ≢ Err FrontFault.Write }
-        ensures counts { OnOk result ((R.seen source.new).faults ≡ (R.seen source.old).faults) }
+        ensures counts { (result ≢ Err FrontFault.Read) → (R.seen source.new).faults ≡ (R.seen source.old).faults }
         ensures in_step { StaysInStep (R.seen source.old).came (R.seen source.new).came self.old.came self.new.came }
     {
         line.clear();

@@ -43,11 +43,11 @@ pub trait Clerk {
         ensures same { kept self.new ≡ kept self.old }
         ensures keeps { IsWithin (Script self.new) (Script self.old) }
         ensures answers { IfOk result (λ text. Answers (After self.old) (Script self.old) (After self.new) line.now number
-            (W.seen writer.old).contents (W.seen writer.new).contents unwritten.old.bytes.items unwritten.new.bytes.items text.items) }
+            (W.seen writer.old).contents (W.seen writer.new).contents unwritten.old unwritten.new text.items) }
         ensures write { (result ≡ Err FrontFault.Write) → (unsaid : List ℕ) × SaysMore (After self.old) (Script self.old)
-            (W.seen writer.old).contents (W.seen writer.new).contents unwritten.old.bytes.items unsaid }
+            (W.seen writer.old).contents (W.seen writer.new).contents unwritten.old unsaid }
         ensures memory { (result ≡ Err FrontFault.Memory) → SaysMore (After self.old) (Script self.old)
-            (W.seen writer.old).contents (W.seen writer.new).contents unwritten.old.bytes.items unwritten.new.bytes.items }
+            (W.seen writer.old).contents (W.seen writer.new).contents unwritten.old unwritten.new }
         ensures only { IfErr result (λ e. (e ≢ FrontFault.Read) × (e ≢ FrontFault.Long)) }
         ensures fault { (result ≡ Err FrontFault.Write) → (W.seen writer.old).faults < (W.seen writer.new).faults }
         ensures counts { (result ≢ Err FrontFault.Write) → (W.seen writer.new).faults ≡ (W.seen writer.old).faults };
@@ -63,11 +63,11 @@ pub trait Clerk {
         ensures same { kept self.new ≡ kept self.old }
         ensures keeps { IsWithin (Script self.new) (Script self.old) }
         ensures said { OnOk result (SaysMore (After self.old) (After self.new)
-            (W.seen writer.old).contents (W.seen writer.new).contents unwritten.old.bytes.items unwritten.new.bytes.items) }
+            (W.seen writer.old).contents (W.seen writer.new).contents unwritten.old unwritten.new) }
         ensures write { (result ≡ Err FrontFault.Write) → (unsaid : List ℕ) × SaysMore (After self.old) (Script self.old)
-            (W.seen writer.old).contents (W.seen writer.new).contents unwritten.old.bytes.items unsaid }
+            (W.seen writer.old).contents (W.seen writer.new).contents unwritten.old unsaid }
         ensures memory { (result ≡ Err FrontFault.Memory) → SaysMore (After self.old) (Script self.old)
-            (W.seen writer.old).contents (W.seen writer.new).contents unwritten.old.bytes.items unwritten.new.bytes.items }
+            (W.seen writer.old).contents (W.seen writer.new).contents unwritten.old unwritten.new }
         ensures only { IfErr result (λ e. (e ≢ FrontFault.Read) × (e ≢ FrontFault.Long)) }
         ensures fault { (result ≡ Err FrontFault.Write) → (W.seen writer.old).faults < (W.seen writer.new).faults }
         ensures counts { (result ≢ Err FrontFault.Write) → (W.seen writer.new).faults ≡ (W.seen writer.old).faults };
@@ -94,11 +94,11 @@ fn answer_line<W: Sink, C: Clerk>(
         C.After clerk.old lines said → line.now ≡ kept_line it → number ≡ length lines + 1 →
         (more : List (List ℕ)) × C.After clerk.new (lines ++ it ∷ []) (said ++ more)
         × Gathers (W.seen writer.old).contents (W.seen writer.new).contents
-        unwritten.old.bytes.items (flat_map ended more) unwritten.new.bytes.items) }
+        unwritten.old (flat_map ended more) unwritten.new) }
     ensures write { (result ≡ Err FrontFault.Write) → (unsaid : List ℕ) × SaysInPart (C.After clerk.old) (C.Script clerk.old) line.now number
-        (W.seen writer.old).contents (W.seen writer.new).contents unwritten.old.bytes.items unsaid }
+        (W.seen writer.old).contents (W.seen writer.new).contents unwritten.old unsaid }
     ensures memory { (result ≡ Err FrontFault.Memory) → SaysInPart (C.After clerk.old) (C.Script clerk.old) line.now number
-        (W.seen writer.old).contents (W.seen writer.new).contents unwritten.old.bytes.items unwritten.new.bytes.items }
+        (W.seen writer.old).contents (W.seen writer.new).contents unwritten.old unwritten.new }
     ensures only { IfErr result (λ e. (e ≢ FrontFault.Read) × (e ≢ FrontFault.Long)) }
     ensures fault { (result ≡ Err FrontFault.Write) → (W.seen writer.old).faults < (W.seen writer.new).faults }
     ensures counts { (result ≢ Err FrontFault.Write) → (W.seen writer.new).faults ≡ (W.seen writer.old).faults }
@@ -119,12 +119,12 @@ fn before_read<W: Sink, C: Clerk>(
     ensures same { C.kept clerk.new ≡ C.kept clerk.old }
     ensures keeps { IsWithin (C.Script clerk.new) (C.Script clerk.old) }
     ensures said { OnOk result (SaysMore (C.After clerk.old) (C.After clerk.new)
-        (W.seen writer.old).contents (W.seen writer.new).contents unwritten.old.bytes.items unwritten.new.bytes.items) }
+        (W.seen writer.old).contents (W.seen writer.new).contents unwritten.old unwritten.new) }
     ensures write { (result ≡ Err FrontFault.Write) → (unsaid : List ℕ) × SaysMore (C.After clerk.old) (C.Script clerk.old)
-        (W.seen writer.old).contents (W.seen writer.new).contents unwritten.old.bytes.items unsaid }
+        (W.seen writer.old).contents (W.seen writer.new).contents unwritten.old unsaid }
     ensures memory { (result ≡ Err FrontFault.Memory) → SaysMore (C.After clerk.old) (C.Script clerk.old)
-        (W.seen writer.old).contents (W.seen writer.new).contents unwritten.old.bytes.items unwritten.new.bytes.items }
-    ensures nothing_waits { OnOk result (has_newline lines.now ≡ false → unwritten.new.bytes.items ≡ []) }
+        (W.seen writer.old).contents (W.seen writer.new).contents unwritten.old unwritten.new }
+    ensures nothing_waits { OnOk result (has_newline lines.now ≡ false → unwritten.new ≡ []) }
     ensures only { IfErr result (λ e. (e ≢ FrontFault.Read) × (e ≢ FrontFault.Long)) }
     ensures fault { (result ≡ Err FrontFault.Write) → (W.seen writer.old).faults < (W.seen writer.new).faults }
     ensures counts { (result ≢ Err FrontFault.Write) → (W.seen writer.new).faults ≡ (W.seen writer.old).faults }
@@ -147,22 +147,22 @@ fn answer_each<R: Source, W: Sink, C: Clerk>(
     requires read_counts { (R.seen reader.old).faults < 2 ^ 64 - 1 }
     requires write_counts { (W.seen writer.old).faults < 2 ^ 64 - 1 }
     requires starts { C.After clerk.old [] [] }
-    requires nothing_waits { unwritten.old.bytes.items ≡ [] }
+    requires nothing_waits { unwritten.old ≡ [] }
 
     ensures ok { OnOk result (Ended (Replays (C.After clerk.new) (R.seen reader.old).remaining (R.seen reader.new).remaining)
-        (W.seen writer.old).contents (W.seen writer.new).contents unwritten.new.bytes.items) }
+        (W.seen writer.old).contents (W.seen writer.new).contents unwritten.new) }
 
     ensures fault { IfErr result (λ e. e ≢ FrontFault.Write → Ended
         (λ wrote wrote_new. EndsAs (C.After clerk.new) (C.Script clerk.old)
         (R.seen reader.old).remaining (R.seen reader.new).remaining wrote wrote_new e)
-        (W.seen writer.old).contents (W.seen writer.new).contents unwritten.new.bytes.items) }
+        (W.seen writer.old).contents (W.seen writer.new).contents unwritten.new) }
 
     ensures cut { (result ≡ Err FrontFault.Write) → IsCut (C.Script clerk.old) (R.seen reader.old).remaining (R.seen reader.new).remaining
         (W.seen writer.old).contents (W.seen writer.new).contents }
 
     ensures read_only_at_fault { (result ≡ Err FrontFault.Read) → (R.seen reader.old).faults < (R.seen reader.new).faults }
     ensures write_only_at_fault { (result ≡ Err FrontFault.Write) → (W.seen writer.old).faults < (W.seen writer.new).faults }
-    ensures reads { OnOk result ((R.seen reader.new).faults ≡ (R.seen reader.old).faults) }
+    ensures reads { (result ≢ Err FrontFault.Read) → (R.seen reader.new).faults ≡ (R.seen reader.old).faults }
     ensures writes { (result ≢ Err FrontFault.Write) → (W.seen writer.new).faults ≡ (W.seen writer.old).faults }
 
     ensures same { C.kept clerk.new ≡ C.kept clerk.old }
@@ -207,6 +207,7 @@ pub fn answer_lines<R: Source, W: Sink, C: Clerk>(
         (R.seen reader.old) (R.seen reader.new) (W.seen writer.old) (W.seen writer.new) result }
     ensures same { C.kept clerk.new ≡ C.kept clerk.old }
     ensures writes { (result ≢ Err FrontFault.Write) → (W.seen writer.new).faults ≡ (W.seen writer.old).faults }
+    ensures memory { (result ≡ Err FrontFault.Memory) → (R.seen reader.new).faults ≡ (R.seen reader.old).faults }
 {
     let mut unwritten = Unwritten::new(alloc);
     let ended = answer_each(alloc, clerk, reader, writer, &mut unwritten);

@@ -6,6 +6,7 @@ ghost use Rattle.desk_lines.specs.Told.{WritesAll};
 use crate::device::Sink;
 use crate::fault::FrontFault;
 use std::alloc::Global;
+use std::marker::Model;
 
 /// The number of bytes from which on they are written.
 const PIECE: usize = 65_536;
@@ -32,10 +33,16 @@ pub struct Unwritten {
     bytes: Vec<u8>,
 }
 
+impl Model for Unwritten {
+    ghost Value = { List ℕ };
+
+    ghost view = { λ unwritten. unwritten.bytes.items };
+}
+
 impl Unwritten {
     /// Nothing that waits.
     pub fn new(alloc: Global) -> Self
-        ensures { result.bytes.items ≡ [] }
+        ensures { result ≡ [] }
     {
         Unwritten {
             bytes: Vec::new(alloc),
@@ -44,14 +51,14 @@ impl Unwritten {
 
     /// Whether nothing waits.
     pub fn is_empty(&self) -> bool
-        ensures { IsTrue result ↔ (self.now.bytes.items ≡ []) }
+        ensures { IsTrue result ↔ (self.now ≡ []) }
     {
         self.bytes.is_empty()
     }
 
     /// Whether all that waits is written once a text is added.
     pub fn is_full_with(&self, text: &[u8]) -> bool
-        ensures { IsTrue result ↔ (65536 ≤ length self.now.bytes.items + length text.now) }
+        ensures { IsTrue result ↔ (65536 ≤ length self.now + length text.now) }
     {
         text.len() >= PIECE.saturating_sub(self.bytes.len())
     }
@@ -60,10 +67,10 @@ impl Unwritten {
     pub fn write_out<W: Sink>(&mut self, writer: &mut W) -> Result<(), FrontFault>
         requires counts { (W.seen writer.old).faults < 2 ^ 64 - 1 }
         ensures all { OnOk result (Gathers
-            (W.seen writer.old).contents (W.seen writer.new).contents self.old.bytes.items [] self.new.bytes.items) }
-        ensures nothing_waits { OnOk result (self.new.bytes.items ≡ []) }
+            (W.seen writer.old).contents (W.seen writer.new).contents self.old [] self.new) }
+        ensures nothing_waits { OnOk result (self.new ≡ []) }
         ensures part { OnErr result ((rest : List ℕ) × Gathers
-            (W.seen writer.old).contents (W.seen writer.new).contents self.old.bytes.items [] rest) }
+            (W.seen writer.old).contents (W.seen writer.new).contents self.old [] rest) }
         ensures counts { OnOk result ((W.seen writer.new).faults ≡ (W.seen writer.old).faults) }
         ensures fault { IfErr result (λ e. (e ≡ FrontFault.Write) × ((W.seen writer.old).faults < (W.seen writer.new).faults)) }
     {
@@ -76,12 +83,12 @@ impl Unwritten {
     pub fn add<W: Sink>(&mut self, writer: &mut W, text: &[u8]) -> Result<(), FrontFault>
         requires counts { (W.seen writer.old).faults < 2 ^ 64 - 1 }
         ensures said { OnOk result (Gathers
-            (W.seen writer.old).contents (W.seen writer.new).contents self.old.bytes.items text.now self.new.bytes.items) }
-        ensures full { 65536 ≤ length self.old.bytes.items + length text.now → OnOk result (self.new.bytes.items ≡ []) }
+            (W.seen writer.old).contents (W.seen writer.new).contents self.old text.now self.new) }
+        ensures full { 65536 ≤ length self.old + length text.now → OnOk result (self.new ≡ []) }
         ensures part { (result ≡ Err FrontFault.Write) → (rest : List ℕ) × Gathers
-            (W.seen writer.old).contents (W.seen writer.new).contents self.old.bytes.items text.now rest }
+            (W.seen writer.old).contents (W.seen writer.new).contents self.old text.now rest }
         ensures memory { (result ≡ Err FrontFault.Memory) → Gathers
-            (W.seen writer.old).contents (W.seen writer.new).contents self.old.bytes.items [] self.new.bytes.items }
+            (W.seen writer.old).contents (W.seen writer.new).contents self.old [] self.new }
         ensures only { IfErr result (λ e. (e ≢ FrontFault.Read) × (e ≢ FrontFault.Long)) }
         ensures counts { (result ≢ Err FrontFault.Write) → (W.seen writer.new).faults ≡ (W.seen writer.old).faults }
         ensures fault { (result ≡ Err FrontFault.Write) → (W.seen writer.old).faults < (W.seen writer.new).faults }
@@ -97,13 +104,13 @@ impl Unwritten {
     pub fn pass_on<W: Sink>(&mut self, writer: &mut W, text: &[u8]) -> Result<(), FrontFault>
         requires counts { (W.seen writer.old).faults < 2 ^ 64 - 1 }
         ensures said { OnOk result (Gathers
-            (W.seen writer.old).contents (W.seen writer.new).contents self.old.bytes.items text.now self.new.bytes.items) }
-        ensures out { text.now ≡ [] → OnOk result (self.new.bytes.items ≡ []) }
-        ensures full { 65536 ≤ length self.old.bytes.items + length text.now → OnOk result (self.new.bytes.items ≡ []) }
+            (W.seen writer.old).contents (W.seen writer.new).contents self.old text.now self.new) }
+        ensures out { text.now ≡ [] → OnOk result (self.new ≡ []) }
+        ensures full { 65536 ≤ length self.old + length text.now → OnOk result (self.new ≡ []) }
         ensures part { (result ≡ Err FrontFault.Write) → (rest : List ℕ) × Gathers
-            (W.seen writer.old).contents (W.seen writer.new).contents self.old.bytes.items text.now rest }
+            (W.seen writer.old).contents (W.seen writer.new).contents self.old text.now rest }
         ensures memory { (result ≡ Err FrontFault.Memory) → Gathers
-            (W.seen writer.old).contents (W.seen writer.new).contents self.old.bytes.items [] self.new.bytes.items }
+            (W.seen writer.old).contents (W.seen writer.new).contents self.old [] self.new }
         ensures only { IfErr result (λ e. (e ≢ FrontFault.Read) × (e ≢ FrontFault.Long)) }
         ensures counts { (result ≢ Err FrontFault.Write) → (W.seen writer.new).faults ≡ (W.seen writer.old).faults }
         ensures fault { (result ≡ Err FrontFault.Write) → (W.seen writer.old).faults < (W.seen writer.new).faults }

@@ -1,6 +1,6 @@
 //! `replay`: each line is answered before the next is read.
 ghost use Rattle.std.specs.Prelude.{◌<◌, ◌-◌, ◌^◌};
-ghost use Rattle.desk_lines.specs.Ran.{Ran};
+ghost use Rattle.desk_lines.specs.Ran.{RanAtOnce};
 ghost use Rattle.desk_replaying.specs.Script.{Script};
 
 use crate::state::State;
@@ -16,7 +16,7 @@ pub fn replay<R: Source, W: Sink>(
 ) -> Result<(), FrontFault>
     requires read_counts { (R.seen reader.old).faults < 2 ^ 64 - 1 }
     requires write_counts { (W.seen writer.old).faults < 2 ^ 64 - 1 }
-    ensures { Ran Script Script (R.seen reader.old) (R.seen reader.new) (W.seen writer.old) (W.seen writer.new) result }
+    ensures { RanAtOnce Script (R.seen reader.old) (R.seen reader.new) (W.seen writer.old) (W.seen writer.new) result }
 {
     let mut session = Session::new(State::new(alloc));
     answer_at_once(alloc, &mut session, reader, writer)

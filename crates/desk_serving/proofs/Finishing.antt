@@ -105,11 +105,17 @@ module _ {R : Type 0} (old : Lanes) (state : State R) (clients : ℕ) (begun : l
   fails_by fault (inr (inr (was, inr h))) is quiet fails same =
       subst (λ (w : Writer). writer.faults < w.faults) (sym (same h.0)) (ran.write_only_at_fault (was ∙ ap (failed (Unit {0})) is))
 
+  -- where the writer doesn't fail at the end, it didn't before
+  not_before : (fault : FrontFault) → FinishesBy (names_in state.lanes) (lanes_in state.lanes) mid.contents writer'.contents ended fault → fault ≢ Write → ended ≢ Err Write
+  not_before fault (inl h) n = absurd (n h.1)
+  not_before fault (inr (inl h)) n = (goes_without ended h.0).0
+  not_before fault (inr (inr h)) n = λ w. n (err_is fault Write (sym h.0 ∙ w))
+
   -- what a whole run comes to
   pub served_ran : {X : Type 0} (ends_in : X → List (SettledEnd Request Outcome)) (result : Result X FrontFault) → ((ended ≢ Err Write) → mid.faults ≡ writer.faults)
       → IfOk result (λ ends. (ended ≡ Ok tt) × IsHandedOut (names_in state.lanes) (lanes_in state.lanes) mid.contents writer'.contents (ends_in ends))
       → IfErr result (FinishesBy (names_in state.lanes) (lanes_in state.lanes) mid.contents writer'.contents ended)
-      → OnOk result (writer'.faults ≡ mid.faults) → (GoesOn ended → result ≡ Err Write → mid.faults < writer'.faults) → (¬ GoesOn ended → writer' ≡ mid)
+      → (result ≢ Err Write → writer'.faults ≡ mid.faults) → (GoesOn ended → result ≡ Err Write → mid.faults < writer'.faults) → (¬ GoesOn ended → writer' ≡ mid)
       → Ran (Served clients) (ServedInPart clients) reader reader' writer writer' result
   served_ran ends_in (Ok ends) quiet ok err counts fails same =
       let was : ended ≡ Ok tt = ok.0 in
@@ -119,7 +125,9 @@ module _ {R : Type 0} (old : Lanes) (state : State R) (clients : ℕ) (begun : l
         fault = tt;
         read_only_at_fault = λ e. let wrong : ⊥ = cc in absurd wrong;
         write_only_at_fault = λ e. let wrong : ⊥ = cc in absurd wrong;
-        ok_without_fault = (faults.0, counts ∙ faults.1);
+        ok_without_fault = (faults.0, counts (λ e. cc) ∙ faults.1);
+        write_told = λ n. counts n ∙ faults.1;
+        read_told = λ e. let wrong : ⊥ = cc in absurd wrong;
         long_only_past_limit = λ e. let wrong : ⊥ = cc in absurd wrong;
         ok_within_limit = subst (λ r. OnOk r (reader'.came ≤ reader.came + max_input)) was ran.ok_within_limit;
         read_within_limit = λ e. let wrong : ⊥ = cc in absurd wrong;
@@ -134,6 +142,8 @@ module _ {R : Type 0} (old : Lanes) (state : State R) (clients : ℕ) (begun : l
         read_only_at_fault = λ e. ran.read_only_at_fault (of_reader Read (λ w. cc) (λ m. cc) e);
         write_only_at_fault = λ e. fails_by fault err (err_is fault Write e) quiet (λ goes. fails goes e) same;
         ok_without_fault = tt;
+        write_told = λ n. counts n ∙ quiet (not_before fault err (λ w. n (ap (failed X) w)));
+        read_told = λ e. ran.read_told (of_reader Long (λ w. cc) (λ m. cc) e);
         long_only_past_limit = λ e. ran.long_only_past_limit (of_reader Long (λ w. cc) (λ m. cc) e);
         ok_within_limit = tt;
         read_within_limit = λ e. ran.read_within_limit (of_reader Read (λ w. cc) (λ m. cc) e);

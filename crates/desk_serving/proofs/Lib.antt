@@ -1,4 +1,5 @@
 pub mod ServedLaws
+pub mod OwnLines
 pub mod Owing
 pub mod Standing
 pub mod Replying

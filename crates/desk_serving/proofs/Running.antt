@@ -75,13 +75,15 @@ err_is x y h = cc
 
 -- memory was refused
 pub ran_stopped : (Whole Part : List (List ℕ) → List (List ℕ) → Type 0) (reader reader' : Reader) (writer writer' : Writer) {X : Type 0}
-    → Stops Part reader.remaining reader'.remaining writer.contents writer'.contents → Ran Whole Part reader reader' writer writer' (failed X Memory)
-ran_stopped Whole Part reader reader' writer writer' stops = record {
+    → Stops Part reader.remaining reader'.remaining writer.contents writer'.contents → writer'.faults ≡ writer.faults → Ran Whole Part reader reader' writer writer' (failed X Memory)
+ran_stopped Whole Part reader reader' writer writer' stops quiet = record {
   ok = tt;
   fault = stops;
   read_only_at_fault = λ e. let wrong : ⊥ = cc in absurd wrong;
   write_only_at_fault = λ e. let wrong : ⊥ = cc in absurd wrong;
   ok_without_fault = tt;
+  write_told = λ _. quiet;
+  read_told = λ e. let wrong : ⊥ = cc in absurd wrong;
   long_only_past_limit = λ e. let wrong : ⊥ = cc in absurd wrong;
   ok_within_limit = tt;
   read_within_limit = λ e. let wrong : ⊥ = cc in absurd wrong;

@@ -13,3 +13,4 @@ pub mod StateView
 pub mod Telling
 pub mod Ending
 pub mod Running
+pub mod Own

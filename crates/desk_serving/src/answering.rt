@@ -282,8 +282,8 @@ impl<'a, R: Wait> Clerk for State<'a, R> {
       each = λ who. (due_to who (names_in state.lanes) (lanes_in state.lanes), a.stands.owed who);
     } };
 
-    /// Hands out results, each written as soon as no other is at hand, until the line can be answered at once. So no client's
-    /// results wait for another's.
+    /// Hands out results, each written as soon as no other is at hand, until the line can be answered at once. So no result
+    /// that is ready waits for another client's.
     fn answer<W: Sink>(
         &mut self,
         alloc: Global,

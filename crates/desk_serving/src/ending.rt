@@ -31,11 +31,11 @@ fn hand_out_beside<R: Wait, W: Sink>(
     unwritten: &mut Unwritten,
 ) -> Result<(), FrontFault>
     requires counts { (W.seen writer.old).faults < 2 ^ 64 - 1 }
-    requires nothing_waits { unwritten.old.bytes.items ≡ [] }
+    requires nothing_waits { unwritten.old ≡ [] }
     ensures same { links_in lanes.new ≡ links_in lanes.old }
     ensures names { names_in lanes.new ≡ names_in lanes.old }
     ensures handed { HandsOut (AreHanded (names_in lanes.old) (lanes_in lanes.old) (lanes_in lanes.new)) (AreFirst (names_in lanes.old) (lanes_in lanes.old))
-        (W.seen writer.old) (W.seen writer.new) [] unwritten.new.bytes.items result }
+        (W.seen writer.old) (W.seen writer.new) [] unwritten.new result }
 {
     for _ in rt.forever() {
         let seen = lanes.answers();
@@ -113,7 +113,7 @@ fn hand_rest<W: Sink>(
     requires counts { (W.seen writer.old).faults < 2 ^ 64 - 1 }
     ensures whole { OnOk result (IsWhole end.new) }
     ensures handed { HandsOut (AreOwn name.now (lane_in end.old) (lane_in end.new)) (AreFirstOwn name.now (lane_in end.old))
-        (W.seen writer.old) (W.seen writer.new) unwritten.old.bytes.items unwritten.new.bytes.items result }
+        (W.seen writer.old) (W.seen writer.new) unwritten.old unwritten.new result }
 {
     let mut text = Vec::new(alloc);
     while let Some(reply) = end.release() {
@@ -136,7 +136,7 @@ fn hand_out_end<W: Sink>(
     requires counts { (W.seen writer.old).faults < 2 ^ 64 - 1 }
     ensures whole { OnOk result (IsWhole end.new) }
     ensures handed { HandsOut (AreOwn name.now (lane_in end.old) (lane_in end.new)) (AreFirstOwn name.now (lane_in end.old))
-        (W.seen writer.old) (W.seen writer.new) unwritten.old.bytes.items unwritten.new.bytes.items result }
+        (W.seen writer.old) (W.seen writer.new) unwritten.old unwritten.new result }
 {
     run_left(alloc, end)?;
     hand_rest(alloc, end, name, writer, unwritten)
@@ -154,11 +154,11 @@ fn hand_out_ends<W: Sink>(
     requires distinct { AreDistinct (map string_bytes names.now.items) }
     requires ready { All IsReady ends.old.items }
     requires counts { (W.seen writer.old).faults < 2 ^ 64 - 1 }
-    requires nothing_waits { unwritten.old.bytes.items ≡ [] }
+    requires nothing_waits { unwritten.old ≡ [] }
     ensures whole { OnOk result ((place : ℕ) (lane : Lane) → place < length names.now.items → slice_get (ends_lanes ends.new.items) place ≡ Some lane → drop lane.handed lane.put ≡ []) }
     ensures rest { OnOk result (drop (length names.now.items) ends.new.items ≡ drop (length names.now.items) ends.old.items) }
     ensures handed { HandsOut (AreHanded (map string_bytes names.now.items) (ends_lanes ends.old.items) (ends_lanes ends.new.items)) (AreFirst (map string_bytes names.now.items) (ends_lanes ends.old.items))
-        (W.seen writer.old) (W.seen writer.new) [] unwritten.new.bytes.items result }
+        (W.seen writer.old) (W.seen writer.new) [] unwritten.new result }
 {
     for place in 0..names.len() {
         hand_out_end(

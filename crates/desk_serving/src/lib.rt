@@ -1,8 +1,10 @@
-//! `serve`: many clients at once. Each client's answers come in the order of its lines, and none waits for another client's.
+//! `serve`: many clients at once. Each client's answers come in the order of its lines. One that is ready is not kept back for
+//! another client's slow request; a line that is read behind that request is.
 #![tactic(auto)]
 
 mod answering;
 mod ending;
+mod laws;
 mod line;
 mod named_lanes;
 mod options;
@@ -13,6 +15,7 @@ mod state;
 mod until;
 mod waiting;
 
+pub use laws::own_lines_decide;
 pub use line::{Line, line_heard};
 pub use options::Options;
 pub use run::serve;

@@ -19,6 +19,13 @@ impl Lanes {
         }
     }
 
+    /// Results were handed out, so what they held is free.
+    pub fn free_memory(&self) {
+        if let Some(client) = self.clients.first() {
+            client.signals().free_memory();
+        }
+    }
+
     /// The front does something that takes long: workers are woken until one looks, or no request waits.
     pub fn call_workers(&self) {
         if let Some(client) = self.clients.first() {

@@ -122,7 +122,7 @@ fn finish<W: Sink>(
     requires counts { GoesOn ended → (W.seen writer.old).faults < 2 ^ 64 - 1 }
     ensures ok { IfOk result (λ ends. (ended ≡ Ok tt) × IsHandedOut (names_in lanes) (lanes_in lanes) (W.seen writer.old).contents (W.seen writer.new).contents ends.items) }
     ensures err { IfErr result (FinishesBy (names_in lanes) (lanes_in lanes) (W.seen writer.old).contents (W.seen writer.new).contents ended) }
-    ensures counts { OnOk result ((W.seen writer.new).faults ≡ (W.seen writer.old).faults) }
+    ensures counts { (result ≢ Err FrontFault.Write) → (W.seen writer.new).faults ≡ (W.seen writer.old).faults }
     ensures fault { GoesOn ended → (result ≡ Err FrontFault.Write) → (W.seen writer.old).faults < (W.seen writer.new).faults }
     ensures same { ¬ GoesOn ended → writer.new ≡ writer.old }
 {

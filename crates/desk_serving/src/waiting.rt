@@ -22,13 +22,17 @@ pub fn hand_out_round<W: Sink>(
     ensures same { links_in lanes.new ≡ links_in lanes.old }
     ensures names { names_in lanes.new ≡ names_in lanes.old }
     ensures handed { HandsOut (AreHanded (names_in lanes.old) (lanes_in lanes.old) (lanes_in lanes.new)) (AreFirst (names_in lanes.old) (lanes_in lanes.old))
-        (W.seen writer.old) (W.seen writer.new) unwritten.old.bytes.items unwritten.new.bytes.items result }
+        (W.seen writer.old) (W.seen writer.new) unwritten.old unwritten.new result }
 {
     let mut text = Vec::new(alloc);
     lanes.hand_out(alloc, &mut text)?;
     lanes.call_worker();
     unwritten.pass_on(writer, &text)?;
-    Ok(!text.is_empty())
+    if text.is_empty() {
+        return Ok(false);
+    }
+    lanes.free_memory();
+    Ok(true)
 }
 
 /// Hands out results, round by round, until it has come. Where nothing comes since the workers find no memory for what they hold,
@@ -45,7 +49,7 @@ pub fn hand_out_until<R: Wait, W: Sink>(
     ensures same { links_in lanes.new ≡ links_in lanes.old }
     ensures names { names_in lanes.new ≡ names_in lanes.old }
     ensures handed { HandsOut (AreHanded (names_in lanes.old) (lanes_in lanes.old) (lanes_in lanes.new)) (AreFirst (names_in lanes.old) (lanes_in lanes.old))
-        (W.seen writer.old) (W.seen writer.new) unwritten.old.bytes.items unwritten.new.bytes.items result }
+        (W.seen writer.old) (W.seen writer.new) unwritten.old unwritten.new result }
 {
     for _ in rt.forever() {
         if lanes.has_come(until) {

@@ -1,4 +1,5 @@
-//! Every place where a decision model is wrong.
+//! The places where a decision model is wrong, fault by fault. Cycles and services are looked for only where no name stands
+//! twice, none is unknown and there are not too many decisions.
 #![tactic(auto)]
 
 mod chase;

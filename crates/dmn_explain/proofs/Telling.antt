@@ -3,6 +3,7 @@ use Rattle.std.proofs.Common.{◌≡◌, ℕ, ◌+◌, ◌<◌, ◌≤◌, Bool,
 use Rattle.std.specs.Arc.{arc_str_bytes}
 use Rattle.std.proofs.lemmas.List.{at_drop_more, drop_all}
 use Rattle.std.specs.Prelude.{codes}
+use Rattle.std.specs.Option.{is_none}
 use Rattle.std.proofs.lemmas.Option.{same_Some}
 use Rattle.serde_json.specs.Data.{Data, item, Members, no_members}
 use Rattle.serde_json.specs.Data.{member as member_of}
@@ -20,6 +21,8 @@ use Rattle.dmn_logic.specs.Bound.{bound_behind}
 use Rattle.dmn_logic.specs.LogicView.{logic_view, members_view, entries_view}
 use Rattle.dmn_logic.specs.declared.logic.Logic.{Logic, ContextWith}
 use Rattle.dmn_logic.proofs.Boxes.{Named, entries_step, logic_view-ContextWith}
+use Rattle.json_writer.specs.Bounded.{longer}
+use Rattle.json_writer.proofs.Longer.{Text}
 use Rattle.dmn_explain.specs.How.{items_from, members_from, told_as, named_as, how, members_told, entries_told}
 use Rattle.dmn_explain.specs.Text.{entries_text, result_text}
 use Rattle.dmn_explain.proofs.Pieces.{row_more, row_ended, entries_added_by}
@@ -46,32 +49,32 @@ entries_from m xs i x o e h b =
     ∙ ap (λ (y : Named). entries_told (entry (arc_str_bytes y.0) (logic_view y.1) (entries_view (drop (i + 1) xs))) m) (sym e)
     ∙ ap (λ p. item (entry_told x m) (items_from (λ (d : Datum). entries_told (entries_view (drop (i + 1) xs)) (m ++ (arc_str_bytes x.0, d) ∷ [])) (value_of p))) (sym b)
 
-module _ (whole t t1 t2 : List ℕ) (later : Bool) (m : Bindings) (i : ℕ) (comma : t1 ≡ t ++ comma_if later) where
-  module _ (xs : List Logic) (x : Logic) (before : t ++ items_text later (members_told (members_view (drop i xs)) m) ≡ whole) (here : x ≡ get_or xs i x) (more : i < length xs)
-      (added : t2 ≡ t1 ++ compact_text (member_told x m)) where
+module _ (whole t t1 t2 : Text) (later : Bool) (m : Bindings) (i : ℕ) (comma : t1 ≡ longer t (comma_if later)) where
+  module _ (xs : List Logic) (x : Logic) (before : longer t (items_text later (members_told (members_view (drop i xs)) m)) ≡ whole) (here : x ≡ get_or xs i x) (more : i < length xs)
+      (added : t2 ≡ longer t1 (compact_text (member_told x m))) where
     -- one member more, and then the rest
-    pub member_more : (d : Datum) → Is d ≡ boxed (logic_view x) m → t2 ++ items_text true (members_told (members_view (drop (i + 1) xs)) m) ≡ whole
+    pub member_more : (d : Datum) → Is d ≡ boxed (logic_view x) m → longer t2 (items_text true (members_told (members_view (drop (i + 1) xs)) m)) ≡ whole
     member_more d b = row_more whole t t1 t2 later _ _ _ before (members_here m xs i x (Is d) here more b) comma added
 
     -- a member that breaks a limit is the last
-    pub member_last : (t3 : List ℕ) → Limit ≡ boxed (logic_view x) m → t3 ≡ t2 ++ 93 ∷ [] → t3 ≡ whole
+    pub member_last : (t3 : Text) → Limit ≡ boxed (logic_view x) m → t3 ≡ longer t2 (93 ∷ []) → t3 ≡ whole
     member_last t3 b end = end ∙ row_more whole t t1 t2 later _ _ _ before (members_here m xs i x Limit here more b) comma added
 
-  module _ (xs : List Named) (x : Named) (before : t ++ items_text later (entries_told (entries_view (drop i xs)) m) ≡ whole) (here : x ≡ get_or xs i x) (more : i < length xs)
-      (added : t2 ≡ t1 ++ compact_text (entry_told x m)) where
-    pub entry_more : (d : Datum) → Is d ≡ boxed (logic_view x.1) m → t2 ++ items_text true (entries_told (entries_view (drop (i + 1) xs)) (m ++ (arc_str_bytes x.0, d) ∷ [])) ≡ whole
+  module _ (xs : List Named) (x : Named) (before : longer t (items_text later (entries_told (entries_view (drop i xs)) m)) ≡ whole) (here : x ≡ get_or xs i x) (more : i < length xs)
+      (added : t2 ≡ longer t1 (compact_text (entry_told x m))) where
+    pub entry_more : (d : Datum) → Is d ≡ boxed (logic_view x.1) m → longer t2 (items_text true (entries_told (entries_view (drop (i + 1) xs)) (m ++ (arc_str_bytes x.0, d) ∷ []))) ≡ whole
     entry_more d b = row_more whole t t1 t2 later _ _ _ before (entries_from m xs i x (Is d) here more b) comma added
 
-    pub entry_last : (t3 : List ℕ) → Limit ≡ boxed (logic_view x.1) m → t3 ≡ t2 ++ 93 ∷ [] → t3 ≡ whole
+    pub entry_last : (t3 : Text) → Limit ≡ boxed (logic_view x.1) m → t3 ≡ longer t2 (93 ∷ []) → t3 ≡ whole
     entry_last t3 b end = end ∙ row_more whole t t1 t2 later _ _ _ before (entries_from m xs i x Limit here more b) comma added
 
-pub members_ended : (whole t t1 : List ℕ) (later : Bool) (m : Bindings) (xs : List Logic) (i : ℕ) → t ++ items_text later (members_told (members_view (drop i xs)) m) ≡ whole
-    → length xs ≤ i → t1 ≡ t ++ 93 ∷ [] → t1 ≡ whole
+pub members_ended : (whole t t1 : Text) (later : Bool) (m : Bindings) (xs : List Logic) (i : ℕ) → longer t (items_text later (members_told (members_view (drop i xs)) m)) ≡ whole
+    → length xs ≤ i → t1 ≡ longer t (93 ∷ []) → t1 ≡ whole
 members_ended whole t t1 later m xs i before end added =
     row_ended whole t t1 later _ before (ap (λ (ys : List Logic). members_told (members_view ys) m) (drop_all i xs end)) added
 
-pub entries_ended : (whole t t1 : List ℕ) (later : Bool) (m : Bindings) (xs : List Named) (i : ℕ) → t ++ items_text later (entries_told (entries_view (drop i xs)) m) ≡ whole
-    → length xs ≤ i → t1 ≡ t ++ 93 ∷ [] → t1 ≡ whole
+pub entries_ended : (whole t t1 : Text) (later : Bool) (m : Bindings) (xs : List Named) (i : ℕ) → longer t (items_text later (entries_told (entries_view (drop i xs)) m)) ≡ whole
+    → length xs ≤ i → t1 ≡ longer t (93 ∷ []) → t1 ≡ whole
 entries_ended whole t t1 later m xs i before end added =
     row_ended whole t t1 later _ before (ap (λ (ys : List Named). entries_told (entries_view ys) m) (drop_all i xs end)) added
 
@@ -92,12 +95,17 @@ behind_entries true b m after (Some ds) e =
 behind_entries false b m after None e = refl
 behind_entries false b m after (Some ds) e = cc
 
+-- of a long text it doesn't matter what else were written
+behind_long : (t1 : Text) (xs ys : List ℕ) → (is_none t1 ≡ false → xs ≡ ys) → longer t1 xs ≡ longer t1 ys
+behind_long None xs ys h = refl
+behind_long (Some text) xs ys h = ap (λ l. longer (Some text) l) (h refl)
+
 -- what is written for a context with a result, whose entries stand in v
-pub context_with_added : (t t1 t2 : List ℕ) (all : Bool) (logic : Logic) (v : Vec Named Global) (es : List Named) (b : Box Logic Global) (m after : Bindings) → logic ≡ ContextWith v b → es ≡ v.items
-    → t1 ≡ t ++ entries_text (entries_told (entries_view es) m) → bound_behind m (entry_values (entries_view es) m) ≡ (if all then Some after else None)
-    → t2 ≡ t1 ++ result_text all (logic_view b.value) after → t2 ≡ t ++ members_text true (how (logic_view logic) m)
+pub context_with_added : (t t1 t2 : Text) (all : Bool) (logic : Logic) (v : Vec Named Global) (es : List Named) (b : Box Logic Global) (m after : Bindings) → logic ≡ ContextWith v b → es ≡ v.items
+    → t1 ≡ longer t (entries_text (entries_told (entries_view es) m)) → (is_none t1 ≡ false → bound_behind m (entry_values (entries_view es) m) ≡ (if all then Some after else None))
+    → t2 ≡ longer t1 (result_text all (logic_view b.value) after) → t2 ≡ longer t (members_text true (how (logic_view logic) m))
 context_with_added t t1 t2 all logic v es b m after is same entries bound rest =
     entries_added_by t t1 t2 (entries_told (entries_view es) m) (result_told (logic_view b.value) m (entry_values (entries_view es) m)) entries
-    (rest ∙ ap (λ s. t1 ++ s) (sym (behind_entries all (logic_view b.value) m after (entry_values (entries_view es) m) bound)))
-    ∙ ap (λ (xs : List Named). t ++ members_text true (how (context_with (entries_view xs) (logic_view b.value)) m)) same
-    ∙ ap (λ l. t ++ members_text true (how l m)) (sym (ap logic_view is ∙ logic_view-ContextWith v b))
+    (rest ∙ sym (behind_long t1 _ _ (λ h. behind_entries all (logic_view b.value) m after (entry_values (entries_view es) m) (bound h))))
+    ∙ ap (λ (xs : List Named). longer t (members_text true (how (context_with (entries_view xs) (logic_view b.value)) m))) same
+    ∙ ap (λ l. longer t (members_text true (how l m))) (sym (ap logic_view is ∙ logic_view-ContextWith v b))

@@ -1,7 +1,9 @@
 //! How boxed expressions came to their outcomes.
 //!
-//! Each part is evaluated again where it is told, so a part that lies in others is evaluated once for each of these.
-ghost use Rattle.std.specs.Prelude.{◌≡◌, ◌++◌, Some, None, OnOk, IfOk, true, if◌then◌else◌, take, length};
+//! Each part is evaluated again where it is told, so a part that lies in others is evaluated once for each of these. Where the text
+//! is long no further part is told.
+ghost use Rattle.std.specs.Prelude.{◌≡◌, ◌++◌, Some, None, OnOk, IfOk, true, false, if◌then◌else◌, take, length};
+ghost use Rattle.std.specs.Option.{is_none};
 ghost use Rattle.serde_json.specs.Data.{array};
 ghost use Rattle.serde_json.specs.Written.{compact_text, members_text};
 ghost use Rattle.feel_value.specs.Found.{value_of};
@@ -9,6 +11,7 @@ ghost use Rattle.dmn_form.specs.Model.{list, context};
 ghost use Rattle.dmn_logic.specs.Boxed.{boxed, entry_values as entry_values_of};
 ghost use Rattle.dmn_logic.specs.Bound.{bound_behind};
 ghost use Rattle.dmn_logic.specs.LogicView.{logic_view, members_view, entries_view};
+ghost use Rattle.json_writer.specs.Bounded.{longer};
 ghost use Rattle.dmn_explain.specs.Text.{entries_text, result_text};
 ghost use Rattle.dmn_explain.specs.How.{how, told_as, named_as, members_told, entries_told};
 
@@ -19,6 +22,7 @@ use crate::value::add_valued;
 use dmn_logic::{Logic, evaluate};
 use feel_lang::Env;
 use feel_value::Outcome;
+use json_writer::BoundedText;
 use std::alloc::{AllocError, Global};
 use std::sync::ArcStr;
 
@@ -30,9 +34,9 @@ pub(crate) fn add_how<'a>(
     alloc: Global,
     logic: &'a Logic,
     env: &mut Env<'a>,
-    text: &mut Vec<u8>,
+    text: &mut BoundedText,
 ) -> Result<(), AllocError>
-    ensures text { OnOk result (text.new.items ≡ text.old.items ++ members_text true (how (logic_view logic.now) env.old)) }
+    ensures text { OnOk result (text.new ≡ longer text.old (members_text true (how (logic_view logic.now) env.old))) }
     ensures same { env.new ≡ env.old }
 {
     match logic {
@@ -66,9 +70,9 @@ fn add_told<'a>(
     alloc: Global,
     logic: &'a Logic,
     env: &mut Env<'a>,
-    text: &mut Vec<u8>,
+    text: &mut BoundedText,
 ) -> Result<Outcome, AllocError>
-    ensures text { OnOk result (text.new.items ≡ text.old.items ++ compact_text (told_as (value_of (boxed (logic_view logic.now) env.old)) (how (logic_view logic.now) env.old))) }
+    ensures text { OnOk result (text.new ≡ longer text.old (compact_text (told_as (value_of (boxed (logic_view logic.now) env.old)) (how (logic_view logic.now) env.old)))) }
     ensures value { IfOk result (λ o. o ≡ boxed (logic_view logic.now) env.old) }
     ensures same { env.new ≡ env.old }
 {
@@ -85,9 +89,9 @@ fn add_list<'a>(
     alloc: Global,
     members: &'a [Logic],
     env: &mut Env<'a>,
-    text: &mut Vec<u8>,
+    text: &mut BoundedText,
 ) -> Result<(), AllocError>
-    ensures text { OnOk result (text.new.items ≡ text.old.items ++ members_text true (how (list (members_view members.now)) env.old)) }
+    ensures text { OnOk result (text.new ≡ longer text.old (members_text true (how (list (members_view members.now)) env.old))) }
     ensures same { env.new ≡ env.old }
 {
     add_key(true, Key::Members, text)?;
@@ -102,14 +106,17 @@ fn add_members<'a>(
     alloc: Global,
     members: &'a [Logic],
     env: &mut Env<'a>,
-    text: &mut Vec<u8>,
+    text: &mut BoundedText,
 ) -> Result<(), AllocError>
-    ensures text { OnOk result (text.new.items ≡ text.old.items ++ compact_text (array (members_told (members_view members.now) env.old))) }
+    ensures text { OnOk result (text.new ≡ longer text.old (compact_text (array (members_told (members_view members.now) env.old)))) }
     ensures same { env.new ≡ env.old }
 {
     let mut later = false;
     text.push(b'[')?;
     for member in members {
+        if text.is_long() {
+            return Ok(());
+        }
         add_comma(later, text)?;
         let Outcome::Is(_) = add_told(alloc, member, env, text)? else {
             text.push(b']')?;
@@ -127,9 +134,9 @@ fn add_context<'a>(
     alloc: Global,
     entries: &'a [(ArcStr, Logic)],
     env: &mut Env<'a>,
-    text: &mut Vec<u8>,
+    text: &mut BoundedText,
 ) -> Result<(), AllocError>
-    ensures text { OnOk result (text.new.items ≡ text.old.items ++ members_text true (how (context (entries_view entries.now)) env.old)) }
+    ensures text { OnOk result (text.new ≡ longer text.old (members_text true (how (context (entries_view entries.now)) env.old))) }
     ensures same { env.new ≡ env.old }
 {
     let outer = env.len();
@@ -147,9 +154,9 @@ fn add_result<'a>(
     all: bool,
     last: &'a Logic,
     env: &mut Env<'a>,
-    text: &mut Vec<u8>,
+    text: &mut BoundedText,
 ) -> Result<(), AllocError>
-    ensures text { OnOk result (text.new.items ≡ text.old.items ++ result_text all (logic_view last.now) env.old) }
+    ensures text { OnOk result (text.new ≡ longer text.old (result_text all (logic_view last.now) env.old)) }
     ensures same { env.new ≡ env.old }
 {
     if !all {
@@ -162,23 +169,26 @@ fn add_result<'a>(
     Ok(())
 }
 
-/// Adds the member of a context's entries, up to the first that breaks a limit; false where one does. The entries stay bound
-/// behind the outer names.
+/// Adds the member of a context's entries, up to the first that breaks a limit; false where one does, and where the text is long.
+/// The entries stay bound behind the outer names.
 #[cycle(add_how)]
 fn add_entries<'a>(
     alloc: Global,
     entries: &'a [(ArcStr, Logic)],
     env: &mut Env<'a>,
-    text: &mut Vec<u8>,
+    text: &mut BoundedText,
 ) -> Result<bool, AllocError>
-    ensures text { OnOk result (text.new.items ≡ text.old.items ++ entries_text (entries_told (entries_view entries.now) env.old)) }
-    ensures bound { IfOk result (λ all. bound_behind env.old (entry_values_of (entries_view entries.now) env.old) ≡ (if all then Some env.new else None)) }
+    ensures text { OnOk result (text.new ≡ longer text.old (entries_text (entries_told (entries_view entries.now) env.old))) }
+    ensures bound { IfOk result (λ all. is_none text.new ≡ false → bound_behind env.old (entry_values_of (entries_view entries.now) env.old) ≡ (if all then Some env.new else None)) }
     ensures outer { take (length env.old) env.new ≡ env.old }
 {
     add_key(true, Key::Entries, text)?;
     text.push(b'[')?;
     let mut later = false;
     for (name, logic) in entries {
+        if text.is_long() {
+            return Ok(false);
+        }
         add_comma(later, text)?;
         let Outcome::Is(value) = add_entry(alloc, name.as_str(), logic, env, text)? else {
             text.push(b']')?;
@@ -198,9 +208,9 @@ fn add_entry<'a>(
     name: &str,
     logic: &'a Logic,
     env: &mut Env<'a>,
-    text: &mut Vec<u8>,
+    text: &mut BoundedText,
 ) -> Result<Outcome, AllocError>
-    ensures text { OnOk result (text.new.items ≡ text.old.items ++ compact_text (named_as name.now (value_of (boxed (logic_view logic.now) env.old)) (how (logic_view logic.now) env.old))) }
+    ensures text { OnOk result (text.new ≡ longer text.old (compact_text (named_as name.now (value_of (boxed (logic_view logic.now) env.old)) (how (logic_view logic.now) env.old)))) }
     ensures value { IfOk result (λ o. o ≡ boxed (logic_view logic.now) env.old) }
     ensures same { env.new ≡ env.old }
 {

@@ -9,6 +9,7 @@ ghost use Rattle.dmn_service.specs.Decision.{parameters_of, outcome_of};
 ghost use Rattle.dmn_service.specs.Plan.{HasPlacesWithin};
 ghost use Rattle.dmn_plan.specs.Course.{IsCourseOf};
 ghost use Rattle.dmn_plan.specs.Request.{Request};
+ghost use Rattle.json_writer.specs.Bounded.{longer};
 ghost use Rattle.dmn_explain.specs.Explanation.{decisions_told};
 ghost use Rattle.dmn_explain.specs.Placed.{decided_here, given_here, decided_by_place, given_by_place};
 
@@ -21,6 +22,7 @@ use dmn_plan::Course;
 use dmn_service::Item;
 use feel_lang::Env;
 use feel_value::{Feel, Outcome};
+use json_writer::BoundedText;
 use std::alloc::{AllocError, Global};
 
 /// The value found at a place; None where a limit was broken, or nothing was found.
@@ -36,9 +38,9 @@ fn add_given(
     item: &Item,
     place: usize,
     found: &[Outcome],
-    text: &mut Vec<u8>,
+    text: &mut BoundedText,
 ) -> Result<(), AllocError>
-    ensures { OnOk result (text.new.items ≡ text.old.items ++ compact_text (given_here found.now item.now place)) }
+    ensures { OnOk result (text.new ≡ longer text.old (compact_text (given_here found.now item.now place))) }
 {
     add_name(alloc, item.name.as_str(), text)?;
     add_valued(alloc, true, Key::Given, value_at(found, place), text)?;
@@ -53,9 +55,9 @@ fn add_decided(
     logic: &Logic,
     place: usize,
     found: &[Outcome],
-    text: &mut Vec<u8>,
+    text: &mut BoundedText,
 ) -> Result<(), AllocError>
-    ensures { OnOk result (text.new.items ≡ text.old.items ++ compact_text (decided_here found.now item.now place (logic_view logic.now))) }
+    ensures { OnOk result (text.new ≡ longer text.old (compact_text (decided_here found.now item.now place (logic_view logic.now)))) }
 {
     add_name(alloc, item.name.as_str(), text)?;
     add_valued(alloc, true, Key::Value, value_at(found, place), text)?;
@@ -73,14 +75,17 @@ fn add_all_given(
     items: &[Item],
     places: &[usize],
     found: &[Outcome],
-    text: &mut Vec<u8>,
+    text: &mut BoundedText,
 ) -> Result<bool, AllocError>
     requires { All (λ q. q < length items.now) places.now }
-    ensures { IfOk result (λ later. (rest : Items) → text.new.items ++ items_text later rest ≡ text.old.items ++ compact_text (array (given_by_place found.now items.now places.now rest))) }
+    ensures { IfOk result (λ later. (rest : Items) → longer text.new (items_text later rest) ≡ longer text.old (compact_text (array (given_by_place found.now items.now places.now rest)))) }
 {
     text.push(b'[')?;
     let mut later = false;
     for place in places {
+        if text.is_long() {
+            return Ok(later);
+        }
         let item = &items[*place];
         let Some(_) = &item.logic else {
             continue;
@@ -99,13 +104,16 @@ fn add_all_decided(
     places: &[usize],
     found: &[Outcome],
     some_before: bool,
-    text: &mut Vec<u8>,
+    text: &mut BoundedText,
 ) -> Result<(), AllocError>
     requires { All (λ q. q < length items.now) places.now }
-    ensures { OnOk result (text.new.items ≡ text.old.items ++ items_text some_before (decided_by_place found.now items.now places.now)) }
+    ensures { OnOk result (text.new ≡ longer text.old (items_text some_before (decided_by_place found.now items.now places.now))) }
 {
     let mut later = some_before;
     for place in places {
+        if text.is_long() {
+            return Ok(());
+        }
         let item = &items[*place];
         let Some(logic) = &item.logic else {
             continue;
@@ -126,10 +134,10 @@ fn add_all_decided(
 pub fn add_decisions(
     alloc: Global,
     course: &Course<'_>,
-    text: &mut Vec<u8>,
+    text: &mut BoundedText,
 ) -> Result<(), AllocError>
     requires { HasPlacesWithin course.now.items.now course.now.service.now }
-    ensures { OnOk result ((q : Request) (c : IsCourseOf q course.now) → text.new.items ≡ text.old.items ++ compact_text (array (decisions_told (outcome_of c.model (zip (parameters_of c.service) q.values)) course.now.items.now course.now.service.now))) }
+    ensures { OnOk result ((q : Request) (c : IsCourseOf q course.now) → text.new ≡ longer text.old (compact_text (array (decisions_told (outcome_of c.model (zip (parameters_of c.service) q.values)) course.now.items.now course.now.service.now)))) }
 {
     let found = &course.outcomes;
     let later = add_all_given(alloc, course.items, &course.service.parameters, found, text)?;

@@ -2,8 +2,10 @@
 ghost use Rattle.std.specs.Prelude.{◌≡◌, ◌++◌, ◌∷◌, [], OnOk};
 ghost use Rattle.json.specs.Print.{quoted};
 ghost use Rattle.serde_json.specs.Written.{comma_if};
+ghost use Rattle.json_writer.specs.Bounded.{longer};
 ghost use Rattle.dmn_explain.specs.Text.{name_of, key_text};
 
+use json_writer::BoundedText;
 use std::alloc::AllocError;
 
 /// A key of an explanation.
@@ -47,19 +49,17 @@ impl Key {
 }
 
 /// Adds a comma, where something stands before.
-pub(crate) fn add_comma(later: bool, text: &mut Vec<u8>) -> Result<(), AllocError>
-    ensures { OnOk result (text.new.items ≡ text.old.items ++ comma_if later) }
+pub(crate) fn add_comma(later: bool, text: &mut BoundedText) -> Result<(), AllocError>
+    ensures { OnOk result (text.new ≡ longer text.old (comma_if later)) }
 {
-    if later {
-        text.push(b',')?;
-    }
-    Ok(())
+    if later { text.add(b",") } else { text.add(b"") }
 }
 
 /// Adds a key with its colon, behind a comma where a member stands before.
-pub(crate) fn add_key(later: bool, key: Key, text: &mut Vec<u8>) -> Result<(), AllocError>
-    ensures { OnOk result (text.new.items ≡ text.old.items ++ key_text later (name_of key)) }
+#[tactic(auto, using(json_writer::proofs::Longer::longer_again))]
+pub(crate) fn add_key(later: bool, key: Key, text: &mut BoundedText) -> Result<(), AllocError>
+    ensures { OnOk result (text.new ≡ longer text.old (key_text later (name_of key))) }
 {
     add_comma(later, text)?;
-    text.extend_from_slice(key.quoted())
+    text.add(key.quoted())
 }

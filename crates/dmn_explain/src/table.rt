@@ -7,6 +7,7 @@ ghost use Rattle.feel_value.specs.Found.{outcome_from};
 ghost use Rattle.feel_value.specs.Json.{json_of};
 ghost use Rattle.dmn_table.specs.Hits.{output_of as output_from, values_of};
 ghost use Rattle.dmn_table.specs.Parts.{rule_view};
+ghost use Rattle.json_writer.specs.Bounded.{longer};
 ghost use Rattle.dmn_explain.specs.How.{hit_told, hits_told, hits_and_defaults, table_told, takes_defaults};
 ghost use Rattle.dmn_explain.specs.Numbered.{hit_view, hits_from};
 
@@ -15,7 +16,7 @@ use crate::value::add_valued;
 use dmn_table::{Rule, Table, does_hit, evaluated, has_no_default};
 use feel_lang::Env;
 use feel_value::{Feel, Outcome};
-use json_writer::{add_number, add_value};
+use json_writer::BoundedText;
 use std::alloc::{AllocError, Global};
 
 /// A rule that hits, with its number, which counts from 1 on.
@@ -49,14 +50,17 @@ fn hits_of<'a>(
 }
 
 /// Adds the list of these values.
-fn add_values(alloc: Global, values: &[Feel], text: &mut Vec<u8>) -> Result<(), AllocError>
-    ensures { OnOk result (text.new.items ≡ text.old.items ++ compact_text (json_of (list (items_of values.now)))) }
+fn add_values(alloc: Global, values: &[Feel], text: &mut BoundedText) -> Result<(), AllocError>
+    ensures { OnOk result (text.new ≡ longer text.old (compact_text (json_of (list (items_of values.now))))) }
 {
     let mut later = false;
     text.push(b'[')?;
     for value in values {
+        if text.is_long() {
+            return Ok(());
+        }
         add_comma(later, text)?;
-        add_value(alloc, value, text)?;
+        text.add_value(alloc, value)?;
         later = true;
     }
     text.push(b']')?;
@@ -79,14 +83,14 @@ fn add_hit(
     hit: &Hit<'_>,
     table: &Table,
     env: &Env,
-    text: &mut Vec<u8>,
+    text: &mut BoundedText,
 ) -> Result<(), AllocError>
-    ensures { OnOk result (text.new.items ≡ text.old.items ++ compact_text (hit_told table.now.outputs env.now (hit_view hit.now))) }
+    ensures { OnOk result (text.new ≡ longer text.old (compact_text (hit_told table.now.outputs env.now (hit_view hit.now)))) }
 {
     let output = output_of(alloc, hit.rule, table, env)?;
     text.push(b'{')?;
     add_key(false, Key::Rule, text)?;
-    add_number(hit.number as u64, text)?;
+    text.add_number(hit.number as u64)?;
     add_valued(alloc, true, Key::Value, output.value(), text)?;
     text.push(b'}')?;
     Ok(())
@@ -98,13 +102,16 @@ fn add_hits(
     hits: &[Hit<'_>],
     table: &Table,
     env: &Env,
-    text: &mut Vec<u8>,
+    text: &mut BoundedText,
 ) -> Result<(), AllocError>
-    ensures { OnOk result (text.new.items ≡ text.old.items ++ compact_text (array (hits_told table.now.outputs env.now (map hit_view hits.now)))) }
+    ensures { OnOk result (text.new ≡ longer text.old (compact_text (array (hits_told table.now.outputs env.now (map hit_view hits.now))))) }
 {
     let mut later = false;
     text.push(b'[')?;
     for hit in hits {
+        if text.is_long() {
+            return Ok(());
+        }
         add_comma(later, text)?;
         add_hit(alloc, hit, table, env, text)?;
         later = true;
@@ -121,13 +128,13 @@ fn are_default(table: &Table, hits: &[Hit<'_>]) -> bool
 }
 
 /// Adds a boolean.
-fn add_bool(truth: bool, text: &mut Vec<u8>) -> Result<(), AllocError>
-    ensures { OnOk result (text.new.items ≡ text.old.items ++ compact_text (boolean truth)) }
+fn add_bool(truth: bool, text: &mut BoundedText) -> Result<(), AllocError>
+    ensures { OnOk result (text.new ≡ longer text.old (compact_text (boolean truth))) }
 {
     if truth {
-        text.extend_from_slice(b"true")
+        text.add(b"true")
     } else {
-        text.extend_from_slice(b"false")
+        text.add(b"false")
     }
 }
 
@@ -137,9 +144,9 @@ fn add_hits_and_defaults(
     hits: &[Hit<'_>],
     table: &Table,
     env: &Env,
-    text: &mut Vec<u8>,
+    text: &mut BoundedText,
 ) -> Result<(), AllocError>
-    ensures { OnOk result (text.new.items ≡ text.old.items ++ members_text true (hits_and_defaults table.now.outputs env.now (map hit_view hits.now))) }
+    ensures { OnOk result (text.new ≡ longer text.old (members_text true (hits_and_defaults table.now.outputs env.now (map hit_view hits.now)))) }
 {
     add_key(true, Key::Hits, text)?;
     add_hits(alloc, hits, table, env, text)?;
@@ -155,9 +162,9 @@ pub(crate) fn add_table(
     alloc: Global,
     table: &Table,
     env: &Env,
-    text: &mut Vec<u8>,
+    text: &mut BoundedText,
 ) -> Result<(), AllocError>
-    ensures { OnOk result (text.new.items ≡ text.old.items ++ compact_text (object (table_told table.now env.now))) }
+    ensures { OnOk result (text.new ≡ longer text.old (compact_text (object (table_told table.now env.now)))) }
 {
     text.push(b'{')?;
     let Some(values) = evaluated(alloc, table.inputs(), env)? else {

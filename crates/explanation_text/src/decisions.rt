@@ -68,20 +68,39 @@ fn add_result(alloc: Global, explanation: &Value, text: &mut String) -> Result<(
     }
 }
 
+/// Adds the decisions; where they are none, that they are long.
+fn add_decisions(
+    alloc: Global,
+    model: &WrittenModel,
+    explanation: &Value,
+    text: &mut String,
+) -> Result<(), AllocError> {
+    let Some(Value::Array(decisions)) = explanation.get("decisions") else {
+        return text.push_str("  the decisions take over 64 MiB, and are not told\n");
+    };
+    for decision in decisions {
+        add_decision(alloc, model, decision, text)?;
+    }
+    Ok(())
+}
+
+/// Whether it tells decisions, or that they are long; a refusal does not.
+fn is_explained(explanation: &Value) -> bool {
+    explanation.get("decisions").is_some() || explanation.get("explained").is_some()
+}
+
 /// An explanation as a text of several lines. Where nothing is explained, as in a refusal, it is the line itself.
 pub fn text_of(
     alloc: Global,
     model: &WrittenModel,
     explanation: &Value,
 ) -> Result<String, AllocError> {
-    let Some(Value::Array(decisions)) = explanation.get("decisions") else {
+    if !is_explained(explanation) {
         return explanation.to_string(alloc);
-    };
+    }
     let mut text = String::new(alloc);
     add_head(alloc, explanation, &mut text)?;
-    for decision in decisions {
-        add_decision(alloc, model, decision, &mut text)?;
-    }
+    add_decisions(alloc, model, explanation, &mut text)?;
     add_result(alloc, explanation, &mut text)?;
     Ok(text)
 }

@@ -5,7 +5,8 @@ use std::alloc::{AllocError, Global};
 /// The most parts of a value that are shown.
 const MOST_PARTS: usize = 200;
 
-/// A value in compact JSON. Of one with over 200 parts the first 200 stand there, and then two points.
+/// A value in JSON with names that have no quotes. Of one with over 200 parts the first 200 stand there, and two points where more
+/// would follow.
 pub(crate) fn shown(alloc: Global, value: &Value) -> Result<String, AllocError> {
     let mut text = String::new(alloc);
     let mut left = MOST_PARTS;
@@ -21,10 +22,7 @@ fn add_value(
     left: &mut usize,
     text: &mut String,
 ) -> Result<(), AllocError> {
-    if *left == 0 {
-        return text.push_str("..");
-    }
-    *left -= 1;
+    *left = left.saturating_sub(1);
     match value {
         Value::Array(items) => add_items(alloc, items, left, text),
         Value::Object(members) => add_members(alloc, members, left, text),
@@ -48,10 +46,11 @@ fn add_items(
         if place > 0 {
             text.push_str(", ")?;
         }
-        add_value(alloc, item, left, text)?;
         if *left == 0 {
+            text.push_str("..")?;
             break;
         }
+        add_value(alloc, item, left, text)?;
     }
     text.push_str("]")
 }
@@ -69,12 +68,13 @@ fn add_members(
         if place > 0 {
             text.push_str(", ")?;
         }
+        if *left == 0 {
+            text.push_str("..")?;
+            break;
+        }
         text.push_str(name.as_str())?;
         text.push_str(": ")?;
         add_value(alloc, value, left, text)?;
-        if *left == 0 {
-            break;
-        }
     }
     text.push_str("}")
 }

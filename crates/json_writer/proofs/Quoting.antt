@@ -6,7 +6,7 @@ use Rattle.json.specs.Print.{escape, quoted}
 use Rattle.json.specs.Run.{is_stop}
 use Rattle.json.proofs.Printed.Strings.{escape_byte_plain}
 
-escape_none : (s : List ℕ) → list_any is_stop s ≡ false → escape s ≡ s
+pub escape_none : (s : List ℕ) → list_any is_stop s ≡ false → escape s ≡ s
 escape_none [] e = refl
 escape_none (x ∷ s) e =
     let parts = or_parts (is_stop x) (list_any is_stop s) e in

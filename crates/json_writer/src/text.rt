@@ -9,7 +9,7 @@ use serde_json::Value;
 use std::alloc::{AllocError, Global};
 
 /// Whether a text has a byte that stands otherwise in quotes.
-fn needs_escape(words: &str) -> bool
+pub(crate) fn needs_escape(words: &str) -> bool
     ensures { result ≡ list_any is_stop words.now }
 {
     words
@@ -21,7 +21,7 @@ fn needs_escape(words: &str) -> bool
 /// A text in quotes.
 #[cold]
 #[inline(never)]
-fn escaped(alloc: Global, words: &str) -> Result<String, AllocError>
+pub(crate) fn escaped(alloc: Global, words: &str) -> Result<String, AllocError>
     ensures { IfOk result (λ it. string_bytes it ≡ quoted words.now) }
 {
     Value::try_from_str(alloc, words)?.to_string(alloc)

@@ -8,6 +8,7 @@ use Rattle.rtrb.specs.declared.consumer.Consumer.{Consumer}
 use Rattle.rtrb.specs.declared.AnyItems.{AnyItems}
 use Rattle.box_core.specs.Answer.{Ticketed}
 use Rattle.box_core.specs.Mail.{Mail, open_in}
+use Rattle.lanes.specs.Books.{ticket_of, AreApart}
 use Rattle.lanes.specs.Ends.{LaneEnd}
 use Rattle.lanes.specs.declared.book.Book.{Book}
 use Rattle.lanes.specs.Joined.{received_of, Joins}
@@ -16,6 +17,7 @@ use Rattle.lanes.specs.Polls.{TakenIn}
 use Rattle.lanes.specs.Settling.{AllKept}
 use Rattle.lanes.proofs.Accounting.{Fits, Credits}
 use Rattle.lanes.proofs.Joining.{taken_parts}
+use Rattle.lanes.proofs.Once.{once_each}
 use Rattle.lanes.proofs.Settlement.{kept_all, all_are_open, open_is_left}
 
 module _ {W R O : Type 0} (request : W → R) (result_of : R → O) where
@@ -52,6 +54,7 @@ module _ {W R O : Type 0} (request : W → R) (result_of : R → O) where
 
   pub record Lane (put : List (Ticketed W)) (mail mail' : Mail W O) (came : List (Ticketed W)) (ports : List (LaneEnd W O)) (answers waiting left : List (Ticketed W)) : Type 0 where
     pub carried : IsPermutation put (waiting ++ taken_by ports)
+    pub apart : AreApart ticket_of (waiting ++ taken_by ports)
     pub kept : AllKept request result_of mail answers mail'
     pub fits : Fits request result_of put mail'
     pub left_is : IsPermutation left (jobs_by ports ++ waiting)
@@ -79,8 +82,10 @@ module _ {W R O : Type 0} (request : W → R) (result_of : R → O) where
       let once : IsPermutation put ((came ++ answers) ++ left2) = subst (λ l. IsPermutation put ((came ++ answers) ++ l)) (sym left_is) once0 in
       let ends = kept_all request result_of put mail mail' came answers left2 f c (subst (λ l. IsPermutation put l) (append_assoc came answers left2) once) taken in
       let swapped : IsPermutation put ((answers ++ came) ++ left2) = IsPermutation-trans put ((came ++ answers) ++ left2) ((answers ++ came) ++ left2) once (IsPermutation-append_left left2 (came ++ answers) (answers ++ came) (IsPermutation-append_comm came answers)) in
+      let carried : IsPermutation put (waiting ++ taken_by ports) = IsPermutation-trans put (taken_by ports ++ waiting) (waiting ++ taken_by ports) all (IsPermutation-append_comm (taken_by ports) waiting) in
       record {
-        carried = IsPermutation-trans put (taken_by ports ++ waiting) (waiting ++ taken_by ports) all (IsPermutation-append_comm (taken_by ports) waiting);
+        carried = carried;
+        apart = once_each ticket_of put (waiting ++ taken_by ports) f.numbered carried;
         kept = ends.kept;
         fits = ends.fits;
         left_is = subst (λ l. IsPermutation l (J ++ waiting)) (sym left_is) (IsPermutation-append_left waiting jobs J h.held);

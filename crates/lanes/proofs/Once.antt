@@ -6,7 +6,7 @@ use Rattle.std.proofs.lemmas.List.Sorted.{IsPermutation-sym, Contains-permutatio
 use Rattle.std.proofs.lemmas.List.Sums.{sum_by-cons, sum_by-append, get_or-le-sum_by}
 use mathlib.Core.Logic.{dite}
 use native.Mathlib.Decide.{ℕ_discrete}
-use Rattle.lanes.specs.Books.{CountsFrom}
+use Rattle.lanes.specs.Books.{CountsFrom, AreApart}
 
 hit : ℕ → ℕ → ℕ
 hit t n = cond (n == t) 1 0
@@ -63,3 +63,23 @@ module _ {T : Type 0} (ticket : T → ℕ) where
       let theirs : 1 ≤ sum_by f before = (let h = get_or-le-sum_by f before has.0 y has.1 in let e : f (get_or before has.0 y) ≡ 1 = ap f has.2 ∙ hit_same (ticket x) (ticket y) same in omega arith) in
       let mine : 1 ≤ sum_by f rest = (let h = get_or-le-sum_by f rest has'.0 x has'.1 in let e : f (get_or rest has'.0 x) ≡ 1 = ap f has'.2 ∙ hit_same (ticket x) (ticket x) refl in omega arith) in
       omega (arith, sum_by-append f before rest)
+
+  -- where each ticket stands once at most, no two have one ticket
+  apart_where : (xs : List T) → ((t : ℕ) → many t xs ≤ 1) → AreApart ticket xs
+  unfolding many
+  apart_where [] few = tt
+  apart_where (x ∷ xs) few = (
+    λ k d h same. (
+        let f : T → ℕ = λ z. hit (ticket x) (ticket z) in
+        let more = sum_by-cons f x xs in let most = few (ticket x) in
+        let mine : f x ≡ 1 = hit_same (ticket x) (ticket x) refl in
+        let theirs : 1 ≤ sum_by f xs = (let below = get_or-le-sum_by f xs k d h in let e : f (get_or xs k d) ≡ 1 = hit_same (ticket x) (ticket (get_or xs k d)) (sym same) in omega arith) in
+        omega arith
+        ),
+    apart_where xs (λ t. let more = sum_by-cons (λ z. hit t (ticket z)) x xs in let most = few t in omega arith),
+  )
+
+  -- no two entries of any order of what was put have one ticket
+  pub once_each : (put xs : List T) → CountsFrom ticket 0 put → IsPermutation put xs → AreApart ticket xs
+  unfolding many
+  once_each put xs c p = apart_where xs (λ t. let same = sum_by-IsPermutation (λ z. hit t (ticket z)) put xs p in let most = at_most_one 0 t put c in omega arith)

@@ -1,4 +1,4 @@
--- Internal but for `is_open`, `taken_of` and `all_true`: what a client's mailbox has of the requests that were put.
+-- Internal but for `is_open`, `works_of`, `taken_of` and `all_true`: what a client's mailbox has of the requests that were put.
 use Rattle.std.specs.Prelude.{◌≡◌, ◌≢◌, ℕ, ◌+◌, ◌<◌, Bool, true, false, All, List, [], ◌∷◌, length, map, slice_get, Option, Some, None, is_some, if◌then◌else◌}
 use Rattle.box_core.specs.Answer.{Ticketed}
 use Rattle.box_core.specs.Mail.{Mail, Place, open_in}

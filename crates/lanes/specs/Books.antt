@@ -1,5 +1,5 @@
 -- The books of one lane, and the rule that its deque keeps.
-use Rattle.std.specs.Prelude.{◌≡◌, ℕ, suc, ◌+◌, ◌<◌, All, List, [], ◌∷◌, ◌++◌, flat_map, sum_by, length, IsPermutation}
+use Rattle.std.specs.Prelude.{◌≡◌, ◌≢◌, ℕ, zero, suc, ◌+◌, ◌<◌, ◌&&◌, nat_lt, Bool, true, All, List, [], ◌∷◌, ◌++◌, flat_map, sum_by, length, IsPermutation}
 use Rattle.std.specs.Coded.{×_prop, Unit-prop}
 use Rattle.std.proofs.Props.{props}
 use mathlib.Core.Option.{some}
@@ -12,6 +12,17 @@ ticket_of t = t.ticket
 
 abbrev pub work_of : {W : Type 0} → Ticketed W → W
 work_of t = t.work
+
+-- the numbers k, k + 1, k + 2, .., n of them
+abbrev pub counting : ℕ → ℕ → List ℕ
+counting k zero = []
+counting k (suc n) = k ∷ counting (suc k) n
+
+-- whether each number is below the next
+abbrev pub do_rise : List ℕ → Bool
+do_rise [] = true
+do_rise (m ∷ []) = true
+do_rise (m ∷ (n ∷ ns)) = nat_lt m n && do_rise (n ∷ ns)
 
 module _ {T : Type 0} where
   abbrev pub book : ℕ → ℕ → List T → List T → Book T
@@ -51,6 +62,11 @@ module _ {T : Type 0} (ticket : T → ℕ) where
   pub Rises-prop : (xs : List T) → IsProp (Rises xs)
   Rises-prop [] = Unit-prop
   Rises-prop (x ∷ xs) = ×_prop (Prim.hlevel props) (Rises-prop xs)
+
+  -- no two of them have one ticket
+  abbrev pub AreApart : List T → Type 0
+  AreApart [] = Unit {0}
+  AreApart (x ∷ xs) = All (λ y. ticket x ≢ ticket y) xs × AreApart xs
 
   -- one more was taken, and the tickets still rise
   abbrev pub TakesLast : Book T → List T → Book T → Type 0

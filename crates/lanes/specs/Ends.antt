@@ -1,8 +1,9 @@
 -- The ends of lanes as a clause sees them.
-use Rattle.std.specs.Prelude.{◌≡◌, ℕ, List, ◌++◌, length}
+use Rattle.std.specs.Prelude.{◌≡◌, ℕ, true, List, ◌++◌, drop, length, map}
 use Rattle.box_core.specs.Answer.{Ticketed}
 use Rattle.box_core.specs.Mail.{Mail, accepted_in}
-use Rattle.lanes.specs.Accounts.{taken_of, all_true}
+use Rattle.lanes.specs.Accounts.{works_of, taken_of, all_true}
+use Rattle.lanes.specs.Books.{ticket_of, work_of, counting, do_rise}
 use Rattle.lanes.specs.Held.{held_in}
 use Rattle.lanes.specs.Links.{Link}
 use Rattle.lanes.specs.declared.port.Held.{Held}
@@ -17,8 +18,11 @@ pub record ClientEnd (W O : Type 0) : Type 0 where
   pub mail : Mail W O
   -- which end it is: its links to the workers, in their order
   pub links : List Link
-  -- what was put is what the mailbox accepted
+  -- what was put has the tickets 0, 1, 2, .. and is what the mailbox accepted
+  pub numbered : map ticket_of put ≡ counting 0 (length put)
   pub count : length put ≡ accepted_in mail
+  -- what was put from the ticket on that is handed out next is what is outstanding in the mailbox
+  pub works : map work_of (drop mail.handed put) ≡ works_of mail.outstanding
 
 -- a worker's end of one lane
 pub record LaneEnd (W O : Type 0) : Type 0 where
@@ -30,6 +34,8 @@ pub record LaneEnd (W O : Type 0) : Type 0 where
   pub sent : List (Ticketed W)
   -- the job or the answer of the lane that it holds, if any
   pub held : Held W O
+  -- what it took has rising tickets
+  pub rises : do_rise (map ticket_of taken) ≡ true
   -- what it took it has sent, or holds
   pub carried : sent ++ held_in held ≡ taken
 
@@ -45,6 +51,9 @@ pub record SettledEnd (W O : Type 0) : Type 0 where
   pub mail : Mail W O
   -- the jobs that are left to give
   pub left : List (Ticketed W)
-  -- what was put is what the mailbox accepted, and each outstanding request counts as taken
+  -- what was put has the tickets 0, 1, 2, .. and is what the mailbox accepted
+  pub numbered : map ticket_of put ≡ counting 0 (length put)
   pub count : length put ≡ accepted_in mail
+  -- what was put from the ticket on that is handed out next is what is outstanding in the mailbox, and counts as taken
+  pub works : map work_of (drop mail.handed put) ≡ works_of mail.outstanding
   pub running : taken_of mail.outstanding ≡ all_true mail.outstanding

@@ -7,6 +7,7 @@ pub mod Identities
 pub mod Joined
 pub mod Links
 pub mod Made
+pub mod Numbers
 pub mod Polls
 pub mod Ports
 pub mod Rest

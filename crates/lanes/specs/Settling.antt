@@ -4,6 +4,7 @@ use Rattle.box_core.specs.Answer.{Ticketed}
 use Rattle.box_core.specs.History.{Kept}
 use Rattle.box_core.specs.Mail.{Mail, status_in, open_in, with_kept}
 use Rattle.box_core.specs.Table.{AnswerReport}
+use Rattle.lanes.specs.Books.{ticket_of, AreApart}
 use Rattle.lanes.specs.Ends.{ClientEnd, LaneEnd, SettledEnd}
 use Rattle.lanes.specs.Clients.{put_of, mail_of, came_to}
 use Rattle.lanes.specs.Held.{jobs_in, answers_in}
@@ -58,6 +59,7 @@ module _ {W R O : Type 0} (request : W → R) (result_of : R → O) where
     pub put : put_in end ≡ put_of client
     -- what was put waited or was taken, and no ticket twice
     pub carried : IsPermutation (put_of client) (waited ++ taken_by ports)
+    pub apart : AreApart ticket_of (waited ++ taken_by ports)
     -- what came out of each ring is the beginning of what was sent into it
     pub came : AreBeginnings client.came (map (λ p. sent_at p) ports)
     -- each answer that was sent or is held was taken in, before or now, and those of now were kept

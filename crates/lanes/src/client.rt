@@ -46,10 +46,11 @@ impl<W: Work> Model for Client<W> {
     ghost use Rattle.rtrb.specs.Ring.{received};
     ghost use Rattle.lanes.specs.Ends.{ClientEnd};
     ghost use Rattle.lanes.specs.Identities.{links_of};
+    ghost use Rattle.lanes.specs.Numbers.{counts};
 
     ghost Value = { ClientEnd W W.Out };
 
-    ghost view = { λ client. record { put = (worker_view client.owner).put; came = map (λ ring. received ring) client.rings.items; mail = client.mailbox; links = links_of (worker_deque client.owner) client.rings.items; count = client.count } };
+    ghost view = { λ client. record { put = (worker_view client.owner).put; came = map (λ ring. received ring) client.rings.items; mail = client.mailbox; links = links_of (worker_deque client.owner) client.rings.items; numbered = counts _ client.numbered; count = client.count; works = client.works } };
 }
 
 impl<W: Work> Client<W> {
@@ -93,8 +94,9 @@ impl<W: Work> Client<W> {
         }
     }
 
-    /// Takes in every answer that is in its rings, then hands out the next result if it is there. It takes no memory. Where
-    /// each request was handed its result, it looks into no ring.
+    /// Takes in answers that came out of its rings, then hands out the next result if its answer came by then. It takes no
+    /// memory. No clause says how many answers it takes in: these are all that it sees in its rings, but where each request
+    /// was handed its result it looks into none.
     pub fn poll(&mut self) -> Option<Reply<W>>
         ensures same { client_links self.new ≡ client_links self.old }
         ensures put { put_of self.new ≡ put_of self.old }
@@ -102,7 +104,8 @@ impl<W: Work> Client<W> {
         // The outcome is the result of the request that was put under the reply's ticket.
         ensures right { IfSome result (λ reply. (x : Ticketed W) → slice_get (put_of self.old) reply.ticket ≡ Some x → reply.outcome ≡ W.result_of (W.request x.work)) }
     {
-        take_in_rings(&mut self.rings, &mut self.mailbox);
+        let came = take_in_rings(&mut self.rings, &mut self.mailbox);
+        self.signals.take_answers(self.lane, came);
         self.mailbox.release()
     }
 
@@ -174,30 +177,35 @@ fn accept<W: Work>(mailbox: &mut Mailbox<W>, work: Arc<W>) -> u64
     }
 }
 
-// Takes in the answers that are in a ring. One whose ticket was not accepted would stay there, with those behind it.
-fn take_in_ring<W: Work>(ring: &mut Consumer<Done<W>>, mailbox: &mut Mailbox<W>)
+// Takes in the answers that are in a ring, and tells how many there were. One whose ticket was not accepted would stay there,
+// with those behind it.
+fn take_in_ring<W: Work>(ring: &mut Consumer<Done<W>>, mailbox: &mut Mailbox<W>) -> usize
     ensures ring { SameConsumer ring.old ring.new }
     ensures taken { (more : List (Ticketed W)) × (received ring.new ≡ received ring.old ++ more) × TakenIn W.request W.result_of mailbox.old more mailbox.new × All (λ x. x.ticket < accepted_in mailbox.old) more }
     ensures count { accepted_in mailbox.new ≡ accepted_in mailbox.old }
 {
-    ring.slots();
+    let there = ring.slots();
     while ring.cached_slots() > 0 {
         if ring.peek_known().ticket() >= mailbox.accepted() {
-            return;
+            return there;
         }
         mailbox.answer(ring.pop_known());
     }
+    there
 }
 
-// Takes in the answers that are in the rings. Where no request is outstanding there is none that can be kept.
-fn take_in_rings<W: Work>(rings: &mut Vec<Consumer<Done<W>>>, mailbox: &mut Mailbox<W>)
+// Takes in the answers that are in the rings, and tells how many there were. Where no request is outstanding there is none that
+// can be kept.
+fn take_in_rings<W: Work>(rings: &mut Vec<Consumer<Done<W>>>, mailbox: &mut Mailbox<W>) -> usize
     ensures rings { (vec_len rings.new ≡ vec_len rings.old) × (ring_links rings.new.items ≡ ring_links rings.old.items) }
     ensures taken { (more : List (Ticketed W)) × IsPermutation (received_of rings.new.items) (more ++ received_of rings.old.items) × TakenIn W.request W.result_of mailbox.old more mailbox.new × All (λ x. x.ticket < accepted_in mailbox.old) more }
 {
     if mailbox.is_whole() {
-        return;
+        return 0;
     }
+    let mut there: usize = 0;
     for index in 0..rings.len() {
-        take_in_ring(&mut rings[index], mailbox);
+        there = there.wrapping_add(take_in_ring(&mut rings[index], mailbox));
     }
+    there
 }

@@ -28,7 +28,7 @@ pub const MOST_CLIENTS: u32 = 64;
 /// The most workers that there may be.
 pub const MOST_WORKERS: u32 = 8;
 /// The answers that the ring of one worker and one client has room for.
-const ANSWERS: usize = 16;
+const ANSWERS: usize = 4;
 /// The jobs that a lane's deque has room for before it grows.
 const FIRST_SLOTS: usize = 64;
 
@@ -71,7 +71,7 @@ fn open_all<W: Work>(
     ensures new { IfOk result (λ ends. AreNew capacity ends.0.items × AreIdle ends.1.items) }
 {
     let mut ends = Vec::new(alloc);
-    let signals = Arc::new(alloc, Signals::of_lanes(clients))?;
+    let signals = signals_of(alloc, clients)?;
     let mut crew = crew_of(alloc, workers, &signals)?;
     for lane in 0..clients {
         let client = open_lane(alloc, lane, capacity, &mut crew, &signals)?;
@@ -95,6 +95,13 @@ fn crew_of<W: Work>(
         crew.push(Worker::without_lanes(alloc, theirs))?;
     }
     Ok(crew)
+}
+
+// What wakes the threads of so many lanes.
+fn signals_of(alloc: Global, lanes: u32) -> Result<Arc<Signals>, AllocError> {
+    let signals = Signals::of_lanes(alloc, lanes)?;
+    let shared = Arc::new(alloc, signals)?;
+    Ok(shared)
 }
 
 // One lane more, with a port for each worker.

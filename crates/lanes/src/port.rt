@@ -41,10 +41,11 @@ impl<W: Work> Model for Port<W> {
     ghost use Rattle.rtrb.specs.Ring.{sent};
     ghost use Rattle.lanes.specs.Ends.{LaneEnd};
     ghost use Rattle.lanes.specs.Identities.{sender_ring, link};
+    ghost use Rattle.lanes.specs.Numbers.{rising};
 
     ghost Value = { LaneEnd W W.Out };
 
-    ghost view = { λ port. record { link = link (stealer_deque port.thief) (sender_ring port.sender); number = port.seat.id; taken = (pass_view port.seat).taken; sent = sent port.sender; held = port.held; carried = port.carried } };
+    ghost view = { λ port. record { link = link (stealer_deque port.thief) (sender_ring port.sender); number = port.seat.id; taken = (pass_view port.seat).taken; sent = sent port.sender; held = port.held; rises = rising _ port.rises; carried = port.carried } };
 }
 
 impl<W: Work> Port<W> {

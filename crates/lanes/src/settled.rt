@@ -29,10 +29,11 @@ pub struct Settled<W: Work> {
 impl<W: Work> Model for Settled<W> {
     ghost use Rattle.crossbeam_deque.specs.Handles.{worker_view};
     ghost use Rattle.lanes.specs.Ends.{SettledEnd};
+    ghost use Rattle.lanes.specs.Numbers.{counts};
 
     ghost Value = { SettledEnd W W.Out };
 
-    ghost view = { λ settled. record { put = (worker_view settled.owner).put; mail = settled.mailbox; left = settled.left.items; count = settled.count; running = settled.running } };
+    ghost view = { λ settled. record { put = (worker_view settled.owner).put; mail = settled.mailbox; left = settled.left.items; numbered = counts _ settled.numbered; count = settled.count; works = settled.works; running = settled.running } };
 }
 
 impl<W: Work> Settled<W> {

@@ -1,7 +1,10 @@
 //! How threads that have nothing to do sleep, and what wakes them. No answer rests on it.
 use crate::bell::Bell;
 use crate::marks::Marks;
+use crate::memory::Memory;
+use crate::places::Places;
 use crossbeam_utils::CachePadded;
+use std::alloc::{AllocError, Global};
 use std::sync::Wait;
 use std::sync::atomic::{AtomicU64, Ordering};
 
@@ -14,9 +17,6 @@ const MANY: u64 = 16;
 /// From so many jobs that wait on, a worker that takes one wakes another though the front puts more: fewer small ones are run
 /// in the time that it takes to wake one, and where they are not small the front waits for them soon.
 const PLENTY: u64 = 64;
-/// How often workers may be refused memory, with nothing answered between, before they count as starved.
-const STARVED: u64 = 2_000;
-
 /// The longest sleep in milliseconds. No wake-up is lost, as `Bell` says, and no job is passed; this bounds what it would
 /// cost.
 const LONGEST_SLEEP: u64 = 100;
@@ -48,9 +48,15 @@ pub enum Woken {
 /// it reads whether the front is away. So where jobs wait, one of the two sees the other, and wakes a worker.
 ///
 /// A front that waits while many jobs are out sleeps until there are many answers, or a worker finds no job, or no place for
-/// its answer, or a millisecond has passed: no answer lies longer while others are slow. It counts as a sleeper before it
-/// reads that something is out. So the worker that posts the last answer of these looks for a job after that, finds none, and
-/// sees the sleeper.
+/// its answer, or a millisecond has passed: no answer lies longer while others are slow. It says that it waits, and counts as a
+/// sleeper, before it reads how many answers there are and that something is out. So the worker that posts the last answer of
+/// these looks for a job after that, finds none, and sees that the front waits. What a worker calls the front for counts as an
+/// answer: a front that is about to sleep sees another count.
+///
+/// A worker that finds its ring full counts that before it reads whether the front waits for many. The front says so before it
+/// reads that count. So one of the two sees the other: the front looks at the rings once more before it sleeps, or the worker
+/// calls it. The worker then sleeps until the lane's client took answers, as `Places` says. Where the front waits for few, no
+/// ring is full that it did not look at: each answer that it did not see was counted since, and it sleeps only where none was.
 ///
 /// Who wakes a worker sets `called` first, counts as for a job, and then wakes; while it is set nobody else wakes one. It is
 /// set no longer once a worker sleeps: each clears it before it sleeps and once it looks again. One that read the count
@@ -69,13 +75,19 @@ pub struct Signals {
     marks: CachePadded<Marks>,
     workers: CachePadded<Workers>,
     answers: CachePadded<Bell>,
+    places: Places,
     // How much of what counted for a job was none, but a call for a worker.
     calls: AtomicU64,
+    // How much of what counted for an answer was none, but a call for the front.
+    notices: AtomicU64,
+    // How often a worker found its ring full, and how often when the front last looked.
+    full: AtomicU64,
+    full_before: AtomicU64,
     // Whether the front is away since the last job was put: 1 where it is.
     away: AtomicU64,
     // From how many answers on the front wants to be woken.
     wanted: AtomicU64,
-    refusals: AtomicU64,
+    memory: Memory,
 }
 
 /// What workers change at each job.
@@ -120,21 +132,30 @@ impl Workers {
 
 impl Signals {
     /// Nobody looks, and nobody sleeps. There are no lanes.
-    pub fn new() -> Signals {
-        Signals::of_lanes(0)
+    pub fn new(alloc: Global) -> Signals {
+        Signals::over(Marks::of(0), Places::new(alloc))
     }
 
     /// The same for so many lanes.
-    pub(crate) fn of_lanes(lanes: u32) -> Signals {
+    pub(crate) fn of_lanes(alloc: Global, lanes: u32) -> Result<Signals, AllocError> {
+        let places = Places::of(alloc, lanes)?;
+        Ok(Signals::over(Marks::of(lanes), places))
+    }
+
+    fn over(marks: Marks, places: Places) -> Signals {
         Signals {
             jobs: CachePadded::new(Bell::new()),
-            marks: CachePadded::new(Marks::of(lanes)),
+            marks: CachePadded::new(marks),
             workers: CachePadded::new(Workers::new()),
             answers: CachePadded::new(Bell::new()),
+            places,
             calls: AtomicU64::new(0),
+            notices: AtomicU64::new(0),
+            full: AtomicU64::new(0),
+            full_before: AtomicU64::new(0),
             away: AtomicU64::new(0),
             wanted: AtomicU64::new(0),
-            refusals: AtomicU64::new(0),
+            memory: Memory::new(),
         }
     }
 
@@ -217,10 +238,11 @@ impl Signals {
 
     // How many jobs were put and not answered yet.
     fn outstanding(&self) -> u64 {
-        let calls = self.calls.load(Ordering::SeqCst);
-        self.jobs()
-            .saturating_sub(calls)
-            .saturating_sub(self.answers())
+        let jobs = self
+            .jobs()
+            .saturating_sub(self.calls.load(Ordering::SeqCst));
+        let notices = self.notices.load(Ordering::SeqCst);
+        jobs.saturating_sub(self.answers().saturating_sub(notices))
     }
 
     // What is no job counts for one that was put and taken.
@@ -243,6 +265,8 @@ impl Signals {
     pub fn wake_workers(&self) {
         self.add_call();
         self.jobs.wake_all();
+        self.places.wake_all();
+        self.memory.free();
     }
 
     /// One worker more looks for jobs.
@@ -296,7 +320,7 @@ impl Signals {
         Woken::ForJobs
     }
 
-    /// How many answers were posted.
+    /// How many answers were posted, and other things for which the front was woken.
     pub fn answers(&self) -> u64 {
         self.answers.count()
     }
@@ -307,15 +331,54 @@ impl Signals {
         if answers >= self.wanted.load(Ordering::SeqCst) {
             self.answers.wake_one();
         }
-        if self.refusals.load(Ordering::SeqCst) > 0 {
-            self.refusals.store(0, Ordering::SeqCst);
-        }
+        self.memory.free();
     }
 
     /// A worker posts no more for now: a front that waits for many answers is woken for those that are there.
     pub fn end_to_post(&self) {
         if self.wanted.load(Ordering::SeqCst) > 0 {
-            self.answers.wake_one();
+            self.call_front();
+        }
+    }
+
+    // Wakes a front that waits for answers, or is about to.
+    fn call_front(&self) {
+        self.notices.fetch_add(1, Ordering::SeqCst);
+        self.answers.add();
+        self.answers.wake_one();
+    }
+
+    /// A worker found its ring full: the front does not wait for many answers before it has looked at the rings again.
+    pub fn add_full(&self) {
+        self.full.fetch_add(1, Ordering::SeqCst);
+        self.end_to_post();
+    }
+
+    /// How often a worker found its ring full.
+    pub fn times_full(&self) -> u64 {
+        self.full.load(Ordering::SeqCst)
+    }
+
+    // Whether a worker found its ring full since the front last asked this.
+    fn was_full(&self) -> bool {
+        let times = self.times_full();
+        self.full_before.swap(times, Ordering::SeqCst) != times
+    }
+
+    /// How often the client of a lane took answers in.
+    pub fn takes(&self, lane: u32) -> u64 {
+        self.places.takes(lane)
+    }
+
+    /// A worker that holds an answer of a lane sleeps, unless its client took answers in more often than this.
+    pub fn await_place<R: Wait>(&self, rt: &R, lane: u32, seen: u64) {
+        self.places.sleep(rt, lane, seen, LONGEST_SLEEP);
+    }
+
+    /// The client of a lane took so many answers in: workers that sleep over an answer for it are woken.
+    pub(crate) fn take_answers(&self, lane: u32, answers: usize) {
+        if answers > 0 {
+            self.places.add(lane);
         }
     }
 
@@ -336,33 +399,66 @@ impl Signals {
     }
 
     // Sleeps until so many answers were posted, or a worker posts no more for now, or an answer may lie no longer. Where they
-    // are not there by then, the jobs take long, and the front is away.
+    // are not there by then, the jobs take long, and the front is away; but not where a ring is full.
     fn await_many<R: Wait>(&self, rt: &R, wanted: u64) {
         self.wanted.store(wanted, Ordering::SeqCst);
         self.answers.add_sleeper();
         let answers = self.answers();
-        if answers < wanted && self.outstanding() > 0 {
-            self.answers.sleep(rt, answers, LONGEST_GATHERING);
-        } else {
+        if answers >= wanted || self.outstanding() == 0 || self.was_full() {
             self.answers.end_sleep();
+            self.wanted.store(0, Ordering::SeqCst);
+            return;
         }
+        self.answers.sleep(rt, answers, LONGEST_GATHERING);
         self.wanted.store(0, Ordering::SeqCst);
-        if self.answers() < wanted {
+        if self.answers() < wanted && !self.was_full() {
             self.go_away();
         }
     }
 
+    // How many jobs were taken and not answered yet.
+    fn taken(&self) -> u64 {
+        let taken = self.workers.taken.load(Ordering::SeqCst);
+        let jobs = taken.saturating_sub(self.calls.load(Ordering::SeqCst));
+        let notices = self.notices.load(Ordering::SeqCst);
+        jobs.saturating_sub(self.answers().saturating_sub(notices))
+    }
+
+    /// A worker holds a job whose run was refused memory.
+    pub fn begin_to_lack(&self) {
+        self.memory.begin_to_lack();
+    }
+
+    /// One that did holds none any more.
+    pub fn end_to_lack(&self) {
+        self.memory.end_to_lack();
+    }
+
     /// A run was refused memory.
     pub fn add_refusal(&self) {
-        self.refusals.fetch_add(1, Ordering::SeqCst);
+        self.memory.add_try();
         if self.is_starved() {
-            self.answers.add();
-            self.answers.wake_one();
+            self.call_front();
         }
     }
 
-    /// Whether workers were refused memory so often, with nothing answered between, that what they hold will hardly fit.
+    /// How often something was freed while a worker lacked memory.
+    pub fn freed(&self) -> u64 {
+        self.memory.freed()
+    }
+
+    /// An answer was handed out, so what it held is free.
+    pub fn free_memory(&self) {
+        self.memory.free();
+    }
+
+    /// A worker that lacks memory sleeps for so many milliseconds, unless something was freed more often than this.
+    pub fn await_memory<R: Wait>(&self, rt: &R, seen: u64, millis: u64) {
+        self.memory.sleep(rt, seen, millis);
+    }
+
+    /// Whether every job that was taken was refused memory again and again, and nothing came free between.
     pub fn is_starved(&self) -> bool {
-        self.refusals.load(Ordering::SeqCst) >= STARVED
+        self.memory.is_used_up(self.taken())
     }
 }

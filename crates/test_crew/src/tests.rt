@@ -12,6 +12,8 @@ use std::test::Fail;
 use std::thread::{self, Parker, Threads};
 use std::time::Duration;
 
+mod still;
+
 /// How many requests each client puts.
 const REQUESTS: u64 = 50;
 

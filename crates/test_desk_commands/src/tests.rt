@@ -283,7 +283,10 @@ fn the_version_is_told(rt: HostRuntime) -> Result<(), Fail> {
     let input = b"{\"release\":\"a\"}\n".as_slice();
     let long = run(&rt, alloc, &["desk", "--version"], input)?;
     assert!(rt; long.is_help());
-    assert!(rt; long.output.starts_with(b"desk 0.9.0\nproved with "));
+    assert!(rt;
+        long.output
+            .starts_with(b"desk 0.12.0\nlicence MIT OR Apache-2.0\nproved with ")
+    );
     assert!(rt; long.shows("\nsources "));
     let short = run(&rt, alloc, &["desk", "-V"], input)?;
     assert!(rt; short.is(0, long.output.as_slice(), b"".as_slice()));

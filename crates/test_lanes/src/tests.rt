@@ -14,6 +14,8 @@ use std::thread::{self, Threads};
 
 mod full;
 mod gates;
+mod marks;
+mod places;
 mod refused;
 
 /// A request for a number. Its run counts itself, and is refused memory as often as it was told.
@@ -319,55 +321,53 @@ fn a_job_that_is_held_and_one_that_waits_are_left(rt: HostRuntime) -> Result<(),
     Ok(())
 }
 
-/// How many answers a ring takes.
-const ANSWERS: u64 = 16;
+const RING_CALLS: &[Call] = &[
+    Call::Submit(0, 0),
+    Call::Submit(0, 1),
+    Call::Submit(0, 2),
+    Call::Submit(0, 3),
+    Call::Submit(0, 4),
+    Call::Step(0),
+    Call::Step(0),
+    Call::Step(0),
+    Call::Step(0),
+    Call::Step(0),
+    Call::Poll(0),
+    Call::Step(0),
+    Call::Step(0),
+    Call::Poll(0),
+    Call::Poll(0),
+    Call::Poll(0),
+    Call::Poll(0),
+    Call::Poll(0),
+];
 
-// A request more than a ring takes answers, and as many steps.
-fn calls_past_a_ring(alloc: Global) -> Result<Vec<Call>, AllocError> {
-    let mut calls = Vec::new(alloc);
-    for number in 0..=ANSWERS {
-        calls.push(Call::Submit(0, number))?;
-    }
-    for _ in 0..=ANSWERS {
-        calls.push(Call::Step(0))?;
-    }
-    Ok(calls)
-}
-
-// The last step finds no room for its answer.
-fn seen_past_a_ring(alloc: Global) -> Result<Vec<Seen>, AllocError> {
-    let mut due = Vec::new(alloc);
-    for number in 0..=ANSWERS {
-        due.push(Ticket(number))?;
-    }
-    for _ in 0..ANSWERS {
-        due.push(ANSWERED)?;
-    }
-    due.push(Seen::Stepped(Stepped::RingFull))?;
-    Ok(due)
-}
-
-// A poll makes room, the answer that was held comes, and all are handed out.
-fn end_of_a_ring(calls: &mut Vec<Call>, due: &mut Vec<Seen>) -> Result<(), AllocError> {
-    calls.extend_from_slice(&[Call::Poll(0), Call::Step(0), Call::Step(0)])?;
-    due.extend_from_slice(&[Reply(0, 0), ANSWERED, Seen::Stepped(Stepped::Idle)])?;
-    for number in 1..=ANSWERS {
-        calls.push(Call::Poll(0))?;
-        due.push(Reply(number, number))?;
-    }
-    calls.push(Call::Poll(0))?;
-    due.push(Nothing)?;
-    Ok(())
-}
+const RING_DUE: &[Seen] = &[
+    Ticket(0),
+    Ticket(1),
+    Ticket(2),
+    Ticket(3),
+    Ticket(4),
+    ANSWERED,
+    ANSWERED,
+    ANSWERED,
+    ANSWERED,
+    Seen::Stepped(Stepped::RingFull),
+    Reply(0, 0),
+    ANSWERED,
+    Seen::Stepped(Stepped::Idle),
+    Reply(1, 1),
+    Reply(2, 2),
+    Reply(3, 3),
+    Reply(4, 4),
+    Nothing,
+];
 
 #[test]
-fn a_ring_takes_sixteen_answers(rt: HostRuntime) -> Result<(), Fail> {
+fn a_ring_takes_four_answers(rt: HostRuntime) -> Result<(), Fail> {
     let alloc = rt.alloc();
-    let mut calls = calls_past_a_ring(alloc)?;
-    let mut due = seen_past_a_ring(alloc)?;
-    end_of_a_ring(&mut calls, &mut due)?;
-    let seen = seen_of(alloc, 1, 1, 32, &calls)?;
-    are_seen(&rt, &seen, &due);
+    let seen = seen_of(alloc, 1, 1, 8, RING_CALLS)?;
+    are_seen(&rt, &seen, RING_DUE);
     Ok(())
 }
 

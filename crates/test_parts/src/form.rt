@@ -1,4 +1,5 @@
 use dmn_form::{WrittenDecision, WrittenLogic, WrittenModel, read_form};
+use dmn_warnings::shape_faults;
 use serde_json::Value;
 use std::alloc::{AllocError, Global};
 use std::test::Fail;
@@ -29,6 +30,41 @@ fn nested(alloc: Global, times: usize) -> Result<String, AllocError> {
 fn lists_may_stand_in_each_other_to_a_limit(rt: HostRuntime) -> Result<(), Fail> {
     let text = model_text(rt.alloc(), nested(rt.alloc(), 62)?.as_str())?;
     form_of(rt.alloc(), text.as_str())?;
+    Ok(())
+}
+
+/// The deepest lists with this in the innermost. No JSON text may nest as deep.
+fn nested_with(alloc: Global, innermost: &str) -> Result<Value, Fail> {
+    let text = model_text(alloc, nested(alloc, 62)?.as_str())?;
+    let mut json = Value::from_str(alloc, text.as_str())?;
+    let places = "/list/0".repeat(alloc, 62)?;
+    let pointer = format!(in alloc; "/decisions/0/expr{places}")?;
+    *json.pointer_mut(pointer.as_str()).ok_or("no part")? = Value::from_str(alloc, innermost)?;
+    Ok(json)
+}
+
+/// Whether a place is told exactly where the value has not the form of a model.
+fn is_told_rightly(alloc: Global, json: &Value) -> Result<bool, AllocError> {
+    let has_form = read_form(alloc, json)?.is_some();
+    let faults = shape_faults(alloc, json)?;
+    Ok(has_form == (faults.count == 0))
+}
+
+/// What is put into the innermost list.
+const INNERMOST: &[&str] = &[
+    "\"b\"",
+    "[]",
+    "{\"list\":[]}",
+    "{\"table\":[]}",
+    "{\"context\":[]}",
+];
+
+#[test]
+fn what_nests_too_deep_is_told(rt: HostRuntime) -> Result<(), Fail> {
+    for innermost in INNERMOST {
+        let json = nested_with(rt.alloc(), innermost)?;
+        assert!(rt; is_told_rightly(rt.alloc(), &json)?, "{innermost}");
+    }
     Ok(())
 }
 

@@ -1,14 +1,9 @@
-//! Tables that are refused, each for its own reason; entries behind a miss; rules by classes; tables of many columns; and calls
-//! while the heap refuses requests.
-mod classes;
-mod listed;
+//! Tables that are refused, each for its own reason; wide tables; and calls while the heap refuses requests.
 mod memory;
 mod wide;
 
-use crate::logic::{env_of, logic, shown};
-use dmn_logic::Logic;
-use dmn_table::{Output, Rule, Table, TableFault, decide};
-use feel_lang::{Env, Expr, Tests, read_expr, read_tests};
+use dmn_table::{Output, Rule, Table, TableFault};
+use feel_lang::{Expr, Tests, read_expr, read_tests};
 use std::alloc::{AllocError, Global};
 use std::sync::ArcStr;
 use std::test::Fail;
@@ -136,36 +131,6 @@ fn refused_tables(rt: HostRuntime) -> Result<(), Fail> {
     for (hits, names, rules, fault) in REFUSALS {
         let found = other_refusal(rt.alloc(), hits, names, rules, *fault)?;
         assert_eq!(rt; found, None, "{fault:?}");
-    }
-    Ok(())
-}
-
-/// Entries behind one that misses, and what a table of that one rule comes to where `a` is 1.
-const BEHIND_A_MISS: &[(&str, &str)] = &[
-    ("> 9223372036854775807 + 1", "limit"),
-    ("> a + 9223372036854775807", "limit"),
-    ("> a + 1", "null"),
-    ("> 0", "null"),
-    ("-", "null"),
-];
-
-/// What a table comes to whose one rule misses in its first entry and has this one behind it.
-fn behind_a_miss(alloc: Global, entry: &str, env: &Env) -> Result<String, Fail> {
-    let text = format!(in alloc;
-        r#"{{"table":{{"hit":"U","inputs":["a","a"],"outputs":[{{"name":"r"}}],"rules":[{{"when":["2","{entry}"],"then":["1"]}}]}}}}"#
-    )?;
-    match logic(alloc, text.as_str())? {
-        Logic::Table(table) => Ok(shown(alloc, &decide(alloc, &table, env)?)?),
-        _ => Err("no table".into()),
-    }
-}
-
-#[test]
-fn entries_behind_a_miss(rt: HostRuntime) -> Result<(), Fail> {
-    let env = env_of(rt.alloc(), 1)?;
-    for (entry, want) in BEHIND_A_MISS {
-        let found = behind_a_miss(rt.alloc(), entry, &env)?;
-        assert_eq!(rt; found.as_str(), *want, "{entry}");
     }
     Ok(())
 }

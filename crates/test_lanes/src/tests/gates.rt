@@ -1,5 +1,5 @@
 //! What a gate sees of a worker's runs.
-use super::{ANSWERS, Call, Reply, Task, are_seen, ends_of, seen_by};
+use super::{ANSWERED, Call, Reply, Seen, Task, are_seen, ends_of, seen_by};
 use lanes::{Gate, Stepped, Worker};
 use std::alloc::{AllocError, Global};
 use std::cell::Cell;
@@ -9,7 +9,7 @@ use std::sync::atomic::{AtomicU64, Ordering};
 use std::test::Fail;
 
 /// How many calls a gate keeps.
-const CALLS: usize = 64;
+const CALLS: usize = 16;
 
 /// A call on a gate: of which client and ticket, and how many runs had given an outcome before it.
 #[derive(Clone, Copy, Debug, PartialEq, Eq)]
@@ -119,45 +119,52 @@ fn a_run_stands_between_its_two_calls(rt: HostRuntime) -> Result<(), Fail> {
     Ok(())
 }
 
-// The calls on the gate that see each request run once, in order, where a ring takes all answers but the last.
-fn passed_past_a_ring(alloc: Global) -> Result<Vec<Passed>, AllocError> {
-    let mut passed = Vec::new(alloc);
-    for ticket in 0..=ANSWERS {
-        passed.push(Entered(0, ticket, ticket))?;
-        passed.push(Left(0, ticket, ticket.wrapping_add(1)))?;
-    }
-    Ok(passed)
-}
+const FIVE_CALLS: &[Call] = &[
+    Call::Submit(0, 0),
+    Call::Submit(0, 1),
+    Call::Submit(0, 2),
+    Call::Submit(0, 3),
+    Call::Submit(0, 4),
+];
 
-// So many steps of the first worker through the gate answer.
-fn steps_that_answer(
-    rt: &impl Abort,
-    workers: &mut Vec<Worker<Task>>,
-    gate: &Watching,
-    count: u64,
-) {
-    for _ in 0..count {
-        steps(rt, workers, gate, &[Stepped::Answered]);
-    }
-}
+const FIVE_STEPS: &[Stepped] = &[
+    Stepped::Answered,
+    Stepped::Answered,
+    Stepped::Answered,
+    Stepped::Answered,
+    Stepped::RingFull,
+    Stepped::RingFull,
+];
+
+const FIVE_PASSED: &[Passed] = &[
+    Entered(0, 0, 0),
+    Left(0, 0, 1),
+    Entered(0, 1, 1),
+    Left(0, 1, 2),
+    Entered(0, 2, 2),
+    Left(0, 2, 3),
+    Entered(0, 3, 3),
+    Left(0, 3, 4),
+    Entered(0, 4, 4),
+    Left(0, 4, 5),
+];
 
 #[test]
 fn an_answer_that_waits_for_room_passes_no_gate(rt: HostRuntime) -> Result<(), Fail> {
     let alloc = rt.alloc();
     let runs = Arc::new(alloc, AtomicU64::new(0))?;
     let gate = Watching::of(alloc, &runs)?;
-    let (mut clients, mut workers) = ends_of(alloc, 1, 1, 32)?;
-    for number in 0..=ANSWERS {
-        let put = [Call::Submit(0, number)];
-        seen_by(alloc, &mut clients, &mut workers, &runs, &put)?;
-    }
-    steps_that_answer(&rt, &mut workers, &gate, ANSWERS);
-    let full = [Stepped::RingFull, Stepped::RingFull];
-    steps(&rt, &mut workers, &gate, &full);
+    let (mut clients, mut workers) = ends_of(alloc, 1, 1, 8)?;
+    seen_by(alloc, &mut clients, &mut workers, &runs, FIVE_CALLS)?;
+    steps(&rt, &mut workers, &gate, FIVE_STEPS);
     let seen = seen_by(alloc, &mut clients, &mut workers, &runs, &[Call::Poll(0)])?;
     are_seen(&rt, &seen, &[Reply(0, 0)]);
-    let rest = [Stepped::Answered, Stepped::Idle];
-    steps(&rt, &mut workers, &gate, &rest);
-    assert!(rt; gate.saw(&passed_past_a_ring(alloc)?));
+    steps(
+        &rt,
+        &mut workers,
+        &gate,
+        &[Stepped::Answered, Stepped::Idle],
+    );
+    assert!(rt; gate.saw(FIVE_PASSED));
     Ok(())
 }

@@ -15,5 +15,9 @@ returns g c = record {
   long = λ e. let wrong : ⊥ = cc in absurd wrong;
   read_only_at_fault = λ e. let wrong : ⊥ = cc in absurd wrong;
   write_only_at_fault = λ e. let wrong : ⊥ = cc in absurd wrong;
-  ok_without_fault = (c.in_ok-text.ensures.counts, c.in_ok-write_told.ensures.counts);
+  cut = λ e. let wrong : ⊥ = cc in absurd wrong;
+  unwritten = tt;
+  ok_without_fault = (c.in_ok-text.ensures.counts (λ e. cc), c.in_ok-write_told.ensures.counts (λ e. cc));
+  write_told = λ _. c.in_ok-write_told.ensures.counts (λ e. cc);
+  read_told = λ _. c.in_ok-text.ensures.counts (λ e. cc);
 }

@@ -107,7 +107,7 @@ returns-in-End-clause-ok g c =
 
 pub returns-in-Last-clause-reads : goal.returns-in-Last-clause-reads
 returns-in-Last-clause-reads g c =
-    on_ok c.answer_line-in-Last.result _ (λ x e. c.in_ok-next_line.ensures.counts ∙ c.lines.invariant.reads)
+    λ _. c.in_ok-next_line.ensures.counts (λ e. cc) ∙ c.lines.invariant.reads
 
 pub overflow_add-number : goal.overflow_add-number
 overflow_add-number g c = let small = number_small c.lines.invariant.progress in omega arith
@@ -123,7 +123,7 @@ lines-preserved g c =
     let p = progress_caught {After' = g.C.Clerk.After c.before_read.new.clerk} c.lines.invariant.progress c.in_ok-before_read.ensures.said in
     record {
       progress = progress_next p took.0 _ _ _ took.1 took.2 c.in_ok-answer_line-in-Line.ensures.said;
-      reads = c.in_ok-next_line.ensures.counts ∙ c.lines.invariant.reads;
+      reads = c.in_ok-next_line.ensures.counts (λ e. cc) ∙ c.lines.invariant.reads;
       writes = c.in_ok-answer_line-in-Line.ensures.counts (λ e. cc) ∙ c.in_ok-before_read.ensures.counts (λ e. cc) ∙ c.lines.invariant.writes;
       in_step = c.in_ok-next_line.ensures.in_step _ c.lines.invariant.in_step;
       keeps = λ lines said h. c.lines.invariant.keeps lines said (c.in_ok-before_read.ensures.keeps lines said (c.in_ok-answer_line-in-Line.ensures.keeps lines said h));

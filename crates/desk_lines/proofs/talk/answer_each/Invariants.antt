@@ -7,7 +7,7 @@ use Rattle.desk_lines.proofs.talk.answer_each.Given as goal
 abbrev pub invariant-lines : goal.invariant-lines
 invariant-lines g l = record {
   progress : Progress (g.C.Clerk.After l.clerk) (g.R.Source.seen l.initial.reader).remaining (g.R.Source.seen l.reader).remaining
-      (g.W.Sink.seen l.initial.writer).contents (g.W.Sink.seen l.writer).contents l.lines.came (waiting l.lines) l.unwritten.bytes.items l.number;
+      (g.W.Sink.seen l.initial.writer).contents (g.W.Sink.seen l.writer).contents l.lines.came (waiting l.lines) l.unwritten l.number;
   reads : (g.R.Source.seen l.reader).faults ≡ (g.R.Source.seen l.initial.reader).faults;
   writes : (g.W.Sink.seen l.writer).faults ≡ (g.W.Sink.seen l.initial.writer).faults;
   in_step : IsInStep (g.R.Source.seen l.initial.reader).came (g.R.Source.seen l.reader).came l.lines.came;

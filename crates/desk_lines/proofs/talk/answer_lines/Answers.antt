@@ -1,4 +1,4 @@
-use Rattle.std.proofs.Common.{◌∙◌, refl}
+use Rattle.std.proofs.Common.{◌∙◌, refl, sym}
 use Rattle.std.proofs.lemmas.Result.{err_from_is_err_and}
 use Rattle.desk_lines.proofs.Ending.{ran_cut}
 use Rattle.desk_lines.proofs.Talking.{not_so, on_ok, ok_written, fault_written, cut_at_last, past_limit, within_limit}
@@ -31,7 +31,9 @@ returns-clause-ran g c =
       fault = fault_written (g.C.Clerk.After c.answer_each-ended.new.clerk) (g.C.Clerk.Script c.args.clerk.now) _ _ _ _ _ c.answer_each-ended.result each.fault n out.all out.nothing_waits;
       read_only_at_fault = each.read_only_at_fault;
       write_only_at_fault = λ e. absurd (n e);
-      ok_without_fault = on_ok c.answer_each-ended.result _ (λ x e. (rw e at each.reads, out.counts ∙ each.writes n));
+      ok_without_fault = on_ok c.answer_each-ended.result _ (λ x e. (each.reads (λ h. let both = sym e ∙ h in let wrong : ⊥ = cc in wrong), out.counts ∙ each.writes n));
+      write_told = λ _. out.counts ∙ each.writes n;
+      read_told = λ e. each.reads (λ h. let both = sym e ∙ h in let wrong : ⊥ = cc in wrong);
       long_only_past_limit = λ e h. past_limit _ _ came.0 came.1 (came.4 e) h;
       ok_within_limit = on_ok c.answer_each-ended.result _ (λ x e. within_limit _ _ came.0 came.1 (rw e at came.2));
       read_within_limit = λ e. within_limit _ _ came.0 came.1 (came.3 e);

@@ -10,7 +10,7 @@ use Rattle.desk_serving.proofs.ending.hand_out_beside.Goals as goal
 
 pub loop-init : goal.loop-init
 loop-init g c =
-    let names = names_in c.args.lanes.now in let old = lanes_in c.args.lanes.now in let wrote = (g.W.Sink.seen c.args.writer.now).contents in let waits = c.args.unwritten.now.bytes.items in
+    let names = names_in c.args.lanes.now in let old = lanes_in c.args.lanes.now in let wrote = (g.W.Sink.seen c.args.writer.now).contents in let waits = c.args.unwritten.now in
     record {
       same = refl;
       names = refl;

@@ -9,5 +9,5 @@ invariant-loop g l = record {
   same : links_in l.lanes ≡ links_in l.initial.lanes;
   names : names_in l.lanes ≡ names_in l.initial.lanes;
   counts : (g.W.Sink.seen l.writer).faults ≡ (g.W.Sink.seen l.initial.writer).faults;
-  tells : Tells (AreHanded (names_in l.initial.lanes) (lanes_in l.initial.lanes) (lanes_in l.lanes)) (g.W.Sink.seen l.initial.writer).contents (g.W.Sink.seen l.writer).contents [] l.unwritten.bytes.items;
+  tells : Tells (AreHanded (names_in l.initial.lanes) (lanes_in l.initial.lanes) (lanes_in l.lanes)) (g.W.Sink.seen l.initial.writer).contents (g.W.Sink.seen l.writer).contents [] l.unwritten;
 }

@@ -17,5 +17,5 @@ pub returns-clause-handed : goal.returns-clause-handed
 returns-clause-handed g c =
     let n = c.args.name.now in
     subst (λ (l : Lane). HandsOut (AreOwn n l (lane_in c.hand_rest.new.end)) (AreFirstOwn n l) (g.W.Sink.seen c.args.writer.now) (g.W.Sink.seen c.hand_rest.new.writer)
-    c.args.unwritten.now.bytes.items c.hand_rest.new.unwritten.bytes.items c.hand_rest.result)
+    c.args.unwritten.now c.hand_rest.new.unwritten c.hand_rest.result)
     c.run_left.ensures.lane c.hand_rest.ensures.handed

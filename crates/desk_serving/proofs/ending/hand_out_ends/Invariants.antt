@@ -10,5 +10,5 @@ invariant-loop-place g l = record {
   rest : drop l.place l.ends.items ≡ drop l.place l.initial.ends.items;
   whole : (k : ℕ) (lane : Lane) → k < l.place → slice_get (ends_lanes l.ends.items) k ≡ Some lane → drop lane.handed lane.put ≡ [];
   counts : (g.W.Sink.seen l.writer).faults ≡ (g.W.Sink.seen l.initial.writer).faults;
-  tells : Tells (AreHanded (map string_bytes l.names.items) (ends_lanes l.initial.ends.items) (ends_lanes l.ends.items)) (g.W.Sink.seen l.initial.writer).contents (g.W.Sink.seen l.writer).contents [] l.unwritten.bytes.items;
+  tells : Tells (AreHanded (map string_bytes l.names.items) (ends_lanes l.initial.ends.items) (ends_lanes l.ends.items)) (g.W.Sink.seen l.initial.writer).contents (g.W.Sink.seen l.writer).contents [] l.unwritten;
 }

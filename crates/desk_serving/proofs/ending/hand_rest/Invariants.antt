@@ -9,7 +9,7 @@ abbrev pub invariant-loop-reply : goal.invariant-loop-reply
 invariant-loop-reply g l = record {
   run : IsRun l.end;
   counts : (g.W.Sink.seen l.writer).faults ≡ (g.W.Sink.seen l.initial.writer).faults;
-  tells : Tells (AreOwn l.name (lane_in l.initial.end) (lane_in l.end)) (g.W.Sink.seen l.initial.writer).contents (g.W.Sink.seen l.writer).contents l.initial.unwritten.bytes.items l.unwritten.bytes.items;
+  tells : Tells (AreOwn l.name (lane_in l.initial.end) (lane_in l.end)) (g.W.Sink.seen l.initial.writer).contents (g.W.Sink.seen l.writer).contents l.initial.unwritten l.unwritten;
 }
 
 abbrev pub decreases-loop-reply : goal.decreases-loop-reply

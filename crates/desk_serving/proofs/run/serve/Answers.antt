@@ -9,7 +9,7 @@ use Rattle.desk_serving.proofs.Sendable.{Task-send, Task-sync}
 use Rattle.desk_serving.proofs.run.serve.Goals as goal
 
 pub returns-in_default-clause-ran : goal.returns-in_default-clause-ran
-returns-in_default-clause-ran g c = ran_stopped _ _ _ _ _ _ (stops_unread _ _ _ (nothing_served c.args.options.clients))
+returns-in_default-clause-ran g c = ran_stopped _ _ _ _ _ _ (stops_unread _ _ _ (nothing_served c.args.options.clients)) refl
 
 pub beside-ran-requires-send-W : goal.beside-ran-requires-send-W
 beside-ran-requires-send-W g c κs within = search (Task-send, sendable) depth 20 fits 20000
@@ -43,7 +43,8 @@ returns-in_err-ended-clause-ran g c =
     rw (e.1, e.2) (ran_stopped _ _ _ _ _ _ (stops_same _ _ _ _ _
     (ap (λ r. (g.R.Source.seen r).remaining) (c.reader-1.given.1 (sym (ap (λ f. f.reader.ghost_name) same)) ∙ c.take_back.ensures ∙ ap (λ f. f.reader.now) same))
     (ap (λ w. (g.W.Sink.seen w).contents) (c.in_err-ended.writer-1-own.given.1 (sym (ap (λ f. f.writer.ghost_name) same)) ∙ ap (λ f. f.writer.now) same))
-    (nothing_served c.args.options.clients)))
+    (nothing_served c.args.options.clients))
+    (ap (λ w. (g.W.Sink.seen w).faults) (c.in_err-ended.writer-1-own.given.1 (sym (ap (λ f. f.writer.ghost_name) same)) ∙ ap (λ f. f.writer.now) same)))
 
 pub returns-clause-ran : goal.returns-clause-ran
 returns-clause-ran g c =

@@ -24,7 +24,7 @@ loop-ring-preserved g c =
 
 pub loop-ring-init : goal.loop-ring-init
 loop-ring-init g c =
-    let looked = c.slots.ensures.looked in
+    let looked = c.slots-there.ensures.looked in
     record {
       ring = looked.0;
       taken = ([], looked.1 ∙ sym (append-nil (received c.args.ring.now)), refl, none (λ x. x.ticket < accepted_in c.args.mailbox.now));

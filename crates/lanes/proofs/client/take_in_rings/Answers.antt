@@ -14,10 +14,10 @@ loop-index-init g c = record {
 
 pub loop-index-preserved : goal.loop-index-preserved
 loop-index-preserved g c =
-    let inv = c.loop-index.invariant in let told = c.take_in_ring.ensures in
+    let inv = c.loop-index.invariant in let told = c.take_in_ring-there.ensures in
     record {
       len = inv.len;
-      ringing = ringing_step g.W.Work.request g.W.Work.result_of c.args.rings.now.items c.loop-index.rings.items c.args.mailbox.now c.loop-index.mailbox c.take_in_ring.new.mailbox c.loop-index.index c.index_mut.result.now c.take_in_ring.new.ring told.taken.0
+      ringing = ringing_step g.W.Work.request g.W.Work.result_of c.args.rings.now.items c.loop-index.rings.items c.args.mailbox.now c.loop-index.mailbox c.take_in_ring-there.new.mailbox c.loop-index.index c.index_mut.result.now c.take_in_ring-there.new.ring told.taken.0
           inv.ringing (omega (arith, c.loop-index-test.true, c.len-index-end.ensures, inv.len, c.loop-index.rings.ok.0)) c.index_mut.ensures.value told.ring told.taken.1 told.taken.2 told.taken.3 told.count;
     }
 

@@ -27,6 +27,7 @@ returns g c =
         answers = joins.0;
         put = c.pop_rest.ensures.put ∙ ap (λ b. b.put) joins.4.view;
         carried = whole.carried;
+        apart = whole.apart;
         came = joins.4.beginnings;
         taken_in = joins.4.arrived;
         kept = whole.kept;

@@ -30,7 +30,7 @@ pieces-preserved g c =
     let t = c.in_ok-take_piece.ensures.open c.if-branch.false in
     record {
       partway = partway_same (partway_piece _ _ (partway_more _ r.0 c.pieces.invariant.partway r.1 r.2) t.0 t.2) c.take_piece.ensures.came t.1;
-      counts = c.in_ok-refill.ensures.counts ∙ c.pieces.invariant.counts;
+      counts = c.in_ok-refill.ensures.counts (λ e. cc) ∙ c.pieces.invariant.counts;
       in_step = λ start h. rw c.take_piece.ensures.came (c.refill.ensures.in_step start (c.pieces.invariant.in_step start h));
     }
 

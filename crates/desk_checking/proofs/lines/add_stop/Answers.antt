@@ -1,0 +1,11 @@
+use Rattle.std.proofs.Common.{refl}
+use Rattle.std.specs.Prelude.{codes}
+use Rattle.std.specs.Fmt.{decimal}
+use Rattle.desk_checking.proofs.Placing.{goes_on}
+use Rattle.desk_checking.proofs.Placing.{decimal_line}
+use Rattle.desk_checking.proofs.lines.add_stop.Goals as goal
+
+pub returns : goal.returns
+returns c = λ head g.
+    c.add_text.ensures head
+    (goes_on head _ (decimal c.at) _ (goes_on head _ (codes ",\"stop\":") _ g refl c.in_ok-push_str.ensures.bytes) (decimal_line c.at search) c.in_ok-write.ensures.bytes)

@@ -1,0 +1,218 @@
+package dmn
+
+import (
+	"bytes"
+	"encoding/xml"
+	"errors"
+	"fmt"
+	"io"
+	"strings"
+)
+
+// Limits of a file. A model has to fit in a line of 1,048,576 bytes, so these are far beyond any file that can be
+// taken; they hold what a hostile file costs.
+const (
+	MostBytes    = 16 << 20
+	MostDepth    = 256
+	MostElements = 500_000
+)
+
+// An Element is an element of the file, with all that stands in it.
+type Element struct {
+	// Space is the namespace that its prefix stands for, Tag its name without the prefix.
+	Space, Tag string
+	Attributes []xml.Attr
+	Children   []*Element
+	// Text is the characters that stand directly in it, one after the other.
+	Text  string
+	Place Place
+}
+
+// Attribute is the value of an attribute without a prefix, trimmed; empty where there is none.
+func (e *Element) Attribute(name string) string {
+	for _, a := range e.Attributes {
+		if a.Name.Space == "" && a.Name.Local == name {
+			return strings.TrimSpace(a.Value)
+		}
+	}
+	return ""
+}
+
+// ID is the element's id; empty where it has none.
+func (e *Element) ID() string { return e.Attribute("id") }
+
+// Name is the element's name, or its label where it has no name.
+func (e *Element) Name() string {
+	if name := e.Attribute("name"); name != "" {
+		return name
+	}
+	return e.Attribute("label")
+}
+
+// treeReader builds the elements of one file.
+type treeReader struct {
+	decoder *xml.Decoder
+	lines   *ruler
+	open    []*Element
+	root    *Element
+	count   int
+	// words keeps one copy of each tag and namespace.
+	words map[string]string
+	texts []*strings.Builder
+}
+
+// readTree reads the text of a file, UTF-8, as one root element.
+func readTree(text []byte) (*Element, *Fault) {
+	decoder := xml.NewDecoder(bytes.NewReader(text))
+	// The text is UTF-8 whatever its declaration says: it was decoded before.
+	decoder.CharsetReader = func(_ string, input io.Reader) (io.Reader, error) { return input, nil }
+	r := &treeReader{decoder: decoder, lines: newRuler(text), words: map[string]string{}}
+	for {
+		offset := int(decoder.InputOffset())
+		token, err := decoder.Token()
+		if errors.Is(err, io.EOF) {
+			return r.finished(len(text))
+		}
+		if err != nil {
+			return nil, r.syntax(err)
+		}
+		if fault := r.take(token, offset); fault != nil {
+			fault.Place = r.lines.place(offset)
+			return nil, fault
+		}
+	}
+}
+
+func (r *treeReader) finished(end int) (*Element, *Fault) {
+	if r.root == nil {
+		return nil, &Fault{Place: r.lines.place(end), Why: "the file has no element"}
+	}
+	return r.root, nil
+}
+
+// syntax tells an error of the XML reader at the place that it had come to.
+func (r *treeReader) syntax(err error) *Fault {
+	why := err.Error()
+	var syntax *xml.SyntaxError
+	if errors.As(err, &syntax) {
+		why = syntax.Msg
+	}
+	return &Fault{Place: r.lines.place(int(r.decoder.InputOffset())), Why: "no XML: " + why}
+}
+
+// take takes one token in, which begins at a byte of the text.
+func (r *treeReader) take(token xml.Token, offset int) *Fault {
+	switch t := token.(type) {
+	case xml.StartElement:
+		return r.start(t, offset)
+	case xml.EndElement:
+		r.end()
+	case xml.CharData:
+		return r.characters(t)
+	case xml.Directive:
+		return &Fault{Text: "<!" + firstWord(string(t)), Why: "a document type or entities of its own are not read",
+			Instead: "take the declaration out"}
+	case xml.ProcInst:
+		if t.Target == "xml" && offset > 0 {
+			return &Fault{Why: "an XML declaration stands behind the file's start"}
+		}
+	}
+	return nil
+}
+
+func (r *treeReader) start(token xml.StartElement, offset int) *Fault {
+	r.count++
+	switch {
+	case r.root != nil && len(r.open) == 0:
+		return &Fault{Text: token.Name.Local, Why: "a second root element"}
+	case len(r.open) == MostDepth:
+		return &Fault{Text: token.Name.Local, Why: fmt.Sprintf("elements stand in each other over %d deep", MostDepth)}
+	case r.count > MostElements:
+		return &Fault{Text: token.Name.Local, Why: fmt.Sprintf("the file has over %d elements", MostElements)}
+	}
+	if twice := attributeTwice(token.Attr); twice != "" {
+		return &Fault{Text: twice, Why: "the attribute stands twice in its element"}
+	}
+	e := &Element{Space: r.word(token.Name.Space), Tag: r.word(token.Name.Local), Place: r.lines.place(offset)}
+	if len(token.Attr) > 0 {
+		e.Attributes = append([]xml.Attr(nil), token.Attr...)
+	}
+	r.attach(e)
+	r.open = append(r.open, e)
+	r.texts = append(r.texts, nil)
+	return nil
+}
+
+// attach puts an element under the one that is open. What stands in an element of other tools is read and let go.
+func (r *treeReader) attach(e *Element) {
+	if len(r.open) == 0 {
+		r.root = e
+		return
+	}
+	parent := r.open[len(r.open)-1]
+	if !isOfTools(parent) {
+		parent.Children = append(parent.Children, e)
+	}
+}
+
+func (r *treeReader) end() {
+	last := len(r.open) - 1
+	if r.texts[last] != nil {
+		r.open[last].Text = r.texts[last].String()
+	}
+	r.open, r.texts = r.open[:last], r.texts[:last]
+}
+
+func (r *treeReader) characters(data xml.CharData) *Fault {
+	last := len(r.open) - 1
+	blank := len(bytes.TrimSpace(data)) == 0
+	if last < 0 {
+		if blank {
+			return nil
+		}
+		return &Fault{Text: firstWord(string(data)), Why: "characters stand outside of the root element"}
+	}
+	if isOfTools(r.open[last]) || blank && r.texts[last] == nil {
+		return nil
+	}
+	if r.texts[last] == nil {
+		r.texts[last] = &strings.Builder{}
+	}
+	r.texts[last].Write(data)
+	return nil
+}
+
+// isOfTools tells whether an element is for other tools, so that what stands in it is not kept: the diagram, and
+// extensions.
+func isOfTools(e *Element) bool { return e.Tag == "extensionElements" || e.Tag == "DMNDI" }
+
+func (r *treeReader) word(text string) string {
+	if kept, found := r.words[text]; found {
+		return kept
+	}
+	r.words[text] = text
+	return text
+}
+
+// attributeTwice names an attribute that stands twice.
+func attributeTwice(attributes []xml.Attr) string {
+	seen := make(map[xml.Name]bool, len(attributes))
+	for _, a := range attributes {
+		if seen[a.Name] {
+			return a.Name.Local
+		}
+		seen[a.Name] = true
+	}
+	return ""
+}
+
+func firstWord(text string) string {
+	fields := strings.Fields(text)
+	if len(fields) == 0 {
+		return ""
+	}
+	if len(fields[0]) > 40 {
+		return fields[0][:40]
+	}
+	return fields[0]
+}

@@ -1,0 +1,143 @@
+package engine
+
+import (
+	"bufio"
+	"bytes"
+	"context"
+	"encoding/json"
+	"errors"
+	"fmt"
+	"os/exec"
+	"strings"
+	"time"
+)
+
+// checkPatience is how long the check of a model may take.
+const checkPatience = 60 * time.Second
+
+// A Place is what the check says of one place of a model: a fault, a warning, or how many more there are. It is a line of
+// `desk check --json`.
+type Place = json.RawMessage
+
+// A Lawful is what the check says of a model without a fault.
+type Lawful struct {
+	Inputs    []string `json:"inputs"`
+	Decisions []struct {
+		Name string `json:"name"`
+		Kind string `json:"kind"`
+	} `json:"decisions"`
+	Services []ServiceForm `json:"services"`
+}
+
+// A ServiceForm is a service and the names of its parameters.
+type ServiceForm struct {
+	Name       string   `json:"name"`
+	Parameters []string `json:"parameters"`
+}
+
+// A FaultyModel is the error of a model that has a fault, with each of its places.
+type FaultyModel struct {
+	// Fault is the word of its first fault.
+	Fault  string
+	Places []Place
+}
+
+func (f *FaultyModel) Error() string {
+	return "the model has a fault: " + f.Fault
+}
+
+// Check asks `desk check --json` what a model is. Where it has a fault the error is a *FaultyModel.
+func Check(ctx context.Context, path string, memory uint64, text []byte) (*Lawful, []Place, error) {
+	ctx, stop := context.WithTimeout(ctx, checkPatience)
+	defer stop()
+	lines, err := ask(ctx, path, memory, text, "check", "--json")
+	if err != nil {
+		return nil, nil, fmt.Errorf("checking the model: %w", err)
+	}
+	if len(lines) == 0 {
+		return nil, nil, errors.New("checking the model: the engine said nothing")
+	}
+	var first struct {
+		Lawful
+		IsLawful bool   `json:"lawful"`
+		Fault    string `json:"fault"`
+	}
+	if err := json.Unmarshal(lines[0], &first); err != nil {
+		return nil, nil, fmt.Errorf("checking the model: %w", err)
+	}
+	if !first.IsLawful {
+		return nil, nil, &FaultyModel{Fault: first.Fault, Places: lines[1:]}
+	}
+	return &first.Lawful, lines[1:], nil
+}
+
+// ask runs the engine with these words over an input, and gives the lines that it writes.
+func ask(ctx context.Context, path string, memory uint64, input []byte, words ...string) ([]Place, error) {
+	p, err := begin(path, memory, words...)
+	if err != nil {
+		return nil, err
+	}
+	go func() {
+		_, _ = p.in.Write(input)
+		_ = p.in.Close()
+	}()
+	lines := make(chan []Place, 1)
+	go func() {
+		lines <- linesOf(p)
+	}()
+	select {
+	case got := <-lines:
+		err = p.wait()
+		var exit *exec.ExitError
+		// Status 3 says that the model has a fault.
+		if errors.As(err, &exit) && exit.ExitCode() == 3 {
+			err = nil
+		}
+		return got, err
+	case <-ctx.Done():
+		p.kill()
+		<-lines
+		_ = p.wait()
+		return nil, ctx.Err()
+	}
+}
+
+func linesOf(p *process) []Place {
+	var lines []Place
+	from := bufio.NewReaderSize(p.out, 64<<10)
+	for {
+		text, _, err := readLine(from, nil)
+		if err != nil {
+			return lines
+		}
+		lines = append(lines, append(Place(nil), text...))
+	}
+}
+
+// Try gives a model to an engine of its own, and says why it does not take it.
+func Try(ctx context.Context, path string, memory uint64, model *Model) error {
+	ctx, stop := context.WithTimeout(ctx, checkPatience)
+	defer stop()
+	lines, err := ask(ctx, path, memory, model.AppendLine(nil), "serve")
+	if err != nil {
+		return fmt.Errorf("trying the model: %w", err)
+	}
+	if len(lines) != 1 || !bytes.Equal(lines[0], []byte(`{"line":1,"model":true}`)) {
+		return fmt.Errorf("trying the model: the engine said %q", lines)
+	}
+	return nil
+}
+
+// Version is the engine's own, as "0.9.0".
+func Version(ctx context.Context, path string) (string, error) {
+	ctx, stop := context.WithTimeout(ctx, checkPatience)
+	defer stop()
+	lines, err := ask(ctx, path, 0, nil, "--version")
+	if err != nil {
+		return "", fmt.Errorf("asking for the engine's version: %w", err)
+	}
+	if len(lines) == 0 || !strings.HasPrefix(string(lines[0]), "desk ") {
+		return "", errors.New("asking for the engine's version: it has none")
+	}
+	return strings.TrimSpace(strings.TrimPrefix(string(lines[0]), "desk ")), nil
+}

@@ -1,0 +1,533 @@
+package engine
+
+import (
+	"bufio"
+	"errors"
+	"fmt"
+	"io"
+	"sort"
+	"strconv"
+	"sync"
+	"time"
+)
+
+// Lanes is the number of lanes of each engine.
+const Lanes = 16
+
+const (
+	lanePrefix = "lane"
+	// anyTicket stands for a ticket that was not read.
+	anyTicket = ^uint64(0)
+	// windowJobs and windowBytes are the most that is asked of a process and not yet answered. A lane has more places in
+	// the engine than that, so that no line ever waits there for one.
+	windowJobs  = 128
+	windowBytes = 4 << 20
+	laneRoom    = "256"
+	// pieceBytes is about how much is written at once.
+	pieceBytes = 64 << 10
+	// modelPatience is how long reading a model may take, where the deadline is shorter.
+	modelPatience = 20 * time.Second
+	// endPatience is how long a process may take to end once it wrote all.
+	endPatience = 5 * time.Second
+	// Pauses between processes that end at once.
+	firstPause   = 50 * time.Millisecond
+	longestPause = 5 * time.Second
+)
+
+// Why an engine was ended by us.
+var (
+	errLate  = errors.New("a request took longer than the deadline")
+	errClose = errors.New("it did not end after its input")
+)
+
+// A lane is the requests of one name.
+type lane struct {
+	waiting, sent queue
+	ticket        uint64
+}
+
+// A modelLine is a model that a process was told and has not answered.
+type modelLine struct {
+	line  uint64
+	model *Model
+}
+
+// An engine is a place of the pool: one process after the other stands there.
+type engine struct {
+	number int
+	pool   *Pool
+
+	mu   sync.Mutex
+	wake *sync.Cond
+	// lanes has the requests that wait and those that are out.
+	lanes [Lanes]lane
+	// again are the requests that were out when a process ended, and alone the one of them that is out now.
+	again queue
+	alone *Job
+	// How many requests wait in lanes, how many are out, and their bytes; turn is the lane that is next.
+	waiting, sent, sentBytes, turn int
+	// target is the model in force. told is the last that the process was told, taken the last that it took.
+	target, told, taken *Model
+	models              []modelLine
+	process             *process
+	// Counted anew for each process: its lines and its answers. order counts the requests sent, over all of them.
+	lines, answers, order uint64
+	// moved is when the process last answered, or was asked while nothing was out.
+	moved time.Time
+	// age is how long the process has been at what it is at, as far as seen ticks tell.
+	age   time.Duration
+	seen  uint64
+	ended error
+	// closing says that no more comes.
+	closing bool
+}
+
+func newEngine(number int, pool *Pool, model *Model) *engine {
+	e := &engine{number: number, pool: pool, target: model}
+	e.wake = sync.NewCond(&e.mu)
+	return e
+}
+
+// run keeps a process in this place until the pool closes.
+func (e *engine) run() {
+	pause := firstPause
+	for {
+		answered, err := e.live()
+		if e.isDone() {
+			return
+		}
+		e.pool.options.Died(e.number, err)
+		if answered {
+			pause = firstPause
+			continue
+		}
+		e.pool.sleep(pause)
+		if pause *= 2; pause > longestPause {
+			pause = longestPause
+		}
+	}
+}
+
+// isDone says that nothing is left to be asked, and nothing comes.
+func (e *engine) isDone() bool {
+	e.mu.Lock()
+	defer e.mu.Unlock()
+	return e.closing && e.waiting == 0 && e.sent == 0 && e.again.len() == 0
+}
+
+// live is the life of one process: whether it answered a request, and how it ended.
+func (e *engine) live() (bool, error) {
+	p, err := begin(e.pool.options.Path, e.pool.options.Memory,
+		"serve", "--clients", strconv.Itoa(Lanes), "--workers", "1", "--capacity", laneRoom)
+	if err != nil {
+		return false, err
+	}
+	e.mu.Lock()
+	e.process, e.ended = p, nil
+	e.told, e.taken, e.models = nil, nil, nil
+	e.lines, e.answers, e.seen, e.age = 0, 0, 0, 0
+	for at := range e.lanes {
+		e.lanes[at].ticket = 0
+	}
+	e.mu.Unlock()
+	written := make(chan struct{})
+	go func() {
+		e.write(p)
+		close(written)
+	}()
+	strange := e.read(p)
+	if strange != nil {
+		p.kill()
+	}
+	// Its output has ended, so it is about to end too.
+	stuck := time.AfterFunc(endPatience, p.kill)
+	answered := e.leave()
+	<-written
+	err = p.wait()
+	stuck.Stop()
+	e.mu.Lock()
+	defer e.mu.Unlock()
+	switch {
+	case e.ended != nil:
+		err = e.ended
+	case strange != nil:
+		err = strange
+	case err == nil:
+		err = errors.New("it ended by itself")
+	}
+	return answered, err
+}
+
+// write tells the process its lines, until it ends or nothing more comes. Then it closes its input.
+func (e *engine) write(p *process) {
+	defer p.in.Close()
+	var text []byte
+	for {
+		var dropped []*Job
+		text, dropped = e.collect(p, text[:0])
+		for _, job := range dropped {
+			job.Done(job, Outcome{Kind: Dropped})
+		}
+		if len(text) == 0 && len(dropped) == 0 {
+			return
+		}
+		if _, err := p.in.Write(text); err != nil {
+			return
+		}
+	}
+}
+
+// collect waits for lines to be written, and gives none where there will be none.
+func (e *engine) collect(p *process, text []byte) ([]byte, []*Job) {
+	e.mu.Lock()
+	defer e.mu.Unlock()
+	for {
+		if e.process != p {
+			return nil, nil
+		}
+		var dropped []*Job
+		text, dropped = e.fill(text)
+		if len(text) > 0 || len(dropped) > 0 {
+			return text, dropped
+		}
+		if e.closing && e.waiting == 0 && e.again.len() == 0 && e.sent == 0 {
+			return nil, nil
+		}
+		e.wake.Wait()
+	}
+}
+
+// fill adds what may be asked now.
+func (e *engine) fill(text []byte) ([]byte, []*Job) {
+	var dropped []*Job
+	for len(text) < pieceBytes {
+		job := e.pick()
+		if job == nil {
+			break
+		}
+		if job.gone.Load() {
+			dropped = append(dropped, job)
+			if e.alone == job {
+				e.alone = nil
+			}
+			continue
+		}
+		text = e.ask(text, job)
+	}
+	if e.waiting == 0 && e.again.len() == 0 && e.alone == nil && e.told != e.target {
+		text = e.tell(text, e.target)
+	}
+	return text, dropped
+}
+
+// pick takes the next request that may be asked now: first those that were out before, alone; then those of the oldest
+// model, lane by lane.
+func (e *engine) pick() *Job {
+	if e.alone != nil || e.sent >= windowJobs || e.sentBytes >= windowBytes {
+		return nil
+	}
+	if e.again.len() > 0 {
+		if e.sent > 0 {
+			return nil
+		}
+		e.alone = e.again.pop()
+		return e.alone
+	}
+	if e.waiting == 0 {
+		return nil
+	}
+	best := -1
+	for step := 0; step < Lanes; step++ {
+		at := (e.turn + step) % Lanes
+		waiting := &e.lanes[at].waiting
+		if waiting.len() == 0 {
+			continue
+		}
+		if best < 0 || waiting.first().Model.epoch < e.lanes[best].waiting.first().Model.epoch {
+			best = at
+		}
+	}
+	e.turn = (best + 1) % Lanes
+	e.waiting--
+	return e.lanes[best].waiting.pop()
+}
+
+// ask adds the line of a request, behind that of its model where the process was told another.
+func (e *engine) ask(text []byte, job *Job) []byte {
+	if job.Model != e.told {
+		text = e.tell(text, job.Model)
+	}
+	text = append(text, `{"client":"`+lanePrefix...)
+	text = strconv.AppendInt(text, int64(job.lane), 10)
+	text = append(text, '"', ',')
+	text = append(text, job.Rest...)
+	text = append(text, '\n')
+	e.lines++
+	e.order++
+	job.line, job.order = e.lines, e.order
+	e.lanes[job.lane].sent.push(job)
+	if e.sent == 0 {
+		e.age, e.moved = 0, time.Now()
+	}
+	e.sent++
+	e.sentBytes += len(job.Rest)
+	return text
+}
+
+// tell adds the line of a model.
+func (e *engine) tell(text []byte, model *Model) []byte {
+	e.lines++
+	e.told = model
+	e.models = append(e.models, modelLine{e.lines, model})
+	e.age = 0
+	return model.AppendLine(text)
+}
+
+// read reads what the process writes to its end. It gives an error where that is none of an engine's lines.
+func (e *engine) read(p *process) error {
+	from := bufio.NewReaderSize(p.out, 256<<10)
+	var room []byte
+	for {
+		text, cut, err := readLine(from, room)
+		if errors.Is(err, io.EOF) {
+			return nil
+		}
+		if err != nil {
+			return fmt.Errorf("reading what the engine writes: %w", err)
+		}
+		r, err := readReply(text, cut)
+		if err != nil {
+			return err
+		}
+		job, err := e.settle(r)
+		if err != nil {
+			return err
+		}
+		if job != nil {
+			job.Done(job, r.outcome)
+		}
+	}
+}
+
+// settle finds the request that a reply is of. A reply to a model has none.
+func (e *engine) settle(r reply) (*Job, error) {
+	e.mu.Lock()
+	defer e.mu.Unlock()
+	e.answers++
+	e.moved = time.Now()
+	job, err := e.answered(r)
+	if job == nil {
+		e.wake.Signal()
+		return nil, err
+	}
+	e.sent--
+	e.sentBytes -= len(job.Rest)
+	if e.alone == job {
+		e.alone = nil
+	}
+	if e.waiting > 0 || e.again.len() > 0 || e.told != e.target || e.closing {
+		e.wake.Signal()
+	}
+	return job, nil
+}
+
+func (e *engine) answered(r reply) (*Job, error) {
+	if r.lane < 0 {
+		return e.answeredLine(r)
+	}
+	sent := &e.lanes[r.lane].sent
+	if sent.len() == 0 {
+		return nil, fmt.Errorf("the engine answered a request that it was not asked, in lane %d", r.lane)
+	}
+	job := sent.first()
+	if r.line > 0 {
+		if job.line != r.line {
+			return nil, fmt.Errorf("the engine refused line %d, and line %d was due", r.line, job.line)
+		}
+		return sent.pop(), nil
+	}
+	ticket := &e.lanes[r.lane].ticket
+	if r.ticket != *ticket && r.ticket != anyTicket {
+		return nil, fmt.Errorf("the engine answered ticket %d, and ticket %d was due", r.ticket, *ticket)
+	}
+	*ticket++
+	return sent.pop(), nil
+}
+
+// answeredLine settles a reply that names no lane: of a model, or of a line that the engine could not read.
+func (e *engine) answeredLine(r reply) (*Job, error) {
+	if len(e.models) > 0 && e.models[0].line == r.line {
+		due := e.models[0]
+		e.models = e.models[1:]
+		if !r.model {
+			return nil, fmt.Errorf("the engine refused a model that was checked: %s", r.outcome.Word)
+		}
+		e.taken = due.model
+		e.pool.moved()
+		return nil, nil
+	}
+	for at := range e.lanes {
+		if job := e.lanes[at].sent.take(r.line); job != nil {
+			return job, nil
+		}
+	}
+	return nil, fmt.Errorf("the engine answered line %d, which has an answer", r.line)
+}
+
+// leave takes the requests that were out off a process that ended, to be asked again. The one that it was at alone is
+// given up, unless the process was still at its model.
+func (e *engine) leave() (answered bool) {
+	e.mu.Lock()
+	var out []*Job
+	for at := range e.lanes {
+		out = append(out, e.lanes[at].sent.all()...)
+	}
+	given, outcome := e.alone, Outcome{Kind: Died}
+	if e.ended == errLate {
+		outcome.Kind = Late
+	}
+	if given != nil && len(e.models) > 0 {
+		given = nil
+	}
+	if given == nil {
+		sort.Slice(out, func(a, b int) bool { return out[a].order < out[b].order })
+		e.again = queue{jobs: append(out, e.again.all()...)}
+	}
+	e.process, e.told, e.taken, e.models, e.alone = nil, nil, nil, nil, nil
+	e.sent, e.sentBytes = 0, 0
+	answered = e.answers > 1
+	e.wake.Broadcast()
+	e.mu.Unlock()
+	e.pool.moved()
+	if given != nil {
+		given.Done(given, outcome)
+	}
+	return answered
+}
+
+// put lets requests wait in a lane; a lane below 0 is the one with the least.
+func (e *engine) put(jobs []*Job, at int) {
+	now := time.Now()
+	e.mu.Lock()
+	if at < 0 {
+		at = e.shortest()
+	}
+	for _, job := range jobs {
+		job.lane, job.entered = at, now
+		e.lanes[at].waiting.push(job)
+	}
+	e.waiting += len(jobs)
+	e.wake.Signal()
+	e.mu.Unlock()
+}
+
+func (e *engine) shortest() int {
+	best, least := 0, -1
+	for at := range e.lanes {
+		out := e.lanes[at].waiting.len() + e.lanes[at].sent.len()
+		if out == 0 {
+			return at
+		}
+		if least < 0 || out < least {
+			best, least = at, out
+		}
+	}
+	return best
+}
+
+// A state says how well an engine could take one more request.
+type state struct {
+	// out is how many requests wait or are out.
+	out int
+	// ready says that a process is there that took a model, slow that it has been at one request for a while.
+	ready, slow bool
+}
+
+// slowAfter is how long an engine is at one request until others are better sent elsewhere.
+const slowAfter = 5 * time.Millisecond
+
+func (e *engine) state() state {
+	e.mu.Lock()
+	defer e.mu.Unlock()
+	return state{
+		out:   e.waiting + e.sent + e.again.len(),
+		ready: e.process != nil && e.taken != nil,
+		slow:  e.sent > 0 && time.Since(e.moved) > slowAfter,
+	}
+}
+
+// isBefore says whether a request is better sent to this engine than to the other.
+func (s state) isBefore(other state) bool {
+	if s.ready != other.ready {
+		return s.ready
+	}
+	if s.slow != other.slow {
+		return other.slow
+	}
+	return s.out < other.out
+}
+
+// tick sees whether the process is at one thing for too long, and takes out what waited too long.
+func (e *engine) tick(step time.Duration) {
+	e.mu.Lock()
+	limit := e.pool.options.Deadline
+	if len(e.models) > 0 && limit < modelPatience {
+		limit = modelPatience
+	}
+	if e.process != nil && e.answers == e.seen && e.sent+len(e.models) > 0 {
+		e.age += step
+	} else {
+		e.age, e.seen = 0, e.answers
+	}
+	if e.age > limit && e.ended == nil {
+		e.ended = errLate
+		e.process.kill()
+	}
+	waited := e.overdue(time.Now().Add(-e.pool.options.Patience))
+	e.mu.Unlock()
+	for _, job := range waited {
+		job.Done(job, Outcome{Kind: Waited})
+	}
+}
+
+// overdue takes out the requests that came before a time and still wait.
+func (e *engine) overdue(before time.Time) []*Job {
+	var waited []*Job
+	for at := range e.lanes {
+		waiting := &e.lanes[at].waiting
+		for waiting.len() > 0 && waiting.first().entered.Before(before) {
+			waited = append(waited, waiting.pop())
+			e.waiting--
+		}
+	}
+	for e.process == nil && e.again.len() > 0 && e.again.first().entered.Before(before) {
+		waited = append(waited, e.again.pop())
+	}
+	return waited
+}
+
+// aim sets the model in force.
+func (e *engine) aim(model *Model) {
+	e.mu.Lock()
+	e.target = model
+	e.wake.Signal()
+	e.mu.Unlock()
+}
+
+// close says that no more comes.
+func (e *engine) close() {
+	e.mu.Lock()
+	e.closing = true
+	e.wake.Signal()
+	e.mu.Unlock()
+}
+
+// abort ends the process of an engine that does not end after its input.
+func (e *engine) abort() {
+	e.mu.Lock()
+	defer e.mu.Unlock()
+	if e.process != nil && e.ended == nil {
+		e.ended = errClose
+		e.process.kill()
+	}
+}

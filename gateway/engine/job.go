@@ -1,0 +1,140 @@
+package engine
+
+import (
+	"crypto/sha256"
+	"encoding/hex"
+	"sync/atomic"
+	"time"
+)
+
+// A Model is a model in the form in which engines take it.
+type Model struct {
+	// Text is its compact text: JSON without blanks, keys in the order of their bytes.
+	Text []byte
+	// Sum is the SHA-256 of the text, in hexadecimal.
+	Sum string
+	// epoch tells which of two models came first.
+	epoch uint64
+}
+
+// NewModel is the model of a compact text.
+func NewModel(text []byte) *Model {
+	sum := sha256.Sum256(text)
+	return &Model{Text: text, Sum: hex.EncodeToString(sum[:])}
+}
+
+// AppendLine adds the line by which a model is put in force, with its newline.
+func (m *Model) AppendLine(to []byte) []byte {
+	to = append(to, `{"model":`...)
+	to = append(to, m.Text...)
+	return append(to, "}\n"...)
+}
+
+// Kind says what became of a request.
+type Kind int
+
+// What becomes of a request.
+const (
+	// Result: it has a result.
+	Result Kind = iota
+	// Limit: a value breaks a limit of the engine when it is formed. This is the model's answer.
+	Limit
+	// Refused: the engine refuses its line.
+	Refused
+	// Huge: its result has over MaxAnswer bytes.
+	Huge
+	// Late: an engine was at it for longer than the deadline, twice.
+	Late
+	// Died: an engine ended at it twice, as for want of memory.
+	Died
+	// Waited: no engine came to it in time.
+	Waited
+	// Dropped: its caller gave it up before an engine had it.
+	Dropped
+)
+
+// An Outcome is what became of a request.
+type Outcome struct {
+	Kind Kind
+	// Value is the text of a result.
+	Value []byte
+	// Word is that of a refusal.
+	Word string
+}
+
+// A Job is a request on its way.
+type Job struct {
+	// Model is the one under which it is to be answered.
+	Model *Model
+	// Rest is its line behind the client's name: `"inputs":{..},"service":"s"}`, without a newline. It does not change
+	// before Done is called.
+	Rest []byte
+	// Place is for the caller's own use.
+	Place int
+	// Done is told what became of it, once, by a goroutine of the pool. It must not wait.
+	Done func(*Job, Outcome)
+
+	gone    atomic.Bool
+	lane    int
+	line    uint64
+	order   uint64
+	entered time.Time
+}
+
+// Drop says that nobody waits for it any more. Done is told all the same.
+func (j *Job) Drop() {
+	j.gone.Store(true)
+}
+
+// A queue is first in, first out.
+type queue struct {
+	jobs []*Job
+	head int
+}
+
+func (q *queue) len() int {
+	return len(q.jobs) - q.head
+}
+
+func (q *queue) first() *Job {
+	return q.jobs[q.head]
+}
+
+func (q *queue) push(job *Job) {
+	if q.head > 32 && q.head*2 > len(q.jobs) {
+		left := copy(q.jobs, q.jobs[q.head:])
+		for at := left; at < len(q.jobs); at++ {
+			q.jobs[at] = nil
+		}
+		q.jobs, q.head = q.jobs[:left], 0
+	}
+	q.jobs = append(q.jobs, job)
+}
+
+func (q *queue) pop() *Job {
+	job := q.jobs[q.head]
+	q.jobs[q.head] = nil
+	q.head++
+	if q.head == len(q.jobs) {
+		q.jobs, q.head = q.jobs[:0], 0
+	}
+	return job
+}
+
+// take removes the job of a line, or gives nil.
+func (q *queue) take(line uint64) *Job {
+	for at := q.head; at < len(q.jobs); at++ {
+		if job := q.jobs[at]; job.line == line {
+			q.jobs = append(q.jobs[:at], q.jobs[at+1:]...)
+			return job
+		}
+	}
+	return nil
+}
+
+// all removes every job.
+func (q *queue) all() []*Job {
+	jobs := q.jobs[q.head:]
+	q.jobs, q.head = nil, 0
+	return jobs
+}

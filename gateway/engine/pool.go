@@ -1,0 +1,266 @@
+package engine
+
+import (
+	"context"
+	"errors"
+	"fmt"
+	"hash/fnv"
+	"sync"
+	"sync/atomic"
+	"time"
+)
+
+// Options says how a pool runs its engines.
+type Options struct {
+	// Path is the engine's file.
+	Path string
+	// Processes is how many engines there are, at least one.
+	Processes int
+	// Memory is the limit of each engine's address space in bytes; 0 is none.
+	Memory uint64
+	// Deadline is how long an engine may be at one request.
+	Deadline time.Duration
+	// Patience is how long a request may wait until an engine is asked.
+	Patience time.Duration
+	// Died is told when an engine ended that was not told to, and how.
+	Died func(number int, err error)
+}
+
+// ErrSwitched says that another model is in force than that of the requests.
+var ErrSwitched = errors.New("another model is in force")
+
+// A Pool is several engines with one model in force.
+type Pool struct {
+	options Options
+	engines []*engine
+	// model is the one in force. Requests are put in under the lock of readers, so a switch stands between two of them.
+	modelLock sync.RWMutex
+	model     *Model
+	next      atomic.Uint32
+	// change is closed, and made anew, whenever an engine took a model or ended.
+	changeLock sync.Mutex
+	change     chan struct{}
+	closing    chan struct{}
+	running    sync.WaitGroup
+}
+
+// Start starts the engines, each with this model.
+func Start(options Options, model *Model) *Pool {
+	model.epoch = 1
+	p := &Pool{options: options, model: model, change: make(chan struct{}), closing: make(chan struct{})}
+	for number := 0; number < options.Processes; number++ {
+		p.engines = append(p.engines, newEngine(number, p, model))
+	}
+	for _, e := range p.engines {
+		e := e
+		p.running.Add(1)
+		go func() {
+			defer p.running.Done()
+			e.run()
+		}()
+	}
+	go p.watch()
+	return p
+}
+
+// watch looks after the deadline, from time to time. A time in which this program did not run counts as one look.
+func (p *Pool) watch() {
+	step := p.options.Deadline / 10
+	if step > 200*time.Millisecond {
+		step = 200 * time.Millisecond
+	}
+	if step < 5*time.Millisecond {
+		step = 5 * time.Millisecond
+	}
+	ticker := time.NewTicker(step)
+	defer ticker.Stop()
+	stopped := make(chan struct{})
+	go func() {
+		p.running.Wait()
+		close(stopped)
+	}()
+	for {
+		select {
+		case <-ticker.C:
+			for _, e := range p.engines {
+				e.tick(step)
+			}
+		case <-stopped:
+			return
+		}
+	}
+}
+
+func (p *Pool) sleep(pause time.Duration) {
+	select {
+	case <-time.After(pause):
+	case <-p.closing:
+		// An engine that ends at once is not started more often than this.
+		time.Sleep(firstPause)
+	}
+}
+
+// moved tells those who wait that an engine took a model or ended.
+func (p *Pool) moved() {
+	p.changeLock.Lock()
+	close(p.change)
+	p.change = make(chan struct{})
+	p.changeLock.Unlock()
+}
+
+func (p *Pool) changed() <-chan struct{} {
+	p.changeLock.Lock()
+	defer p.changeLock.Unlock()
+	return p.change
+}
+
+// Put puts requests in, which all have one model. Those of a client go to one lane of one engine, whatever else there is:
+// the same for each call. Without a client they go where least is out. Nothing is put in where another model is in force.
+func (p *Pool) Put(client string, jobs []*Job) error {
+	p.modelLock.RLock()
+	defer p.modelLock.RUnlock()
+	if len(jobs) == 0 {
+		return nil
+	}
+	if jobs[0].Model != p.model {
+		return ErrSwitched
+	}
+	if client != "" {
+		at, lane := p.place(client)
+		p.engines[at].put(jobs, lane)
+		return nil
+	}
+	for len(jobs) > 0 {
+		n := len(jobs)
+		if n > pieceJobs {
+			n = pieceJobs
+		}
+		p.least().put(jobs[:n], -1)
+		jobs = jobs[n:]
+	}
+	return nil
+}
+
+// pieceJobs is how many requests of one list go to one engine together.
+const pieceJobs = 64
+
+// place is the engine and the lane of a client.
+func (p *Pool) place(client string) (at, lane int) {
+	sum := fnv.New64a()
+	_, _ = sum.Write([]byte(client))
+	h := sum.Sum64()
+	// The low bits of this sum differ little between names that differ at their end.
+	h ^= h >> 32
+	n := uint64(len(p.engines))
+	return int(h % n), int(h / n % Lanes)
+}
+
+// least is the engine at which least is out, among those that are ready and not slow if there is one.
+func (p *Pool) least() *engine {
+	n := len(p.engines)
+	start := int(p.next.Add(1) % uint32(n))
+	best := p.engines[start]
+	least := best.state()
+	for step := 1; step < n && (!least.ready || least.out > 0); step++ {
+		e := p.engines[(start+step)%n]
+		if it := e.state(); it.isBefore(least) {
+			best, least = e, it
+		}
+	}
+	return best
+}
+
+// Model is the one in force.
+func (p *Pool) Model() *Model {
+	p.modelLock.RLock()
+	defer p.modelLock.RUnlock()
+	return p.model
+}
+
+// Switch puts a model in force for all that is put in from now on. Beside is called at this very moment, while nothing
+// can be put in.
+func (p *Pool) Switch(model *Model, beside func()) {
+	p.modelLock.Lock()
+	defer p.modelLock.Unlock()
+	model.epoch = p.model.epoch + 1
+	p.model = model
+	beside()
+	for _, e := range p.engines {
+		e.aim(model)
+	}
+}
+
+// Ready is how many engines have taken a model.
+func (p *Pool) Ready() int {
+	ready := 0
+	for _, e := range p.engines {
+		if e.state().ready {
+			ready++
+		}
+	}
+	return ready
+}
+
+// Processes is how many engines there are to be.
+func (p *Pool) Processes() int {
+	return len(p.engines)
+}
+
+// Out is how many requests wait or are out at each engine.
+func (p *Pool) Out() []int {
+	out := make([]int, len(p.engines))
+	for at, e := range p.engines {
+		out[at] = e.state().out
+	}
+	return out
+}
+
+// Settle waits until every engine has taken the model in force.
+func (p *Pool) Settle(ctx context.Context) error {
+	for {
+		changed := p.changed()
+		if p.settled() {
+			return nil
+		}
+		select {
+		case <-changed:
+		case <-ctx.Done():
+			return fmt.Errorf("waiting for the engines: %w", ctx.Err())
+		}
+	}
+}
+
+func (p *Pool) settled() bool {
+	for _, e := range p.engines {
+		e.mu.Lock()
+		settled := e.taken == e.target
+		e.mu.Unlock()
+		if !settled {
+			return false
+		}
+	}
+	return true
+}
+
+// Close waits until all that was put in is answered, closes each engine's input and waits for its end. Nothing may be put
+// in any more. Where the context ends first, the engines are ended.
+func (p *Pool) Close(ctx context.Context) error {
+	for _, e := range p.engines {
+		e.close()
+	}
+	close(p.closing)
+	ended := make(chan struct{})
+	go func() {
+		p.running.Wait()
+		close(ended)
+	}()
+	select {
+	case <-ended:
+		return nil
+	case <-ctx.Done():
+	}
+	for _, e := range p.engines {
+		e.abort()
+	}
+	return fmt.Errorf("closing the engines: %w", ctx.Err())
+}

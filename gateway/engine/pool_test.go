@@ -1,0 +1,342 @@
+package engine
+
+import (
+	"context"
+	"errors"
+	"fmt"
+	"os"
+	"strings"
+	"sync"
+	"testing"
+	"time"
+)
+
+func desk() string {
+	if path := os.Getenv(PathVariable); path != "" {
+		return path
+	}
+	return "../../dist/desk"
+}
+
+// adding is a model of the service s, which adds a number to its input a.
+func adding(n int) *Model {
+	return NewModel([]byte(fmt.Sprintf(`{"decisions":[{"expr":"a + %d","name":"d","needs":["a"]}],"inputs":["a"],`+
+		`"services":[{"encapsulated":[],"inputData":["a"],"inputDecisions":[],"name":"s","outputs":["d"]}]}`, n)))
+}
+
+// slow is a model of the service s, whose decision takes the longer the longer the list b is: its every rule hits and
+// forms a list as long.
+func slow(rules int) *Model {
+	rule := `{"then":["b.x"],"when":[]}`
+	return NewModel([]byte(`{"decisions":[{"expr":{"table":{"hit":"F","inputs":[],"outputs":[{"name":"o"}],"rules":[` +
+		strings.Repeat(rule+",", rules-1) + rule + `]}},"name":"d","needs":["b"]}],"inputs":["b"],` +
+		`"services":[{"encapsulated":[],"inputData":["b"],"inputDecisions":[],"name":"s","outputs":["d"]}]}`))
+}
+
+// long is a request to slow with a list of this length.
+func long(length int) string {
+	return `"inputs":{"b":[` + strings.TrimSuffix(strings.Repeat(`{"x":1},`, length), ",") + `]},"service":"s"}`
+}
+
+func start(t *testing.T, options Options, model *Model) *Pool {
+	t.Helper()
+	options.Path = desk()
+	if options.Deadline == 0 {
+		options.Deadline = 20 * time.Second
+	}
+	if options.Patience == 0 {
+		options.Patience = time.Minute
+	}
+	if options.Died == nil {
+		options.Died = func(int, error) {}
+	}
+	p := Start(options, model)
+	ctx, stop := context.WithTimeout(context.Background(), time.Minute)
+	defer stop()
+	if err := p.Settle(ctx); err != nil {
+		t.Fatal(err)
+	}
+	return p
+}
+
+func end(t *testing.T, p *Pool) {
+	t.Helper()
+	ctx, stop := context.WithTimeout(context.Background(), time.Minute)
+	defer stop()
+	if err := p.Close(ctx); err != nil {
+		t.Fatal(err)
+	}
+}
+
+// asked notes what became of requests.
+type asked struct {
+	mu       sync.Mutex
+	outcomes []Outcome
+	times    []int
+	order    []int
+	left     sync.WaitGroup
+}
+
+func (a *asked) job(model *Model, rest string) *Job {
+	a.mu.Lock()
+	defer a.mu.Unlock()
+	a.left.Add(1)
+	a.outcomes = append(a.outcomes, Outcome{})
+	a.times = append(a.times, 0)
+	return &Job{Model: model, Rest: []byte(rest), Place: len(a.times) - 1, Done: a.done}
+}
+
+func (a *asked) done(job *Job, outcome Outcome) {
+	a.mu.Lock()
+	a.outcomes[job.Place] = outcome
+	a.times[job.Place]++
+	a.order = append(a.order, job.Place)
+	a.mu.Unlock()
+	a.left.Done()
+}
+
+func (a *asked) once(t *testing.T) {
+	t.Helper()
+	a.left.Wait()
+	for at, times := range a.times {
+		if times != 1 {
+			t.Errorf("request %d was answered %d times", at, times)
+		}
+	}
+}
+
+func adds(n int) string {
+	return fmt.Sprintf(`"inputs":{"a":%d},"service":"s"}`, n)
+}
+
+func put(t *testing.T, p *Pool, client string, jobs ...*Job) {
+	t.Helper()
+	if err := p.Put(client, jobs); err != nil {
+		t.Fatal(err)
+	}
+}
+
+func TestEachIsAnsweredInOrder(t *testing.T) {
+	model := adding(1)
+	p := start(t, Options{Processes: 3}, model)
+	var all asked
+	for n := 0; n < 5000; n++ {
+		client := ""
+		if n%2 == 0 {
+			client = fmt.Sprintf("c%d", n%20)
+		}
+		put(t, p, client, all.job(model, adds(n)))
+	}
+	all.once(t)
+	last := map[int]int{}
+	for _, n := range all.order {
+		if got := string(all.outcomes[n].Value); got != fmt.Sprint(n+1) {
+			t.Errorf("request %d has %q", n, got)
+		}
+		if n%2 == 0 && last[n%20] > n {
+			t.Errorf("request %d of its client was answered behind %d", n, last[n%20])
+		}
+		if n%2 == 0 {
+			last[n%20] = n
+		}
+	}
+	end(t, p)
+}
+
+func TestRefusalsAreOfTheirRequests(t *testing.T) {
+	model := adding(1)
+	p := start(t, Options{Processes: 1}, model)
+	var all asked
+	for n := 0; n < 300; n++ {
+		rest := adds(n)
+		switch n % 4 {
+		case 1:
+			rest = `"inputs":{"a":1.5},"service":"s"}`
+		case 2:
+			rest = `"inputs":{"a":},"service":"s"}`
+		}
+		put(t, p, fmt.Sprint(n%5), all.job(model, rest))
+	}
+	all.once(t)
+	for n, outcome := range all.outcomes {
+		due := []string{"", "value", "syntax", ""}[n%4]
+		if outcome.Word != due || due == "" && string(outcome.Value) != fmt.Sprint(n+1) {
+			t.Errorf("request %d: %+v, and %q is due", n, outcome, due)
+		}
+	}
+	end(t, p)
+}
+
+// Processes are killed while requests are out: each has its own result once all the same.
+func TestKilledEngines(t *testing.T) {
+	model := adding(7)
+	deaths := make(chan struct{}, 1000)
+	p := start(t, Options{Processes: 2, Died: func(int, error) { deaths <- struct{}{} }}, model)
+	var all asked
+	for n := 0; n < 20_000; n++ {
+		put(t, p, fmt.Sprint(n%10), all.job(model, adds(n)))
+		if n%4000 == 2000 {
+			e := p.engines[(n/4000)%2]
+			e.mu.Lock()
+			if e.process != nil {
+				e.process.kill()
+			}
+			e.mu.Unlock()
+		}
+	}
+	all.once(t)
+	last := map[int]int{}
+	for _, n := range all.order {
+		if got := string(all.outcomes[n].Value); got != fmt.Sprint(n+7) {
+			t.Errorf("request %d has %q, %+v", n, got, all.outcomes[n].Kind)
+		}
+		if last[n%10] > n {
+			t.Errorf("request %d of its client was answered behind %d", n, last[n%10])
+		}
+		last[n%10] = n
+	}
+	end(t, p)
+	if len(deaths) == 0 {
+		t.Error("no engine was killed")
+	}
+}
+
+// One request takes longer than the deadline, among others that don't: it alone is given up.
+func TestPoison(t *testing.T) {
+	model := slow(20_000)
+	p := start(t, Options{Processes: 1, Deadline: 400 * time.Millisecond}, model)
+	var all asked
+	for n := 0; n < 40; n++ {
+		length := 1
+		if n == 20 {
+			length = 4990
+		}
+		put(t, p, fmt.Sprint(n%4), all.job(model, long(length)))
+	}
+	all.once(t)
+	for n, outcome := range all.outcomes {
+		due := Result
+		if n == 20 {
+			due = Late
+		}
+		if outcome.Kind != due {
+			t.Errorf("request %d: kind %d, and %d is due", n, outcome.Kind, due)
+		}
+	}
+	end(t, p)
+}
+
+// Models are switched while requests are put in: each is answered under its own.
+func TestSwitch(t *testing.T) {
+	first := adding(0)
+	p := start(t, Options{Processes: 2}, first)
+	var all asked
+	var due []int
+	model := first
+	for n := 0; n < 10_000; n++ {
+		if n%1000 == 999 {
+			model = adding(n)
+			p.Switch(model, func() {})
+		}
+		if n == 5500 {
+			e := p.engines[0]
+			e.mu.Lock()
+			if e.process != nil {
+				e.process.kill()
+			}
+			e.mu.Unlock()
+		}
+		// The model in force was put at the last number that ends with 999.
+		due = append(due, n)
+		if k := (n + 1) / 1000; k > 0 {
+			due[n] += k*1000 - 1
+		}
+		put(t, p, fmt.Sprint(n%7), all.job(model, adds(n)))
+	}
+	if err := p.Put("", []*Job{{Model: first}}); !errors.Is(err, ErrSwitched) {
+		t.Errorf("a request of another model was put in: %v", err)
+	}
+	all.once(t)
+	for n, outcome := range all.outcomes {
+		if string(outcome.Value) != fmt.Sprint(due[n]) {
+			t.Errorf("request %d has %q (kind %d), and %d is due", n, outcome.Value, outcome.Kind, due[n])
+		}
+	}
+	ctx, stop := context.WithTimeout(context.Background(), time.Minute)
+	defer stop()
+	if err := p.Settle(ctx); err != nil {
+		t.Error(err)
+	}
+	end(t, p)
+}
+
+func TestDroppedAndWaited(t *testing.T) {
+	model := slow(20_000)
+	p := start(t, Options{Processes: 1, Patience: 300 * time.Millisecond}, model)
+	var all asked
+	var jobs []*Job
+	for n := 0; n < 300; n++ {
+		length := 1
+		if n < 2 {
+			length = 2000
+		}
+		jobs = append(jobs, all.job(model, long(length)))
+	}
+	jobs[299].Drop()
+	put(t, p, "a", jobs...)
+	all.once(t)
+	kinds := map[Kind]int{}
+	for _, outcome := range all.outcomes {
+		kinds[outcome.Kind]++
+	}
+	if kinds[Waited] == 0 || kinds[Result] < windowJobs || kinds[Result]+kinds[Waited]+kinds[Dropped] != 300 {
+		t.Errorf("kinds of outcomes: %v", kinds)
+	}
+	end(t, p)
+}
+
+func TestCheckAndTry(t *testing.T) {
+	ctx := context.Background()
+	lawful, _, err := Check(ctx, desk(), 0, adding(1).Text)
+	if err != nil || len(lawful.Services) != 1 || lawful.Services[0].Parameters[0] != "a" {
+		t.Errorf("%+v, %v", lawful, err)
+	}
+	var faulty *FaultyModel
+	_, _, err = Check(ctx, desk(), 0, []byte(strings.Replace(string(adding(1).Text), "a + 1", "a +", 1)))
+	if !errors.As(err, &faulty) || faulty.Fault != "expression" || len(faulty.Places) != 1 {
+		t.Errorf("%+v", err)
+	}
+	if err := Try(ctx, desk(), 1<<30, adding(1)); err != nil {
+		t.Error(err)
+	}
+	if err := Try(ctx, desk(), 64<<20, slow(30_000)); err == nil {
+		t.Error("a model of a megabyte was taken with 64 MiB of address space")
+	}
+	if version, err := Version(ctx, desk()); err != nil || version == "" {
+		t.Errorf("%q, %v", version, err)
+	}
+}
+
+func TestReadReply(t *testing.T) {
+	for _, it := range []struct {
+		text  string
+		due   Kind
+		value string
+	}{
+		{`{"client":"lane3","result":{"ticket":1},"ticket":12}`, Result, `{"ticket":1}`},
+		{`{"client":"lane15","result":",\"ticket\":3}","ticket":0}`, Result, `",\"ticket\":3}"`},
+		{`{"client":"lane0","fault":"limit","ticket":1}`, Limit, ""},
+		{`{"client":"lane0","line":4,"refused":"value"}`, Refused, ""},
+		{`{"line":4,"refused":"syntax"}`, Refused, ""},
+	} {
+		r, err := readReply([]byte(it.text), false)
+		if err != nil || r.outcome.Kind != it.due || string(r.outcome.Value) != it.value {
+			t.Errorf("%s: %+v, %v", it.text, r, err)
+		}
+	}
+	for _, text := range []string{``, `{}`, `null`, `{"client":"lane16","result":1,"ticket":1}`, `{"client":"lane1","result":1}`} {
+		if r, err := readReply([]byte(text), false); err == nil {
+			t.Errorf("%q is read as %+v", text, r)
+		}
+	}
+}

@@ -1,0 +1,104 @@
+package engine
+
+import (
+	"fmt"
+	"io"
+	"os"
+	"os/exec"
+	"strconv"
+	"strings"
+	"sync"
+	"syscall"
+
+	"golang.org/x/sys/unix"
+)
+
+// oomScore makes the kernel end an engine before the program that can begin it anew.
+const oomScore = "500"
+
+// A process is a running engine.
+type process struct {
+	command *exec.Cmd
+	in      io.WriteCloser
+	out     io.ReadCloser
+	said    *firstBytes
+}
+
+// begin starts the engine with these words, in a process group of its own, so that a signal to ours does not reach it.
+// Memory is the limit of its address space in bytes; 0 is none.
+func begin(path string, memory uint64, words ...string) (*process, error) {
+	p := &process{command: exec.Command(path, words...), said: &firstBytes{}}
+	p.command.SysProcAttr = &syscall.SysProcAttr{Setpgid: true}
+	p.command.Stderr = p.said
+	var err error
+	if p.in, err = p.command.StdinPipe(); err != nil {
+		return nil, fmt.Errorf("starting the engine: %w", err)
+	}
+	if p.out, err = p.command.StdoutPipe(); err != nil {
+		return nil, fmt.Errorf("starting the engine: %w", err)
+	}
+	if err = p.command.Start(); err != nil {
+		return nil, fmt.Errorf("starting the engine: %w", err)
+	}
+	if err = p.bound(memory); err != nil {
+		p.kill()
+		_ = p.wait()
+		return nil, fmt.Errorf("starting the engine: %w", err)
+	}
+	return p, nil
+}
+
+// bound sets what the kernel allows the process. It has read nothing yet.
+func (p *process) bound(memory uint64) error {
+	pid := p.command.Process.Pid
+	// Where /proc is not there, the kernel's choice is as good.
+	_ = os.WriteFile("/proc/"+strconv.Itoa(pid)+"/oom_score_adj", []byte(oomScore), 0o644)
+	if memory == 0 {
+		return nil
+	}
+	limit := unix.Rlimit{Cur: memory, Max: memory}
+	if err := unix.Prlimit(pid, unix.RLIMIT_AS, &limit, nil); err != nil {
+		return fmt.Errorf("limiting its memory: %w", err)
+	}
+	return nil
+}
+
+func (p *process) kill() {
+	_ = p.command.Process.Kill()
+}
+
+// wait waits for its end, and says how it ended where that was not well.
+func (p *process) wait() error {
+	err := p.command.Wait()
+	if err == nil {
+		return nil
+	}
+	if said := p.said.String(); said != "" {
+		return fmt.Errorf("%w: %s", err, said)
+	}
+	return err
+}
+
+// firstBytes keeps the first bytes that were written to it.
+type firstBytes struct {
+	mu   sync.Mutex
+	text []byte
+}
+
+func (f *firstBytes) Write(text []byte) (int, error) {
+	f.mu.Lock()
+	defer f.mu.Unlock()
+	if room := 512 - len(f.text); room > 0 {
+		if len(text) < room {
+			room = len(text)
+		}
+		f.text = append(f.text, text[:room]...)
+	}
+	return len(text), nil
+}
+
+func (f *firstBytes) String() string {
+	f.mu.Lock()
+	defer f.mu.Unlock()
+	return strings.TrimSpace(string(f.text))
+}

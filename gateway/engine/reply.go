@@ -1,0 +1,129 @@
+package engine
+
+import (
+	"bufio"
+	"bytes"
+	"encoding/json"
+	"errors"
+	"fmt"
+	"strconv"
+)
+
+// MaxAnswer is the most bytes of an engine's answer that are kept. A result that is longer is given up.
+const MaxAnswer = 16 << 20
+
+// A reply is one line that an engine wrote.
+type reply struct {
+	// lane is the one that it names, or -1.
+	lane int
+	// line is the number of the line that it answers, and 0 where it has a ticket.
+	line uint64
+	// ticket is that of a result.
+	ticket uint64
+	// outcome is what it says of a request.
+	outcome Outcome
+	// model says that a model was taken.
+	model bool
+}
+
+// readLine reads a line without its newline. Of one over MaxAnswer bytes it gives the first, and says so. The bytes are
+// good until the next call.
+func readLine(from *bufio.Reader, room []byte) (text []byte, cut bool, err error) {
+	text, err = from.ReadSlice('\n')
+	if err == nil {
+		return text[:len(text)-1], false, nil
+	}
+	room = append(room[:0], text...)
+	for errors.Is(err, bufio.ErrBufferFull) {
+		text, err = from.ReadSlice('\n')
+		if len(room)+len(text) > MaxAnswer {
+			cut = true
+			continue
+		}
+		room = append(room, text...)
+	}
+	if err != nil {
+		return nil, false, err
+	}
+	return bytes.TrimSuffix(room, []byte("\n")), cut, nil
+}
+
+var (
+	clientKey = []byte(`{"client":"` + lanePrefix)
+	resultKey = []byte(`","result":`)
+	ticketKey = []byte(`,"ticket":`)
+)
+
+// readReply reads a line of an engine.
+func readReply(text []byte, cut bool) (reply, error) {
+	lane, rest := laneOf(text)
+	if lane < 0 || !bytes.HasPrefix(rest, resultKey) {
+		return readOther(text, lane)
+	}
+	if cut {
+		return reply{lane: lane, outcome: Outcome{Kind: Huge}, ticket: anyTicket}, nil
+	}
+	value := rest[len(resultKey):]
+	at := bytes.LastIndex(value, ticketKey)
+	if at < 0 {
+		return reply{}, strange(text)
+	}
+	ticket, err := strconv.ParseUint(string(bytes.TrimSuffix(value[at+len(ticketKey):], []byte("}"))), 10, 64)
+	if err != nil {
+		return reply{}, strange(text)
+	}
+	kept := append([]byte(nil), value[:at]...)
+	return reply{lane: lane, ticket: ticket, outcome: Outcome{Kind: Result, Value: kept}}, nil
+}
+
+// laneOf is the lane that a line begins with, and what stands behind its name; or -1.
+func laneOf(text []byte) (int, []byte) {
+	if !bytes.HasPrefix(text, clientKey) {
+		return -1, text
+	}
+	rest := text[len(clientKey):]
+	at := bytes.IndexByte(rest, '"')
+	if at < 1 || at > 2 {
+		return -1, text
+	}
+	lane, err := strconv.Atoi(string(rest[:at]))
+	if err != nil || lane < 0 || lane >= Lanes {
+		return -1, text
+	}
+	return lane, rest[at:]
+}
+
+// readOther reads a line that is no result.
+func readOther(text []byte, lane int) (reply, error) {
+	var parts struct {
+		Line    uint64
+		Model   bool
+		Fault   string
+		Refused string
+		Ticket  *uint64
+	}
+	if err := json.Unmarshal(text, &parts); err != nil {
+		return reply{}, strange(text)
+	}
+	r := reply{lane: lane, line: parts.Line, model: parts.Model}
+	switch {
+	case parts.Ticket != nil && lane >= 0 && parts.Fault == "limit":
+		r.ticket, r.outcome = *parts.Ticket, Outcome{Kind: Limit}
+	case parts.Line > 0 && parts.Refused != "":
+		r.outcome = Outcome{Kind: Refused, Word: parts.Refused}
+		if parts.Fault != "" {
+			r.outcome.Word = parts.Fault
+		}
+	case parts.Line > 0 && parts.Model:
+	default:
+		return reply{}, strange(text)
+	}
+	return r, nil
+}
+
+func strange(text []byte) error {
+	if len(text) > 200 {
+		text = text[:200]
+	}
+	return fmt.Errorf("the engine wrote a line that is none of its own: %q", text)
+}

@@ -1,0 +1,239 @@
+// Package export writes a model of ours as a file of DMN 1.3, with a diagram.
+//
+// The file means in the standard what the model means here, or the place is refused. Where a text means something else
+// in the standard it is written anew: a comparison with the input as "? = (e)", a plus of what may be two texts as "- -",
+// sum, min, max and count of what may be no list behind a condition, a priority without output values as FIRST. Two
+// things can't be written: the limits of values (an answer "limit" here is a greater value, or none, elsewhere), and what
+// the standard leaves open.
+//
+// The model has to be lawful: the engine tells that (desk check).
+package export
+
+import (
+	"encoding/json"
+	"fmt"
+	"strconv"
+
+	"gateway/model"
+)
+
+// A Source is what is exported: a model, and what an import of it told besides.
+type Source struct {
+	Model *model.Model
+	// Names has how a word is spelled in the file; a word without a line is spelled as it is.
+	Names map[string]string
+	// Types has the JSON Schema of the values of an input or a decision, by its word.
+	Types map[string]Schema
+	// Title is the name of the model; it may be empty.
+	Title string
+	// Imported tells that the model came from a file.
+	Imported bool
+	// Typed tells that decisions and outputs get the types that are known of them, and not the inputs alone.
+	Typed bool
+}
+
+// A Refusal is a place of the model that can't be written so that the standard means the same.
+type Refusal struct {
+	// Pointer is the place, as a JSON Pointer into the model.
+	Pointer string
+	// Text is what stands there; it may be empty.
+	Text string
+	// Why tells why, Instead what to do; Instead may be empty.
+	Why, Instead string
+}
+
+func (r Refusal) String() string {
+	line := r.Pointer
+	if r.Text != "" {
+		line += ": " + strconv.Quote(r.Text)
+	}
+	line += ": " + r.Why
+	if r.Instead != "" {
+		line += "; instead: " + r.Instead
+	}
+	return line
+}
+
+// Read reads a model, {"model":M}, or the output of an import.
+func Read(data []byte) (Source, error) {
+	var whole struct {
+		Model json.RawMessage   `json:"model"`
+		Names map[string]string `json:"names"`
+		Types map[string]Schema `json:"types"`
+	}
+	if err := json.Unmarshal(data, &whole); err != nil {
+		return Source{}, fmt.Errorf("reading the model: %w", err)
+	}
+	source := Source{Names: whole.Names, Types: whole.Types, Imported: whole.Names != nil, Typed: true}
+	if whole.Model == nil {
+		whole.Model = data
+	}
+	var err error
+	source.Model, err = model.Parse(whole.Model)
+	return source, err
+}
+
+// File is the model as a file. Where there are refusals it is nil.
+func File(source Source) ([]byte, []Refusal) {
+	p := newPage(source)
+	root := p.definitions()
+	if len(p.refusals) > 0 {
+		return nil, p.refusals
+	}
+	return root.file(), nil
+}
+
+// Namespaces of DMN 1.3, and the one of what is written here.
+const (
+	modelSpace   = "https://www.omg.org/spec/DMN/20191111/MODEL/"
+	diagramSpace = "https://www.omg.org/spec/DMN/20191111/DMNDI/"
+	boundsSpace  = "http://www.omg.org/spec/DMN/20180521/DC/"
+	lineSpace    = "http://www.omg.org/spec/DMN/20180521/DI/"
+	ownSpace     = "urn:colkuzai:model"
+)
+
+// A requirement is an informationRequirement: what needs what.
+type requirement struct{ id, needed, by string }
+
+// A page is one file while it is written.
+type page struct {
+	Source
+	// decisions are those of the model by their words.
+	decisions map[string]*model.Decision
+	services  []model.Service
+	shapes    map[string]shape
+	words     *dictionary
+	ids       ids
+	counts    map[string]int
+
+	requirements []requirement
+	types        []*element
+	refusals     []Refusal
+}
+
+func newPage(source Source) *page {
+	p := &page{Source: source, services: source.Model.Services, decisions: map[string]*model.Decision{},
+		shapes: map[string]shape{}, words: newDictionary(source.Names), counts: map[string]int{}}
+	if p.Title == "" {
+		p.Title = "Model"
+	}
+	p.ids = newIDs(source.Model)
+	for i := range p.Model.Decisions {
+		p.decisions[p.Model.Decisions[i].Name] = &p.Model.Decisions[i]
+	}
+	for _, input := range p.Model.Inputs {
+		p.shapes[input] = anything
+	}
+	for word, schema := range p.Types {
+		if s := schema.shape(); s.kinds != isAnything {
+			p.shapes[word] = s
+		}
+	}
+	return p
+}
+
+func (p *page) refuse(pointer, text, why, instead string) {
+	p.refusals = append(p.refusals, Refusal{pointer, text, why, instead})
+}
+
+// id is an id of a kind, numbered from 1.
+func (p *page) id(kind string) string {
+	p.counts[kind]++
+	return kind + "_" + strconv.Itoa(p.counts[kind])
+}
+
+func (p *page) definitions() *element {
+	root := tag("definitions", "xmlns", modelSpace, "xmlns:dmndi", diagramSpace, "xmlns:dc", boundsSpace, "xmlns:di",
+		lineSpace, "id", "definitions", "name", p.Title, "namespace", ownSpace, "exporter", "desk")
+	p.checkNames()
+	var parts []*element
+	for _, input := range p.Model.Inputs {
+		parts = append(parts, p.input(input))
+	}
+	for i := range p.Model.Decisions {
+		parts = append(parts, p.decision(i))
+	}
+	if !p.servesByDefault() {
+		for _, service := range p.services {
+			parts = append(parts, p.service(service))
+		}
+	} else {
+		p.services = nil
+	}
+	return root.add(p.types...).add(parts...).add(p.diagram())
+}
+
+func (p *page) spell(word string) string { return p.words.spell(word) }
+
+func (p *page) input(word string) *element {
+	variable := tag("variable", "id", p.id("variable"), "name", p.spell(word), "typeRef", p.typeOf(word))
+	return tag("inputData", "id", p.ids.node(word), "name", p.spell(word)).add(variable)
+}
+
+func (p *page) decision(index int) *element {
+	d := p.Model.Decisions[index]
+	typeRef := p.typeOf(d.Name)
+	if typeRef == "" {
+		typeRef = p.scalar(p.shape(d.Name))
+	}
+	if !p.Typed {
+		typeRef = ""
+	}
+	variable := tag("variable", "id", p.id("variable"), "name", p.spell(d.Name), "typeRef", typeRef)
+	e := tag("decision", "id", p.ids.node(d.Name), "name", p.spell(d.Name)).add(variable)
+	place := newScope(p.words)
+	for _, need := range d.Needs {
+		place.bind(need, p.shape(need))
+		e.add(p.requires(need, d.Name))
+	}
+	return e.add(p.boxed(fmt.Sprintf("/decisions/%d/expr", index), d.Expr, place))
+}
+
+func (p *page) requires(needed, by string) *element {
+	r := requirement{p.id("requirement"), needed, by}
+	p.requirements = append(p.requirements, r)
+	kind := "requiredInput"
+	if p.decisions[needed] != nil {
+		kind = "requiredDecision"
+	}
+	return tag("informationRequirement", "id", r.id).add(tag(kind, "href", "#"+p.ids.node(needed)))
+}
+
+// shape is what is known of the value of an input or a decision.
+func (p *page) shape(word string) shape {
+	if s, known := p.shapes[word]; known {
+		return s
+	}
+	d := p.decisions[word]
+	if d == nil {
+		return anything
+	}
+	p.shapes[word] = anything
+	bound := newNames(nil)
+	for _, need := range d.Needs {
+		bound.bind(need, p.shape(need))
+	}
+	p.shapes[word] = bound.ofBoxed(d.Expr)
+	return p.shapes[word]
+}
+
+func (p *page) service(s model.Service) *element {
+	e := tag("decisionService", "id", p.ids.of("service", s.Name), "name", p.spell(s.Name))
+	e.add(tag("variable", "id", p.id("variable"), "name", p.spell(s.Name)))
+	for _, list := range []struct {
+		kind  string
+		words []string
+	}{
+		{"outputDecision", s.Outputs}, {"encapsulatedDecision", s.Encapsulated}, {"inputDecision", s.InputDecisions},
+		{"inputData", s.InputData},
+	} {
+		p.references(e, list.kind, list.words)
+	}
+	return e
+}
+
+func (p *page) references(e *element, kind string, words []string) {
+	for _, word := range words {
+		e.add(tag(kind, "href", "#"+p.ids.node(word)))
+	}
+}

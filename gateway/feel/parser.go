@@ -1,0 +1,167 @@
+package feel
+
+import "fmt"
+
+// MostDepth is how deep the forms of a text may stand in each other.
+const MostDepth = 500
+
+// parser reads the tokens of one text. Each method that reads a form begins at the token at hand, and ends behind its
+// last; at a fault it panics with a *Fault, which the readers of this package answer.
+type parser struct {
+	source string
+	all    []token
+	at     int
+	depth  int
+	scope  *Scope
+	// members are the names that may stand behind a point: those of the components of types and of the entries of
+	// contexts.
+	members *Scope
+	// ranges are the tokens that open a range.
+	ranges map[int32]bool
+	// inEnd tells that the end of a range is read, where "[" may close it.
+	inEnd bool
+}
+
+// Expression reads a text as an expression over the names in scope.
+func Expression(source string, scope, members *Scope) (node Node, fault *Fault) {
+	defer caught(&fault)
+	p := newParser(source, scope, members)
+	node = p.expression()
+	p.finish()
+	return node, nil
+}
+
+// Tests reads a text as an input entry: *Anything or *NotTests alone, or tests of which one has to hold.
+func Tests(source string, scope, members *Scope) (tests []Node, fault *Fault) {
+	defer caught(&fault)
+	p := newParser(source, scope, members)
+	if p.peekIs(0, "-") && p.all[1].kind == endOfText {
+		return []Node{&Anything{p.spanOf(0)}}, nil
+	}
+	if inside := p.notAsAWhole(); inside != nil {
+		return []Node{&NotTests{Span{0, len(source)}, inside}}, nil
+	}
+	tests = p.tests()
+	p.finish()
+	return tests, nil
+}
+
+// Values reads a text as a list of values or ranges, without names.
+func Values(source string) ([]Node, *Fault) { return Tests(source, nil, nil) }
+
+func newParser(source string, scope, members *Scope) *parser {
+	all, fault := tokens(source)
+	if fault != nil {
+		panic(fault)
+	}
+	p := &parser{source: source, all: all, scope: scope, members: members}
+	p.ranges = p.rangesOf()
+	return p
+}
+
+// caught answers the fault that a reader stopped with.
+func caught(fault **Fault) {
+	switch stopped := recover().(type) {
+	case nil:
+	case *Fault:
+		*fault = stopped
+	default:
+		panic(stopped)
+	}
+}
+
+// notAsAWhole reads the tests of a text that is not( tests ) as a whole. It is nil for any other text, which is read from
+// its start then: parentheses can't tell, for those of ranges need no other half.
+func (p *parser) notAsAWhole() (inside []Node) {
+	last := len(p.all) - 2
+	if !p.peekIs(0, "not") || !p.peekIs(1, "(") || p.spell(p.all[last]) != ")" {
+		return nil
+	}
+	if taken, _ := p.scope.longest(p.source, p.all); taken > 0 {
+		return nil
+	}
+	var fault *Fault
+	defer func() {
+		if fault != nil {
+			inside = nil
+			p.at, p.depth, p.inEnd = 0, 0, false
+		}
+	}()
+	defer caught(&fault)
+	scope := p.scope
+	defer func() { p.scope = scope }()
+	p.at = 2
+	inside = p.tests()
+	p.expect(")")
+	p.finish()
+	return inside
+}
+
+func (p *parser) spell(t token) string { return p.source[t.start:t.end] }
+
+func (p *parser) current() token { return p.all[p.at] }
+
+// peek is the token some places on; the end of the text where there are no more.
+func (p *parser) peek(ahead int) token {
+	if p.at+ahead < len(p.all) {
+		return p.all[p.at+ahead]
+	}
+	return p.all[len(p.all)-1]
+}
+
+func (p *parser) peekIs(ahead int, spelled string) bool {
+	t := p.peek(ahead)
+	return (t.kind == sign || t.kind == word) && p.spell(t) == spelled
+}
+
+func (p *parser) is(spelled string) bool { return p.peekIs(0, spelled) }
+
+// accept passes over a token of this spelling.
+func (p *parser) accept(spelled string) bool {
+	if p.is(spelled) {
+		p.at++
+		return true
+	}
+	return false
+}
+
+func (p *parser) expect(spelled string) {
+	if !p.accept(spelled) {
+		p.stop(fmt.Sprintf("%q is due", spelled))
+	}
+}
+
+// stop ends the reading at the token at hand.
+func (p *parser) stop(due string) {
+	t := p.current()
+	if t.kind == endOfText {
+		p.fail(fmt.Sprintf("the text ends where %s", due), "")
+	}
+	p.fail(fmt.Sprintf("it stops at %q, where %s", p.spell(t), due), "")
+}
+
+func (p *parser) fail(why, instead string) {
+	panic(&Fault{Offset: int(p.current().start), Why: why, Instead: instead})
+}
+
+func (p *parser) finish() {
+	if p.current().kind != endOfText {
+		p.stop("an operator or the end is due")
+	}
+}
+
+// deeper counts one form inside another; the count is taken back by the function that it gives.
+func (p *parser) deeper() func() {
+	p.depth++
+	if p.depth > MostDepth {
+		p.fail(fmt.Sprintf("forms stand in each other over %d deep", MostDepth), "")
+	}
+	return func() { p.depth-- }
+}
+
+// from is the span from a token's start to the end of what was read.
+func (p *parser) from(start int) Span {
+	return Span{int(p.all[start].start), int(p.all[p.at-1].end)}
+}
+
+func (p *parser) spanOf(i int) Span { return Span{int(p.all[i].start), int(p.all[i].end)} }

@@ -1,0 +1,34 @@
+package lines
+
+import "fmt"
+
+// Rename gives a lawful JSON text other keys, at whatever depth: each key that the table has becomes what stands there.
+// The text is compact then, and of several members with one key it has the last.
+func Rename(text []byte, table map[string]string) ([]byte, error) {
+	tree, err := Tree(text)
+	if err != nil {
+		return nil, fmt.Errorf("renaming: %w", err)
+	}
+	return Compact(make([]byte, 0, len(text)), Renamed(tree, table)), nil
+}
+
+// Renamed gives a value that Tree read other keys.
+func Renamed(value any, table map[string]string) any {
+	switch value := value.(type) {
+	case []any:
+		for at, item := range value {
+			value[at] = Renamed(item, table)
+		}
+	case map[string]any:
+		other := make(map[string]any, len(value))
+		for _, key := range Keys(value) {
+			name := key
+			if to, is := table[key]; is {
+				name = to
+			}
+			other[name] = Renamed(value[key], table)
+		}
+		return other
+	}
+	return value
+}

@@ -1,0 +1,345 @@
+package lines
+
+import (
+	"fmt"
+	"strconv"
+	"unicode/utf8"
+)
+
+// A SyntaxFault says where a text stops to be JSON.
+type SyntaxFault struct {
+	// Offset is the number of the byte at which reading stops; the first is 0.
+	Offset int
+	// Line and Column are those of this byte, each from 1; a column is a byte.
+	Line, Column int
+	// Reason says what is wrong there.
+	Reason string
+}
+
+func (f *SyntaxFault) Error() string {
+	return fmt.Sprintf("line %d, column %d: %s", f.Line, f.Column, f.Reason)
+}
+
+// A Span is a value within a text, with what the engine's limits on values ask of it. Where a key stands twice in some
+// object of it, both members are counted here, though the engine keeps the last alone.
+type Span struct {
+	// Start and End bound the value's text.
+	Start, End int
+	// Nodes and Depth are those of the value.
+	Nodes, Depth int
+	// Bad is the place of the first number in it that is not whole or out of range, or -1.
+	Bad int
+}
+
+// A Member is one of an object's.
+type Member struct {
+	Key   string
+	Value Span
+}
+
+// A scanner goes through a text once.
+type scanner struct {
+	text []byte
+	at   int
+	// nesting is how many more lists and objects may begin here.
+	nesting int
+	reason  string
+}
+
+// Members reads a text that is an object, of which the engine allows this much nesting, and gives its members in their
+// order. Other is true where the text is another JSON value, of which nothing is given. The text is read as the engine
+// does: UTF-8, no lone surrogates, no number out of the range of floats.
+func Members(text []byte, nesting int) (members []Member, other bool, fault *SyntaxFault) {
+	s := scanner{text: text, nesting: nesting}
+	s.blanks()
+	if s.peek() != '{' {
+		_, fault = s.whole()
+		return nil, true, fault
+	}
+	ok := s.object(func(m Member) { members = append(members, m) })
+	return members, false, s.ended(ok)
+}
+
+// Items reads a text that is a list, and gives the places of its items.
+func Items(text []byte, nesting int) ([]Span, *SyntaxFault) {
+	s := scanner{text: text, nesting: nesting}
+	s.blanks()
+	var items []Span
+	ok := s.list(func(item Span) { items = append(items, item) })
+	return items, s.ended(ok)
+}
+
+// Whole reads a text that is any JSON value.
+func Whole(text []byte, nesting int) (Span, *SyntaxFault) {
+	s := scanner{text: text, nesting: nesting}
+	s.blanks()
+	return s.whole()
+}
+
+// Begins is the first byte of a text that is no blank, and 0 where there is none.
+func Begins(text []byte) byte {
+	s := scanner{text: text}
+	s.blanks()
+	return s.peek()
+}
+
+func (s *scanner) whole() (Span, *SyntaxFault) {
+	span, ok := s.value()
+	return span, s.ended(ok)
+}
+
+// ended gives the fault, if there is one, behind a value that was or wasn't read.
+func (s *scanner) ended(ok bool) *SyntaxFault {
+	if ok {
+		s.blanks()
+		if s.at < len(s.text) {
+			ok = s.fail("something stands behind the value")
+		}
+	}
+	if ok && !utf8.Valid(s.text) {
+		s.at = invalidAt(s.text)
+		ok = s.fail("a byte is not UTF-8")
+	}
+	if ok {
+		return nil
+	}
+	fault := &SyntaxFault{Offset: s.at, Line: 1, Column: 1, Reason: s.reason}
+	for _, c := range s.text[:s.at] {
+		fault.Column++
+		if c == '\n' {
+			fault.Line, fault.Column = fault.Line+1, 1
+		}
+	}
+	return fault
+}
+
+func invalidAt(text []byte) int {
+	at := 0
+	for at < len(text) {
+		r, size := utf8.DecodeRune(text[at:])
+		if r == utf8.RuneError && size == 1 {
+			break
+		}
+		at += size
+	}
+	return at
+}
+
+// fail notes the first reason, and gives false.
+func (s *scanner) fail(reason string) bool {
+	if s.reason == "" {
+		s.reason = reason
+	}
+	return false
+}
+
+func (s *scanner) peek() byte {
+	if s.at < len(s.text) {
+		return s.text[s.at]
+	}
+	return 0
+}
+
+func (s *scanner) blanks() {
+	for s.at < len(s.text) {
+		switch s.text[s.at] {
+		case ' ', '\t', '\r', '\n':
+			s.at++
+		default:
+			return
+		}
+	}
+}
+
+func (s *scanner) value() (Span, bool) {
+	span := Span{Start: s.at, Nodes: 1, Depth: 1, Bad: -1}
+	ok := false
+	switch c := s.peek(); {
+	case c == '{':
+		ok = s.object(func(m Member) { span.add(m.Value) })
+	case c == '[':
+		ok = s.list(span.add)
+	case c == '"':
+		ok = s.str()
+	case c == '-' || c >= '0' && c <= '9':
+		var whole bool
+		whole, ok = s.number()
+		if !whole {
+			span.Bad = span.Start
+		}
+	default:
+		ok = s.word()
+	}
+	span.End = s.at
+	return span, ok
+}
+
+// add counts a part of a list or a context.
+func (v *Span) add(part Span) {
+	v.Nodes += part.Nodes
+	if v.Depth <= part.Depth {
+		v.Depth = part.Depth + 1
+	}
+	if v.Bad < 0 {
+		v.Bad = part.Bad
+	}
+}
+
+func (s *scanner) enter() bool {
+	if s.nesting == 0 {
+		return s.fail("lists and objects are nested over 127 deep")
+	}
+	s.nesting--
+	s.at++
+	s.blanks()
+	return true
+}
+
+// next goes behind a comma, or to the end of a list or an object; last says which.
+func (s *scanner) next(end byte) (last, ok bool) {
+	s.blanks()
+	switch s.peek() {
+	case ',':
+		s.at++
+		s.blanks()
+		return false, true
+	case end:
+		s.at++
+		s.nesting++
+		return true, true
+	}
+	return false, s.fail(fmt.Sprintf("a comma or %q is due", string(end)))
+}
+
+func (s *scanner) list(take func(Span)) bool {
+	if s.peek() != '[' {
+		return s.fail("a list is due")
+	}
+	if !s.enter() {
+		return false
+	}
+	if s.peek() == ']' {
+		s.at++
+		s.nesting++
+		return true
+	}
+	for {
+		item, ok := s.value()
+		if !ok {
+			return false
+		}
+		take(item)
+		if last, ok := s.next(']'); last || !ok {
+			return ok
+		}
+	}
+}
+
+func (s *scanner) object(take func(Member)) bool {
+	if !s.enter() {
+		return false
+	}
+	if s.peek() == '}' {
+		s.at++
+		s.nesting++
+		return true
+	}
+	for {
+		member, ok := s.member()
+		if !ok {
+			return false
+		}
+		take(member)
+		if last, ok := s.next('}'); last || !ok {
+			return ok
+		}
+	}
+}
+
+func (s *scanner) member() (Member, bool) {
+	start := s.at
+	if s.peek() != '"' {
+		return Member{}, s.fail("a key in quotes is due")
+	}
+	if !s.str() {
+		return Member{}, false
+	}
+	key := Text(s.text[start:s.at])
+	s.blanks()
+	if s.peek() != ':' {
+		return Member{}, s.fail("a colon is due")
+	}
+	s.at++
+	s.blanks()
+	value, ok := s.value()
+	return Member{Key: key, Value: value}, ok
+}
+
+func (s *scanner) word() bool {
+	for _, word := range [...]string{"true", "false", "null"} {
+		if len(s.text)-s.at >= len(word) && string(s.text[s.at:s.at+len(word)]) == word {
+			s.at += len(word)
+			return true
+		}
+	}
+	return s.fail("a value is due")
+}
+
+// digits goes over digits, and says whether there is one.
+func (s *scanner) digits() bool {
+	start := s.at
+	for s.at < len(s.text) && s.text[s.at] >= '0' && s.text[s.at] <= '9' {
+		s.at++
+	}
+	return s.at > start || s.fail("a digit is due")
+}
+
+// number reads a number: whole says that it has neither point nor exponent, is in range and not "-0".
+func (s *scanner) number() (whole, ok bool) {
+	start := s.at
+	if s.peek() == '-' {
+		s.at++
+	}
+	if s.peek() == '0' {
+		s.at++
+	} else if !s.digits() {
+		return true, false
+	}
+	whole = true
+	if s.peek() == '.' {
+		s.at++
+		whole = false
+		if !s.digits() {
+			return true, false
+		}
+	}
+	if s.peek()|0x20 == 'e' {
+		s.at++
+		whole = false
+		if s.peek() == '+' || s.peek() == '-' {
+			s.at++
+		}
+		if !s.digits() {
+			return true, false
+		}
+	}
+	return s.ranged(start, whole)
+}
+
+// ranged holds a number that was read against the ranges.
+func (s *scanner) ranged(start int, whole bool) (bool, bool) {
+	text := s.text[start:s.at]
+	if whole && len(text) < 19 {
+		return !(len(text) == 2 && text[0] == '-' && text[1] == '0'), true
+	}
+	if whole {
+		if n, err := strconv.ParseInt(string(text), 10, 64); err == nil {
+			return n >= -MaxNumber, true
+		}
+	}
+	if _, err := strconv.ParseFloat(string(text), 64); err != nil {
+		s.at = start
+		return false, s.fail("a number is out of range")
+	}
+	return false, true
+}

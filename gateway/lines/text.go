@@ -1,0 +1,162 @@
+package lines
+
+import (
+	"bytes"
+	"encoding/json"
+	"fmt"
+	"unicode/utf8"
+)
+
+// plain are the bytes that stand for themselves within quotes.
+var plain = func() (table [256]bool) {
+	for c := range table {
+		table[c] = c >= 0x20 && c != '"' && c != '\\'
+	}
+	return table
+}()
+
+// str goes over a string, from its first quote.
+func (s *scanner) str() bool {
+	s.at++
+	for {
+		for s.at < len(s.text) && plain[s.text[s.at]] {
+			s.at++
+		}
+		switch s.peek() {
+		case '"':
+			s.at++
+			return true
+		case '\\':
+			if !s.escape() {
+				return false
+			}
+		default:
+			if s.at == len(s.text) {
+				return s.fail("the text ends within a string")
+			}
+			return s.fail("a control character stands within a string")
+		}
+	}
+}
+
+// escape goes over an escape, of which two may stand for one character.
+func (s *scanner) escape() bool {
+	if s.at+1 >= len(s.text) {
+		s.at = len(s.text)
+		return s.fail("the text ends within a string")
+	}
+	switch s.text[s.at+1] {
+	case '"', '\\', '/', 'b', 'f', 'n', 'r', 't':
+		s.at += 2
+		return true
+	case 'u':
+	default:
+		return s.fail("an escape is none of JSON's")
+	}
+	first, ok := s.unit(s.at)
+	if !ok {
+		return s.fail("four hexadecimal digits are due")
+	}
+	if first < 0xD800 || first > 0xDFFF {
+		s.at += 6
+		return true
+	}
+	second, ok := s.unit(s.at + 6)
+	if first > 0xDBFF || !ok || second < 0xDC00 || second > 0xDFFF {
+		return s.fail("half of a surrogate pair stands alone")
+	}
+	s.at += 12
+	return true
+}
+
+// unit is the number of an escape of the form \uXXXX at a place.
+func (s *scanner) unit(at int) (int, bool) {
+	if at+6 > len(s.text) || s.text[at] != '\\' || s.text[at+1] != 'u' {
+		return 0, false
+	}
+	n := 0
+	for _, c := range s.text[at+2 : at+6] {
+		digit := bytes.IndexByte([]byte("0123456789abcdef"), c|0x20)
+		if c >= '0' && c <= '9' {
+			digit = int(c - '0')
+		}
+		if digit < 0 {
+			return 0, false
+		}
+		n = n<<4 | digit
+	}
+	return n, true
+}
+
+// Text is what a JSON string, in its quotes, stands for. The string is lawful.
+func Text(quoted []byte) string {
+	inner := quoted[1 : len(quoted)-1]
+	if bytes.IndexByte(inner, '\\') < 0 {
+		return string(inner)
+	}
+	var text string
+	if err := json.Unmarshal(quoted, &text); err != nil {
+		return string(inner)
+	}
+	return text
+}
+
+const hexadecimal = "0123456789abcdef"
+
+// AppendQuoted adds a text as a JSON string, with the escapes that the engine writes: of quotes, backslashes and control
+// characters alone.
+func AppendQuoted(to []byte, text string) []byte {
+	to = append(to, '"')
+	for at := 0; at < len(text); at++ {
+		c := text[at]
+		switch {
+		case plain[c]:
+			to = append(to, c)
+		case c == '"' || c == '\\':
+			to = append(to, '\\', c)
+		case c == '\n':
+			to = append(to, '\\', 'n')
+		case c == '\r':
+			to = append(to, '\\', 'r')
+		case c == '\t':
+			to = append(to, '\\', 't')
+		case c == '\b':
+			to = append(to, '\\', 'b')
+		case c == '\f':
+			to = append(to, '\\', 'f')
+		default:
+			to = append(to, '\\', 'u', '0', '0', hexadecimal[c>>4], hexadecimal[c&15])
+		}
+	}
+	return append(to, '"')
+}
+
+// OneLine is a lawful JSON text without line ends, and where that makes it no longer, without any blank between its
+// tokens. It gives the text itself where nothing is to be changed.
+func OneLine(text []byte, longest int) []byte {
+	if len(text) <= longest && bytes.IndexByte(text, '\n') < 0 {
+		return text
+	}
+	var compact bytes.Buffer
+	if err := json.Compact(&compact, text); err != nil {
+		return text
+	}
+	return compact.Bytes()
+}
+
+// IsText says whether a text is UTF-8 and has from 1 to this many bytes.
+func IsText(text string, longest int) bool {
+	return len(text) > 0 && len(text) <= longest && utf8.ValidString(text)
+}
+
+// Brief is a text cut to this many bytes, for people to read.
+func Brief(text []byte, longest int) string {
+	if len(text) <= longest {
+		return string(text)
+	}
+	cut := longest
+	for cut > 0 && !utf8.RuneStart(text[cut]) {
+		cut--
+	}
+	return fmt.Sprintf("%s..", text[:cut])
+}

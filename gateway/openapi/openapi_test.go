@@ -1,0 +1,41 @@
+package openapi
+
+import (
+	"encoding/json"
+	"reflect"
+	"testing"
+)
+
+func TestSchema(t *testing.T) {
+	text := `{"type":["object","null"],"properties":{"age":{"type":["integer","null"],"exclusiveMinimum":0},` +
+		`"kinds":{"type":["array","null"],"items":{"enum":["a",null],"type":["string","null"]}}}}`
+	due := map[string]any{"type": "object", "nullable": true, "properties": map[string]any{
+		"age": map[string]any{"type": "integer", "nullable": true, "exclusiveMinimum": true, "minimum": 0.0},
+		"kinds": map[string]any{"type": "array", "nullable": true,
+			"items": map[string]any{"type": "string", "nullable": true, "enum": []any{"a", nil}}}}}
+	got := Schema(json.RawMessage(text))
+	if !reflect.DeepEqual(got, due) {
+		t.Errorf("it is %v, and %v is due", got, due)
+	}
+	example := Example(got)
+	if !reflect.DeepEqual(example, any(object{"age": 1.0, "kinds": []any{"a"}})) {
+		t.Errorf("the example is %#v", example)
+	}
+}
+
+func TestPageNamesEachService(t *testing.T) {
+	text, err := Page("0123456789abcdef", "0.9.0", true, []Service{{Name: "Drivers part", Inputs: []Input{{Name: "Age"}}}})
+	if err != nil {
+		t.Fatal(err)
+	}
+	var page struct {
+		Paths    map[string]json.RawMessage
+		Security []map[string]any
+	}
+	if err := json.Unmarshal(text, &page); err != nil {
+		t.Fatal(err)
+	}
+	if page.Paths["/v1/services/Drivers%20part"] == nil || len(page.Security) != 1 {
+		t.Errorf("%s", text)
+	}
+}

@@ -1,0 +1,106 @@
+package profile
+
+import (
+	"encoding/json"
+	"fmt"
+
+	"gateway/dmn"
+	"gateway/model"
+)
+
+// mostNesting is how deep a model may nest in JSON, so that it may stand in its line.
+const mostNesting = 126
+
+// assembler makes the model of boxes, and notes where each part came from.
+type assembler struct {
+	places map[string]Place
+	// deepest is how deep the JSON of the decision at hand nests.
+	deepest int
+}
+
+// assembled is the result of a graph that was translated without a refusal.
+func assembled(g *graph, services []service) *Result {
+	a := &assembler{places: map[string]Place{}}
+	result := &Result{Names: g.words.names, Types: map[string]json.RawMessage{}, Places: a.places}
+	result.Model = model.Model{Inputs: []string{}, Decisions: []model.Decision{}, Services: []model.Service{}}
+	for i, n := range g.inputs {
+		result.Model.Inputs = append(result.Model.Inputs, n.word)
+		result.Types[n.word] = schema(n.of, g.words)
+		a.place(fmt.Sprintf("/inputs/%d", i), n.element())
+	}
+	for i, n := range g.decisions {
+		pointer := fmt.Sprintf("/decisions/%d", i)
+		a.place(pointer, n.element())
+		result.Types[n.word] = schema(n.of, g.words)
+		a.deepest = 0
+		decision := model.Decision{Name: n.word, Needs: wordsOf(n.needs), Expr: a.box(n.logic, pointer+"/expr", 4)}
+		if a.deepest > mostNesting {
+			g.refusals.refuse(n.element(), n.name, fmt.Sprintf("its boxed expressions and invocations stand in each other over "+
+				"%d deep in the model", mostNesting), "a decision of its own for inner parts")
+		}
+		result.Model.Decisions = append(result.Model.Decisions, decision)
+	}
+	for i, s := range services {
+		result.Model.Services = append(result.Model.Services, s.Service)
+		a.place(fmt.Sprintf("/services/%d", i), s.origin)
+	}
+	return result
+}
+
+// place notes the element of a part, where it has an id or a name.
+func (a *assembler) place(pointer string, e *dmn.Element) {
+	if e == nil || e.ID() == "" && e.Name() == "" {
+		return
+	}
+	a.places[pointer] = Place{ID: e.ID(), Name: e.Name()}
+}
+
+// box is the expression of a box at a pointer; depth is the nesting of its own first level.
+func (a *assembler) box(b *box, pointer string, depth int) model.Expression {
+	if depth > a.deepest {
+		a.deepest = depth
+	}
+	a.place(pointer, b.origin)
+	switch b.kind {
+	case tableBox:
+		return a.table(b, pointer, depth)
+	case listBox:
+		list := make(model.List, len(b.list))
+		for i, member := range b.list {
+			list[i] = a.box(member, fmt.Sprintf("%s/list/%d", pointer, i), depth+2)
+		}
+		return list
+	case contextBox:
+		return a.context(b, pointer, depth)
+	}
+	return model.Literal(b.value.text)
+}
+
+func (a *assembler) context(b *box, pointer string, depth int) model.Expression {
+	made := model.Context{Entries: make([]model.Entry, len(b.entries))}
+	for i, entry := range b.entries {
+		at := fmt.Sprintf("%s/context/%d", pointer, i)
+		a.place(at, entry.origin)
+		made.Entries[i] = model.Entry{Name: entry.word, Expr: a.box(entry.value, at+"/expr", depth+3)}
+	}
+	if b.result != nil {
+		made.Result = a.box(b.result, pointer+"/result", depth+1)
+	}
+	return made
+}
+
+func (a *assembler) table(b *box, pointer string, depth int) model.Expression {
+	if depth+4 > a.deepest {
+		a.deepest = depth + 4
+	}
+	for i, e := range b.inputs {
+		a.place(fmt.Sprintf("%s/table/inputs/%d", pointer, i), e)
+	}
+	for i, e := range b.gives {
+		a.place(fmt.Sprintf("%s/table/outputs/%d", pointer, i), e)
+	}
+	for i, e := range b.rows {
+		a.place(fmt.Sprintf("%s/table/rules/%d", pointer, i), e)
+	}
+	return b.table
+}

@@ -1,0 +1,52 @@
+package profile
+
+import (
+	"gateway/dmn"
+	"gateway/model"
+)
+
+// A box is a boxed expression of the model that knows where it came from. One of table, list, entries or the phrase
+// alone is its content.
+type box struct {
+	kind  boxKind
+	value phrase
+	// table is of a decision table; rows, inputs and outputs are the elements of its parts.
+	table         *model.Table
+	rows          []*dmn.Element
+	inputs, gives []*dmn.Element
+	list          []*box
+	entries       []boxEntry
+	// result is nil for a context without one.
+	result *box
+	// origin is its element; nil for what was made here.
+	origin *dmn.Element
+}
+
+type boxKind uint8
+
+const (
+	textBox boxKind = iota
+	tableBox
+	listBox
+	contextBox
+)
+
+type boxEntry struct {
+	word  string
+	value *box
+	// origin is the element of the entry; nil for what was made here.
+	origin *dmn.Element
+}
+
+func boxOf(p phrase) *box { return &box{kind: textBox, value: p} }
+
+// A frame collects the entries that the texts of one boxed expression need in front of it.
+type frame struct{ entries []boxEntry }
+
+// around puts the entries of a frame in front of a box.
+func (f *frame) around(b *box) *box {
+	if len(f.entries) == 0 {
+		return b
+	}
+	return &box{kind: contextBox, entries: f.entries, result: b}
+}

@@ -1,0 +1,268 @@
+package profile
+
+import (
+	"math/big"
+	"strings"
+
+	"gateway/dmn"
+	"gateway/feel"
+)
+
+// entry translates an input entry: to tests of its column, or to a condition of the further column, where the column
+// itself has "-".
+func (r *tableReader) entry(entry *dmn.Text, i int) (test string, condition *phrase) {
+	c := r.columns[i]
+	if strings.TrimSpace(entry.Text) == "" {
+		return "-", nil
+	}
+	if !r.isFEEL(entry) {
+		return "-", nil
+	}
+	r.at(entry, func() {
+		nodes := r.read(entry, r.scope, true)
+		if nodes == nil {
+			test = "-"
+			return
+		}
+		r.checkEntry(entry, nodes, c)
+		test = r.asTests(nodes, c)
+		if test == "" {
+			test = "-"
+			made := r.shallow(r.translator.conditions(nodes, r.columnValue(i), r.scope))
+			condition = &made
+		}
+	})
+	return test, condition
+}
+
+// asTests is an entry as the engine's tests; empty where it needs a condition.
+func (r *tableReader) asTests(nodes []feel.Node, c column) string {
+	if not, is := nodes[0].(*feel.NotTests); is {
+		inside := r.testList(not.Tests, c, true)
+		if inside == "" {
+			return ""
+		}
+		return "not(" + inside + ")"
+	}
+	return r.testList(nodes, c, false)
+}
+
+// testList is tests with commas between them; empty where one needs a condition.
+func (r *tableReader) testList(nodes []feel.Node, c column, underNot bool) string {
+	texts := make([]string, len(nodes))
+	for i, n := range nodes {
+		texts[i] = r.test(n, c, underNot)
+		if texts[i] == "" {
+			return ""
+		}
+	}
+	return strings.Join(texts, ", ")
+}
+
+// test is one test; empty where it needs a condition.
+func (r *tableReader) test(n feel.Node, c column, underNot bool) string {
+	switch n := n.(type) {
+	case *feel.Anything:
+		return "-"
+	case *feel.Unary:
+		return r.signTest(n.Operator, n.Operand, c, underNot)
+	case *feel.Range:
+		if usesInput(n) {
+			return ""
+		}
+		return r.rangeTest(n)
+	case *feel.Binary:
+		if _, input := n.Left.(*feel.Input); input && n.Operator != "**" && !usesInput(n.Right) {
+			return r.signTest(n.Operator, n.Right, c, underNot)
+		}
+	}
+	if usesInput(n) {
+		return ""
+	}
+	return r.valueTest(n, c, underNot)
+}
+
+// signTest is a comparison with the column's value.
+func (r *tableReader) signTest(operator string, operand feel.Node, c column, underNot bool) string {
+	switch {
+	case usesInput(operand), operator == "!=":
+		return ""
+	case operator == "=":
+		value := r.operand(operand, r.scope)
+		if value.of.isScalar() && (!underNot || value.of.kind == c.value.of.kind) || value.of.kind == nullKind {
+			return asTest(value)
+		}
+		return ""
+	}
+	return operator + " " + r.operand(operand, r.scope).within(rankSum).text
+}
+
+func (r *tableReader) rangeTest(n *feel.Range) string {
+	low, high := r.operand(n.Low, r.scope).within(rankSum), r.operand(n.High, r.scope).within(rankSum)
+	from, to := "[", "]"
+	if n.LowOpen {
+		from = "("
+	}
+	if n.HighOpen {
+		to = ")"
+	}
+	return from + low.text + ".." + high.text + to
+}
+
+// valueTest is a value that the column's is compared with, or a list of such that is written out.
+func (r *tableReader) valueTest(n feel.Node, c column, underNot bool) string {
+	if list, is := n.(*feel.List); is {
+		return r.testList(list.Items, c, underNot)
+	}
+	if literal := literalType(n); literal != nil {
+		if underNot && literal.kind != nullKind && literal.kind != c.value.of.kind {
+			return ""
+		}
+		return r.operand(n, r.scope).text
+	}
+	value := r.operand(n, r.scope)
+	if why := doubtfulTest(n, value); why != "" {
+		r.refuse(n, why, "? = "+r.slice(n)+", or a column of its own")
+		return "-"
+	}
+	if underNot && value.of.kind != c.value.of.kind {
+		return ""
+	}
+	return asTest(value)
+}
+
+// asTest is a value as a test of its own: as a whole text not( .. ) would be a list of tests.
+func asTest(p phrase) string {
+	if strings.HasPrefix(p.text, "not") {
+		return "(" + p.text + ")"
+	}
+	return p.text
+}
+
+// checkEntry holds the literals of an entry against the type of the column and its input values: a rule with another
+// one never hits, which is no one's meaning.
+func (r *tableReader) checkEntry(entry *dmn.Text, nodes []feel.Node, c column) {
+	for _, n := range nodes {
+		switch n := n.(type) {
+		case *feel.NotTests:
+			r.checkEntry(entry, n.Tests, c)
+			continue
+		case *feel.List:
+			r.checkEntry(entry, n.Items, c)
+			continue
+		case *feel.Unary:
+			r.checkKind(n.Operand, c)
+			continue
+		case *feel.Range:
+			r.checkKind(n.Low, c)
+			r.checkKind(n.High, c)
+			continue
+		}
+		if r.checkKind(n, c) && !isAllowed(n, c.allowed) {
+			r.refuse(n, "it is none of the input values of its column", "one of the input values")
+		} else if !isAllowed(n, c.value.of.allowed) {
+			r.refuse(n, "it is none of the allowed values of its column's type", "one of the allowed values")
+		}
+	}
+}
+
+// checkKind tells whether a literal is of the column's type, and refuses it where it isn't.
+func (r *tableReader) checkKind(n feel.Node, c column) bool {
+	literal, of := literalType(n), c.value.of
+	if literal == nil || literal.kind == nullKind || of.kind == anyKind || of.kind == refusedKind || of.kind == nullKind {
+		return true
+	}
+	if of.kind == listKind {
+		return true
+	}
+	if literal.kind != of.kind {
+		r.refuse(n, "it is of the type "+literal.String()+", and the column of "+of.String(), "a value of the column's type")
+		return false
+	}
+	return true
+}
+
+// checkAllowed refuses a literal that is none of some allowed values.
+func (r *tableReader) checkAllowed(entry *dmn.Text, allowed []feel.Node, which string) {
+	kept := r.trees[entry]
+	if kept == nil || kept.fault != nil || len(kept.nodes) != 1 {
+		return
+	}
+	if !isAllowed(kept.nodes[0], allowed) {
+		r.refusals.refuse(entry.Element, entry.Text, "it is none of "+which, "one of these")
+	}
+}
+
+// isAllowed tells whether a form may be one of some values: only a literal can be told not to be. Null is, always.
+func isAllowed(n feel.Node, allowed []feel.Node) bool {
+	literal := literalType(n)
+	if literal == nil || literal.kind == nullKind || len(allowed) == 0 {
+		return true
+	}
+	for _, value := range allowed {
+		if mayEqual(n, value) {
+			return true
+		}
+	}
+	return false
+}
+
+func mayEqual(literal, value feel.Node) bool {
+	if interval, is := value.(*feel.Range); is {
+		return mayLieIn(literal, interval)
+	}
+	if literalType(value) == nil {
+		return true
+	}
+	return literalText(literal) == literalText(value)
+}
+
+// mayLieIn tells whether a number lies in a range of numbers; it is true where one of them is none.
+func mayLieIn(literal feel.Node, interval *feel.Range) bool {
+	x, low, high := rational(literal), rational(interval.Low), rational(interval.High)
+	if x == nil || low == nil || high == nil {
+		return true
+	}
+	from, to := x.Cmp(low), x.Cmp(high)
+	return (from > 0 || from == 0 && !interval.LowOpen) && (to < 0 || to == 0 && !interval.HighOpen)
+}
+
+// rational is the number of a literal; nil where it is none.
+func rational(n feel.Node) *big.Rat {
+	if negation, is := n.(*feel.Negation); is {
+		if inside := rational(negation.Operand); inside != nil {
+			return inside.Neg(inside)
+		}
+		return nil
+	}
+	number, is := n.(*feel.Number)
+	if !is || len(number.Text) > mostWord {
+		return nil
+	}
+	value, fine := new(big.Rat).SetString(number.Text)
+	if !fine {
+		return nil
+	}
+	return value
+}
+
+// literalText is a literal as the engine reads it; empty where it is none, or no whole number.
+func literalText(n feel.Node) string {
+	switch n := n.(type) {
+	case *feel.String:
+		return quotedText(n.Value)
+	case *feel.Boolean:
+		if n.Value {
+			return "true"
+		}
+		return "false"
+	case *feel.Null:
+		return "null"
+	case *feel.Number, *feel.Negation:
+		value := rational(n)
+		if value != nil && value.IsInt() && value.Num().BitLen() < 64 {
+			return value.Num().String()
+		}
+	}
+	return ""
+}

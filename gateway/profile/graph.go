@@ -1,0 +1,329 @@
+package profile
+
+import (
+	"fmt"
+	"strings"
+
+	"gateway/dmn"
+	"gateway/feel"
+)
+
+// A node is an input or a decision of the model.
+type node struct {
+	name, word string
+	file       *source
+	input      *dmn.InputData
+	decision   *dmn.Decision
+	// of is the type of its values; of a decision, known once it was translated.
+	of *valueType
+	// needs are what a decision requires, known the business knowledge, services the names of decision services.
+	needs    []*node
+	known    []*knowledge
+	services []string
+	logic    *box
+	needed   bool
+	// seen is the number of the last walk that came here.
+	seen int
+}
+
+// element is the element of the node.
+func (n *node) element() *dmn.Element {
+	if n.input != nil {
+		return n.input.Element
+	}
+	return n.decision.Element
+}
+
+// A source is one file with its types.
+type source struct {
+	file  *dmn.File
+	types *types
+}
+
+// A graph is the parts of all files by their ids and names.
+type graph struct {
+	refusals *refusals
+	words    *words
+	sources  []*source
+	inputs   []*node
+	// decisions stand in the order of the files; ordered has each behind all that it needs.
+	decisions, ordered []*node
+	knowledge          []*knowledge
+	// byID finds parts by namespace and id.
+	byID map[string]interface{}
+	// walks counts the walks over the nodes.
+	walks int
+}
+
+func newGraph(files []*dmn.File, r *refusals, w *words) *graph {
+	g := &graph{refusals: r, words: w, byID: map[string]interface{}{}}
+	for i, file := range files {
+		r.know(file, i)
+	}
+	w.declare(namesOf(files))
+	for _, file := range files {
+		s := &source{file: file, types: newTypes(r, file)}
+		g.sources = append(g.sources, s)
+		g.faults(file)
+		g.parts(s)
+	}
+	for _, s := range g.sources {
+		g.requirements(s)
+	}
+	g.refuseTwice()
+	g.order()
+	return g
+}
+
+// faults tells what a file has that is not known.
+func (g *graph) faults(file *dmn.File) {
+	for _, fault := range file.Faults {
+		g.refusals.refuse(fault.Element, fault.Text, fault.Why, fault.Instead)
+	}
+	for _, e := range file.Imports {
+		g.refusals.refuse(e, e.Attribute("namespace"), "imports of other files are not followed",
+			"the decisions of the other file in this one")
+	}
+}
+
+// nameOf is the name under which expressions know a part: that of its variable, else its own.
+func nameOf(e *dmn.Element, variable *dmn.Variable) string {
+	if variable != nil && variable.Attribute("name") != "" {
+		return variable.Attribute("name")
+	}
+	return e.Name()
+}
+
+// parts makes the nodes of a file.
+func (g *graph) parts(s *source) {
+	for _, input := range s.file.Inputs {
+		n := g.node(s, input.Element, input.Variable)
+		n.input = input
+		n.of = s.types.inputType(input)
+		g.inputs = append(g.inputs, n)
+	}
+	for _, decision := range s.file.Decisions {
+		n := g.node(s, decision.Element, decision.Variable)
+		n.decision = decision
+		g.decisions = append(g.decisions, n)
+	}
+	for _, k := range s.file.Knowledge {
+		made := &knowledge{BusinessKnowledge: k, name: nameOf(k.Element, k.Variable), types: s.types}
+		g.knowledge = append(g.knowledge, made)
+		g.identify(s, k.Element, made)
+		g.checkFunction(k)
+	}
+	for _, service := range s.file.Services {
+		g.identify(s, service.Element, service)
+	}
+}
+
+func (g *graph) node(s *source, e *dmn.Element, variable *dmn.Variable) *node {
+	n := &node{name: nameOf(e, variable), file: s}
+	if n.name == "" {
+		g.refusals.refuse(e, "", "it has no name", "a name")
+		n.name = e.ID()
+	}
+	n.word = g.words.of(n.name)
+	g.identify(s, e, n)
+	return n
+}
+
+// identify notes a part under its id.
+func (g *graph) identify(s *source, e *dmn.Element, part interface{}) {
+	key := s.file.Namespace + "#" + e.ID()
+	if e.ID() == "" {
+		return
+	}
+	if g.byID[key] != nil {
+		g.refusals.refuse(e, e.ID(), "the id stands twice", "another id")
+		return
+	}
+	g.byID[key] = part
+}
+
+// checkFunction refuses what is no function of FEEL with a body.
+func (g *graph) checkFunction(k *dmn.BusinessKnowledge) {
+	switch {
+	case k.Logic == nil || k.Logic.Body == nil:
+		g.refusals.refuse(k.Element, k.Name(), "the business knowledge has no body", "an expression")
+	case k.Logic.Kind != "FEEL":
+		g.refusals.refuse(k.Logic.Element, k.Logic.Kind, "functions of Java and of PMML are not called",
+			"an expression of FEEL")
+	}
+}
+
+// inputType is the type of an input; open where none is declared.
+func (t *types) inputType(input *dmn.InputData) *valueType {
+	if input.Variable != nil {
+		if of := t.resolve(input.Variable.Element, input.Variable.TypeRef); of != nil && of.kind != anyKind {
+			own := *of
+			return &own
+		}
+	}
+	return &valueType{kind: anyKind, open: true}
+}
+
+// referred finds the part that a reference means; nil where there is none, which is told.
+func (g *graph) referred(s *source, r *dmn.Reference) interface{} {
+	key := r.Href
+	if strings.HasPrefix(key, "#") {
+		key = s.file.Namespace + key
+	}
+	part := g.byID[key]
+	if part == nil {
+		g.refusals.refuse(r.Element, r.Href, "no part of the model has this id", "the id of a part, behind #")
+	}
+	return part
+}
+
+// requirements joins the decisions of a file with what they require.
+func (g *graph) requirements(s *source) {
+	for _, n := range g.decisions {
+		if n.file != s {
+			continue
+		}
+		g.walks++
+		for _, r := range append(append([]*dmn.Reference(nil), n.decision.Inputs...), n.decision.Decisions...) {
+			g.requires(s, n, r)
+		}
+		n.known, n.services = g.known(s, n.decision.Knowledge)
+	}
+	for _, k := range g.knowledge {
+		if k.types == s.types {
+			k.known, _ = g.known(s, k.Knowledge)
+		}
+	}
+}
+
+func (g *graph) requires(s *source, n *node, r *dmn.Reference) {
+	part := g.referred(s, r)
+	if part == nil {
+		return
+	}
+	other, is := part.(*node)
+	if !is {
+		g.refusals.refuse(r.Element, r.Href, "it is neither an input nor a decision", "a knowledgeRequirement")
+		return
+	}
+	if other.seen == g.walks {
+		return
+	}
+	other.seen, other.needed = g.walks, true
+	n.needs = append(n.needs, other)
+}
+
+// known finds business knowledge that is required, and the names of decision services.
+func (g *graph) known(s *source, references []*dmn.Reference) (all []*knowledge, services []string) {
+	for _, r := range references {
+		switch part := g.referred(s, r).(type) {
+		case *knowledge:
+			all = append(all, part)
+		case *dmn.DecisionService:
+			services = append(services, nameOf(part.Element, part.Variable))
+		case *node:
+			g.refusals.refuse(r.Element, r.Href, "it is no business knowledge", "an informationRequirement")
+		}
+	}
+	return all, services
+}
+
+// refuseTwice refuses inputs and decisions that have one name, as FEEL compares names.
+func (g *graph) refuseTwice() {
+	byName := map[string]*node{}
+	all := append(append([]*node(nil), g.inputs...), g.decisions...)
+	for _, n := range all {
+		canonical := feel.Canonical(n.name)
+		if before := byName[canonical]; before != nil {
+			g.refusals.refuse(n.element(), n.name, fmt.Sprintf("its name is that of %q, at line %d: blanks round signs make no "+
+				"other name", before.name, before.element().Place.Line), "another name")
+			continue
+		}
+		byName[canonical] = n
+	}
+}
+
+// forgetTypes lets types be resolved anew, so that what is refused of them is told in the second pass.
+func (g *graph) forgetTypes() {
+	for _, s := range g.sources {
+		s.types.resolved = map[*dmn.ItemDefinition]*valueType{}
+	}
+}
+
+// order puts each decision behind what it needs, and refuses those that need themselves.
+func (g *graph) order() {
+	state := map[*node]int{}
+	for _, n := range g.decisions {
+		g.visit(n, state)
+	}
+}
+
+const (
+	visiting = 1
+	visited  = 2
+)
+
+func (g *graph) visit(n *node, state map[*node]int) {
+	if n.decision == nil || state[n] == visited {
+		return
+	}
+	if state[n] == visiting {
+		g.refusals.refuse(n.element(), n.name, "the decision needs itself, through others or directly",
+			"requirements that end")
+		n.of = refusedType
+		return
+	}
+	state[n] = visiting
+	for _, need := range n.needs {
+		g.visit(need, state)
+	}
+	state[n] = visited
+	g.ordered = append(g.ordered, n)
+}
+
+// namesOf are all names that the files declare, in their order.
+func namesOf(files []*dmn.File) []string {
+	var names []string
+	var walk func(e *dmn.Element)
+	walk = func(e *dmn.Element) {
+		if named[e.Tag] && e.Attribute("name") != "" {
+			names = append(names, e.Attribute("name"))
+		}
+		for _, child := range e.Children {
+			walk(child)
+		}
+	}
+	for _, file := range files {
+		walk(file.Root)
+	}
+	return names
+}
+
+// named are the tags whose names become words of the model.
+var named = map[string]bool{"inputData": true, "decision": true, "decisionService": true, "variable": true,
+	"column": true, "itemComponent": true, "output": true}
+
+// membersOf are the names that may stand behind a point.
+func membersOf(files []*dmn.File) *feel.Scope {
+	members := feel.NewScope(nil)
+	var walk func(e *dmn.Element)
+	walk = func(e *dmn.Element) {
+		switch e.Tag {
+		case "itemComponent", "output", "column":
+			members.Add(e.Attribute("name"))
+		case "contextEntry":
+			for _, child := range e.Children {
+				if child.Tag == "variable" {
+					members.Add(child.Attribute("name"))
+				}
+			}
+		}
+		for _, child := range e.Children {
+			walk(child)
+		}
+	}
+	for _, file := range files {
+		walk(file.Root)
+	}
+	return members
+}

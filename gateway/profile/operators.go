@@ -1,0 +1,190 @@
+package profile
+
+import (
+	"gateway/feel"
+)
+
+// chain translates operands with operators of one rank between them.
+func (t *translator) chain(n *feel.Chain, s *scope) phrase {
+	operands := make([]phrase, len(n.Operands))
+	for i, operand := range n.Operands {
+		operands[i] = t.operand(operand, s)
+	}
+	switch n.Operators[0] {
+	case "or":
+		return chained(operands, n.Operators, rankOr, booleanType)
+	case "and":
+		return chained(operands, n.Operators, rankAnd, booleanType)
+	case "*", "/":
+		return t.product(n, operands)
+	}
+	return t.sum(n, operands)
+}
+
+func (t *translator) product(n *feel.Chain, operands []phrase) phrase {
+	for _, operator := range n.Operators {
+		if operator == "/" {
+			return t.refuse(n, "there is no division", "division by a boxed context: see docs/MODEL.md, Division")
+		}
+	}
+	return chained(operands, n.Operators, rankProduct, numberType)
+}
+
+// sum translates + and -. Where both sides of a + may be texts the standard joins them, and the engine doesn't.
+func (t *translator) sum(n *feel.Chain, operands []phrase) phrase {
+	soFar := operands[0].of
+	for i, operator := range n.Operators {
+		next := operands[i+1].of
+		if operator == "+" && soFar.mayBe(textKind) && next.mayBe(textKind) {
+			if soFar.kind == textKind && next.kind == textKind {
+				return t.refuse(n, "texts are not joined", "a context or a list of the parts, which the caller joins")
+			}
+			return t.refuse(n, "both sides of + may be texts, which the standard joins and the profile doesn't",
+				"the type number for one of them")
+		}
+		soFar = numberType
+	}
+	return chained(operands, n.Operators, rankSum, numberType)
+}
+
+// binary translates a comparison.
+func (t *translator) binary(n *feel.Binary, s *scope) phrase {
+	if n.Operator == "**" {
+		t.operand(n.Left, s)
+		t.operand(n.Right, s)
+		return t.refuse(n, "there are no powers", "a * a for a ** 2")
+	}
+	return infix(t.operand(n.Left, s), n.Operator, t.operand(n.Right, s), rankComparison, booleanType)
+}
+
+// in translates "x in tests" to comparisons.
+func (t *translator) in(n *feel.In, s *scope) phrase {
+	x := t.short(t.operand(n.Operand, s))
+	alternatives := make([]phrase, 0, len(n.Tests))
+	for _, test := range n.Tests {
+		alternatives = append(alternatives, t.shallow(t.condition(test, x, s)))
+	}
+	return anyOf(alternatives)
+}
+
+// anyOf is the or of conditions.
+func anyOf(alternatives []phrase) phrase { return joinedBy("or", alternatives, rankOr) }
+
+// allOf is the and of conditions.
+func allOf(conditions []phrase) phrase { return joinedBy("and", conditions, rankAnd) }
+
+func joinedBy(operator string, operands []phrase, rank int) phrase {
+	if len(operands) == 0 {
+		return constant("false", booleanType)
+	}
+	if len(operands) == 1 {
+		return operands[0]
+	}
+	operators := make([]string, len(operands)-1)
+	for i := range operators {
+		operators[i] = operator
+	}
+	return chained(operands, operators, rank, booleanType)
+}
+
+// condition translates a test to a condition of a value x.
+func (t *translator) condition(test feel.Node, x phrase, s *scope) phrase {
+	switch n := test.(type) {
+	case *feel.Anything:
+		return constant("true", booleanType)
+	case *feel.Unary:
+		return infix(x, n.Operator, t.operand(n.Operand, s), rankComparison, booleanType)
+	case *feel.Range:
+		return t.inRange(n, x, s)
+	case *feel.List:
+		return t.oneOf(n, x, s)
+	case *feel.NotTests:
+		return negated(t.shallow(t.conditions(n.Tests, x, s)))
+	}
+	if usesInput(test) {
+		return t.ownCondition(test, x, s)
+	}
+	value := t.operand(test, s)
+	if why := doubtfulTest(test, value); why != "" {
+		return t.refuse(test, why, "? = "+t.slice(test)+", or a column of its own")
+	}
+	return infix(x, "=", value, rankComparison, booleanType)
+}
+
+// conditions is the or of tests.
+func (t *translator) conditions(tests []feel.Node, x phrase, s *scope) phrase {
+	all := make([]phrase, len(tests))
+	for i, test := range tests {
+		all[i] = t.shallow(t.condition(test, x, s))
+	}
+	return anyOf(all)
+}
+
+// ownCondition translates a condition over ?.
+func (t *translator) ownCondition(test feel.Node, x phrase, s *scope) phrase {
+	before := t.column
+	t.column = &x
+	defer func() { t.column = before }()
+	made := t.operand(test, s)
+	if made.of.kind != booleanKind && made.of.kind != refusedKind {
+		return t.refuse(test, "it has ? and is no condition: it may be compared or be true", "? = and the value")
+	}
+	return made
+}
+
+func (t *translator) inRange(n *feel.Range, x phrase, s *scope) phrase {
+	low, high := t.operand(n.Low, s), t.operand(n.High, s)
+	if !n.LowOpen && !n.HighOpen {
+		return between(x, low, high)
+	}
+	from, to := ">=", "<="
+	if n.LowOpen {
+		from = ">"
+	}
+	if n.HighOpen {
+		to = "<"
+	}
+	return allOf([]phrase{infix(x, from, low, rankComparison, booleanType),
+		infix(x, to, high, rankComparison, booleanType)})
+}
+
+// oneOf translates a list that is written out as a test: x is one of its members, or is in one of its ranges.
+func (t *translator) oneOf(n *feel.List, x phrase, s *scope) phrase {
+	all := make([]phrase, len(n.Items))
+	for i, item := range n.Items {
+		made := t.condition(item, x, s)
+		if literal := literalType(item); literal != nil && literal.kind != nullKind && literal.kind != x.of.kind {
+			// Of a value of another kind a list says false, where = says null.
+			made = infix(made, "=", constant("true", booleanType), rankComparison, booleanType)
+		}
+		all[i] = t.shallow(made)
+	}
+	return anyOf(all)
+}
+
+// doubtfulTest tells why an expression in the place of a test may be read in two ways; empty where it may not.
+func doubtfulTest(n feel.Node, value phrase) string {
+	if literalType(n) != nil {
+		return ""
+	}
+	switch value.of.kind {
+	case booleanKind:
+		return "a condition as a test: it may be compared with the value, or be true by itself"
+	case anyKind:
+		return "it may be a condition or a list, for its type is not known"
+	case listKind:
+		return "a list that is not written out as a test"
+	}
+	return ""
+}
+
+// slice is the text of a form.
+func (t *translator) slice(n feel.Node) string {
+	span := n.At()
+	return "(" + t.text.Text[span.Start:span.End] + ")"
+}
+
+// usesInput tells whether a form has ? in it.
+func usesInput(n feel.Node) bool {
+	return feel.Any(n, func(n feel.Node) bool { _, is := n.(*feel.Input); return is })
+}

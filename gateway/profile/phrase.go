@@ -1,0 +1,157 @@
+package profile
+
+import "strings"
+
+// The ranks of the engine's language, the loosest first.
+const (
+	rankIf = iota
+	rankOr
+	rankAnd
+	rankComparison
+	rankSum
+	rankProduct
+	rankNegation
+	rankPath
+	rankPrimary
+)
+
+const (
+	// mostOperandDepth is how deep a form may be that stands in another one; a deeper one becomes an entry of its own.
+	// The engine reads to 64.
+	mostOperandDepth = 30
+	// mostChain is how many operands stand in one chain; longer ones are regrouped as pairs of halves.
+	mostChain = 24
+	// mostRepeated is the most bytes of a form that is written more than once.
+	mostRepeated = 64
+)
+
+// A phrase is an expression of the engine's language, with what it is made of.
+type phrase struct {
+	text string
+	// rank tells which operators may stand beside it without parentheses, depth how deep it is as the engine counts.
+	rank, depth int
+	// of is the type of its values.
+	of *valueType
+}
+
+// refused stands for what was refused.
+var refused = phrase{text: "null", rank: rankPrimary, depth: 1, of: refusedType}
+
+// constant is a phrase of depth 1.
+func constant(text string, of *valueType) phrase {
+	return phrase{text: text, rank: rankPrimary, depth: 1, of: of}
+}
+
+// within gives a phrase that may stand where a rank is asked for, with parentheses where it needs them.
+func (p phrase) within(rank int) phrase {
+	if p.rank >= rank {
+		return p
+	}
+	return phrase{text: "(" + p.text + ")", rank: rankPrimary, depth: p.depth + 1, of: p.of}
+}
+
+// isShort tells whether a phrase may be written more than once.
+func (p phrase) isShort() bool {
+	return p.rank >= rankPath && len(p.text) <= mostRepeated && p.depth <= 8
+}
+
+// infix joins two phrases by an operator that groups to the left.
+func infix(left phrase, operator string, right phrase, rank int, of *valueType) phrase {
+	l, r := left.within(rank), right.within(rank+1)
+	if rank == rankComparison {
+		l = left.within(rank + 1)
+	}
+	return phrase{text: l.text + " " + operator + " " + r.text, rank: rank, depth: 1 + deepest(l, r), of: of}
+}
+
+// call is a function over arguments.
+func call(function string, of *valueType, arguments ...phrase) phrase {
+	texts := make([]string, len(arguments))
+	for i, a := range arguments {
+		texts[i] = a.text
+	}
+	return phrase{text: function + "(" + strings.Join(texts, ", ") + ")", rank: rankPrimary,
+		depth: 1 + deepest(arguments...), of: of}
+}
+
+// listing is a list of phrases.
+func listing(members []phrase, of *valueType) phrase {
+	texts := make([]string, len(members))
+	for i, m := range members {
+		texts[i] = m.text
+	}
+	return phrase{text: "[" + strings.Join(texts, ", ") + "]", rank: rankPrimary, depth: 1 + deepest(members...), of: of}
+}
+
+// choice is an if.
+func choice(condition, then, otherwise phrase) phrase {
+	return phrase{text: "if " + condition.text + " then " + then.text + " else " + otherwise.text, rank: rankIf,
+		depth: 1 + deepest(condition, then, otherwise), of: joined(then.of, otherwise.of)}
+}
+
+// negated is the not of a phrase.
+func negated(p phrase) phrase { return call("not", booleanType, p) }
+
+func deepest(phrases ...phrase) int {
+	depth := 0
+	for _, p := range phrases {
+		if p.depth > depth {
+			depth = p.depth
+		}
+	}
+	return depth
+}
+
+// chained joins operands by operators of one rank: "or", "and", "*", or "+" and "-". A long chain is regrouped, which
+// changes none of these: a - b - c is a - (b + c).
+func chained(operands []phrase, operators []string, rank int, of *valueType) phrase {
+	if len(operands) > mostChain {
+		middle := len(operands) / 2
+		joint := operators[middle-1]
+		left := chained(operands[:middle], operators[:middle-1], rank, of)
+		right := chained(operands[middle:], turned(operators[middle:], joint), rank, of)
+		return infix(left, joint, right, rank, of)
+	}
+	var text strings.Builder
+	first := operands[0].within(rank)
+	text.WriteString(first.text)
+	depth := first.depth
+	for i, operand := range operands[1:] {
+		o := operand.within(rank + 1)
+		text.WriteString(" " + operators[i] + " " + o.text)
+		depth = 1 + maximum(depth, o.depth)
+	}
+	if len(operands) == 1 {
+		return first
+	}
+	return phrase{text: text.String(), rank: rank, depth: depth, of: of}
+}
+
+// turned gives the operators of a part that stands in parentheses behind an operator: behind a minus the signs turn.
+func turned(operators []string, joint string) []string {
+	if joint != "-" {
+		return operators
+	}
+	all := make([]string, len(operators))
+	for i, operator := range operators {
+		if operator == "-" {
+			all[i] = "+"
+		} else {
+			all[i] = "-"
+		}
+	}
+	return all
+}
+
+func maximum(a, b int) int {
+	if a > b {
+		return a
+	}
+	return b
+}
+
+// quotedText is a text as a string of the engine's language.
+func quotedText(value string) string {
+	escaped := strings.NewReplacer(`\`, `\\`, `"`, `\"`, "\n", `\n`, "\r", `\r`, "\t", `\t`).Replace(value)
+	return `"` + escaped + `"`
+}

@@ -1,0 +1,170 @@
+package profile
+
+import (
+	"fmt"
+	"sort"
+	"strings"
+
+	"gateway/dmn"
+)
+
+// A Refusal is a place of a file that can't be taken.
+type Refusal struct {
+	// File is the path of the file; Line and Column are numbered from 1.
+	File         string
+	Line, Column int
+	// Element is the tag of the element, Name and ID its own or those of the nearest element around it that has any;
+	// each may be empty.
+	Element, Name, ID string
+	// Text is what stands there; it may be empty.
+	Text string
+	// Why tells why it can't be taken, Instead what to write; Instead may be empty.
+	Why, Instead string
+}
+
+// mostText is how many characters of a text a refusal shows.
+const mostText = 100
+
+// String is the refusal on one line.
+func (r Refusal) String() string {
+	var line strings.Builder
+	fmt.Fprintf(&line, "%s:%d:%d:", r.File, r.Line, r.Column)
+	if r.Element != "" {
+		fmt.Fprintf(&line, " %s", r.Element)
+	}
+	if r.Name != "" {
+		fmt.Fprintf(&line, " %q", r.Name)
+	}
+	if r.ID != "" {
+		fmt.Fprintf(&line, " (%s)", r.ID)
+	}
+	if r.Text != "" {
+		fmt.Fprintf(&line, ": %q", shortened(r.Text))
+	}
+	fmt.Fprintf(&line, ": %s", r.Why)
+	if r.Instead != "" {
+		fmt.Fprintf(&line, "; instead: %s", r.Instead)
+	}
+	return strings.Join(strings.Fields(line.String()), " ")
+}
+
+func shortened(text string) string {
+	runes := []rune(strings.TrimSpace(text))
+	if len(runes) > mostText {
+		return string(runes[:mostText]) + ".."
+	}
+	return string(runes)
+}
+
+// refusals collects the places of one run, none twice.
+type refusals struct {
+	all []Refusal
+	// notes are of places that are taken, with something to be told.
+	notes []Refusal
+	seen  map[Refusal]bool
+	// muted lets all go, in the pass that finds types.
+	muted bool
+	// elements tells the file and the parent of each element.
+	homes map[*dmn.Element]home
+}
+
+type home struct {
+	path   string
+	order  int
+	parent *dmn.Element
+}
+
+func newRefusals() *refusals {
+	return &refusals{seen: map[Refusal]bool{}, homes: map[*dmn.Element]home{}}
+}
+
+// know notes where the elements of a file stand.
+func (r *refusals) know(file *dmn.File, order int) {
+	var walk func(e, parent *dmn.Element)
+	walk = func(e, parent *dmn.Element) {
+		r.homes[e] = home{file.Path, order, parent}
+		for _, child := range e.Children {
+			walk(child, e)
+		}
+	}
+	walk(file.Root, nil)
+}
+
+// refuse notes that an element can't be taken.
+func (r *refusals) refuse(e *dmn.Element, text, why, instead string) {
+	if made, fresh := r.made(e, text, why, instead); fresh {
+		r.all = append(r.all, made)
+	}
+}
+
+// note notes what is to be told of an element that is taken.
+func (r *refusals) note(e *dmn.Element, why, instead string) {
+	if made, fresh := r.made(e, "", why, instead); fresh {
+		r.notes = append(r.notes, made)
+	}
+}
+
+// made is a refusal, and whether it is to be told: none is told twice.
+func (r *refusals) made(e *dmn.Element, text, why, instead string) (made Refusal, fresh bool) {
+	if r.muted {
+		return made, false
+	}
+	made = Refusal{File: r.homes[e].path, Line: e.Place.Line, Column: e.Place.Column, Element: e.Tag, Text: text,
+		Why: why, Instead: instead}
+	made.Name, made.ID = r.called(e)
+	fresh = !r.seen[made]
+	r.seen[made] = true
+	return made, fresh
+}
+
+// called is the name and the id by which people find an element.
+func (r *refusals) called(e *dmn.Element) (name, id string) {
+	for ; e != nil && e.Tag != "definitions"; e = r.homes[e].parent {
+		if name == "" {
+			name = e.Name()
+		}
+		if id == "" {
+			id = e.ID()
+		}
+	}
+	return name, id
+}
+
+// inOrder gives the refusals in the order of the files' lines.
+func (r *refusals) inOrder(files []*dmn.File) []Refusal {
+	rank := map[string]int{}
+	for i, f := range files {
+		rank[f.Path] = i
+	}
+	order := make([]int, len(r.all))
+	for i := range order {
+		order[i] = i
+	}
+	sort.Slice(order, func(i, j int) bool {
+		a, b := &r.all[order[i]], &r.all[order[j]]
+		switch {
+		case rank[a.File] != rank[b.File]:
+			return rank[a.File] < rank[b.File]
+		case a.Line != b.Line:
+			return a.Line < b.Line
+		case a.Column != b.Column:
+			return a.Column < b.Column
+		}
+		return order[i] < order[j]
+	})
+	sorted := make([]Refusal, len(order))
+	for i, at := range order {
+		sorted[i] = r.all[at]
+	}
+	return sorted
+}
+
+// RefusalOf is the refusal of a file that is no DMN.
+func RefusalOf(path string, fault *dmn.Fault) Refusal {
+	r := Refusal{File: path, Line: fault.Place.Line, Column: fault.Place.Column, Text: fault.Text, Why: fault.Why,
+		Instead: fault.Instead}
+	if fault.Element != nil {
+		r.Element, r.Name, r.ID = fault.Element.Tag, fault.Element.Name(), fault.Element.ID()
+	}
+	return r
+}

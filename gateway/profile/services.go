@@ -1,0 +1,206 @@
+package profile
+
+import (
+	"gateway/dmn"
+	"gateway/feel"
+	"gateway/model"
+)
+
+// services makes the decision services of the files.
+type services struct {
+	graph *graph
+	names map[string]bool
+}
+
+// A service is one with the element that it came from; nil for one that the files don't have.
+type service struct {
+	model.Service
+	origin *dmn.Element
+}
+
+func newServices(g *graph) *services { return &services{graph: g, names: map[string]bool{}} }
+
+// all are the services of the files; with a name only the one of that name, or else that of the decision.
+func (s *services) all(only string) []service {
+	var made []service
+	for _, source := range s.graph.sources {
+		for _, d := range source.file.Services {
+			name := nameOf(d.Element, d.Variable)
+			if only != "" && feel.Canonical(only) != feel.Canonical(name) && only != s.graph.words.of(name) {
+				continue
+			}
+			if one, fine := s.declared(source, d, name); fine {
+				made = append(made, one)
+			}
+		}
+	}
+	if only == "" || len(made) > 0 {
+		return made
+	}
+	for _, n := range s.graph.decisions {
+		if feel.Canonical(n.name) == feel.Canonical(only) || n.word == only {
+			return []service{{Service: s.graph.serviceOf(n), origin: nil}}
+		}
+	}
+	s.graph.refusals.refuse(s.graph.sources[0].file.Root, only, "no decision service and no decision has this name",
+		"one of the names of the files")
+	return nil
+}
+
+// declared translates a decisionService.
+func (s *services) declared(source *source, d *dmn.DecisionService, name string) (made service, fine bool) {
+	made = service{Service: model.Service{Name: s.graph.words.of(name)}, origin: d.Element}
+	before := len(s.graph.refusals.all)
+	if s.names[made.Name] || name == "" {
+		s.graph.refusals.refuse(d.Element, name, "the service has no name of its own", "another name")
+	}
+	s.names[made.Name] = true
+	outputs := s.decisions(source, d.Outputs)
+	encapsulated := s.decisions(source, d.Encapsulated)
+	given := s.decisions(source, d.Decisions)
+	inputs := s.inputs(source, d.Input)
+	if len(outputs) == 0 {
+		s.graph.refusals.refuse(d.Element, name, "the service has no output decision", "an outputDecision")
+	}
+	encapsulated = append(encapsulated, s.unlisted(d.Element, outputs, encapsulated, given, inputs)...)
+	made.Outputs, made.Encapsulated = wordsOf(outputs), wordsOf(encapsulated)
+	made.InputDecisions, made.InputData = wordsOf(given), wordsOf(inputs)
+	return made, len(s.graph.refusals.all) == before
+}
+
+// unlisted finds the decisions that a service reaches and doesn't list: they are evaluated all the same. An input that
+// it doesn't list is refused, for no request would bring it; so is a decision that is given and evaluated too.
+func (s *services) unlisted(e *dmn.Element, outputs, encapsulated, given, inputs []*node) []*node {
+	isGiven, isListed := setOf(given), setOf(outputs, encapsulated, given, inputs)
+	for _, n := range append(append([]*node(nil), outputs...), encapsulated...) {
+		if isGiven[n] {
+			s.graph.refusals.refuse(e, n.name, "it is an input decision, and an output or encapsulated too", "one of these")
+		}
+	}
+	var added []*node
+	for _, n := range s.graph.reach(outputs, isGiven) {
+		switch {
+		case isListed[n]:
+		case n.input != nil:
+			s.graph.refusals.refuse(e, n.name, "the service needs this input, and doesn't list it", "it among its inputData")
+		default:
+			added = append(added, n)
+		}
+	}
+	return added
+}
+
+func setOf(lists ...[]*node) map[*node]bool {
+	set := map[*node]bool{}
+	for _, list := range lists {
+		for _, n := range list {
+			set[n] = true
+		}
+	}
+	return set
+}
+
+// decisions finds decisions that a service lists.
+func (s *services) decisions(source *source, references []*dmn.Reference) []*node {
+	return s.listed(source, references, func(n *node) bool { return n.decision != nil }, "it is no decision")
+}
+
+func (s *services) inputs(source *source, references []*dmn.Reference) []*node {
+	return s.listed(source, references, func(n *node) bool { return n.input != nil }, "it is no input")
+}
+
+func (s *services) listed(source *source, references []*dmn.Reference, is func(*node) bool, why string) []*node {
+	var all []*node
+	listed := map[*node]bool{}
+	for _, r := range references {
+		part := s.graph.referred(source, r)
+		n, isNode := part.(*node)
+		if part != nil && (!isNode || !is(n)) {
+			s.graph.refusals.refuse(r.Element, r.Href, why, "")
+			continue
+		}
+		if n != nil && !listed[n] {
+			listed[n] = true
+			all = append(all, n)
+		}
+	}
+	return all
+}
+
+// reach is what is reached from some decisions, without what the given ones need.
+func (g *graph) reach(outputs []*node, given map[*node]bool) []*node {
+	g.walks++
+	var all []*node
+	open := append([]*node(nil), outputs...)
+	for len(open) > 0 {
+		n := open[0]
+		open = open[1:]
+		if n.seen == g.walks {
+			continue
+		}
+		n.seen = g.walks
+		all = append(all, n)
+		if !given[n] {
+			open = append(open, n.needs...)
+		}
+	}
+	return all
+}
+
+// serviceOf is the service that answers one decision, on the inputs that it needs.
+func (g *graph) serviceOf(n *node) model.Service {
+	made := model.Service{Name: n.word, Outputs: []string{n.word}, Encapsulated: []string{}, InputDecisions: []string{},
+		InputData: []string{}}
+	for _, reached := range g.reach([]*node{n}, nil) {
+		switch {
+		case reached.input != nil:
+			made.InputData = append(made.InputData, reached.word)
+		case reached != n:
+			made.Encapsulated = append(made.Encapsulated, reached.word)
+		}
+	}
+	return made
+}
+
+// defaultServices gives a model without services one for each decision that no other needs, then one for each other
+// decision while the model fits in a line. What finds no place is left out.
+func defaultServices(g *graph, result *Result) {
+	line, err := Line(&result.Model)
+	if err != nil {
+		return
+	}
+	size := len(line)
+	for _, needed := range []bool{false, true} {
+		for _, n := range g.decisions {
+			if n.needed != needed {
+				continue
+			}
+			one := g.serviceOf(n)
+			text, err := (&model.Model{Services: []model.Service{one}}).JSON()
+			// What stands round the service in this text is more than the comma behind it.
+			if err != nil || size+len(text) > MostLine {
+				result.LeftOut = append(result.LeftOut, n.name)
+				continue
+			}
+			size += len(text)
+			result.Model.Services = append(result.Model.Services, one)
+		}
+	}
+}
+
+// Line is the line that puts a model in force: {"model":M}, without its newline.
+func Line(m *model.Model) ([]byte, error) {
+	text, err := m.JSON()
+	if err != nil {
+		return nil, err
+	}
+	return []byte(`{"model":` + string(text) + `}`), nil
+}
+
+func wordsOf(nodes []*node) []string {
+	all := make([]string, len(nodes))
+	for i, n := range nodes {
+		all[i] = n.word
+	}
+	return all
+}

@@ -1,0 +1,378 @@
+package profile
+
+import (
+	"fmt"
+	"strings"
+
+	"gateway/dmn"
+	"gateway/feel"
+	"gateway/model"
+)
+
+// A column is an input column as the translation sees it.
+type column struct {
+	clause *dmn.InputClause
+	// value is the input expression, written as it may stand more than once.
+	value phrase
+	// text is the input expression as the table has it.
+	text string
+	// allowed are the input values; none where there are none.
+	allowed []feel.Node
+}
+
+// An output is an output column.
+type output struct {
+	clause *dmn.OutputClause
+	// of is the declared type, nil where there is none; gives joins the types of the entries.
+	of, gives *valueType
+	allowed   []feel.Node
+}
+
+// tableReader translates one table.
+type tableReader struct {
+	*translator
+	source  *dmn.Table
+	scope   *scope
+	columns []column
+	outputs []output
+	made    *box
+	// conditions are of the further column: for each rule the condition that stands there, or empty.
+	conditions []string
+}
+
+// table translates a decision table.
+func (t *translator) table(x *dmn.Table, s *scope) (*box, *valueType) {
+	r := &tableReader{translator: t, source: x, scope: s, made: &box{kind: tableBox, table: &model.Table{
+		Inputs: []string{}, Outputs: []model.Output{}, Rules: []model.Rule{}}}}
+	hit := r.hitPolicy()
+	if hit == "" || !r.isWhole() {
+		return boxOf(refused), refusedType
+	}
+	r.made.table.Hit = hit
+	for _, clause := range x.Inputs {
+		r.inputColumn(clause)
+	}
+	for i, clause := range x.Outputs {
+		r.outputColumn(clause, i)
+	}
+	for _, rule := range x.Rules {
+		r.rule(rule)
+	}
+	r.furtherColumn()
+	for i := range r.outputs {
+		r.defaultOf(i)
+	}
+	r.noteNoHit(hit)
+	return r.made, r.typeOf(hit)
+}
+
+// hitPolicies are the letters of the hit policies.
+var hitPolicies = map[string]string{"UNIQUE": "U", "ANY": "A", "PRIORITY": "P", "FIRST": "F", "RULE ORDER": "R",
+	"OUTPUT ORDER": "O", "COLLECT": "C"}
+
+// aggregations are the signs behind C.
+var aggregations = map[string]string{"": "", "LIST": "", "SUM": "+", "MIN": "<", "MAX": ">", "COUNT": "#"}
+
+// hitPolicy is the hit policy as the model has it; empty where it is refused.
+func (r *tableReader) hitPolicy() string {
+	x := r.source
+	policy, known := hitPolicies[x.HitPolicy]
+	if !known {
+		r.refusals.refuse(x.Element, x.HitPolicy, "it is no hit policy",
+			"UNIQUE, ANY, PRIORITY, FIRST, RULE ORDER, OUTPUT ORDER or COLLECT")
+		return ""
+	}
+	sign, known := aggregations[x.Aggregation]
+	if !known || sign != "" && policy != "C" {
+		r.refusals.refuse(x.Element, x.Aggregation, "the aggregation is none, or stands without COLLECT",
+			"SUM, MIN, MAX or COUNT, under COLLECT")
+		return ""
+	}
+	return policy + sign
+}
+
+// isWhole tells whether the table has outputs, each rule an entry for each column, and what its hit policy needs.
+func (r *tableReader) isWhole() bool {
+	x := r.source
+	whole := len(x.Outputs) > 0
+	if !whole {
+		r.refusals.refuse(x.Element, "", "the table has no output", "an output")
+	}
+	for _, rule := range x.Rules {
+		if len(rule.When) != len(x.Inputs) || len(rule.Then) != len(x.Outputs) {
+			whole = false
+			r.refusals.refuse(rule.Element, "", fmt.Sprintf("the rule has %d input entries and %d output entries, the table %d "+
+				"inputs and %d outputs", len(rule.When), len(rule.Then), len(x.Inputs), len(x.Outputs)), "an entry for each column")
+		}
+	}
+	if len(x.Outputs) > 1 && x.Aggregation != "" && aggregations[x.Aggregation] != "" {
+		whole = false
+		r.refusals.refuse(x.Element, x.Aggregation, "an aggregation over more than one output", "a table for each output")
+	}
+	return whole
+}
+
+// inputColumn translates an input clause.
+func (r *tableReader) inputColumn(clause *dmn.InputClause) {
+	c := column{clause: clause, value: refused, text: "null"}
+	if clause.Expression == nil {
+		r.refusals.refuse(clause.Element, "", "the input has no expression", "what the tests of the column are asked of")
+	} else {
+		c.value, c.text = r.inputExpression(clause.Expression)
+	}
+	if clause.Values != nil {
+		c.allowed = r.types.values(clause.Values, c.value.of)
+		if len(c.allowed) > 0 && clause.Expression != nil {
+			r.noted(c)
+		}
+	}
+	r.columns = append(r.columns, c)
+	r.made.table.Inputs = append(r.made.table.Inputs, c.text)
+	r.made.inputs = append(r.made.inputs, clause.Element)
+}
+
+// inputExpression translates an input expression: how conditions of its entries write it, and how the table does.
+func (r *tableReader) inputExpression(x *dmn.Text) (value phrase, text string) {
+	b, of := r.expression(x, r.scope)
+	if b.kind != textBox {
+		value = r.hoisted("input", b, of)
+		return value, value.text
+	}
+	value = b.value
+	value.of = of
+	return value, value.text
+}
+
+// columnValue is the value of a column as conditions write it, which may be many times.
+func (r *tableReader) columnValue(i int) phrase {
+	c := &r.columns[i]
+	if !c.value.isShort() {
+		c.value = r.hoisted("input", boxOf(c.value), c.value.of)
+	}
+	return c.value
+}
+
+// noted notes the input values of a column that is an input of the model by itself, for who calls.
+func (r *tableReader) noted(c column) {
+	kept := r.trees[c.clause.Expression]
+	if kept == nil || kept.fault != nil {
+		return
+	}
+	name, is := kept.nodes[0].(*feel.Name)
+	if !is {
+		return
+	}
+	if found := r.scope.find(name.Name); found != nil && found.input {
+		found.value.of.noted = c.allowed
+	}
+}
+
+// outputColumn translates an output clause.
+func (r *tableReader) outputColumn(clause *dmn.OutputClause, i int) {
+	o := output{clause: clause, of: r.types.resolve(clause.Element, clause.Type()), gives: nullType}
+	name := clause.Attribute("name")
+	if name == "" {
+		name = "result"
+		if len(r.source.Outputs) > 1 {
+			r.refusals.refuse(clause.Element, "", "an output without a name, beside another output", "a name for each")
+		}
+	}
+	made := model.Output{Name: r.words.of(name)}
+	for _, other := range r.made.table.Outputs {
+		if other.Name == made.Name {
+			r.refusals.refuse(clause.Element, name, "the output's name stands twice", "another name")
+		}
+	}
+	if clause.Values != nil {
+		of := o.of
+		if of == nil {
+			of = anyType
+		}
+		o.allowed = r.types.values(clause.Values, of)
+		made.Values = listed(o.allowed)
+	}
+	if made.Values == nil && r.byPriority() {
+		r.refusals.refuse(clause.Element, name, "the hit policy goes by output values, and the output lists none",
+			"outputValues that are literals, the highest in priority first")
+	}
+	r.outputs = append(r.outputs, o)
+	r.made.table.Outputs = append(r.made.table.Outputs, made)
+	r.made.gives = append(r.made.gives, clause.Element)
+	r.wrote(len(made.Name) + bytesOfEntry)
+}
+
+func (r *tableReader) byPriority() bool {
+	return r.source.HitPolicy == "PRIORITY" || r.source.HitPolicy == "OUTPUT ORDER"
+}
+
+// listed are output values as literals; nil where one is none.
+func listed(values []feel.Node) []string {
+	var all []string
+	for _, value := range values {
+		if literalType(value) == nil {
+			return nil
+		}
+		text := literalText(value)
+		if text == "" {
+			return nil
+		}
+		all = append(all, text)
+	}
+	return all
+}
+
+// rule translates a row.
+func (r *tableReader) rule(rule *dmn.Rule) {
+	row := model.Rule{When: make([]string, len(rule.When)), Then: make([]string, len(rule.Then))}
+	var conditions []phrase
+	for i, entry := range rule.When {
+		test, condition := r.entry(entry, i)
+		row.When[i] = test
+		r.wrote(len(test) + 3)
+		if condition != nil {
+			conditions = append(conditions, *condition)
+		}
+	}
+	for i, entry := range rule.Then {
+		row.Then[i] = r.outputEntry(entry, i)
+	}
+	r.conditions = append(r.conditions, conditionText(conditions))
+	r.made.table.Rules = append(r.made.table.Rules, row)
+	r.made.rows = append(r.made.rows, rule.Element)
+}
+
+// conditionText is the entry of the further column for some conditions; empty where there are none.
+func conditionText(conditions []phrase) string {
+	if len(conditions) == 0 {
+		return ""
+	}
+	all := allOf(conditions)
+	if strings.HasPrefix(all.text, "not") {
+		// As a whole text, not( .. ) is a list of tests and no condition.
+		return "(" + all.text + ")"
+	}
+	return all.text
+}
+
+// furtherColumn adds the column for conditions, where some rule has one.
+func (r *tableReader) furtherColumn() {
+	needed := false
+	for _, condition := range r.conditions {
+		needed = needed || condition != ""
+	}
+	if !needed {
+		return
+	}
+	table := r.made.table
+	table.Inputs = append(table.Inputs, "true")
+	for i, condition := range r.conditions {
+		if condition == "" {
+			condition = "-"
+		}
+		r.wrote(len(condition) + 3)
+		table.Rules[i].When = append(table.Rules[i].When, condition)
+	}
+}
+
+// outputEntry translates an output entry.
+func (r *tableReader) outputEntry(entry *dmn.Text, i int) string {
+	o := &r.outputs[i]
+	value := r.cell(entry, o.of)
+	r.checkAllowed(entry, o.allowed, "the output values")
+	if o.of != nil {
+		r.checkAllowed(entry, o.of.allowed, "the allowed values of its type")
+	}
+	o.gives = joined(o.gives, value.of)
+	return value.text
+}
+
+// cell translates an expression in a table, which is a text in any case, and holds it against a declared type.
+func (r *tableReader) cell(entry *dmn.Text, due *valueType) phrase {
+	b, of := r.literal(entry, r.scope)
+	if due != nil {
+		b, of = r.conform(b, of, due, func(why, instead string) {
+			r.refusals.refuse(entry.Element, entry.Text, why, instead)
+		})
+	}
+	if b.kind == textBox {
+		p := b.value
+		p.of = of
+		return p
+	}
+	return r.hoisted("value", b, of)
+}
+
+// defaultOf translates the default of an output. Under the policies that give a list it may be meant as the list or as
+// its member, so it is refused there.
+func (r *tableReader) defaultOf(i int) {
+	o := &r.outputs[i]
+	hit := r.made.table.Hit
+	if o.clause.Default == nil {
+		return
+	}
+	if hit == "C" || hit == "R" || hit == "O" {
+		r.refusals.refuse(o.clause.Default.Element, o.clause.Default.Text,
+			"a default under a policy that gives a list: it may be the list, or its one member",
+			"no default, and a decision over this one: if x = null then [1] else x")
+		return
+	}
+	due := o.of
+	if hit == "C#" {
+		due = numberType
+	}
+	value := r.cell(o.clause.Default, due)
+	r.checkAllowed(o.clause.Default, o.allowed, "the output values")
+	o.gives = joined(o.gives, value.of)
+	r.made.table.Outputs[i].Default = &value.text
+}
+
+// noteNoHit tells what comes of no hit where tools differ: the standard has null for a table without a default.
+func (r *tableReader) noteNoHit(hit string) {
+	other := map[string]string{"C": "an empty list", "R": "an empty list", "O": "an empty list", "C#": "0"}[hit]
+	if other == "" || r.alwaysHits() || r.outputs[0].clause.Default != nil {
+		return
+	}
+	r.refusals.note(r.source.Element, "where no rule hits its value is null, as the standard says; some tools give "+other, "")
+}
+
+// alwaysHits tells whether some rule has no test.
+func (r *tableReader) alwaysHits() bool {
+	for _, rule := range r.made.table.Rules {
+		if strings.Trim(strings.Join(rule.When, ""), "-") == "" {
+			return true
+		}
+	}
+	return false
+}
+
+// typeOf is the type of the table's value.
+func (r *tableReader) typeOf(hit string) *valueType {
+	of := r.outputType(0)
+	if len(r.outputs) > 1 {
+		of = &valueType{kind: contextKind, fields: map[string]*valueType{}}
+		for i, o := range r.outputs {
+			of.setField(feel.Canonical(o.clause.Attribute("name")), r.outputType(i))
+		}
+	}
+	switch hit {
+	case "C", "R", "O":
+		return listOf(of)
+	case "C+", "C#":
+		return numberType
+	case "C<", "C>":
+		if of.kind != numberKind && of.kind != nullKind && of.kind != refusedKind {
+			r.refusals.refuse(r.source.Element, r.source.Aggregation,
+				"MIN and MAX of what may be no numbers: the standard has them of texts, the profile has not",
+				"the type number for the output")
+		}
+		return numberType
+	}
+	return of
+}
+
+func (r *tableReader) outputType(i int) *valueType {
+	if of := r.outputs[i].of; of != nil && of.kind != anyKind {
+		return of
+	}
+	return r.outputs[i].gives
+}

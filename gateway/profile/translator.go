@@ -1,0 +1,141 @@
+package profile
+
+import (
+	"fmt"
+
+	"gateway/dmn"
+	"gateway/feel"
+)
+
+// MostLine is the most bytes of a line of the engine, which a model has to fit in.
+const MostLine = 1 << 20
+
+// bytesOfEntry is about what an entry of a context takes beside its text.
+const bytesOfEntry = 24
+
+// A translator makes one pass over the files.
+type translator struct {
+	words    *words
+	refusals *refusals
+	// types are those of the file that is translated, members the names that may stand behind a point.
+	types   *types
+	members *feel.Scope
+	// trees keeps what a text was read as: the scope of a text has the same names each time.
+	trees map[*dmn.Text]*tree
+	frame *frame
+	// text is the one that is translated, column what ? stands for in it; nil outside of input entries.
+	text   *dmn.Text
+	column *phrase
+	// near is the element of the decision or business knowledge that is translated.
+	near *dmn.Element
+	// active is the business knowledge that is being invoked, one in the other.
+	active map[*knowledge]bool
+	// written counts the bytes of the model so far.
+	written int
+	full    bool
+}
+
+// A tree is what a text was read as.
+type tree struct {
+	nodes []feel.Node
+	fault *feel.Fault
+}
+
+// framed translates with a frame of its own, and puts the entries that come of it in front.
+func (t *translator) framed(translate func() *box) *box {
+	before := t.frame
+	t.frame = &frame{}
+	defer func() { t.frame = before }()
+	made := translate()
+	return t.frame.around(made)
+}
+
+// hoisted makes a box an entry in front of the expression, and gives its word.
+func (t *translator) hoisted(base string, b *box, of *valueType) phrase {
+	word := t.words.fresh(base)
+	t.frame.entries = append(t.frame.entries, boxEntry{word: word, value: b})
+	t.wrote(len(word) + bytesOfEntry)
+	return constant(word, of)
+}
+
+// short is a phrase that may be written more than once.
+func (t *translator) short(p phrase) phrase {
+	if p.isShort() {
+		return p
+	}
+	return t.hoisted("part", t.boxed(p), p.of)
+}
+
+// shallow is a phrase that may stand in another one.
+func (t *translator) shallow(p phrase) phrase {
+	if p.depth <= mostOperandDepth {
+		return p
+	}
+	return t.hoisted("part", t.boxed(p), p.of)
+}
+
+// boxed is the box of a phrase, whose text is counted.
+func (t *translator) boxed(p phrase) *box {
+	t.wrote(len(p.text))
+	return boxOf(p)
+}
+
+// wrote counts bytes of the model. The first text past a line is refused, and no more is invoked from there on.
+func (t *translator) wrote(bytes int) {
+	t.written += bytes
+	if t.written <= MostLine || t.full {
+		return
+	}
+	t.full = true
+	at := t.near
+	if t.text != nil {
+		at = t.text.Element
+	}
+	t.refusals.refuse(at, "", fmt.Sprintf("from here on the model is longer than a line of %d bytes; "+
+		"each invocation takes what it invokes along", MostLine), "fewer invocations, or a decision in place of one")
+}
+
+// refuse refuses a form of the text that is translated.
+func (t *translator) refuse(n feel.Node, why, instead string) phrase {
+	span := n.At()
+	text := t.text.Text
+	if span.Start >= 0 && span.End <= len(text) && span.Start < span.End {
+		text = text[span.Start:span.End]
+	}
+	t.refusals.refuse(t.text.Element, text, why, instead)
+	return refused
+}
+
+// read gives the tree of a text, or nil where it can't be read, which is told.
+func (t *translator) read(text *dmn.Text, s *scope, asTests bool) []feel.Node {
+	kept := t.trees[text]
+	if kept == nil {
+		kept = readTree(text, s, t.members, asTests)
+		t.trees[text] = kept
+	}
+	if kept.fault != nil {
+		t.refusals.refuse(text.Element, text.Text, fmt.Sprintf("at character %d %s",
+			1+len([]rune(text.Text[:kept.fault.Offset])), kept.fault.Why), kept.fault.Instead)
+		return nil
+	}
+	return kept.nodes
+}
+
+func readTree(text *dmn.Text, s *scope, members *feel.Scope, asTests bool) *tree {
+	made := &tree{}
+	if asTests {
+		made.nodes, made.fault = feel.Tests(text.Text, s.reads, members)
+		return made
+	}
+	node, fault := feel.Expression(text.Text, s.reads, members)
+	made.nodes, made.fault = []feel.Node{node}, fault
+	return made
+}
+
+// at translates with another text at hand.
+func (t *translator) at(text *dmn.Text, translate func()) {
+	before := t.text
+	t.text = text
+	defer func() { t.text = before }()
+	translate()
+}

@@ -1,0 +1,202 @@
+package profile
+
+import (
+	"fmt"
+	"strings"
+
+	"gateway/dmn"
+	"gateway/feel"
+)
+
+// types resolves the names of types in one file.
+type types struct {
+	refusals *refusals
+	items    map[string]*dmn.ItemDefinition
+	resolved map[*dmn.ItemDefinition]*valueType
+	// active are the definitions that are being resolved: one of them again is a cycle.
+	active map[*dmn.ItemDefinition]bool
+}
+
+func newTypes(r *refusals, file *dmn.File) *types {
+	t := &types{refusals: r, items: map[string]*dmn.ItemDefinition{}, resolved: map[*dmn.ItemDefinition]*valueType{},
+		active: map[*dmn.ItemDefinition]bool{}}
+	for _, item := range file.Types {
+		name := feel.Canonical(item.Name())
+		if t.items[name] != nil {
+			r.refuse(item.Element, item.Name(), "a type of this name stands before", "another name")
+			continue
+		}
+		t.items[name] = item
+	}
+	state := map[*dmn.ItemDefinition]int{}
+	for _, item := range file.Types {
+		t.refuseCycles(item, state)
+	}
+	return t
+}
+
+// refuseCycles refuses definitions that are made of themselves, also where nothing uses them. Each is visited once.
+func (t *types) refuseCycles(item *dmn.ItemDefinition, state map[*dmn.ItemDefinition]int) {
+	switch state[item] {
+	case visited:
+		return
+	case visiting:
+		t.refusals.refuse(item.Element, item.Name(), "the type is made of itself", "a type that ends")
+		return
+	}
+	state[item] = visiting
+	if next := t.items[feel.Canonical(item.TypeRef)]; next != nil {
+		t.refuseCycles(next, state)
+	}
+	for _, component := range item.Components {
+		t.refuseCycles(component, state)
+	}
+	state[item] = visited
+}
+
+// builtinTypes are FEEL's own types, and those that older tools write, in lower case.
+var builtinTypes = map[string]*valueType{
+	"any": anyType, "number": numberType, "integer": numberType, "long": numberType, "double": numberType,
+	"string": textType, "boolean": booleanType, "list": listOf(anyType), "null": nullType,
+}
+
+// mostParts is how many parts a type may have: a value of more could not be.
+const mostParts = 10_000
+
+const dateInstead = "a number, as 20260131 for a day: see docs/MODEL.md, Dates and times"
+
+// foreignTypes are the types that the model has no values of, with what to write instead.
+var foreignTypes = map[string]string{
+	"date": dateInstead, "time": "minutes since midnight, a number", "date and time": dateInstead, "datetime": dateInstead,
+	"days and time duration": "a number of days or minutes", "daytimeduration": "a number of days or minutes",
+	"years and months duration": "a number of months", "yearmonthduration": "a number of months",
+	"function": "business knowledge models are invoked by their names", "context": "a type with its components",
+}
+
+// resolve gives the type of a name that stands at an element; nil where none is declared. A name that is no type is
+// refused.
+func (t *types) resolve(e *dmn.Element, ref string) *valueType {
+	if ref == "" {
+		return nil
+	}
+	if item, found := t.items[feel.Canonical(ref)]; found {
+		return t.ofItem(item)
+	}
+	local := ref[strings.LastIndexByte(ref, ':')+1:]
+	if item, found := t.items[feel.Canonical(local)]; found {
+		return t.ofItem(item)
+	}
+	name := strings.ToLower(feel.Canonical(local))
+	if builtin, found := builtinTypes[name]; found {
+		return builtin
+	}
+	if instead, found := foreignTypes[name]; found {
+		t.refusals.refuse(e, ref, "the profile has no values of this type", instead)
+		return refusedType
+	}
+	t.refusals.refuse(e, ref, "it is no type of this file", "number, string, boolean, or the name of an itemDefinition")
+	return refusedType
+}
+
+// ofItem is the type of a definition; refusedType where it is made of itself.
+func (t *types) ofItem(item *dmn.ItemDefinition) *valueType {
+	if done, found := t.resolved[item]; found {
+		return done
+	}
+	if t.active[item] {
+		return refusedType
+	}
+	t.active[item] = true
+	defer delete(t.active, item)
+	made := t.plainItem(item)
+	if item.Allowed != nil {
+		made = t.narrowed(item, made)
+	}
+	if item.Collection {
+		made = listOf(made)
+		made.parts = 1 + made.element.parts
+	}
+	if made.parts > mostParts {
+		t.refusals.refuse(item.Element, item.Name(), fmt.Sprintf("the type has over %d parts", mostParts), "a smaller type")
+		made = refusedType
+	}
+	t.resolved[item] = made
+	return made
+}
+
+// plainItem is the type of a definition without its allowed values, and of one member where it is a collection.
+func (t *types) plainItem(item *dmn.ItemDefinition) *valueType {
+	switch {
+	case item.Function:
+		t.refusals.refuse(item.Element, item.Name(), "functions are no values of the profile",
+			"business knowledge models, invoked by their names")
+		return refusedType
+	case len(item.Components) > 0:
+		made := &valueType{kind: contextKind, fields: map[string]*valueType{}}
+		for _, component := range item.Components {
+			field := t.ofItem(component)
+			made.setField(feel.Canonical(component.Name()), field)
+			made.parts += 1 + field.parts
+		}
+		return made
+	default:
+		if ref := t.resolve(item.Element, item.TypeRef); ref != nil {
+			return ref
+		}
+	}
+	return anyType
+}
+
+// narrowed is a type with the allowed values of a definition.
+func (t *types) narrowed(item *dmn.ItemDefinition, plain *valueType) *valueType {
+	allowed := t.values(item.Allowed, plain)
+	if len(allowed) == 0 {
+		return plain
+	}
+	narrow := *plain
+	narrow.allowed = allowed
+	return &narrow
+}
+
+// values reads a list of values; each literal has to be of the type. Where the text can't be read it is none.
+func (t *types) values(text *dmn.Text, of *valueType) []feel.Node {
+	if strings.TrimSpace(text.Text) == "" {
+		return nil
+	}
+	nodes, fault := feel.Values(text.Text)
+	if fault != nil {
+		t.refusals.refuse(text.Element, text.Text, fault.Why, fault.Instead)
+		return nil
+	}
+	for _, node := range nodes {
+		literal := literalType(node)
+		if literal == nil {
+			continue
+		}
+		if literal.fitOf(of) == never {
+			t.refusals.refuse(text.Element, text.Text, fmt.Sprintf("a value is of the type %s, where %s is declared",
+				literal, of), "values of the declared type")
+			return nil
+		}
+	}
+	return nodes
+}
+
+// literalType is the type of a literal; nil where the form is none.
+func literalType(node feel.Node) *valueType {
+	switch n := node.(type) {
+	case *feel.Number:
+		return numberType
+	case *feel.String:
+		return textType
+	case *feel.Boolean:
+		return booleanType
+	case *feel.Null:
+		return nullType
+	case *feel.Negation:
+		if _, number := n.Operand.(*feel.Number); number {
+			return numberType
+		}
+	}
+	return nil
+}

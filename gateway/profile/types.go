@@ -1,0 +1,221 @@
+package profile
+
+import (
+	"gateway/feel"
+)
+
+type kindOfType uint8
+
+const (
+	anyKind kindOfType = iota
+	nullKind
+	numberKind
+	textKind
+	booleanKind
+	listKind
+	contextKind
+	// refusedKind is of what was refused: it fits everywhere, so that nothing is told of it twice.
+	refusedKind
+)
+
+// A valueType is what is known of the values of an expression. Null conforms to every type.
+type valueType struct {
+	kind kindOfType
+	// element is the type of a list's members; never nil for a list.
+	element *valueType
+	// fields are the types of a context's entries by their canonical names, order their order.
+	fields map[string]*valueType
+	order  []string
+	// parts counts the type itself and all parts of its parts.
+	parts int
+	// allowed are the values that the type is narrowed to; none where it isn't.
+	allowed []feel.Node
+
+	// noted are the input values of a column that is an input of the model by itself: they are for who calls.
+	noted []feel.Node
+
+	// open tells that it is of an input without a declared type: what it is given to may tell its type. For an entry of
+	// such an input, parent and field tell which.
+	open   bool
+	parent *valueType
+	field  string
+}
+
+var (
+	anyType     = &valueType{kind: anyKind}
+	nullType    = &valueType{kind: nullKind}
+	numberType  = &valueType{kind: numberKind}
+	textType    = &valueType{kind: textKind}
+	booleanType = &valueType{kind: booleanKind}
+	refusedType = &valueType{kind: refusedKind}
+)
+
+func listOf(element *valueType) *valueType { return &valueType{kind: listKind, element: element} }
+
+// String is the type in the words of DMN.
+func (t *valueType) String() string {
+	switch t.kind {
+	case nullKind:
+		return "null"
+	case numberKind:
+		return "number"
+	case textKind:
+		return "string"
+	case booleanKind:
+		return "boolean"
+	case listKind:
+		return "list of " + t.element.String()
+	case contextKind:
+		return "context"
+	}
+	return "Any"
+}
+
+func (t *valueType) isScalar() bool {
+	return t.kind == numberKind || t.kind == textKind || t.kind == booleanKind
+}
+
+// mayBe tells whether a value of the type may be of a kind, null apart.
+func (t *valueType) mayBe(kind kindOfType) bool { return t.kind == anyKind || t.kind == kind }
+
+// A fit is how a type stands to a declared one.
+type fit uint8
+
+const (
+	fits fit = iota
+	// mayFit: some values conform and others don't.
+	mayFit
+	// never: no value but null conforms.
+	never
+	// single: a list, where a member is due.
+	single
+)
+
+// fitOf tells how values of a type stand to a declared type. What is open takes on the declared type.
+func (t *valueType) fitOf(due *valueType) fit {
+	if t.open && t.kind == anyKind && due.kind != anyKind && due.kind != refusedKind {
+		t.becomes(due)
+	}
+	switch {
+	case t == due, due.kind == anyKind, t.kind == nullKind, due.kind == refusedKind, t.kind == refusedKind:
+		return fits
+	case t.kind == anyKind:
+		return mayFit
+	case t.kind == listKind && due.kind != listKind:
+		return single
+	case t.kind != due.kind:
+		return never
+	case t.kind == listKind:
+		return t.element.fitOf(due.element)
+	case t.kind == contextKind:
+		return t.fieldsFit(due)
+	}
+	return fits
+}
+
+func (t *valueType) fieldsFit(due *valueType) fit {
+	worst := fits
+	for _, name := range due.order {
+		field := due.fields[name]
+		own, found := t.fields[name]
+		if !found {
+			if t.open {
+				t.setField(name, field)
+				continue
+			}
+			return never
+		}
+		if f := own.fitOf(field); f > worst {
+			worst = f
+		}
+	}
+	return worst
+}
+
+// becomes makes an open type a declared one.
+func (t *valueType) becomes(due *valueType) {
+	if t.parent != nil {
+		if t.parent.kind == anyKind {
+			t.parent.becomes(&valueType{kind: contextKind, fields: map[string]*valueType{}})
+		}
+		if t.parent.kind != contextKind {
+			return
+		}
+		if t.parent.fields[t.field] == nil {
+			t.parent.setField(t.field, t)
+		}
+	}
+	t.kind, t.element, t.allowed = due.kind, due.element, due.allowed
+	if due.kind == contextKind {
+		t.fields = make(map[string]*valueType, len(due.fields))
+		t.order = nil
+		for _, name := range due.order {
+			t.setField(name, due.fields[name])
+		}
+	}
+}
+
+func (t *valueType) setField(name string, field *valueType) {
+	if _, found := t.fields[name]; !found {
+		t.order = append(t.order, name)
+	}
+	t.fields[name] = field
+}
+
+// joined is a type that the values of both types have.
+func joined(a, b *valueType) *valueType {
+	switch {
+	case a == b, b.kind == nullKind, a.kind == refusedKind:
+		return a
+	case a.kind == nullKind, b.kind == refusedKind:
+		return b
+	case a.kind != b.kind || a.kind == anyKind:
+		return anyType
+	case a.kind == listKind:
+		return listOf(joined(a.element, b.element))
+	case a.kind == contextKind:
+		return joinedContexts(a, b)
+	}
+	return &valueType{kind: a.kind}
+}
+
+func joinedContexts(a, b *valueType) *valueType {
+	if len(a.fields) != len(b.fields) {
+		return anyType
+	}
+	both := &valueType{kind: contextKind, fields: map[string]*valueType{}}
+	for _, name := range a.order {
+		other, found := b.fields[name]
+		if !found {
+			return anyType
+		}
+		both.setField(name, joined(a.fields[name], other))
+	}
+	return both
+}
+
+// member is the type of the entry of a name: of a list, the list of its members' entries. It is nil where there can't
+// be such an entry.
+func (t *valueType) member(name string) *valueType {
+	switch t.kind {
+	case anyKind:
+		if t.open {
+			return &valueType{kind: anyKind, open: true, parent: t, field: name}
+		}
+		return anyType
+	case nullKind, refusedKind:
+		return t
+	case listKind:
+		if inside := t.element.member(name); inside != nil {
+			return listOf(inside)
+		}
+	case contextKind:
+		if field, found := t.fields[name]; found {
+			return field
+		}
+		if t.open {
+			return &valueType{kind: anyKind, open: true, parent: t, field: name}
+		}
+	}
+	return nil
+}

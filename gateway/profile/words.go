@@ -1,0 +1,121 @@
+package profile
+
+import (
+	"fmt"
+	"strings"
+
+	"gateway/feel"
+)
+
+// mostWord is how many bytes a word of the model may have.
+const mostWord = 64
+
+// reserved are the words that are no names of the model.
+var reserved = map[string]bool{
+	"if": true, "then": true, "else": true, "and": true, "or": true, "not": true, "between": true, "null": true,
+	"true": true, "false": true,
+}
+
+// words is the one table of names and words.
+type words struct {
+	// byName has the word of each canonical name, names the name as the file spells it.
+	byName map[string]string
+	names  map[string]string
+	taken  map[string]bool
+	// next has the number to try next behind a word that was taken.
+	next map[string]int
+}
+
+func newWords() *words {
+	return &words{byName: map[string]string{}, names: map[string]string{}, taken: map[string]bool{},
+		next: map[string]int{}}
+}
+
+// of is the word of a name; a name that is new gets one.
+func (w *words) of(name string) string {
+	canonical := feel.Canonical(name)
+	if word, found := w.byName[canonical]; found {
+		return word
+	}
+	word := w.free(asWord(name))
+	w.byName[canonical] = word
+	w.names[word] = strings.Join(strings.Fields(name), " ")
+	return word
+}
+
+// declare gives words to names, those that are words already first, so that they keep their own.
+func (w *words) declare(names []string) {
+	for _, name := range names {
+		if name == asWord(name) {
+			w.of(name)
+		}
+	}
+	for _, name := range names {
+		w.of(name)
+	}
+}
+
+// fresh is a word that no name has.
+func (w *words) fresh(base string) string { return w.free(asWord(base) + "_1") }
+
+// free takes the word, or the first of its successors that is not taken.
+func (w *words) free(word string) string {
+	base := strings.TrimSuffix(word, "_1")
+	candidate := word
+	for n := w.next[base]; w.taken[candidate] || reserved[candidate]; n++ {
+		suffix := fmt.Sprintf("_%d", n+2)
+		stem := base
+		if len(stem)+len(suffix) > mostWord {
+			stem = stem[:mostWord-len(suffix)]
+		}
+		candidate = stem + suffix
+		w.next[base] = n + 1
+	}
+	w.taken[candidate] = true
+	return candidate
+}
+
+// forgetFresh gives the fresh words free, so that a second pass takes the same ones.
+func (w *words) forgetFresh() {
+	w.next = map[string]int{}
+	w.taken = make(map[string]bool, len(w.names))
+	for word := range w.names {
+		w.taken[word] = true
+	}
+}
+
+// latin spells letters beyond ASCII by those of ASCII.
+var latin = strings.NewReplacer(
+	"ä", "ae", "ö", "oe", "ü", "ue", "Ä", "Ae", "Ö", "Oe", "Ü", "Ue", "ß", "ss",
+	"æ", "ae", "Æ", "Ae", "ø", "o", "Ø", "O", "å", "a", "Å", "A", "œ", "oe", "Œ", "Oe",
+	"á", "a", "à", "a", "â", "a", "ã", "a", "ç", "c", "Ç", "C",
+	"é", "e", "è", "e", "ê", "e", "ë", "e", "É", "E", "È", "E", "Ê", "E",
+	"í", "i", "ì", "i", "î", "i", "ï", "i", "ñ", "n", "Ñ", "N",
+	"ó", "o", "ò", "o", "ô", "o", "õ", "o", "ú", "u", "ù", "u", "û", "u", "ý", "y",
+	"č", "c", "š", "s", "ž", "z", "Č", "C", "Š", "S", "Ž", "Z", "ł", "l", "Ł", "L", "ő", "o", "ű", "u", "€", "euro")
+
+// asWord spells a name by the letters, digits and underscores of a word.
+func asWord(name string) string {
+	var word strings.Builder
+	for _, r := range latin.Replace(strings.Join(strings.Fields(name), " ")) {
+		switch {
+		case r >= 'a' && r <= 'z', r >= 'A' && r <= 'Z', r == '_':
+			word.WriteRune(r)
+		case r >= '0' && r <= '9':
+			if word.Len() == 0 {
+				word.WriteByte('_')
+			}
+			word.WriteRune(r)
+		default:
+			word.WriteByte('_')
+		}
+	}
+	spelled := word.String()
+	if spelled == "" {
+		return "_"
+	}
+	if len(spelled) > mostWord {
+		spelled = spelled[:mostWord]
+	}
+	return spelled
+}

@@ -1,0 +1,169 @@
+package broker
+
+import (
+	"context"
+	"errors"
+	"fmt"
+	"math/rand"
+	"net"
+	"sync"
+	"time"
+
+	amqp "github.com/rabbitmq/amqp091-go"
+)
+
+const (
+	heartbeat   = 10 * time.Second
+	dialTimeout = 5 * time.Second
+	closePause  = time.Second // how long a connection may take to end in good order
+	// Patience is how long the broker may take to do what it is asked for.
+	Patience = 30 * time.Second
+)
+
+// A Link is a connection to one of the brokers. It fails as a whole: where a channel, a message or a wait fails, all
+// of it ends, and the work is begun anew on another.
+type Link struct {
+	connection *amqp.Connection
+	socket     net.Conn
+	done       chan struct{}
+	once       sync.Once
+	err        error
+}
+
+// Connect connects to one of the brokers, the first in random order that can be reached. The link fails where the
+// context ends.
+func Connect(ctx context.Context, settings Settings, name string) (*Link, error) {
+	var last error
+	for _, at := range rand.Perm(len(settings.Addresses)) {
+		link, err := dial(ctx, settings.Addresses[at], name)
+		if err == nil {
+			go link.watch(ctx)
+			return link, nil
+		}
+		last = err
+	}
+	return nil, fmt.Errorf("no broker can be reached: %w", last)
+}
+
+func dial(ctx context.Context, address, name string) (*Link, error) {
+	link := &Link{done: make(chan struct{})}
+	properties := amqp.NewConnectionProperties()
+	properties["connection_name"] = name
+	connection, err := amqp.DialConfig(address, amqp.Config{
+		Heartbeat:  heartbeat,
+		Locale:     "en_US",
+		Properties: properties,
+		Dial: func(network, address string) (net.Conn, error) {
+			dialer := net.Dialer{Timeout: dialTimeout, Deadline: time.Now().Add(dialTimeout)}
+			socket, err := dialer.DialContext(ctx, network, address)
+			if err != nil {
+				return nil, err
+			}
+			link.socket = socket
+			// The library takes the deadline away once the connection is open.
+			return socket, socket.SetDeadline(time.Now().Add(dialTimeout))
+		},
+	})
+	if err != nil {
+		if link.socket != nil {
+			link.socket.Close()
+		}
+		return nil, err
+	}
+	link.connection = connection
+	return link, nil
+}
+
+func (l *Link) watch(ctx context.Context) {
+	closed := l.connection.NotifyClose(make(chan *amqp.Error, 1))
+	select {
+	case <-ctx.Done():
+		l.close()
+		l.Fail(ctx.Err())
+	case reason := <-closed:
+		l.Fail(lost("the connection", reason))
+	case <-l.done:
+	}
+}
+
+func lost(what string, reason *amqp.Error) error {
+	if reason == nil {
+		return fmt.Errorf("%s ended", what)
+	}
+	return fmt.Errorf("%s ended: %w", what, reason)
+}
+
+// Fail ends the link, for this reason if it is the first.
+func (l *Link) Fail(reason error) {
+	l.once.Do(func() {
+		l.err = reason
+		close(l.done)
+		l.socket.Close()
+	})
+}
+
+// Close ends the link in good order.
+func (l *Link) Close() {
+	l.close()
+	l.Fail(errors.New("the connection was closed"))
+}
+
+func (l *Link) close() {
+	closed := make(chan struct{})
+	go func() {
+		l.connection.Close()
+		close(closed)
+	}()
+	select {
+	case <-closed:
+	case <-time.After(closePause):
+	}
+}
+
+// Done is closed once the link has failed.
+func (l *Link) Done() <-chan struct{} { return l.done }
+
+// Err is why the link failed. It is to be asked once Done is closed.
+func (l *Link) Err() error { return l.err }
+
+// Channel opens a channel. Where it fails, the link does.
+func (l *Link) Channel() (*amqp.Channel, error) {
+	channel, err := l.connection.Channel()
+	if err != nil {
+		return nil, l.because(fmt.Errorf("opening a channel: %w", err))
+	}
+	closed := channel.NotifyClose(make(chan *amqp.Error, 1))
+	go func() {
+		if reason := <-closed; reason != nil {
+			l.Fail(lost("a channel", reason))
+		}
+	}()
+	return channel, nil
+}
+
+// because is the reason why the link failed, if it has, and otherwise the error.
+func (l *Link) because(err error) error {
+	select {
+	case <-l.done:
+		return l.err
+	case <-time.After(50 * time.Millisecond): // the reason may be on its way
+		return err
+	}
+}
+
+// DeclareStreams makes the streams of a partition that aren't there.
+func (l *Link) DeclareStreams(settings Settings, partition int) error {
+	channel, err := l.Channel()
+	if err != nil {
+		return err
+	}
+	defer channel.Close()
+	stream := amqp.Table{"x-queue-type": "stream", "x-queue-leader-locator": "least-leaders"}
+	for _, kind := range []Kind{Lines, Answers} {
+		queue := settings.Queue(kind, partition)
+		if _, err := channel.QueueDeclare(queue, true, false, false, false, stream); err != nil {
+			return l.because(fmt.Errorf("queue %s: %w", queue, err))
+		}
+	}
+	return nil
+}

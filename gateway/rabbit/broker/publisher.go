@@ -1,0 +1,109 @@
+package broker
+
+import (
+	"context"
+	"errors"
+	"fmt"
+	"time"
+
+	amqp "github.com/rabbitmq/amqp091-go"
+)
+
+// maximumOpen is how many messages of a publisher may be without a confirm: one for each partition, and some marks.
+const maximumOpen = 2 * MaximumPartitions
+
+// A Publisher publishes messages, and tells of their confirms in the order in which they were published.
+type Publisher struct {
+	link     *Link
+	channel  *amqp.Channel
+	confirms chan amqp.Confirmation
+	returned chan amqp.Return
+	open     []time.Time // when the messages without a confirm were published, in order
+}
+
+// Publisher opens a channel of its own for publishing.
+func (l *Link) Publisher() (*Publisher, error) {
+	channel, err := l.Channel()
+	if err != nil {
+		return nil, err
+	}
+	if err := channel.Confirm(false); err != nil {
+		return nil, l.because(fmt.Errorf("asking for confirms: %w", err))
+	}
+	confirms := channel.NotifyPublish(make(chan amqp.Confirmation, maximumOpen))
+	returned := channel.NotifyReturn(make(chan amqp.Return, maximumOpen))
+	return &Publisher{link: l, channel: channel, confirms: confirms, returned: returned}, nil
+}
+
+// Open is how many messages are without a confirm.
+func (p *Publisher) Open() int { return len(p.open) }
+
+// Publish publishes a message.
+func (p *Publisher) Publish(queue string, headers amqp.Table, body []byte) error {
+	now := time.Now()
+	message := amqp.Publishing{Headers: headers, Body: body, Timestamp: now, DeliveryMode: amqp.Persistent}
+	if err := p.channel.PublishWithContext(context.Background(), "", queue, true, false, message); err != nil {
+		return p.link.because(fmt.Errorf("publishing to %s: %w", queue, err))
+	}
+	p.open = append(p.open, now)
+	return nil
+}
+
+// Confirms has a value for each confirm; each is to be handed to Take.
+func (p *Publisher) Confirms() <-chan amqp.Confirmation { return p.confirms }
+
+// Take takes in the confirm of the oldest message without one.
+func (p *Publisher) Take(confirmation amqp.Confirmation, open bool) error {
+	if !open {
+		return p.link.because(errors.New("the channel ended"))
+	}
+	if !confirmation.Ack || len(p.open) == 0 {
+		return errors.New("the broker refused a message")
+	}
+	select {
+	case message, open := <-p.returned: // what comes back is confirmed too, but later
+		if !open {
+			return p.link.because(errors.New("the channel ended"))
+		}
+		return fmt.Errorf("no queue %s (%s): does a partition run, and with the same %s?", message.RoutingKey,
+			message.ReplyText, PartitionsVariable)
+	default:
+	}
+	p.open = p.open[1:]
+	return nil
+}
+
+// Late tells whether some message has waited for its confirm for too long.
+func (p *Publisher) Late() error {
+	if len(p.open) > 0 && time.Since(p.open[0]) > Patience {
+		return fmt.Errorf("no confirm for %v", Patience)
+	}
+	return nil
+}
+
+// Settle waits until all messages are confirmed.
+func (p *Publisher) Settle() error {
+	late := time.NewTimer(Patience)
+	defer late.Stop()
+	for len(p.open) > 0 {
+		select {
+		case confirmation, open := <-p.confirms:
+			if err := p.Take(confirmation, open); err != nil {
+				return err
+			}
+		case <-p.link.Done():
+			return p.link.Err()
+		case <-late.C:
+			return fmt.Errorf("no confirm for %v", Patience)
+		}
+	}
+	return nil
+}
+
+// Close ends the publisher's channel.
+func (p *Publisher) Close() error {
+	if err := p.channel.Close(); err != nil {
+		return p.link.because(fmt.Errorf("ending a channel: %w", err))
+	}
+	return nil
+}

@@ -1,0 +1,65 @@
+// Package broker is what the programs of the partitions share of RabbitMQ: where the brokers are, the names in them, a
+// connection that ends whole, publishing with confirms, reading a stream, and trying again.
+package broker
+
+import (
+	"fmt"
+	"os"
+	"strconv"
+	"strings"
+)
+
+// The environment variables that every program reads.
+const (
+	BrokersVariable    = "DESK_BROKERS"
+	PartitionsVariable = "DESK_PARTITIONS"
+)
+
+// MaximumPartitions is how many partitions there may be.
+const MaximumPartitions = 1024
+
+// WindowBytes is how much may be on its way in one direction.
+const WindowBytes = 16 << 20
+
+// MessageBytes is how much of several lines a message carries. A line that is longer has a message of its own.
+const MessageBytes = 256 << 10
+
+// MessageLines is how many lines a message carries at most.
+const MessageLines = 2048
+
+// A Kind is one of the three queues of a partition.
+type Kind string
+
+// The kinds.
+const (
+	Lines   Kind = "lines"   // a stream: the log
+	Answers Kind = "answers" // a stream: answers and snapshots
+	Lease   Kind = "lease"   // a quorum queue with a single active consumer
+)
+
+// Settings say where the brokers are, and how many partitions there are.
+type Settings struct {
+	Addresses  []string // of the scheme amqp or amqps
+	Partitions int
+}
+
+// ReadSettings reads the environment.
+func ReadSettings() (Settings, error) {
+	settings := Settings{Addresses: []string{"amqp://127.0.0.1"}, Partitions: 1}
+	if text := os.Getenv(BrokersVariable); text != "" {
+		settings.Addresses = strings.Split(text, ",")
+	}
+	if text := os.Getenv(PartitionsVariable); text != "" {
+		number, err := strconv.Atoi(text)
+		if err != nil || number < 1 || number > MaximumPartitions {
+			return settings, fmt.Errorf("%s: %q is no number from 1 to %d", PartitionsVariable, text, MaximumPartitions)
+		}
+		settings.Partitions = number
+	}
+	return settings, nil
+}
+
+// Queue is the name of a partition's queue. It has the number of partitions: who counts with another finds no queue.
+func (s Settings) Queue(kind Kind, partition int) string {
+	return fmt.Sprintf("desk.%s.%d.of.%d", kind, partition, s.Partitions)
+}

@@ -1,0 +1,84 @@
+package broker
+
+import (
+	"errors"
+	"fmt"
+	"time"
+
+	amqp "github.com/rabbitmq/amqp091-go"
+)
+
+// prefetch is how many messages of a stream may be on their way. With messages of at most a mebibyte, as the programs
+// publish them but for snapshots, these are 16 MiB.
+const prefetch = 16
+
+// OffsetHeader is the header in which the broker tells a message's offset.
+const OffsetHeader = "x-stream-offset"
+
+// A Stream is being read.
+type Stream struct {
+	link       *Link
+	channel    *amqp.Channel
+	Deliveries <-chan amqp.Delivery
+}
+
+// Where a reader of a stream begins, beside an offset (an int64) and a time (a time.Time).
+const (
+	FromFirst = "first"
+	FromLast  = "last" // with the last messages that were written together
+	FromNext  = "next"
+)
+
+// Read reads a stream from a place on. Each delivery is to be handed to Take.
+func (l *Link) Read(queue string, from interface{}) (*Stream, error) {
+	channel, err := l.Channel()
+	if err != nil {
+		return nil, err
+	}
+	if err := channel.Qos(prefetch, 0, false); err != nil {
+		return nil, l.because(fmt.Errorf("reading %s: %w", queue, err))
+	}
+	deliveries, err := channel.Consume(queue, "", false, false, false, false, amqp.Table{OffsetHeader: from})
+	if err != nil {
+		return nil, l.because(fmt.Errorf("reading %s: %w", queue, err))
+	}
+	return &Stream{link: l, channel: channel, Deliveries: deliveries}, nil
+}
+
+// Take lets the broker send the next message, and tells the offset of this one.
+func (s *Stream) Take(delivery amqp.Delivery, open bool) (int64, error) {
+	if !open {
+		return 0, s.link.because(errors.New("the stream's reader ended"))
+	}
+	if err := delivery.Ack(false); err != nil {
+		return 0, s.link.because(fmt.Errorf("reading a stream: %w", err))
+	}
+	offset, is := delivery.Headers[OffsetHeader].(int64)
+	if !is {
+		return 0, errors.New("reading a stream: a message without an offset")
+	}
+	return offset, nil
+}
+
+// Next waits for the next message, and takes it.
+func (s *Stream) Next() (amqp.Delivery, int64, error) {
+	late := time.NewTimer(Patience)
+	defer late.Stop()
+	select {
+	case delivery, open := <-s.Deliveries:
+		offset, err := s.Take(delivery, open)
+		return delivery, offset, err
+	case <-s.link.Done():
+		return amqp.Delivery{}, 0, s.link.Err()
+	case <-late.C:
+		return amqp.Delivery{}, 0, fmt.Errorf("no message for %v", Patience)
+	}
+}
+
+// Close ends the reading.
+func (s *Stream) Close() error {
+	if err := s.channel.Close(); err != nil {
+		return s.link.because(fmt.Errorf("ending a reader: %w", err))
+	}
+	return nil
+}

@@ -1,0 +1,185 @@
+// Package line reads the lines that travel through the partitions, and says which partition and which client of the
+// engine a key has. Every byte of a key, an id and a number stays as it was sent.
+package line
+
+import (
+	"bytes"
+	"crypto/sha256"
+	"encoding/binary"
+	"encoding/json"
+	"errors"
+	"fmt"
+	"strconv"
+	"unicode/utf8"
+)
+
+// What a line may be at most.
+const (
+	MaximumBytes    = 1 << 20 // of a line, as the engine reads it
+	MaximumKeyBytes = 255     // of a key, in UTF-8
+	MaximumIDBytes  = 4096    // of an id, as JSON
+	MaximumDepth    = 127     // of lists and objects in each other
+)
+
+// Clients is the number of names that the keys of a partition share: as many as one engine serves.
+const Clients = 64
+
+// NoClient is the client of a line that has no key, a model.
+const NoClient = Clients
+
+// ClientNameBytes is the length of every client's name.
+const ClientNameBytes = 3
+
+// A Line is a request or a model.
+type Line struct {
+	Key    []byte // the key as JSON; nil of a model
+	ID     []byte // the id as JSON; nil of a model
+	Client int    // the number of the key's client, or NoClient
+	Engine []byte // the line that the engine is given
+	hash   uint64
+}
+
+// ErrShape tells that a text is JSON, but neither a request nor a model.
+var ErrShape = errors.New(`neither {"key":k,"service":s,"inputs":o,"id":x} nor {"model":M}`)
+
+// IsModel tells whether the line is a model, which goes to every partition.
+func (l Line) IsModel() bool { return l.Client == NoClient }
+
+// Partition is the number of the key's partition, of so many.
+func (l Line) Partition(partitions int) int { return int(l.hash % uint64(partitions)) }
+
+// ClientName is the name by which the engine knows a client.
+func ClientName(client int) string { return fmt.Sprintf("n%02d", client) }
+
+// ClientNumber is the number of the client with this name, where there is one.
+func ClientNumber(name []byte) (int, bool) {
+	if len(name) != ClientNameBytes || name[0] != 'n' {
+		return 0, false
+	}
+	number, err := strconv.ParseUint(string(name[1:]), 10, 8)
+	return int(number), err == nil && number < Clients
+}
+
+// Read reads one line, without its line end. The first of these faults is told: too long, no UTF-8, no JSON, neither
+// a request nor a model, nested too deep, a key or an id that is too long.
+func Read(text []byte) (Line, error) {
+	switch {
+	case len(text) > MaximumBytes:
+		return Line{}, fmt.Errorf("over %d bytes", MaximumBytes)
+	case !utf8.Valid(text):
+		return Line{}, errors.New("no UTF-8")
+	case !json.Valid(text):
+		return Line{}, errors.New("no JSON")
+	}
+	found, err := members(bytes.TrimSpace(text))
+	if err != nil {
+		return Line{}, err
+	}
+	if model, is := found["model"]; is && len(found) == 1 {
+		return Line{Client: NoClient, Engine: join([]byte(`{"model":`), model, []byte(`}`))}, nil
+	}
+	return request(found)
+}
+
+func request(found map[string][]byte) (Line, error) {
+	key, service, inputs, id := found["key"], found["service"], found["inputs"], found["id"]
+	if len(found) != 4 || key == nil || service == nil || inputs == nil || id == nil {
+		return Line{}, ErrShape
+	}
+	var name string
+	if err := json.Unmarshal(key, &name); err != nil || key[0] != '"' || len(name) == 0 || len(name) > MaximumKeyBytes {
+		return Line{}, fmt.Errorf("the key is no text of 1 to %d bytes", MaximumKeyBytes)
+	}
+	if len(id) > MaximumIDBytes {
+		return Line{}, fmt.Errorf("the id has over %d bytes", MaximumIDBytes)
+	}
+	if service[0] != '"' || inputs[0] != '{' {
+		return Line{}, errors.New("the service is no text, or the inputs are no object")
+	}
+	digest := sha256.Sum256([]byte(name))
+	client := int(digest[8] % Clients)
+	engine := join([]byte(`{"client":"`+ClientName(client)+`","service":`), service, []byte(`,"inputs":`), inputs, []byte(`}`))
+	return Line{Key: key, ID: id, Client: client, Engine: engine, hash: binary.BigEndian.Uint64(digest[:8])}, nil
+}
+
+// join is one text of several.
+func join(parts ...[]byte) []byte { return bytes.Join(parts, nil) }
+
+// members finds the members of an object, each with its value as it is spelt. The text is JSON.
+func members(text []byte) (map[string][]byte, error) {
+	if len(text) == 0 || text[0] != '{' {
+		return nil, ErrShape
+	}
+	found := make(map[string][]byte, 4)
+	at := skipSpace(text, 1)
+	for text[at] != '}' {
+		end, _ := value(text, at)
+		name := string(text[at+1 : end-1])
+		at = skipSpace(text, skipSpace(text, end)+1)
+		end, depth := value(text, at)
+		if _, twice := found[name]; twice || len(found) == 4 {
+			return nil, ErrShape
+		}
+		if depth+1 > MaximumDepth {
+			return nil, fmt.Errorf("nested over %d deep", MaximumDepth)
+		}
+		found[name] = text[at:end:end]
+		at = skipSpace(text, end)
+		if text[at] == ',' {
+			at = skipSpace(text, at+1)
+		}
+	}
+	return found, nil
+}
+
+func skipSpace(text []byte, at int) int {
+	for text[at] == ' ' || text[at] == '\t' || text[at] == '\n' || text[at] == '\r' {
+		at++
+	}
+	return at
+}
+
+// value finds where the value that begins here ends, and how deep it is nested.
+func value(text []byte, at int) (end, deepest int) {
+	depth := 0
+	for at < len(text) {
+		switch text[at] {
+		case '"':
+			at = stringEnd(text, at)
+			if depth == 0 {
+				return at, deepest
+			}
+			continue
+		case '{', '[':
+			depth++
+			if depth > deepest {
+				deepest = depth
+			}
+		case '}', ']':
+			depth--
+			if depth < 0 {
+				return at, deepest
+			}
+			if depth == 0 {
+				return at + 1, deepest
+			}
+		case ',', ' ', '\t', '\n', '\r':
+			if depth == 0 {
+				return at, deepest
+			}
+		}
+		at++
+	}
+	return at, deepest
+}
+
+func stringEnd(text []byte, at int) int {
+	at++
+	for text[at] != '"' {
+		if text[at] == '\\' {
+			at++
+		}
+		at++
+	}
+	return at + 1
+}

@@ -1,0 +1,74 @@
+package partition
+
+import (
+	"time"
+
+	"gateway/rabbit/answer"
+	"gateway/rabbit/ledger"
+	"gateway/rabbit/line"
+)
+
+// An entry is a line of the log between its reading and its answer.
+type entry struct {
+	place    ledger.Place
+	sent     time.Time // when its message was sent, by the sender's clock
+	claim    ledger.Claim
+	sequence int64  // its number among the sender's lines
+	raw      []byte // as it was sent
+	line     line.Line
+	number   int64 // its number among the lines of the log that are answered, from 1
+
+	skipped  bool  // it has no answer: desk send would not have sent it
+	known    bool  // its answer stands in the stream already
+	given    bool  // the engine has it
+	asked    int64 // its number in the engine's input
+	answered bool
+	refused  bool          // answered in the engine's stead, before it could
+	reason   answer.Reason // why it is refused in the engine's stead, or empty
+	text     []byte
+	outcome  ledger.Outcome
+}
+
+// overhead is about what an entry takes beside its texts, in bytes.
+const overhead = 300
+
+// bytes is about how much memory the entry takes.
+func (e *entry) bytes() int { return len(e.raw) + len(e.line.Engine) + overhead }
+
+// settled tells whether nothing more is to be found out about the entry.
+func (e *entry) settled() bool { return e.skipped || e.known || e.answered }
+
+// forget takes an answer of the engine back, so that the line can be given again.
+func (e *entry) forget() {
+	e.given = false
+	if !e.refused {
+		e.answered, e.text, e.outcome, e.reason = false, nil, ledger.Outcome{}, ""
+	}
+}
+
+// A queue has the entries that are not settled up to the first of them, in the order of the log.
+type queue struct {
+	entries []*entry
+	bytes   int // of all entries, but for their answers
+	ready   int // of the answers that wait for their turn
+}
+
+func (q *queue) add(e *entry) {
+	q.entries = append(q.entries, e)
+	q.bytes += e.bytes()
+}
+
+func (q *queue) head() *entry {
+	if len(q.entries) == 0 {
+		return nil
+	}
+	return q.entries[0]
+}
+
+func (q *queue) drop() {
+	e := q.entries[0]
+	q.entries[0] = nil
+	q.entries = q.entries[1:]
+	q.bytes -= e.bytes()
+	q.ready -= len(e.text)
+}

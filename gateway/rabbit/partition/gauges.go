@@ -1,0 +1,135 @@
+package partition
+
+import (
+	"fmt"
+	"sync"
+	"time"
+
+	"github.com/prometheus/client_golang/prometheus"
+
+	"gateway/rabbit/answer"
+)
+
+// Gauges are what a process tells of itself: counts since it was started, and how far behind its partition is.
+type Gauges struct {
+	mutex     sync.Mutex
+	connected bool
+	partition int // -1 where none is owned
+	waiting   int
+	unread    int64
+	seconds   float64
+	answers   int64
+	refusals  map[answer.Reason]int64
+	takeovers int64
+	restarts  int64
+	moved     time.Time // when a line was answered last, or nothing waited
+}
+
+// NewGauges are those of a process that owns nothing.
+func NewGauges() *Gauges {
+	return &Gauges{partition: -1, refusals: make(map[answer.Reason]int64), moved: time.Now()}
+}
+
+func (g *Gauges) with(change func()) {
+	g.mutex.Lock()
+	change()
+	g.mutex.Unlock()
+}
+
+func (g *Gauges) setConnected(connected bool) { g.with(func() { g.connected = connected }) }
+
+func (g *Gauges) takeover(partition int) {
+	g.with(func() { g.partition, g.takeovers, g.moved = partition, g.takeovers+1, time.Now() })
+}
+
+func (g *Gauges) left() { g.with(func() { g.partition, g.waiting, g.unread, g.seconds = -1, 0, 0, 0 }) }
+
+func (g *Gauges) restart() { g.with(func() { g.restarts++ }) }
+
+func (g *Gauges) settled(e *entry) {
+	if e.skipped || e.known {
+		return
+	}
+	g.with(func() {
+		g.answers++
+		g.moved = time.Now()
+		if e.reason != "" {
+			g.refusals[e.reason]++
+		}
+	})
+}
+
+func (g *Gauges) lag(waiting int, unread int64, seconds float64) {
+	g.with(func() {
+		g.waiting, g.unread, g.seconds = waiting, unread, seconds
+		if waiting == 0 && unread == 0 {
+			g.moved = time.Now()
+		}
+	})
+}
+
+// stuck is how long lines may wait without one being answered, for the process to count as ready.
+const stuck = 2 * time.Minute
+
+// Ready tells whether a broker is reached, and lines are answered if there are any; and in words.
+func (g *Gauges) Ready() (bool, string) {
+	g.mutex.Lock()
+	defer g.mutex.Unlock()
+	switch {
+	case !g.connected:
+		return false, "no broker is reached"
+	case g.partition >= 0 && time.Since(g.moved) > stuck:
+		return false, fmt.Sprintf("partition %d: no line was answered for %v", g.partition, stuck)
+	case g.partition < 0:
+		return true, "waits for a partition that is free"
+	}
+	return true, fmt.Sprintf("owns partition %d", g.partition)
+}
+
+// Collectors are the gauges as Prometheus reads them.
+func (g *Gauges) Collectors() []prometheus.Collector {
+	all := []prometheus.Collector{
+		g.gauge("connected", "1 where a broker is reached.", func() float64 {
+			if g.connected {
+				return 1
+			}
+			return 0
+		}),
+		g.gauge("owned", "The partition that is owned, or -1.", func() float64 { return float64(g.partition) }),
+		g.gauge("lag_lines", "Lines that were read and have no answer.", func() float64 { return float64(g.waiting) }),
+		g.gauge("lag_messages", "Messages of the log that were not read, some seconds late.",
+			func() float64 { return float64(g.unread) }),
+		g.gauge("lag_seconds", "How long ago the first line without an answer was sent.",
+			func() float64 { return g.seconds }),
+		g.counter("answers_total", "Lines that were answered.", nil, func() float64 { return float64(g.answers) }),
+		g.counter("takeovers_total", "Times that a partition was taken over.", nil,
+			func() float64 { return float64(g.takeovers) }),
+		g.counter("engine_restarts_total", "Times that the engine was begun anew.", nil,
+			func() float64 { return float64(g.restarts) }),
+	}
+	for _, reason := range []answer.Reason{answer.Deadline, answer.Died, answer.TooLong} {
+		reason := reason
+		all = append(all, g.counter("refusals_total", "Lines that were refused in the engine's stead.",
+			prometheus.Labels{"reason": string(reason)}, func() float64 { return float64(g.refusals[reason]) }))
+	}
+	return all
+}
+
+// namespace begins the name of every metric.
+const namespace = "desk_partition"
+
+func (g *Gauges) gauge(name, help string, read func() float64) prometheus.Collector {
+	return prometheus.NewGaugeFunc(prometheus.GaugeOpts{Namespace: namespace, Name: name, Help: help}, g.locked(read))
+}
+
+func (g *Gauges) counter(name, help string, labels prometheus.Labels, read func() float64) prometheus.Collector {
+	options := prometheus.CounterOpts{Namespace: namespace, Name: name, Help: help, ConstLabels: labels}
+	return prometheus.NewCounterFunc(options, g.locked(read))
+}
+
+func (g *Gauges) locked(read func() float64) func() float64 {
+	return func() (value float64) {
+		g.with(func() { value = read() })
+		return value
+	}
+}

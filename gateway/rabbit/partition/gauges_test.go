@@ -1,0 +1,52 @@
+package partition
+
+import (
+	"context"
+	"io"
+	"net/http"
+	"strings"
+	"testing"
+
+	"gateway/rabbit/answer"
+	"gateway/rabbit/metrics"
+)
+
+func TestMetricsAreShown(t *testing.T) {
+	g := NewGauges()
+	ctx, stop := context.WithCancel(context.Background())
+	defer stop()
+	address, err := metrics.Serve(ctx, "127.0.0.1:0", g)
+	if err != nil {
+		t.Fatal(err)
+	}
+	get := func(path string) (int, string) {
+		answer, err := http.Get("http://" + address.String() + path)
+		if err != nil {
+			t.Fatal(err)
+		}
+		defer answer.Body.Close()
+		text, err := io.ReadAll(answer.Body)
+		if err != nil {
+			t.Fatal(err)
+		}
+		return answer.StatusCode, string(text)
+	}
+	if status, said := get("/readyz"); status != 503 || !strings.Contains(said, "no broker") {
+		t.Errorf("%d %s", status, said)
+	}
+	g.setConnected(true)
+	g.takeover(3)
+	g.settled(&entry{answered: true, reason: answer.Deadline})
+	g.settled(&entry{skipped: true})
+	g.lag(4, 5, 1.5)
+	if status, said := get("/readyz"); status != 200 || said != "owns partition 3\n" {
+		t.Errorf("%d %s", status, said)
+	}
+	_, text := get("/metrics")
+	for _, line := range []string{"connected 1", "owned 3", "lag_lines 4", "lag_messages 5", "lag_seconds 1.5", "answers_total 1",
+		`refusals_total{reason="deadline"} 1`, `refusals_total{reason="died"} 0`, "takeovers_total 1", "engine_restarts_total 0"} {
+		if !strings.Contains(text, "\ndesk_partition_"+line+"\n") {
+			t.Errorf("%s is missing in\n%s", line, text)
+		}
+	}
+}

@@ -1,0 +1,179 @@
+// Package partition owns one partition at a time, whichever is free: it reads the partition's log, lets the engine
+// answer it, and publishes the answers in the order of the lines, with snapshots between them.
+package partition
+
+import (
+	"context"
+	"fmt"
+	"io"
+	"os"
+	"time"
+
+	amqp "github.com/rabbitmq/amqp091-go"
+
+	"gateway/rabbit/broker"
+	"gateway/rabbit/history"
+	"gateway/rabbit/lease"
+	"gateway/rabbit/process"
+)
+
+// tick is how often the deadlines are looked at.
+const tick = 50 * time.Millisecond
+
+// Options say how a partition is worked on.
+type Options struct {
+	Settings broker.Settings
+	Engine   process.Options
+	Deadline time.Duration // how long the evaluation of a line may take
+	Log      io.Writer
+	Gauges   *Gauges
+}
+
+// Run owns partitions until the context ends.
+func Run(ctx context.Context, options Options) error {
+	return broker.Again(ctx, options.Log, func(ctx context.Context) error { return own(ctx, options) })
+}
+
+// own waits for a partition that is free, and owns it until the connection is lost.
+func own(ctx context.Context, options Options) error {
+	link, err := broker.Connect(ctx, options.Settings, fmt.Sprintf("desk partition, process %d", os.Getpid()))
+	if err != nil {
+		return err
+	}
+	defer link.Close()
+	options.Gauges.setConnected(true)
+	defer options.Gauges.setConnected(false)
+	held, err := lease.Wait(ctx, link, options.Settings)
+	if err != nil {
+		return err
+	}
+	begun := time.Now()
+	fmt.Fprintf(options.Log, "partition %d: owned by process %d\n", held.Partition, os.Getpid())
+	o, err := begin(link, options, held.Partition)
+	if err != nil {
+		return fmt.Errorf("partition %d: %w", held.Partition, err)
+	}
+	defer o.work.end()
+	fmt.Fprintf(o.log, "goes on behind line %v, after %v\n", o.intake.upto, time.Since(begun).Round(time.Millisecond))
+	options.Gauges.takeover(held.Partition)
+	defer options.Gauges.left()
+	if err := o.run(); err != nil {
+		return fmt.Errorf("partition %d: %w", held.Partition, err)
+	}
+	return nil
+}
+
+// An owner owns a partition.
+type owner struct {
+	log       io.Writer
+	gauges    *Gauges
+	link      *broker.Link
+	publisher *broker.Publisher
+	stream    *broker.Stream
+	queue     *queue
+	intake    *intake
+	work      *work
+	output    *output
+	tail      *tail
+	report    report
+}
+
+// begin takes up a partition where its last answer stands.
+func begin(link *broker.Link, options Options, partition int) (*owner, error) {
+	if err := link.DeclareStreams(options.Settings, partition); err != nil {
+		return nil, err
+	}
+	publisher, err := link.Publisher()
+	if err != nil {
+		return nil, err
+	}
+	answers, lines := options.Settings.Queue(broker.Answers, partition), options.Settings.Queue(broker.Lines, partition)
+	h, err := history.Read(link, publisher, answers)
+	if err != nil {
+		return nil, err
+	}
+	log := prefixed{options.Log, fmt.Sprintf("partition %d: ", partition)}
+	q := &queue{}
+	o := &owner{log: log, gauges: options.Gauges, link: link, publisher: publisher, queue: q,
+		intake: newIntake(log, q, h),
+		work: &work{log: log, options: options.Engine, deadline: int(options.Deadline / tick), queue: q, ledger: h.Ledger,
+			restarts: options.Gauges.restart},
+		output: &output{publisher: publisher, name: answers, ledger: h.Ledger, last: h.Upto(), sinceMessages: h.Messages}}
+	o.tail = watchTail(link, lines)
+	o.stream, err = link.Read(lines, o.intake.first())
+	return o, err
+}
+
+// run works until the link fails.
+func (o *owner) run() error {
+	ticker := time.NewTicker(tick)
+	defer ticker.Stop()
+	for {
+		if err := o.step(); err != nil {
+			return err
+		}
+		if err := o.wait(ticker); err != nil {
+			return err
+		}
+	}
+}
+
+// wait waits for something to happen, and takes it in.
+func (o *owner) wait(ticker *time.Ticker) error {
+	var deliveries <-chan amqp.Delivery
+	if o.queue.bytes+o.queue.ready < broker.WindowBytes {
+		deliveries = o.stream.Deliveries
+	}
+	var answers <-chan []process.Answer
+	if o.work.process != nil {
+		answers = o.work.process.Answers()
+	}
+	select {
+	case delivery, open := <-deliveries:
+		offset, err := o.stream.Take(delivery, open)
+		if err != nil {
+			return err
+		}
+		o.intake.take(delivery, offset)
+	case batch, open := <-answers:
+		if open {
+			o.work.take(batch)
+		} else {
+			o.work.ended(o.work.process.Err())
+		}
+	case confirmation, open := <-o.publisher.Confirms():
+		return o.publisher.Take(confirmation, open)
+	case <-ticker.C:
+		o.work.tick()
+		o.tell()
+		return o.publisher.Late()
+	case <-o.link.Done():
+		return o.link.Err()
+	}
+	return nil
+}
+
+// step does what can be done without waiting.
+func (o *owner) step() error {
+	for {
+		o.settle()
+		published, err := o.output.publish()
+		if err != nil {
+			return err
+		}
+		if !published {
+			break
+		}
+	}
+	return o.work.give()
+}
+
+// settle hands the settled entries at the head of the queue to the output.
+func (o *owner) settle() {
+	for e := o.queue.head(); e != nil && e.settled() && o.output.room(); e = o.queue.head() {
+		o.output.settle(e)
+		o.gauges.settled(e)
+		o.queue.drop()
+		o.work.dropped()
+	}
+}

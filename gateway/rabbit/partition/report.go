@@ -1,0 +1,91 @@
+package partition
+
+import (
+	"fmt"
+	"io"
+	"sync/atomic"
+	"time"
+
+	"gateway/rabbit/broker"
+)
+
+// reportPause is how often is told how far behind the partition is, and its log's end looked at.
+const reportPause = 10 * time.Second
+
+// prefixed writes each line behind a text.
+type prefixed struct {
+	to     io.Writer
+	prefix string
+}
+
+func (p prefixed) Write(text []byte) (int, error) {
+	if _, err := p.to.Write(append([]byte(p.prefix), text...)); err != nil {
+		return 0, err
+	}
+	return len(text), nil
+}
+
+// A report is what was told last.
+type report struct {
+	text string
+	at   time.Time
+}
+
+// tell tells how far behind the partition is, if something has changed.
+func (o *owner) tell() {
+	waiting := len(o.queue.entries)
+	unread := o.tail.offset() - o.intake.offset
+	if unread < 0 {
+		unread = 0
+	}
+	var seconds float64
+	if head := o.queue.head(); head != nil {
+		seconds = time.Since(head.sent).Seconds()
+	}
+	o.gauges.lag(waiting, unread, seconds)
+	text := fmt.Sprintf("read to offset %d, %d without an answer\n", o.intake.offset, waiting)
+	if now := time.Now(); text != o.report.text && now.Sub(o.report.at) > reportPause {
+		fmt.Fprint(o.log, text)
+		o.report = report{text: text, at: now}
+	}
+}
+
+// A tail knows, some seconds late, where the log ends.
+type tail struct{ last int64 }
+
+func (t *tail) offset() int64 { return atomic.LoadInt64(&t.last) }
+
+// watchTail looks at the end of a stream from time to time.
+func watchTail(link *broker.Link, queue string) *tail {
+	t := &tail{last: -1}
+	go func() {
+		for {
+			if offset, is := lastOffset(link, queue); is {
+				atomic.StoreInt64(&t.last, offset)
+			}
+			select {
+			case <-link.Done():
+				return
+			case <-time.After(reportPause):
+			}
+		}
+	}()
+	return t
+}
+
+// lastOffset is the offset of the first of the messages that were written last.
+func lastOffset(link *broker.Link, queue string) (int64, bool) {
+	stream, err := link.Read(queue, broker.FromLast)
+	if err != nil {
+		return 0, false
+	}
+	defer stream.Close()
+	select {
+	case delivery, open := <-stream.Deliveries:
+		offset, err := stream.Take(delivery, open)
+		return offset, err == nil
+	case <-time.After(time.Second): // nothing is there
+	case <-link.Done():
+	}
+	return 0, false
+}

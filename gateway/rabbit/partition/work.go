@@ -1,0 +1,303 @@
+package partition
+
+import (
+	"errors"
+	"fmt"
+	"io"
+	"time"
+
+	"gateway/rabbit/answer"
+	"gateway/rabbit/broker"
+	"gateway/rabbit/ledger"
+	"gateway/rabbit/line"
+	"gateway/rabbit/process"
+)
+
+// readyBytes is how much of answers may wait for their turn before the engine is given one line at a time.
+const readyBytes = 4 * broker.WindowBytes
+
+// A work lets the engine answer the entries of a queue. Where the engine dies, comes to a line's deadline, or answers
+// too much before its turn, it is begun anew, and is given the lines that it had one at a time: so the line at fault is
+// found, and refused.
+type work struct {
+	log      io.Writer
+	options  process.Options
+	deadline int // in ticks
+	queue    *queue
+	ledger   *ledger.Ledger // of all that is settled
+	process  *process.Process
+	restarts func() // is called when the engine is begun anew
+
+	next     int                        // the first entry of the queue that isn't given
+	waiting  [line.Clients + 1][]*entry // given, of each client and of none; some of the first may be answered
+	byLine   map[int64]*entry           // given, and without an answer, by their number in the engine's input
+	lines    int64                      // that the engine was given
+	greeting int                        // so many of the engine's first lines are without an answer
+	base     [line.Clients]int64        // the tickets before the engine's first
+	failed   int                        // so many engines in a row ended before they were greeted
+	pause    time.Time                  // no engine is started before
+	careful  int                        // so many entries of the queue are given one at a time
+	died     *entry                     // the entry at which the engine died alone
+	oldest   *entry                     // the entry that is the first without an answer
+	age      int                        // for so many ticks
+	lonely   bool                       // whether the engine had no other entry all that time
+}
+
+// longestPause is how long an engine is left alone that has died at no line, at most.
+const longestPause = 10 * time.Second
+
+// greeting is a line that every engine answers, and that changes nothing.
+var greeting = []byte(fmt.Sprintf(`{"resize":"%s","capacity":%d}`, line.ClientName(0), process.Capacity))
+
+var errConfused = errors.New("the engine answered what it wasn't asked")
+
+// give gives the engine the entries that it may have.
+func (w *work) give() error {
+	for w.next < len(w.queue.entries) {
+		e := w.queue.entries[w.next]
+		if e.settled() {
+			w.next++
+			continue
+		}
+		if w.careful > 0 && len(w.byLine) > 0 || w.queue.ready > broker.WindowBytes {
+			return nil
+		}
+		if w.process == nil {
+			if w.next > 0 || time.Now().Before(w.pause) {
+				return nil // all before it is settled first, so that the ledger has the tickets
+			}
+			if err := w.start(); err != nil {
+				return err
+			}
+		}
+		if w.greeting > 0 {
+			return nil
+		}
+		w.giveOne(e)
+	}
+	return nil
+}
+
+func (w *work) giveOne(e *entry) {
+	w.next++
+	w.lines++
+	e.given, e.asked = true, w.lines
+	w.byLine[e.asked] = e
+	w.waiting[e.line.Client] = append(w.waiting[e.line.Client], e)
+	w.process.Give(e.line.Engine)
+}
+
+// start starts an engine, and gives it the model that is in force, and a greeting. It is given lines once it has
+// answered these: so an engine that can do nothing is not taken for one that dies at a line.
+func (w *work) start() error {
+	started, err := process.Start(w.options)
+	if err != nil {
+		return err
+	}
+	w.process, w.lines, w.base = started, 1, w.ledger.Tickets
+	w.byLine = make(map[int64]*entry)
+	if w.ledger.Model != nil {
+		w.lines++
+		w.process.Give(w.ledger.Model)
+	}
+	w.process.Give(greeting)
+	w.greeting = int(w.lines)
+	return nil
+}
+
+// end ends the engine, and takes back what it was given.
+func (w *work) end() {
+	if w.process != nil {
+		w.process.End()
+	}
+	w.process, w.byLine, w.waiting, w.next = nil, nil, [line.Clients + 1][]*entry{}, 0
+	w.oldest, w.age, w.greeting = nil, 0, 0
+}
+
+// again begins the engine anew, carefully.
+func (w *work) again(reason error) {
+	fmt.Fprintf(w.log, "%v; it is begun anew\n", reason)
+	w.end()
+	w.restarts()
+	for _, e := range w.queue.entries {
+		e.forget()
+	}
+	w.queue.ready = 0
+	for _, e := range w.queue.entries {
+		w.queue.ready += len(e.text)
+	}
+	w.careful = len(w.queue.entries)
+}
+
+// alone is the entry that the engine is at, where it has no other.
+func (w *work) alone() *entry {
+	if len(w.byLine) != 1 {
+		return nil
+	}
+	for _, e := range w.byLine {
+		return e
+	}
+	return nil
+}
+
+// ended takes in that the engine has ended by itself.
+func (w *work) ended(reason error) {
+	if w.greeting > 0 {
+		w.neverGreeted(reason)
+		return
+	}
+	e := w.alone()
+	w.again(reason)
+	if e != nil && e == w.died {
+		w.refuse(e, answer.Died)
+	}
+	w.died = e
+}
+
+// neverGreeted takes in that an engine could do nothing, for which no line is to blame.
+func (w *work) neverGreeted(reason error) {
+	if w.failed++; w.failed == 1 || w.failed%100 == 0 {
+		fmt.Fprintf(w.log, "%d engines in a row could not begin: %v\n", w.failed, reason)
+	}
+	pause := time.Second << w.failed
+	if pause > longestPause || w.failed > 4 {
+		pause = longestPause
+	}
+	w.end()
+	w.restarts()
+	w.pause = time.Now().Add(pause)
+}
+
+// tick takes in that a tick has passed. A tick counts as one, however late it comes: who was stopped and goes on gives
+// each line its time.
+func (w *work) tick() {
+	head := w.queue.head()
+	if head == nil || w.greeting == 0 && (!head.given || head.answered) {
+		w.oldest, w.age = nil, 0
+		return
+	}
+	if head != w.oldest {
+		w.oldest, w.age, w.lonely = head, 0, len(w.byLine) == 1
+		return
+	}
+	w.lonely = w.lonely && len(w.byLine) == 1
+	if w.age++; w.age >= w.deadline {
+		w.late(head)
+	}
+}
+
+// late takes in that the engine has not answered the first entry in its time. If it had others meanwhile, these may be
+// at fault.
+func (w *work) late(head *entry) {
+	if w.greeting > 0 {
+		w.neverGreeted(errors.New("the engine does not answer"))
+		return
+	}
+	lonely := w.lonely
+	w.again(fmt.Errorf("the engine has not answered line %v in its time", head.place))
+	if lonely {
+		w.refuse(head, answer.Deadline)
+	}
+}
+
+// refuse answers an entry in the engine's stead.
+func (w *work) refuse(e *entry, reason answer.Reason) {
+	fmt.Fprintf(w.log, "line %v is refused: %s\n", e.place, reason)
+	e.answered, e.refused, e.reason = true, true, reason
+	e.text = answer.Refusal(e.line.Client, e.number, reason, nil)
+	w.queue.ready += len(e.text)
+}
+
+// take takes in what the engine answers.
+func (w *work) take(batch []process.Answer) {
+	for _, given := range batch {
+		if err := w.takeOne(given); err != nil {
+			w.again(fmt.Errorf("%w: %.100q", err, given.Text))
+			return
+		}
+	}
+	if w.queue.ready > readyBytes {
+		w.again(fmt.Errorf("%d bytes of answers wait for line %v", w.queue.ready, w.queue.head().place))
+	}
+}
+
+func (w *work) takeOne(given process.Answer) error {
+	a, err := answer.Read(given.Text)
+	if err != nil {
+		return err
+	}
+	if w.greeting > 0 {
+		return w.greeted(a)
+	}
+	e := w.find(a)
+	if e == nil {
+		return errConfused
+	}
+	w.answer(e, a)
+	if given.TooLong {
+		fmt.Fprintf(w.log, "line %v is refused: its answer has over %d bytes\n", e.place, w.options.Longest)
+		e.reason = answer.TooLong
+		e.text = answer.Refusal(e.line.Client, e.number, e.reason, &e.outcome.Ticket)
+	}
+	w.queue.ready += len(e.text)
+	if e == w.died {
+		w.died = nil
+	}
+	return nil
+}
+
+func (w *work) greeted(a answer.Answer) error {
+	if !a.InForce && a.Client != 0 {
+		return errConfused
+	}
+	if w.greeting--; w.greeting == 0 {
+		w.failed, w.oldest = 0, nil // the time of the first line begins now
+	}
+	return nil
+}
+
+// answer answers an entry as the engine did, but for the number of the ticket or the line: the engine counts from its
+// own begin, and the log from its.
+func (w *work) answer(e *entry, a answer.Answer) {
+	number := e.number
+	if a.Ticket {
+		number = w.base[a.Client] + a.Number
+		e.outcome = ledger.Outcome{HasTicket: true, Ticket: number}
+	}
+	e.outcome.InForce = a.InForce
+	e.text = a.With(number)
+	e.answered = true
+}
+
+// find finds the entry that is answered: the one with the line's number, or else the client's first without an answer.
+func (w *work) find(a answer.Answer) *entry {
+	e := w.byLine[a.Number]
+	if a.Ticket {
+		e = w.firstOf(a.Client)
+	}
+	if e != nil {
+		delete(w.byLine, e.asked)
+	}
+	return e
+}
+
+func (w *work) firstOf(client int) *entry {
+	for len(w.waiting[client]) > 0 {
+		e := w.waiting[client][0]
+		w.waiting[client] = w.waiting[client][1:]
+		if !e.answered {
+			return e
+		}
+	}
+	return nil
+}
+
+// dropped takes in that the first entry of the queue is gone.
+func (w *work) dropped() {
+	if w.next > 0 {
+		w.next--
+	}
+	if w.careful > 0 {
+		w.careful--
+	}
+}

@@ -1,0 +1,181 @@
+// Package process runs one process of the engine, desk serve, for a partition.
+package process
+
+import (
+	"bufio"
+	"errors"
+	"fmt"
+	"io"
+	"os"
+	"os/exec"
+	"strconv"
+	"sync"
+
+	"gateway/rabbit/line"
+)
+
+// keptBytes is how much of the end of an answer that is too long is kept: enough for its ticket.
+const keptBytes = 64
+
+// Capacity is how many requests of one client the engine evaluates at a time.
+const Capacity = 64
+
+// An Answer is a line of the engine. Of one that is too long the beginning and the end are kept alone.
+type Answer struct {
+	Text    []byte
+	TooLong bool
+}
+
+// Options say which program is run, and how.
+type Options struct {
+	Path    string
+	Workers int
+	Longest int // how many bytes an answer may have
+}
+
+// A Process is one process of the engine. What is given to it waits in memory until the engine reads it.
+type Process struct {
+	command *exec.Cmd
+	answers chan []Answer
+	longest int
+
+	mutex   sync.Mutex
+	wake    *sync.Cond
+	waiting [][]byte // given, and not yet written
+	ended   bool
+	err     error // why it ended; to be asked once answers is closed
+}
+
+// Start starts the engine.
+func Start(options Options) (*Process, error) {
+	command := exec.Command(options.Path, "serve", "--clients", strconv.Itoa(line.Clients), "--workers",
+		strconv.Itoa(options.Workers), "--capacity", strconv.Itoa(Capacity))
+	command.Stderr = os.Stderr
+	input, err := command.StdinPipe()
+	if err != nil {
+		return nil, fmt.Errorf("starting the engine: %w", err)
+	}
+	output, err := command.StdoutPipe()
+	if err != nil {
+		return nil, fmt.Errorf("starting the engine: %w", err)
+	}
+	if err := command.Start(); err != nil {
+		return nil, fmt.Errorf("starting the engine: %w", err)
+	}
+	p := &Process{command: command, answers: make(chan []Answer, 16), longest: options.Longest}
+	p.wake = sync.NewCond(&p.mutex)
+	go p.write(input)
+	go p.read(output)
+	return p, nil
+}
+
+// Give gives the engine a line, without its line end.
+func (p *Process) Give(text []byte) {
+	p.mutex.Lock()
+	p.waiting = append(p.waiting, text)
+	p.mutex.Unlock()
+	p.wake.Signal()
+}
+
+// Answers has what the engine answers. It is closed once the engine has ended.
+func (p *Process) Answers() <-chan []Answer { return p.answers }
+
+// Err is why the engine ended. It is to be asked once Answers is closed.
+func (p *Process) Err() error { return p.err }
+
+// End ends the engine. Its last answers may be lost.
+func (p *Process) End() {
+	p.command.Process.Kill()
+	p.stopWriting()
+	go func() {
+		for range p.answers { // so that its reader comes to its end
+		}
+	}()
+}
+
+func (p *Process) stopWriting() {
+	p.mutex.Lock()
+	p.ended = true
+	p.mutex.Unlock()
+	p.wake.Signal()
+}
+
+func (p *Process) write(input io.WriteCloser) {
+	defer input.Close()
+	output := bufio.NewWriterSize(input, 64<<10)
+	for {
+		lines := p.next()
+		if lines == nil {
+			return
+		}
+		for _, text := range lines {
+			output.Write(text)
+			output.WriteByte('\n')
+		}
+		if output.Flush() != nil {
+			return // the engine has ended, which its reader tells
+		}
+	}
+}
+
+// next waits for lines to write; nil says that none will come.
+func (p *Process) next() [][]byte {
+	p.mutex.Lock()
+	defer p.mutex.Unlock()
+	for len(p.waiting) == 0 && !p.ended {
+		p.wake.Wait()
+	}
+	if p.ended {
+		return nil
+	}
+	lines := p.waiting
+	p.waiting = nil
+	return lines
+}
+
+func (p *Process) read(output io.Reader) {
+	reader := bufio.NewReaderSize(output, 256<<10)
+	var batch []Answer
+	for {
+		next, err := p.readAnswer(reader)
+		if err != nil {
+			break
+		}
+		batch = append(batch, next)
+		if reader.Buffered() == 0 || len(batch) >= 256 {
+			p.answers <- batch
+			batch = nil
+		}
+	}
+	if batch != nil {
+		p.answers <- batch
+	}
+	p.stopWriting()
+	p.err = errors.New("the engine ended")
+	if err := p.command.Wait(); err != nil {
+		p.err = fmt.Errorf("the engine ended: %w", err)
+	}
+	close(p.answers)
+}
+
+func (p *Process) readAnswer(reader *bufio.Reader) (Answer, error) {
+	var a Answer
+	for {
+		piece, err := reader.ReadSlice('\n')
+		if err != nil && !errors.Is(err, bufio.ErrBufferFull) {
+			return a, err
+		}
+		whole := err == nil
+		if whole {
+			piece = piece[:len(piece)-1]
+		}
+		a.Text = append(a.Text, piece...)
+		a.TooLong = a.TooLong || len(a.Text) > p.longest
+		if a.TooLong && len(a.Text) > 2*keptBytes {
+			a.Text = append(a.Text[:keptBytes:keptBytes], a.Text[len(a.Text)-keptBytes:]...)
+		}
+		if whole {
+			return a, nil
+		}
+	}
+}

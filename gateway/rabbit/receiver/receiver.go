@@ -1,0 +1,268 @@
+// Package receiver writes the answers of all partitions, each once.
+package receiver
+
+import (
+	"bufio"
+	"bytes"
+	"context"
+	"errors"
+	"fmt"
+	"io"
+	"os"
+	"time"
+
+	amqp "github.com/rabbitmq/amqp091-go"
+
+	"gateway/rabbit/answer"
+	"gateway/rabbit/broker"
+	"gateway/rabbit/ledger"
+)
+
+// savePause is how often the place is written, where something came.
+const savePause = 250 * time.Millisecond
+
+// Options say what is received, and where it goes.
+type Options struct {
+	Settings broker.Settings
+	From     interface{}   // broker.FromFirst, broker.FromNext or a time; for partitions that the place doesn't know
+	Place    string        // the file that keeps the place, or empty
+	Output   *os.File      // where answers go
+	File     bool          // whether Output is a file of its own, whose length belongs to the place
+	Idle     time.Duration // after so long without an answer it ends; 0 says never
+	Log      io.Writer
+}
+
+type receiver struct {
+	options Options
+	output  *bufio.Writer
+	written int64 // the length of the output's file
+	streams []int64
+	chains  []ledger.Chain
+	dirty   bool      // whether something is written, and the place isn't
+	moved   time.Time // when the last answer came
+}
+
+// A message of one partition.
+type message struct {
+	partition int
+	stream    *broker.Stream
+	delivery  amqp.Delivery
+	open      bool
+}
+
+// Receive writes answers until the context ends, or none came for a while.
+func Receive(ctx context.Context, options Options) error {
+	r := &receiver{options: options, output: bufio.NewWriterSize(options.Output, broker.MessageBytes), moved: time.Now()}
+	for partition := 0; partition < options.Settings.Partitions; partition++ {
+		r.streams = append(r.streams, -1)
+		r.chains = append(r.chains, ledger.Chain{})
+	}
+	if err := r.restore(); err != nil {
+		return err
+	}
+	var fault error
+	err := broker.Again(ctx, options.Log, func(ctx context.Context) error {
+		err := r.run(ctx)
+		var last *final
+		if errors.As(err, &last) {
+			fault = last.reason
+			return nil
+		}
+		return err
+	})
+	if fault == nil && err != nil && ctx.Err() == nil {
+		fault = err
+	}
+	if saved := r.save(); fault == nil {
+		fault = saved
+	}
+	return fault
+}
+
+// A final error is not tried again.
+type final struct{ reason error }
+
+func (f *final) Error() string { return f.reason.Error() }
+
+// restore goes back to the place in the file, and cuts what the output has behind it.
+func (r *receiver) restore() error {
+	if r.options.Place == "" {
+		return nil
+	}
+	p, err := readPlaces(r.options.Place, len(r.streams))
+	if err != nil {
+		return err
+	}
+	if p != nil {
+		for partition, at := range p.Partitions {
+			r.streams[partition], r.chains[partition] = at.Stream, ledger.Chain{Known: at.Known, Upto: at.Upto}
+		}
+		r.written = p.Output
+	}
+	if !r.options.File {
+		return nil
+	}
+	return r.cutOutput()
+}
+
+func (r *receiver) cutOutput() error {
+	state, err := r.options.Output.Stat()
+	if err != nil {
+		return fmt.Errorf("the output: %w", err)
+	}
+	if state.Size() < r.written {
+		return fmt.Errorf("the output has %d bytes, and %d by the place: they don't belong to each other", state.Size(), r.written)
+	}
+	if err := r.options.Output.Truncate(r.written); err != nil {
+		return fmt.Errorf("the output: %w", err)
+	}
+	if _, err := r.options.Output.Seek(r.written, io.SeekStart); err != nil {
+		return fmt.Errorf("the output: %w", err)
+	}
+	return nil
+}
+
+// run receives with one connection.
+func (r *receiver) run(ctx context.Context) error {
+	link, err := broker.Connect(ctx, r.options.Settings, "desk receive")
+	if err != nil {
+		return r.idle(err)
+	}
+	defer link.Close()
+	messages := make(chan message)
+	for partition := range r.streams {
+		stream, err := link.Read(r.options.Settings.Queue(broker.Answers, partition), r.from(partition))
+		if err != nil {
+			return r.idle(err)
+		}
+		go forward(link, stream, partition, messages)
+	}
+	ticker := time.NewTicker(savePause)
+	defer ticker.Stop()
+	for {
+		select {
+		case m := <-messages:
+			if err := r.take(m); err != nil {
+				return err
+			}
+		case <-ticker.C:
+			if err := r.save(); err != nil {
+				return &final{err}
+			}
+			if r.idled() {
+				return nil
+			}
+		case <-link.Done():
+			return r.idle(link.Err())
+		}
+	}
+}
+
+func (r *receiver) idled() bool { return r.options.Idle > 0 && time.Since(r.moved) > r.options.Idle }
+
+// idle is the error, unless so long a time has passed without an answer that the receiver ends.
+func (r *receiver) idle(err error) error {
+	if r.idled() {
+		return nil
+	}
+	return err
+}
+
+func forward(link *broker.Link, stream *broker.Stream, partition int, messages chan<- message) {
+	for {
+		delivery, open := <-stream.Deliveries
+		select {
+		case messages <- message{partition: partition, stream: stream, delivery: delivery, open: open}:
+		case <-link.Done():
+			return
+		}
+		if !open {
+			return
+		}
+	}
+}
+
+// from is where a partition's stream is to be read from.
+func (r *receiver) from(partition int) interface{} {
+	if at := r.streams[partition]; at >= 0 {
+		return at
+	}
+	return r.options.From
+}
+
+// take takes a message in, and writes the answers that it adds.
+func (r *receiver) take(m message) error {
+	offset, err := m.stream.Take(m.delivery, m.open)
+	if err != nil {
+		return err
+	}
+	chain, before := &r.chains[m.partition], r.streams[m.partition]
+	if offset == 0 {
+		chain.Reach(ledger.Start)
+	}
+	if before >= 0 && offset > before+1 {
+		fmt.Fprintf(r.options.Log, "desk receive: partition %d: the retention has cut the messages from %d to %d before they "+
+			"were received\n", m.partition, before+1, offset-1)
+		*chain = ledger.Chain{}
+	}
+	r.streams[m.partition], r.dirty = offset, true
+	part, is, err := broker.ReadPart(m.delivery.Headers)
+	switch {
+	case err != nil:
+		return &final{fmt.Errorf("partition %d, offset %d: %w", m.partition, offset, err)}
+	case !is:
+		return nil
+	case part.Snapshot:
+		chain.Reach(part.Upto)
+		return nil
+	case !chain.Fits(part.After, part.Upto):
+		return nil
+	}
+	return r.write(m, chain, part)
+}
+
+func (r *receiver) write(m message, chain *ledger.Chain, part broker.Part) error {
+	prefix := fmt.Sprintf(`{"partition":%d,`, m.partition)
+	for _, text := range bytes.Split(bytes.TrimSuffix(m.delivery.Body, []byte("\n")), []byte("\n")) {
+		record, err := answer.ReadRecord(text)
+		if err != nil {
+			return &final{fmt.Errorf("partition %d: %w: %.100q", m.partition, err, text)}
+		}
+		if !chain.Upto.Before(record.Place) {
+			continue
+		}
+		r.output.WriteString(prefix)
+		r.output.Write(text[1:])
+		if err := r.output.WriteByte('\n'); err != nil {
+			return &final{fmt.Errorf("writing answers: %w", err)}
+		}
+		r.written += int64(len(prefix) + len(text))
+	}
+	chain.Reach(part.Upto)
+	r.moved = time.Now()
+	return nil
+}
+
+// save flushes the output, and writes the place.
+func (r *receiver) save() error {
+	if err := r.output.Flush(); err != nil {
+		return fmt.Errorf("writing answers: %w", err)
+	}
+	if r.options.Place == "" || !r.dirty {
+		return nil
+	}
+	if r.options.File {
+		if err := r.options.Output.Sync(); err != nil {
+			return fmt.Errorf("writing answers: %w", err)
+		}
+	}
+	p := &places{Output: r.written}
+	for partition, chain := range r.chains {
+		p.Partitions = append(p.Partitions, place{Stream: r.streams[partition], Known: chain.Known, Upto: chain.Upto})
+	}
+	if err := p.write(r.options.Place); err != nil {
+		return err
+	}
+	r.dirty = false
+	return nil
+}

@@ -1,0 +1,259 @@
+package service
+
+import (
+	"context"
+	"errors"
+	"fmt"
+	"strconv"
+	"sync/atomic"
+
+	"gateway/engine"
+	"gateway/lines"
+)
+
+// maxAnswers is the most bytes of results of one call.
+const maxAnswers = 64 << 20
+
+// A call is what one body asks for: a single request, or a list of them.
+type call struct {
+	service *Service
+	model   *served
+	client  *client
+	isList  bool
+	// problems has those of the requests that no engine is asked, outcomes what became of the others.
+	problems []*problem
+	outcomes []engine.Outcome
+	jobs     []*engine.Job
+	// explained has how each answer came about, where that was asked for.
+	explained []engine.Explanation
+	// left is how many jobs are out, users how many of the jobs and the handler still hold the bytes.
+	left, users atomic.Int32
+	// bytes is how much of the service's budget is held, answers how much of that are results.
+	bytes, answers atomic.Int64
+	done           chan struct{}
+}
+
+// newCall reads the body of a call to a service, which is named by its word or by its name in the file.
+func (s *Service) newCall(model *served, name string, body []byte) (*call, *problem) {
+	service := model.services[name]
+	if service == nil {
+		p := problemService.with(fmt.Sprintf("%q is no service of the model", name))
+		p.Services = model.serviceNames()
+		return nil, p
+	}
+	c := &call{service: s, model: model, done: make(chan struct{})}
+	if lines.Begins(body) != '[' {
+		job, p := model.job(service, body)
+		if p != nil {
+			return nil, p
+		}
+		c.problems, c.outcomes = make([]*problem, 1), make([]engine.Outcome, 1)
+		c.add(0, job)
+		return c, nil
+	}
+	c.isList = true
+	return c, c.readList(service, body)
+}
+
+// readList makes a request of each item of a list.
+func (c *call) readList(service *decisionService, body []byte) *problem {
+	items, fault := lines.Items(body, lines.MaxNesting)
+	if fault != nil {
+		return syntaxProblem(fault)
+	}
+	if len(items) > MaxList {
+		return problemLong.with(fmt.Sprintf("the list has %d requests, and at most %d are taken", len(items), MaxList))
+	}
+	c.problems, c.outcomes = make([]*problem, len(items)), make([]engine.Outcome, len(items))
+	c.jobs = make([]*engine.Job, 0, len(items))
+	for at, item := range items {
+		job, p := c.model.job(service, body[item.Start:item.End])
+		if p != nil {
+			c.problems[at] = p
+			continue
+		}
+		c.add(at, job)
+	}
+	return nil
+}
+
+func (c *call) add(at int, job *engine.Job) {
+	job.Place = at
+	job.Done = c.settle
+	c.jobs = append(c.jobs, job)
+}
+
+// settle notes what became of a request.
+func (c *call) settle(job *engine.Job, outcome engine.Outcome) {
+	if size := int64(len(outcome.Value)); size > 0 {
+		switch {
+		case c.answers.Add(size) > maxAnswers:
+			outcome = engine.Outcome{Kind: engine.Huge}
+		case !c.service.bodies.take(size):
+			outcome = engine.Outcome{Kind: engine.Waited}
+		default:
+			c.bytes.Add(size)
+		}
+	}
+	c.outcomes[job.Place] = outcome
+	if c.left.Add(-1) == 0 {
+		c.service.clients.answered(c.client, len(c.jobs))
+		close(c.done)
+	}
+	c.release()
+}
+
+// release gives the bytes back once neither the handler nor a job holds them.
+func (c *call) release() {
+	if c.users.Add(-1) == 0 {
+		c.service.bodies.give(c.bytes.Load())
+	}
+}
+
+// put puts the requests in, behind those that the client put in before. With engine.ErrSwitched the call is to be made
+// anew, since another model is in force by now.
+func (c *call) put(who caller) (*turn, *problem, error) {
+	n := len(c.jobs)
+	if n == 0 {
+		close(c.done)
+		return nil, nil, nil
+	}
+	it, refused := c.service.clients.enter(who.client, n)
+	if refused != nil {
+		return nil, refused.with(""), nil
+	}
+	c.client = it
+	c.left.Store(int32(n))
+	c.users.Add(int32(n))
+	t, err := it.order(func() error { return c.service.pool.Put(who.client, c.jobs) })
+	if err != nil {
+		c.users.Add(-int32(n))
+		c.service.clients.answered(it, n)
+		c.service.clients.leave(it)
+	}
+	return t, nil, err
+}
+
+// errGone says that the caller went away.
+var errGone = errors.New("the caller went away")
+
+// wait waits for all outcomes.
+func (c *call) wait(ctx context.Context) error {
+	select {
+	case <-c.done:
+		return nil
+	case <-ctx.Done():
+		for _, job := range c.jobs {
+			job.Drop()
+		}
+		return errGone
+	}
+}
+
+// keep writes what was accepted into the journal, under the id of the call.
+func (c *call) keep(id string) *problem {
+	if c.service.journal == nil {
+		return nil
+	}
+	size, count := 0, 0
+	for _, job := range c.jobs {
+		if isAccepted(c.outcomes[job.Place].Kind) {
+			size += len(job.Rest) + maxID + 24
+			count++
+		}
+	}
+	if count == 0 {
+		return nil
+	}
+	text := make([]byte, 0, size)
+	for _, job := range c.jobs {
+		if isAccepted(c.outcomes[job.Place].Kind) {
+			text = c.appendKept(text, id, job)
+		}
+	}
+	if err := c.service.journal.Append(c.model.engine, text, count); err != nil {
+		c.service.logJournal(err)
+		return problemJournal.with("")
+	}
+	return nil
+}
+
+func isAccepted(kind engine.Kind) bool {
+	return kind == engine.Result || kind == engine.Limit || kind == engine.Huge
+}
+
+func (c *call) appendKept(text []byte, id string, job *engine.Job) []byte {
+	text = append(text, `{"client":"`...)
+	text = append(text, id...)
+	if c.isList {
+		text = append(text, '#')
+		text = strconv.AppendInt(text, int64(job.Place), 10)
+	}
+	text = append(text, `",`...)
+	text = append(text, job.Rest...)
+	return append(text, '\n')
+}
+
+// problemOf is the problem of an outcome, or nil where it is a result.
+func problemOf(outcome engine.Outcome) *problem {
+	switch outcome.Kind {
+	case engine.Result:
+		return nil
+	case engine.Limit:
+		return problemLimit.with("")
+	case engine.Huge:
+		return problemHuge.with("")
+	case engine.Late:
+		return problemLate.with("")
+	case engine.Died:
+		return problemDied.with("")
+	case engine.Waited, engine.Dropped:
+		return problemWaited.with("")
+	}
+	return problemInside.with("the engine refused the request: " + outcome.Word)
+}
+
+// appendResult adds a result as an object, with how it came about where that was asked for.
+func (c *call) appendResult(to []byte, at int) []byte {
+	value := c.outcomes[at].Value
+	if len(c.model.words) > 0 {
+		if renamed, err := lines.Rename(value, c.model.source.Names); err == nil {
+			value = renamed
+		}
+	}
+	to = append(to, `{"result":`...)
+	to = append(to, value...)
+	if told := c.explanation(at); told != nil {
+		to = append(to, `,"decisions":`...)
+		to = append(to, told...)
+	}
+	return append(to, '}')
+}
+
+// problemAt is the problem of a request, or nil where it has a result.
+func (c *call) problemAt(at int) *problem {
+	if c.problems[at] != nil {
+		return c.problems[at]
+	}
+	p := problemOf(c.outcomes[at])
+	if p != nil {
+		p.Decisions = c.explanation(at)
+	}
+	return p
+}
+
+// appendList adds all answers of a list.
+func (c *call) appendList(to []byte) []byte {
+	to = append(to, '[')
+	for at := range c.outcomes {
+		if at > 0 {
+			to = append(to, ',')
+		}
+		if p := c.problemAt(at); p != nil {
+			to = append(to, p.text()...)
+			continue
+		}
+		to = c.appendResult(to, at)
+	}
+	return append(to, ']', '\n')
+}

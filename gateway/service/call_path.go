@@ -1,0 +1,189 @@
+package service
+
+import (
+	"errors"
+	"io"
+	"net/http"
+	"net/url"
+	"strings"
+	"time"
+
+	"gateway/engine"
+)
+
+// statusGone is what is counted where the caller went away before its answer.
+const statusGone = 499
+
+// An asking is what a call's head and body say.
+type asking struct {
+	who     caller
+	name    string
+	explain bool
+	body    []byte
+}
+
+// servicesPath answers POST /v1/services/SERVICE, and gives the status.
+func (s *Service) servicesPath(w http.ResponseWriter, r *http.Request, id string) int {
+	if !takes(w, r, http.MethodPost) {
+		return http.StatusMethodNotAllowed
+	}
+	asked, p := s.readAsking(w, r)
+	if p != nil {
+		p.write(w, id)
+		return p.Status
+	}
+	c, t, p := s.ask(asked)
+	if p != nil {
+		s.bodies.give(int64(len(asked.body)))
+		p.write(w, id)
+		return p.Status
+	}
+	defer c.release()
+	defer s.clients.leave(c.client)
+	defer t.end()
+	if err := c.wait(r.Context()); err != nil {
+		return statusGone
+	}
+	p = c.keep(id)
+	if p == nil && asked.explain {
+		p = c.explain(r.Context())
+	}
+	s.metrics.asked(c)
+	t.wait()
+	w.Header()["Desk-Model"] = c.model.sum
+	if p != nil {
+		p.write(w, id)
+		return p.Status
+	}
+	return c.write(w, r, id, t != nil)
+}
+
+// readAsking reads a call's head, and then its body, whose bytes are held in the budget of the service.
+func (s *Service) readAsking(w http.ResponseWriter, r *http.Request) (it asking, p *problem) {
+	if it.who, p = s.caller(r); p != nil {
+		return it, p
+	}
+	var err error
+	if it.name, err = url.PathUnescape(strings.TrimPrefix(r.URL.EscapedPath(), servicesPath)); err != nil {
+		return it, problemPath.with(r.URL.Path)
+	}
+	if it.explain, p = wantsExplanation(r.URL.RawQuery); p != nil {
+		return it, p
+	}
+	if s.journal != nil && s.journal.Fault() != nil {
+		return it, problemJournal.with("")
+	}
+	it.body, p = s.readBody(w, r)
+	return it, p
+}
+
+// wantsExplanation reads the parameters of a call: explain, true or false.
+func wantsExplanation(query string) (bool, *problem) {
+	if query == "" {
+		return false, nil
+	}
+	values, err := url.ParseQuery(query)
+	if err != nil {
+		return false, problemHeader.with("the parameters cannot be read: " + err.Error())
+	}
+	wanted := values.Get("explain")
+	if wanted != "" && wanted != "true" && wanted != "false" {
+		return false, problemHeader.with("explain is true or false")
+	}
+	return wanted == "true", nil
+}
+
+// ask makes a call and puts its requests in, under the model in force at that moment.
+func (s *Service) ask(asked asking) (*call, *turn, *problem) {
+	for {
+		c, p := s.newCall(s.model.Load(), asked.name, asked.body)
+		if p != nil {
+			return nil, nil, p
+		}
+		c.users.Store(1)
+		c.bytes.Store(int64(len(asked.body)))
+		t, p, err := c.put(asked.who)
+		if errors.Is(err, engine.ErrSwitched) {
+			continue
+		}
+		if err != nil {
+			p = problemInside.with(err.Error())
+		}
+		if p != nil {
+			return nil, nil, p
+		}
+		return c, t, nil
+	}
+}
+
+// write gives the answer. A client's answer is on its way before the next one begins.
+func (c *call) write(w http.ResponseWriter, r *http.Request, id string, inOrder bool) int {
+	status := http.StatusOK
+	if c.isList {
+		text := c.appendList(nil)
+		limitWrite(r, len(text))
+		writeJSON(w, status, text)
+	} else if p := c.problemAt(0); p != nil {
+		status = p.Status
+		p.write(w, id)
+	} else {
+		text := c.appendResult(make([]byte, 0, len(c.outcomes[0].Value)+16), 0)
+		limitWrite(r, len(text))
+		writeJSON(w, status, append(text, '\n'))
+	}
+	if flusher, is := w.(http.Flusher); inOrder && is {
+		flusher.Flush()
+	}
+	return status
+}
+
+// firstRoom is how much of a body is made room for before it comes.
+const firstRoom = 16 << 10
+
+// readBody reads a body whole. Its bytes are held in the budget of the service, as they come.
+func (s *Service) readBody(w http.ResponseWriter, r *http.Request) ([]byte, *problem) {
+	if r.ContentLength > MaxBody {
+		return nil, s.tooLong(w)
+	}
+	room := int64(firstRoom)
+	if r.ContentLength >= 0 && r.ContentLength < room {
+		room = r.ContentLength + 1
+	}
+	body := make([]byte, 0, room)
+	for {
+		if len(body) == cap(body) {
+			body = append(body, 0)[:len(body)]
+		}
+		n, err := r.Body.Read(body[len(body):cap(body)])
+		if !s.bodies.take(int64(n)) {
+			s.bodies.give(int64(len(body)))
+			return nil, problemFull.with("too many bytes of bodies are held")
+		}
+		body = body[:len(body)+n]
+		if len(body) > MaxBody {
+			s.bodies.give(int64(len(body)))
+			return nil, s.tooLong(w)
+		}
+		if err == io.EOF {
+			return body, nil
+		}
+		if err != nil {
+			s.bodies.give(int64(len(body)))
+			w.Header()["Connection"] = []string{"close"}
+			return nil, problemSyntax.with("the body did not come whole: " + err.Error())
+		}
+	}
+}
+
+func (s *Service) tooLong(w http.ResponseWriter) *problem {
+	w.Header()["Connection"] = []string{"close"}
+	return problemLong.with("a body has at most 16 MiB")
+}
+
+// logJournal tells the operator of a journal that fails, not more than once a second.
+func (s *Service) logJournal(err error) {
+	now := time.Now().Unix()
+	if last := s.metrics.lastFault.Swap(now); last != now {
+		s.options.Log("%v", err)
+	}
+}

@@ -1,0 +1,157 @@
+package service
+
+import (
+	"sync"
+	"sync/atomic"
+)
+
+// clients counts what is taken and not yet answered, in all and for each client, and keeps each client's calls in order.
+type clients struct {
+	clientLimit, limit int
+
+	mu     sync.Mutex
+	byName map[string]*client
+	out    int
+}
+
+// A client is a name that has calls.
+type client struct {
+	name string
+	// out is how many requests of it are out, calls how many calls are not over.
+	out, calls int
+	// put is held while a call's requests are put in, so that calls have one order.
+	put sync.Mutex
+	// last is closed once the last call put in has its answer; nil before the first.
+	last chan struct{}
+}
+
+func newClients(clientLimit, limit int) *clients {
+	return &clients{clientLimit: clientLimit, limit: limit, byName: map[string]*client{}}
+}
+
+// enter takes a call of this many requests, or says why not. Without a name there is no client. One call may have as many
+// requests as a list may; the limit counts what other calls of the client have out.
+func (c *clients) enter(name string, requests int) (*client, *problemKind) {
+	c.mu.Lock()
+	defer c.mu.Unlock()
+	if c.out > 0 && c.out+requests > c.limit {
+		return nil, problemFull
+	}
+	if name == "" {
+		c.out += requests
+		return nil, nil
+	}
+	it := c.byName[name]
+	if it == nil {
+		it = &client{name: name}
+		c.byName[name] = it
+	}
+	if it.out > 0 && it.out+requests > c.clientLimit {
+		return nil, problemBusy
+	}
+	c.out += requests
+	it.out += requests
+	it.calls++
+	return it, nil
+}
+
+// answered counts requests of a call that are out no more.
+func (c *clients) answered(it *client, requests int) {
+	c.mu.Lock()
+	defer c.mu.Unlock()
+	c.out -= requests
+	if it != nil {
+		it.out -= requests
+		c.forget(it)
+	}
+}
+
+// leave ends a call of a client.
+func (c *clients) leave(it *client) {
+	if it == nil {
+		return
+	}
+	c.mu.Lock()
+	defer c.mu.Unlock()
+	it.calls--
+	c.forget(it)
+}
+
+func (c *clients) forget(it *client) {
+	if it.calls == 0 && it.out == 0 {
+		delete(c.byName, it.name)
+	}
+}
+
+// count is how many requests and how many named clients are there.
+func (c *clients) count() (requests, named int) {
+	c.mu.Lock()
+	defer c.mu.Unlock()
+	return c.out, len(c.byName)
+}
+
+// A turn is a call's place among those of its client.
+type turn struct {
+	before, after chan struct{}
+}
+
+// order runs put, and where it succeeds gives the call its place behind those before it.
+func (it *client) order(put func() error) (*turn, error) {
+	if it == nil {
+		return nil, put()
+	}
+	it.put.Lock()
+	defer it.put.Unlock()
+	if err := put(); err != nil {
+		return nil, err
+	}
+	t := &turn{before: it.last, after: make(chan struct{})}
+	it.last = t.after
+	return t, nil
+}
+
+// wait waits until all calls before have their answers.
+func (t *turn) wait() {
+	if t != nil && t.before != nil {
+		<-t.before
+	}
+}
+
+// end says that this call has its answer, or that nobody waits for it. The calls behind still wait for those before.
+func (t *turn) end() {
+	if t == nil {
+		return
+	}
+	if t.before == nil {
+		close(t.after)
+		return
+	}
+	select {
+	case <-t.before:
+		close(t.after)
+	default:
+		go func() {
+			<-t.before
+			close(t.after)
+		}()
+	}
+}
+
+// A budget is a number of bytes that may be held.
+type budget struct {
+	limit int64
+	held  atomic.Int64
+}
+
+// take holds more bytes, or none where they are too many.
+func (b *budget) take(bytes int64) bool {
+	if b.held.Add(bytes) > b.limit {
+		b.held.Add(-bytes)
+		return false
+	}
+	return true
+}
+
+func (b *budget) give(bytes int64) {
+	b.held.Add(-bytes)
+}

@@ -1,0 +1,103 @@
+package service
+
+import (
+	"context"
+	"errors"
+	"time"
+
+	"gateway/engine"
+	"gateway/lines"
+)
+
+const (
+	// maxExplained is the most requests of a list of which it is told how their answers came about.
+	maxExplained = 100
+	// explainPatience is how long that may take beside the deadline: a process is begun for it, and reads the model.
+	explainPatience = 20 * time.Second
+)
+
+// explain asks how the answers of a call came about.
+func (c *call) explain(ctx context.Context) *problem {
+	if len(c.jobs) > maxExplained {
+		return problemLong.with("at most 100 requests of a list are explained")
+	}
+	if len(c.jobs) == 0 {
+		return nil
+	}
+	s := c.service
+	select {
+	case s.explaining <- struct{}{}:
+		defer func() { <-s.explaining }()
+	case <-ctx.Done():
+		return problemWaited.with("")
+	}
+	told, err := engine.Explain(ctx, s.options.Engine, s.options.Memory, s.options.Deadline+explainPatience, c.model.engine, c.jobs)
+	if errors.Is(err, context.DeadlineExceeded) {
+		return problemLate.with("the explanation takes longer than it may")
+	}
+	if err != nil {
+		s.options.Log("%v", err)
+		return problemDied.with("the explanation failed")
+	}
+	c.explained = make([]engine.Explanation, len(c.outcomes))
+	for at, job := range c.jobs {
+		c.explained[job.Place] = c.model.named(told[at])
+	}
+	return nil
+}
+
+// explanation is what is told of a request, or nil.
+func (c *call) explanation(at int) engine.Explanation {
+	if c.explained == nil {
+		return nil
+	}
+	return c.explained[at]
+}
+
+// named gives an explanation the names of the file.
+func (m *served) named(told engine.Explanation) engine.Explanation {
+	if len(m.words) == 0 || told == nil {
+		return told
+	}
+	tree, err := lines.Tree(told)
+	if err != nil {
+		return told
+	}
+	m.namePart(tree)
+	return lines.Compact(nil, tree)
+}
+
+// namePart names a part of an explanation: a decision, an entry, a member, a result, or a list of them.
+func (m *served) namePart(part any) {
+	if parts, is := part.([]any); is {
+		for _, part := range parts {
+			m.namePart(part)
+		}
+		return
+	}
+	members, _ := part.(map[string]any)
+	if name, is := members["name"].(string); is {
+		members["name"] = m.nameOf(name)
+	}
+	m.nameValues(members, "value", "given")
+	for _, key := range []string{"entries", "members", "result"} {
+		m.namePart(members[key])
+	}
+	if table, is := members["table"].(map[string]any); is {
+		m.nameValues(table, "inputs")
+		hits, _ := table["hits"].([]any)
+		for _, hit := range hits {
+			hit, _ := hit.(map[string]any)
+			m.nameValues(hit, "value")
+		}
+	}
+}
+
+// nameValues names the entries of the values under some keys.
+func (m *served) nameValues(members map[string]any, keys ...string) {
+	for _, key := range keys {
+		if value, is := members[key]; is {
+			members[key] = lines.Renamed(value, m.source.Names)
+		}
+	}
+}

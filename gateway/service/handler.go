@@ -1,0 +1,234 @@
+package service
+
+import (
+	"bufio"
+	"bytes"
+	"crypto/rand"
+	"encoding/hex"
+	"encoding/json"
+	"fmt"
+	"net"
+	"net/http"
+	"net/url"
+	"sort"
+	"strconv"
+	"strings"
+	"sync/atomic"
+	"time"
+
+	"gateway/openapi"
+)
+
+const servicesPath = "/v1/services/"
+
+func servicePath(name string) string {
+	return servicesPath + url.PathEscape(name)
+}
+
+// handler finds what a path stands for.
+func (s *Service) handler() http.Handler {
+	pages := map[string]http.HandlerFunc{
+		"/v1/model":     s.modelPath,
+		"/openapi.json": s.openAPIPath,
+		"/healthz":      s.healthPath,
+		"/readyz":       s.readyPath,
+		"/metrics":      s.metrics.handler().ServeHTTP,
+		"/problems/":    s.problemsPath,
+	}
+	return http.HandlerFunc(func(w http.ResponseWriter, r *http.Request) {
+		start := time.Now()
+		header := w.Header()
+		id := requestID(r)
+		header["X-Request-Id"] = []string{id}
+		header["Desk-Engine"] = s.engineHeader
+		if s.stopping.Load() {
+			header["Connection"] = []string{"close"}
+		}
+		if strings.HasPrefix(r.URL.Path, servicesPath) {
+			s.metrics.called(s.servicesPath(w, r, id), time.Since(start))
+			return
+		}
+		page := pages[r.URL.Path]
+		if page == nil && strings.HasPrefix(r.URL.Path, "/problems/") {
+			page = s.problemsPath
+		}
+		if page == nil {
+			problemPath.with(r.URL.Path).write(w, id)
+			return
+		}
+		page(w, r)
+	})
+}
+
+// maxID is the most bytes of a caller's id: with the number of a request in a list it is the name of a client in the
+// journal, which has at most 64.
+const maxID = 57
+
+// requestID is the caller's X-Request-Id where it is of 1 to 57 letters, digits and signs of `-._~:/+=@`, and else one that
+// begins with the time.
+func requestID(r *http.Request) string {
+	if values := r.Header["X-Request-Id"]; len(values) == 1 && isID(values[0]) {
+		return values[0]
+	}
+	id := make([]byte, 0, 48)
+	id = time.Now().UTC().AppendFormat(id, "20060102T150405.000Z-")
+	id = append(id, idStart...)
+	return string(strconv.AppendUint(id, idCount.Add(1), 10))
+}
+
+// idStart and idCount tell the ids that are made apart: those of two processes, and those of one.
+var (
+	idStart = func() string {
+		var random [4]byte
+		_, _ = rand.Read(random[:])
+		return hex.EncodeToString(random[:]) + "-"
+	}()
+	idCount atomic.Uint64
+)
+
+func isID(id string) bool {
+	if len(id) == 0 || len(id) > maxID {
+		return false
+	}
+	for at := 0; at < len(id); at++ {
+		c := id[at]
+		letter := c|0x20 >= 'a' && c|0x20 <= 'z'
+		if !letter && (c < '0' || c > '9') && strings.IndexByte("-._~:/+=@", c) < 0 {
+			return false
+		}
+	}
+	return true
+}
+
+// takes says whether a method is one of these, and answers where it is not.
+func takes(w http.ResponseWriter, r *http.Request, methods ...string) bool {
+	for _, method := range methods {
+		if r.Method == method {
+			return true
+		}
+	}
+	p := problemMethod.with("it takes " + strings.Join(methods, ", "))
+	p.allow = strings.Join(methods, ", ")
+	p.write(w, w.Header().Get("X-Request-Id"))
+	return false
+}
+
+func writeJSON(w http.ResponseWriter, status int, text []byte) {
+	header := w.Header()
+	header["Content-Type"] = contentJSON
+	header["Content-Length"] = []string{strconv.Itoa(len(text))}
+	w.WriteHeader(status)
+	_, _ = w.Write(text)
+}
+
+// plainJSON writes a value as JSON, with nothing escaped that need not be.
+func plainJSON(value any) ([]byte, error) {
+	var text bytes.Buffer
+	encoder := json.NewEncoder(&text)
+	encoder.SetEscapeHTML(false)
+	err := encoder.Encode(value)
+	return bytes.TrimSuffix(text.Bytes(), []byte("\n")), err
+}
+
+func writePage(w http.ResponseWriter, status int, page any) {
+	text, err := plainJSON(page)
+	if err != nil {
+		problemInside.with(err.Error()).write(w, w.Header().Get("X-Request-Id"))
+		return
+	}
+	writeJSON(w, status, append(text, '\n'))
+}
+
+func (s *Service) healthPath(w http.ResponseWriter, r *http.Request) {
+	if takes(w, r, http.MethodGet, http.MethodHead) {
+		writePage(w, http.StatusOK, map[string]string{"status": "alive"})
+	}
+}
+
+// unready says why requests are better sent elsewhere, or nothing.
+func (s *Service) unready() string {
+	switch {
+	case s.stopping.Load():
+		return "the service is about to end"
+	case s.pool.Ready() == 0:
+		return "no engine is ready"
+	case s.journal != nil && s.journal.Failing():
+		return "the journal cannot be written"
+	}
+	return ""
+}
+
+func (s *Service) readyPath(w http.ResponseWriter, r *http.Request) {
+	if !takes(w, r, http.MethodGet, http.MethodHead) {
+		return
+	}
+	page := map[string]any{"status": "ready", "engines": s.pool.Ready(), "due": s.pool.Processes()}
+	status := http.StatusOK
+	if why := s.unready(); why != "" {
+		page["status"], status = why, http.StatusServiceUnavailable
+	}
+	writePage(w, status, page)
+}
+
+func (s *Service) problemsPath(w http.ResponseWriter, r *http.Request) {
+	if !takes(w, r, http.MethodGet, http.MethodHead) {
+		return
+	}
+	word := strings.TrimPrefix(r.URL.Path, "/problems/")
+	kind := problemKinds[word]
+	if kind == nil && word != "" {
+		problemPath.with(r.URL.Path).write(w, w.Header().Get("X-Request-Id"))
+		return
+	}
+	w.Header().Set("Content-Type", "text/plain; charset=utf-8")
+	to := bufio.NewWriter(w)
+	defer to.Flush()
+	if kind != nil {
+		fmt.Fprintf(to, "%s (%d)\n\n%s\n", kind.title, kind.status, kind.page)
+		return
+	}
+	words := make([]string, 0, len(problemKinds))
+	for word := range problemKinds {
+		words = append(words, word)
+	}
+	sort.Strings(words)
+	for _, word := range words {
+		fmt.Fprintf(to, "%-10s %d  %s\n", word, problemKinds[word].status, problemKinds[word].title)
+	}
+}
+
+func (s *Service) openAPIPath(w http.ResponseWriter, r *http.Request) {
+	if !takes(w, r, http.MethodGet, http.MethodHead) {
+		return
+	}
+	model := s.model.Load()
+	var services []openapi.Service
+	for _, form := range model.lawful.Services {
+		service := openapi.Service{Name: model.nameOf(form.Name)}
+		for _, word := range form.Parameters {
+			service.Inputs = append(service.Inputs, openapi.Input{Name: model.nameOf(word), Schema: model.schema(word)})
+		}
+		services = append(services, service)
+	}
+	page, err := openapi.Page(model.engine.Sum, s.version, s.tokens.Load() != nil, services)
+	if err != nil {
+		problemInside.with(err.Error()).write(w, w.Header().Get("X-Request-Id"))
+		return
+	}
+	w.Header()["Desk-Model"] = model.sum
+	writeJSON(w, http.StatusOK, page)
+}
+
+// longAnswer is the most bytes of an answer that the system takes whether the caller reads or not.
+const longAnswer = 4096
+
+// limitWrite bounds how long a caller may take to read an answer of this many bytes. Without it the limit is that of the
+// whole exchange.
+func limitWrite(r *http.Request, bytes int) {
+	if bytes <= longAnswer {
+		return
+	}
+	if connection, is := r.Context().Value(connectionKey{}).(net.Conn); is {
+		_ = connection.SetWriteDeadline(time.Now().Add(writePatience))
+	}
+}

@@ -1,0 +1,131 @@
+package service
+
+import (
+	"net/http"
+	"strconv"
+	"sync/atomic"
+	"time"
+
+	"github.com/prometheus/client_golang/prometheus"
+	"github.com/prometheus/client_golang/prometheus/collectors"
+	"github.com/prometheus/client_golang/prometheus/promhttp"
+)
+
+// metrics are what /metrics tells. docs/OPERATIONS.md says what each means.
+type metrics struct {
+	registry *prometheus.Registry
+	calls    *prometheus.CounterVec
+	seconds  prometheus.Histogram
+	requests *prometheus.CounterVec
+	restarts prometheus.Counter
+	puts     *prometheus.CounterVec
+
+	journalLines, journalBytes, journalFaults prometheus.Counter
+	journalSeconds                            prometheus.Histogram
+	// lastFault is the second at which a fault of the journal was last logged.
+	lastFault atomic.Int64
+	// ok and result are the counters of the most frequent labels.
+	ok, result prometheus.Counter
+}
+
+func newMetrics(s *Service) *metrics {
+	m := &metrics{registry: prometheus.NewRegistry()}
+	counter := func(name, help string) prometheus.Counter {
+		it := prometheus.NewCounter(prometheus.CounterOpts{Name: "desk_http_" + name, Help: help})
+		m.registry.MustRegister(it)
+		return it
+	}
+	counters := func(name, help, label string) *prometheus.CounterVec {
+		it := prometheus.NewCounterVec(prometheus.CounterOpts{Name: "desk_http_" + name, Help: help}, []string{label})
+		m.registry.MustRegister(it)
+		return it
+	}
+	times := func(name, help string) prometheus.Histogram {
+		it := prometheus.NewHistogram(prometheus.HistogramOpts{Name: "desk_http_" + name, Help: help,
+			Buckets: []float64{.0005, .001, .0025, .005, .01, .025, .05, .1, .25, .5, 1, 2.5, 5, 10, 30}})
+		m.registry.MustRegister(it)
+		return it
+	}
+	m.calls = counters("calls_total", "Calls of services, by the status of the answer; 499 where the caller went away.", "status")
+	m.seconds = times("call_seconds", "How long calls took, from the header to the answer.")
+	m.requests = counters("requests_total", "Requests that were asked of engines, by what became of them.", "outcome")
+	m.restarts = counter("engine_restarts_total", "Engines that ended and were begun anew.")
+	m.puts = counters("puts_total", "Models that were put, by the status of the answer.", "status")
+	m.journalLines = counter("journal_lines_total", "Requests written to the journal.")
+	m.journalBytes = counter("journal_bytes_total", "Bytes written to the journal.")
+	m.journalFaults = counter("journal_faults_total", "Groups of requests that could not be written to the journal.")
+	m.journalSeconds = times("journal_sync_seconds", "How long writing and syncing a group took.")
+	m.ok, m.result = m.calls.WithLabelValues("200"), m.requests.WithLabelValues("result")
+	m.gauges(s)
+	m.registry.MustRegister(collectors.NewGoCollector(),
+		collectors.NewProcessCollector(collectors.ProcessCollectorOpts{}))
+	return m
+}
+
+// gauges are read when they are asked for.
+func (m *metrics) gauges(s *Service) {
+	gauge := func(name, help string, read func() float64) {
+		m.registry.MustRegister(prometheus.NewGaugeFunc(
+			prometheus.GaugeOpts{Name: "desk_http_" + name, Help: help}, read))
+	}
+	gauge("engines", "Engines that there are to be.", func() float64 { return float64(s.options.Processes) })
+	gauge("engines_ready", "Engines that have taken a model.", func() float64 { return float64(s.pool.Ready()) })
+	gauge("ready", "1 where /readyz answers 200.", func() float64 {
+		if s.unready() == "" {
+			return 1
+		}
+		return 0
+	})
+	gauge("outstanding", "Requests that are taken and not yet answered.", func() float64 {
+		requests, _ := s.clients.count()
+		return float64(requests)
+	})
+	gauge("clients", "Named clients with requests that are not yet answered.", func() float64 {
+		_, named := s.clients.count()
+		return float64(named)
+	})
+	gauge("held_bytes", "Bytes of bodies and results that are held.", func() float64 { return float64(s.bodies.held.Load()) })
+	gauge("connections", "Connections that are open.", func() float64 { return float64(s.connections.Load()) })
+	gauge("model_since_seconds", "When the model in force was put in force, in seconds since 1970.", func() float64 {
+		return float64(s.model.Load().since.Unix())
+	})
+}
+
+func (m *metrics) handler() http.Handler {
+	return promhttp.HandlerFor(m.registry, promhttp.HandlerOpts{})
+}
+
+// called counts a call.
+func (m *metrics) called(status int, took time.Duration) {
+	m.seconds.Observe(took.Seconds())
+	if status == http.StatusOK {
+		m.ok.Inc()
+		return
+	}
+	m.calls.WithLabelValues(strconv.Itoa(status)).Inc()
+}
+
+// asked counts the requests of a call.
+func (m *metrics) asked(c *call) {
+	results := 0
+	for _, job := range c.jobs {
+		p := problemOf(c.outcomes[job.Place])
+		if p == nil {
+			results++
+			continue
+		}
+		m.requests.WithLabelValues(p.kind.word).Inc()
+	}
+	m.result.Add(float64(results))
+}
+
+// synced counts a group of the journal.
+func (m *metrics) synced(lines int, bytes int64, took time.Duration, err error) {
+	m.journalSeconds.Observe(took.Seconds())
+	if err != nil {
+		m.journalFaults.Inc()
+		return
+	}
+	m.journalLines.Add(float64(lines))
+	m.journalBytes.Add(float64(bytes))
+}

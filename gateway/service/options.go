@@ -1,0 +1,85 @@
+package service
+
+import (
+	"fmt"
+	"net"
+	"time"
+)
+
+// Options says what a service is to do.
+type Options struct {
+	// Engine is the file of the engine.
+	Engine string
+	// Model is the one of the command line, and Named is how the command line calls it.
+	Model *Source
+	Named string
+	// ReadDMN reads .dmn files that are put; nil where none are read.
+	ReadDMN func(text []byte) (*Source, error)
+	// Listener is where connections come in.
+	Listener net.Listener
+	// Processes is the number of engines, Memory the limit of the address space of each in bytes (0 is none), and
+	// Deadline how long an engine may be at one request.
+	Processes int
+	Memory    uint64
+	Deadline  time.Duration
+	// Tokens is a file of tokens, Journal a folder, State a file that keeps the model last put; each may be empty.
+	Tokens, Journal, State string
+	// JournalSize is about how many bytes a file of the journal has at most.
+	JournalSize int64
+	// ClientLimit and Limit are the most requests of one client and in all that are taken and not yet answered.
+	ClientLimit, Limit int
+	// Log writes a line for the operator.
+	Log func(form string, words ...any)
+	// Turn is sent to whenever the journal is to begin new files and the tokens are to be read again.
+	Turn <-chan struct{}
+}
+
+// Limits of the service.
+const (
+	// MaxBody is the most bytes of a body.
+	MaxBody = 16 << 20
+	// MaxList is the most requests in one call.
+	MaxList = 10_000
+	// bodiesLimit is the most bytes of bodies that are read and not yet answered, in all.
+	bodiesLimit = 256 << 20
+	// maxConnections is the most connections at once; more wait until one ends.
+	maxConnections = 8192
+	maxHeader      = 16 << 10
+
+	headerPatience = 5 * time.Second
+	readPatience   = 30 * time.Second
+	writePatience  = 30 * time.Second
+	idlePatience   = 75 * time.Second
+	// waitPatience is how long a request may wait until an engine is asked.
+	waitPatience = 30 * time.Second
+	// drainPatience is how long connections that are kept open may bring one more request once the service is to end.
+	drainPatience = 2 * time.Second
+	// stopPatience is how long what was taken may take then.
+	stopPatience = 45 * time.Second
+	// putPatience is how long engines may take until they have a new model.
+	putPatience = 60 * time.Second
+	// engineRequests is the most that an engine has at once.
+	engineRequests = 128
+)
+
+// answerPatience is the longest that an answer can take, from the request's header on.
+func (o *Options) answerPatience() time.Duration {
+	return readPatience + waitPatience + (engineRequests+2)*o.Deadline + writePatience
+}
+
+// Check says what is wrong with the numbers of the options.
+func (o *Options) Check() error {
+	switch {
+	case o.Processes < 1 || o.Processes > 64:
+		return fmt.Errorf("--processes is a number from 1 to 64, not %d", o.Processes)
+	case o.Deadline < 10*time.Millisecond || o.Deadline > time.Hour:
+		return fmt.Errorf("--deadline is a time from 10ms to 1h, not %v", o.Deadline)
+	case o.Memory != 0 && o.Memory < 32<<20:
+		return fmt.Errorf("--memory is at least 32MiB: an engine takes some of it for itself")
+	case o.ClientLimit < 1 || o.Limit < o.ClientLimit:
+		return fmt.Errorf("--client-limit is at least 1, and --limit at least as much")
+	case o.JournalSize < 1<<20:
+		return fmt.Errorf("--journal-size is at least 1MiB")
+	}
+	return nil
+}

@@ -1,0 +1,170 @@
+package service
+
+import (
+	"bytes"
+	"context"
+	"encoding/json"
+	"errors"
+	"net/http"
+	"strconv"
+	"strings"
+
+	"gateway/engine"
+	"gateway/lines"
+)
+
+// modelPath answers GET and PUT /v1/model.
+func (s *Service) modelPath(w http.ResponseWriter, r *http.Request) {
+	id := w.Header().Get("X-Request-Id")
+	if !takes(w, r, http.MethodGet, http.MethodHead, http.MethodPut) {
+		return
+	}
+	who, p := s.caller(r)
+	if p == nil && r.Method == http.MethodPut {
+		s.putPath(w, r, id, who)
+		return
+	}
+	if p != nil {
+		p.write(w, id)
+		return
+	}
+	model := s.model.Load()
+	w.Header()["Desk-Model"] = model.sum
+	w.Header().Set("ETag", `"`+model.engine.Sum+`"`)
+	if r.URL.Query().Get("text") == "true" {
+		writeJSON(w, http.StatusOK, append(append([]byte(nil), model.engine.Text...), '\n'))
+		return
+	}
+	writePage(w, http.StatusOK, model.page(s.version))
+}
+
+// A putPage is what PUT /v1/model answers.
+type putPage struct {
+	Sum      string            `json:"sha256"`
+	Before   string            `json:"before"`
+	Kept     bool              `json:"kept"`
+	Services []string          `json:"services"`
+	Warnings []json.RawMessage `json:"warnings"`
+}
+
+func (s *Service) putPath(w http.ResponseWriter, r *http.Request, id string, who caller) {
+	page, model, p := s.putModel(w, r, who)
+	if p != nil {
+		s.metrics.puts.WithLabelValues(strconv.Itoa(p.Status)).Inc()
+		p.write(w, id)
+		return
+	}
+	s.metrics.puts.WithLabelValues(strconv.Itoa(http.StatusOK)).Inc()
+	w.Header()["Desk-Model"] = model.sum
+	w.Header().Set("ETag", `"`+model.engine.Sum+`"`)
+	writePage(w, http.StatusOK, page)
+}
+
+// putModel reads a model, has it checked, keeps it and puts it in force.
+func (s *Service) putModel(w http.ResponseWriter, r *http.Request, who caller) (*putPage, *served, *problem) {
+	if !who.mayPut {
+		return nil, nil, problemRight.with("")
+	}
+	body, p := s.readBody(w, r)
+	if p != nil {
+		return nil, nil, p
+	}
+	defer s.bodies.give(int64(len(body)))
+	source, p := s.source(body)
+	if p != nil {
+		return nil, nil, p
+	}
+	s.putting.Lock()
+	defer s.putting.Unlock()
+	if s.stopping.Load() {
+		return nil, nil, problemStopping.with("")
+	}
+	before := s.model.Load()
+	if match := r.Header.Get("If-Match"); match != "" && match != "*" && !strings.Contains(match, `"`+before.engine.Sum+`"`) {
+		return nil, nil, problemMatch.with("the model in force has the SHA-256 " + before.engine.Sum)
+	}
+	// Whoever puts a model may go away meanwhile; it is put all the same.
+	ctx, stop := context.WithTimeout(context.Background(), putPatience)
+	defer stop()
+	model, err := s.read(ctx, source, "put")
+	if err != nil {
+		return nil, nil, faultProblem(err)
+	}
+	if p := s.putInForce(ctx, before, model); p != nil {
+		return nil, nil, p
+	}
+	page := &putPage{Sum: model.engine.Sum, Before: before.engine.Sum, Kept: s.statePath != "",
+		Services: model.serviceNames(), Warnings: model.warnings}
+	if page.Warnings == nil {
+		page.Warnings = []json.RawMessage{}
+	}
+	return page, model, nil
+}
+
+// putInForce keeps a model, and puts it in force for whatever comes from now on.
+func (s *Service) putInForce(ctx context.Context, before, model *served) *problem {
+	if s.statePath != "" {
+		if err := writeState(s.statePath, model.source); err != nil {
+			s.options.Log("%v", err)
+			return problemState.with("")
+		}
+	}
+	s.pool.Switch(model.engine, func() { s.model.Store(model) })
+	s.options.Log("a model was put: SHA-256 %s, before it %s", model.engine.Sum, before.engine.Sum)
+	if err := s.pool.Settle(ctx); err != nil {
+		s.options.Log("a model was put, and not all engines have taken it yet: %v", err)
+	}
+	return nil
+}
+
+// source reads a body as a model.
+func (s *Service) source(body []byte) (*Source, *problem) {
+	if s.options.ReadDMN != nil && isXML(body) {
+		source, err := s.options.ReadDMN(body)
+		if err != nil {
+			return nil, faultProblem(err)
+		}
+		return source, nil
+	}
+	source, err := ReadSource(body)
+	var fault *lines.SyntaxFault
+	if errors.As(err, &fault) {
+		return nil, syntaxProblem(fault)
+	}
+	if err != nil {
+		return nil, problemModel.with(err.Error())
+	}
+	return source, nil
+}
+
+// isXML says whether a text begins as XML does, in whatever encoding.
+func isXML(text []byte) bool {
+	begin := bytes.TrimLeft(text, "\xef\xbb\xbf\xff\xfe\x00 \t\r\n")
+	return len(begin) > 0 && begin[0] == '<'
+}
+
+// Faulty is the error of a model with faults at places of a file.
+type Faulty interface {
+	error
+	// Errors has each place as JSON.
+	Errors() []json.RawMessage
+}
+
+func faultProblem(err error) *problem {
+	var faulty *engine.FaultyModel
+	if errors.As(err, &faulty) {
+		p := problemModel.with(faulty.Error())
+		p.Fault, p.Errors = faulty.Fault, faulty.Places
+		return p
+	}
+	var places Faulty
+	if errors.As(err, &places) {
+		p := problemModel.with(places.Error())
+		p.Errors = places.Errors()
+		return p
+	}
+	if errors.Is(err, errLongModel) {
+		return problemModel.with(err.Error())
+	}
+	return problemInside.with(err.Error())
+}

@@ -1,0 +1,190 @@
+package service
+
+import (
+	"context"
+	"encoding/json"
+	"fmt"
+	"time"
+
+	"gateway/engine"
+	"gateway/lines"
+	"gateway/types"
+)
+
+// A served is a model with what the service has to know of it.
+type served struct {
+	source   *Source
+	engine   *engine.Model
+	lawful   *engine.Lawful
+	warnings []engine.Place
+	// services are found by their words and by their names in the file.
+	services map[string]*decisionService
+	// words has the model's word for each name in the file that is another.
+	words map[string]string
+	// types has the type of each input of which the file says one, by its word.
+	types map[string]*types.Type
+	// origin says where the model came from, and since when it is in force.
+	origin string
+	since  time.Time
+	// sum is the header with the SHA-256 of the text.
+	sum []string
+}
+
+// A decisionService is one service of a model.
+type decisionService struct {
+	word, name string
+	parameters map[string]bool
+	// tail is what stands behind the inputs on the line of a request.
+	tail []byte
+}
+
+// read asks the engine what a model is. Where it has a fault the error is a *engine.FaultyModel.
+func (s *Service) read(ctx context.Context, source *Source, origin string) (*served, error) {
+	lawful, warnings, err := engine.Check(ctx, s.options.Engine, s.options.Memory, source.Text)
+	if err != nil {
+		return nil, err
+	}
+	it := &served{
+		source: source, engine: engine.NewModel(source.Text), lawful: lawful, warnings: warnings,
+		services: map[string]*decisionService{}, words: map[string]string{}, types: map[string]*types.Type{}, origin: origin,
+		since: time.Now(),
+	}
+	line := len(it.engine.AppendLine(nil)) - 1
+	if line > lines.MaxLine {
+		return nil, fmt.Errorf("%w: its line would have %d bytes, and at most %d are read", errLongModel, line, lines.MaxLine)
+	}
+	it.sum = []string{it.engine.Sum}
+	if err := it.index(); err != nil {
+		return nil, err
+	}
+	return it, engine.Try(ctx, s.options.Engine, s.options.Memory, it.engine)
+}
+
+// index makes the tables by which names, types and services are found.
+func (m *served) index() (err error) {
+	for word, name := range m.source.Names {
+		if word != name {
+			m.words[name] = word
+		}
+	}
+	for word, text := range m.source.Types {
+		if m.types[word], err = types.Read(text); err != nil {
+			return fmt.Errorf("%w: the type of %s: %v", ErrNoModel, word, err)
+		}
+	}
+	for _, form := range m.lawful.Services {
+		service := &decisionService{word: form.Name, name: m.nameOf(form.Name), parameters: map[string]bool{}}
+		for _, parameter := range form.Parameters {
+			service.parameters[parameter] = true
+		}
+		service.tail = append(lines.AppendQuoted([]byte(`,"service":`), form.Name), '}')
+		m.services[service.word] = service
+		m.services[service.name] = service
+	}
+	return nil
+}
+
+// nameOf is the name in the file of a word.
+func (m *served) nameOf(word string) string {
+	if name, is := m.source.Names[word]; is {
+		return name
+	}
+	return word
+}
+
+// serviceNames are the names of the services, in the model's order.
+func (m *served) serviceNames() []string {
+	names := []string{}
+	for _, form := range m.lawful.Services {
+		names = append(names, m.nameOf(form.Name))
+	}
+	return names
+}
+
+// A modelPage is what GET /v1/model tells.
+type modelPage struct {
+	Sum      string                     `json:"sha256"`
+	Engine   string                     `json:"engine"`
+	Origin   string                     `json:"origin"`
+	Since    time.Time                  `json:"since"`
+	Inputs   []string                   `json:"inputs"`
+	Decision []decisionPage             `json:"decisions"`
+	Services []servicePage              `json:"services"`
+	Types    map[string]json.RawMessage `json:"types,omitempty"`
+	Warnings []json.RawMessage          `json:"warnings"`
+}
+
+type decisionPage struct {
+	Name string `json:"name"`
+	Kind string `json:"kind"`
+}
+
+type servicePage struct {
+	Name       string   `json:"name"`
+	Parameters []string `json:"parameters"`
+	Path       string   `json:"path"`
+}
+
+func (m *served) page(version string) *modelPage {
+	page := &modelPage{
+		Sum: m.engine.Sum, Engine: version, Origin: m.origin, Since: m.since.UTC(), Inputs: m.names(m.lawful.Inputs),
+		Decision: []decisionPage{}, Services: []servicePage{}, Warnings: m.warnings,
+	}
+	if page.Warnings == nil {
+		page.Warnings = []json.RawMessage{}
+	}
+	for _, decision := range m.lawful.Decisions {
+		page.Decision = append(page.Decision, decisionPage{m.nameOf(decision.Name), decision.Kind})
+	}
+	for _, form := range m.lawful.Services {
+		name := m.nameOf(form.Name)
+		page.Services = append(page.Services, servicePage{name, m.names(form.Parameters), servicePath(name)})
+	}
+	if len(m.source.Types) > 0 {
+		page.Types = map[string]json.RawMessage{}
+		for word := range m.source.Types {
+			page.Types[m.nameOf(word)] = m.schema(word)
+		}
+	}
+	return page
+}
+
+// schema is the JSON Schema of an input with the names of the file; nil where the file says none.
+func (m *served) schema(word string) json.RawMessage {
+	text := m.source.Types[word]
+	if text == nil || len(m.words) == 0 {
+		return text
+	}
+	tree, err := lines.Tree(text)
+	if err != nil {
+		return text
+	}
+	m.renameProperties(tree)
+	return lines.Compact(nil, tree)
+}
+
+// renameProperties gives the properties within a schema the names of the file.
+func (m *served) renameProperties(schema any) {
+	parts, _ := schema.(map[string]any)
+	if parts["items"] != nil {
+		m.renameProperties(parts["items"])
+	}
+	properties, is := parts["properties"].(map[string]any)
+	if !is {
+		return
+	}
+	renamed := make(map[string]any, len(properties))
+	for word, part := range properties {
+		m.renameProperties(part)
+		renamed[m.nameOf(word)] = part
+	}
+	parts["properties"] = renamed
+}
+
+func (m *served) names(words []string) []string {
+	names := make([]string, len(words))
+	for at, word := range words {
+		names[at] = m.nameOf(word)
+	}
+	return names
+}

@@ -1,0 +1,286 @@
+package service
+
+import (
+	"context"
+	"errors"
+	"fmt"
+	"log"
+	"net"
+	"net/http"
+	"os"
+	"path/filepath"
+	"runtime/debug"
+	"sync"
+	"sync/atomic"
+	"time"
+
+	"golang.org/x/net/netutil"
+
+	"gateway/engine"
+	"gateway/journal"
+)
+
+// A Service answers requests over HTTP.
+type Service struct {
+	options Options
+	version string
+	// engineHeader is the header with the engine's version.
+	engineHeader []string
+	pool         *engine.Pool
+	journal      *journal.Journal
+	statePath    string
+	clients      *clients
+	bodies       budget
+	metrics      *metrics
+	model        atomic.Pointer[served]
+	tokens       atomic.Pointer[tokens]
+	// explaining bounds how many explanations are made at once.
+	explaining chan struct{}
+	// putting lets one model be put at a time.
+	putting sync.Mutex
+	// stopping says that the service is to end.
+	stopping    atomic.Bool
+	connections atomic.Int64
+}
+
+var errLongModel = errors.New("the model is too long")
+
+// Most of what a call needs is garbage at its end. So little stays that by Go's own measure garbage would be collected
+// many times a second: it may grow to nine times what stays, and to heapLimit in all.
+const (
+	garbagePercent = 800
+	heapLimit      = 512 << 20
+)
+
+// Run serves until the context ends and what was taken is answered.
+func Run(ctx context.Context, options Options) error {
+	debug.SetGCPercent(garbagePercent)
+	debug.SetMemoryLimit(heapLimit)
+	s, err := newService(ctx, options)
+	if err != nil {
+		return err
+	}
+	if err := s.begin(ctx); err != nil {
+		return err
+	}
+	go s.turns(ctx)
+	return s.serve(ctx)
+}
+
+func newService(ctx context.Context, options Options) (*Service, error) {
+	version, err := engine.Version(ctx, options.Engine)
+	if err != nil {
+		return nil, err
+	}
+	s := &Service{options: options, version: version, engineHeader: []string{version}, statePath: options.State}
+	s.clients = newClients(options.ClientLimit, options.Limit)
+	s.bodies.limit = bodiesLimit
+	s.explaining = make(chan struct{}, options.Processes)
+	s.metrics = newMetrics(s)
+	if s.statePath == "" && options.Journal != "" {
+		s.statePath = filepath.Join(options.Journal, stateName)
+	}
+	return s, s.loadTokens()
+}
+
+// stateName is the file in the journal's folder that keeps the model last put.
+const stateName = "model.json"
+
+func (s *Service) loadTokens() error {
+	if s.options.Tokens == "" {
+		return nil
+	}
+	all, err := readTokens(s.options.Tokens)
+	if err != nil {
+		return err
+	}
+	s.tokens.Store(&all)
+	return nil
+}
+
+// begin opens the journal, reads the model and starts the engines.
+func (s *Service) begin(ctx context.Context) error {
+	if s.options.Journal != "" {
+		opened, repaired, err := journal.Open(s.options.Journal,
+			journal.Options{Size: s.options.JournalSize, Synced: s.metrics.synced})
+		if err != nil {
+			return err
+		}
+		s.journal = opened
+		for _, sentence := range repaired {
+			s.options.Log("journal: %s", sentence)
+		}
+	}
+	model, err := s.firstModel(ctx)
+	if err != nil {
+		return err
+	}
+	s.model.Store(model)
+	s.pool = engine.Start(engine.Options{
+		Path: s.options.Engine, Processes: s.options.Processes, Memory: s.options.Memory,
+		Deadline: s.options.Deadline, Patience: waitPatience, Died: s.died,
+	}, model.engine)
+	ctx, stop := context.WithTimeout(ctx, putPatience)
+	defer stop()
+	if err := s.pool.Settle(ctx); err != nil {
+		return err
+	}
+	return nil
+}
+
+// firstModel is the one last put, where one was kept, and else that of the command line.
+func (s *Service) firstModel(ctx context.Context) (*served, error) {
+	if s.statePath == "" {
+		return s.read(ctx, s.options.Model, "command line")
+	}
+	put, err := readState(s.statePath)
+	if err != nil {
+		return nil, err
+	}
+	if put == nil {
+		return s.read(ctx, s.options.Model, "command line")
+	}
+	model, err := s.read(ctx, put, "put")
+	if err != nil {
+		return nil, fmt.Errorf("the model last put, in %s: %w", s.statePath, err)
+	}
+	if string(put.Text) != string(s.options.Model.Text) {
+		s.options.Log("serving the model last put, from %s, and not %s; to go back, remove that file",
+			s.statePath, s.options.Named)
+	}
+	return model, nil
+}
+
+func (s *Service) died(number int, err error) {
+	s.metrics.restarts.Inc()
+	s.options.Log("engine %d ended and is begun anew: %v", number, err)
+}
+
+// turns begins new files of the journal, and reads the tokens again, whenever it is told to.
+func (s *Service) turns(ctx context.Context) {
+	for {
+		select {
+		case <-ctx.Done():
+			return
+		case <-s.options.Turn:
+		}
+		if s.journal != nil {
+			if err := s.journal.Turn(); err != nil {
+				s.options.Log("%v", err)
+			}
+		}
+		if err := s.loadTokens(); err != nil {
+			s.options.Log("the tokens stay as they were: %v", err)
+		}
+		s.options.Log("the journal has new files, and the tokens were read again")
+	}
+}
+
+type connectionKey struct{}
+
+// serve answers until the context ends, and then ends in order: no new connection, then what was taken, then the engines,
+// then the journal.
+func (s *Service) serve(ctx context.Context) error {
+	server := &http.Server{
+		Handler:           s.handler(),
+		ReadHeaderTimeout: headerPatience,
+		ReadTimeout:       readPatience,
+		WriteTimeout:      s.options.answerPatience(),
+		IdleTimeout:       idlePatience,
+		MaxHeaderBytes:    maxHeader,
+		ErrorLog:          log.New(&logWriter{s.options.Log}, "", 0),
+		ConnState:         s.count,
+		ConnContext: func(ctx context.Context, connection net.Conn) context.Context {
+			return context.WithValue(ctx, connectionKey{}, connection)
+		},
+	}
+	listener := netutil.LimitListener(s.options.Listener, maxConnections)
+	failed := make(chan error, 1)
+	go func() {
+		failed <- server.Serve(listener)
+	}()
+	model := s.model.Load()
+	s.options.Log("serving %s, SHA-256 %s, on http://%s with %d engines of version %s",
+		s.originOf(model), model.engine.Sum, s.options.Listener.Addr(), s.options.Processes, s.version)
+	notify("READY=1")
+	select {
+	case err := <-failed:
+		return fmt.Errorf("serving: %w", err)
+	case <-ctx.Done():
+	}
+	return s.stop(server, listener)
+}
+
+func (s *Service) originOf(model *served) string {
+	if model.origin == "put" {
+		return "the model last put"
+	}
+	return s.options.Named
+}
+
+func (s *Service) count(_ net.Conn, state http.ConnState) {
+	switch state {
+	case http.StateNew:
+		s.connections.Add(1)
+	case http.StateClosed, http.StateHijacked:
+		s.connections.Add(-1)
+	}
+}
+
+func (s *Service) stop(server *http.Server, listener net.Listener) error {
+	notify("STOPPING=1")
+	s.options.Log("ending: what was taken is answered")
+	ctx, stop := context.WithTimeout(context.Background(), stopPatience)
+	defer stop()
+	s.stopping.Store(true)
+	_ = listener.Close()
+	// Whoever keeps a connection open may have sent a request that was not read yet. Each answer says that it is the last.
+	for until := time.Now().Add(drainPatience); s.connections.Load() > 0 && time.Now().Before(until); {
+		time.Sleep(10 * time.Millisecond)
+	}
+	var first error
+	note := func(err error) {
+		if err != nil && first == nil {
+			first = err
+		}
+	}
+	if err := server.Shutdown(ctx); err != nil {
+		note(fmt.Errorf("ending: some requests took too long: %w", err))
+		_ = server.Close()
+	}
+	note(s.pool.Close(ctx))
+	if s.journal != nil {
+		note(s.journal.Close())
+	}
+	if first == nil {
+		s.options.Log("ended: all that was taken is answered")
+	}
+	return first
+}
+
+// notify tells systemd how the service stands, where systemd started it so.
+func notify(state string) {
+	path := os.Getenv("NOTIFY_SOCKET")
+	if path == "" {
+		return
+	}
+	if path[0] == '@' {
+		path = "\x00" + path[1:]
+	}
+	connection, err := net.DialUnix("unixgram", nil, &net.UnixAddr{Name: path, Net: "unixgram"})
+	if err != nil {
+		return
+	}
+	defer connection.Close()
+	_, _ = connection.Write([]byte(state))
+}
+
+// logWriter hands lines of net/http on.
+type logWriter struct {
+	log func(form string, words ...any)
+}
+
+func (w *logWriter) Write(text []byte) (int, error) {
+	w.log("http: %s", text)
+	return len(text), nil
+}

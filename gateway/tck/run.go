@@ -1,0 +1,259 @@
+package tck
+
+import (
+	"context"
+	"fmt"
+	"strings"
+
+	"gateway/dmn"
+	"gateway/feel"
+	"gateway/model"
+)
+
+// An Outcome is how a test ended.
+type Outcome string
+
+const (
+	Pass Outcome = "PASS"
+	Fail Outcome = "FAIL"
+	// Unsupported tests ask for what the profile has not.
+	Unsupported Outcome = "UNSUPPORTED"
+)
+
+// A Verdict is what is said of one result node of a test case.
+type Verdict struct {
+	Case, Node string
+	Outcome    Outcome
+	// Said tells what was due and what came, or what can't be taken; it is empty where the test passed.
+	Said string
+}
+
+func (v Verdict) String() string {
+	line := fmt.Sprintf("%s/%s %s", v.Case, v.Node, v.Outcome)
+	if v.Said != "" {
+		line += " " + v.Said
+	}
+	return line
+}
+
+// A Translation is what an import makes of a file: a model with the words of its names, or the places that can't be
+// taken, one line each.
+type Translation struct {
+	Model    *model.Model
+	Names    map[string]string
+	Refusals []string
+}
+
+// A Translator imports a file.
+type Translator func(*dmn.File) Translation
+
+// Run runs all cases, and gives a verdict for each result node, in the order of the file. An error says that the engine
+// could not be asked.
+func Run(ctx context.Context, file *dmn.File, cases *Cases, translate Translator) ([]Verdict, error) {
+	r := &runner{file: file, translate: translate, subjects: map[string]*subject{}}
+	var tests []*test
+	for i := range cases.Cases {
+		c := &cases.Cases[i]
+		for j := range c.Results {
+			tests = append(tests, r.plan(c, &c.Results[j]))
+		}
+	}
+	for _, s := range r.order {
+		if err := s.ask(ctx); err != nil {
+			return nil, err
+		}
+	}
+	verdicts := make([]Verdict, 0, len(tests))
+	for _, t := range tests {
+		verdicts = append(verdicts, t.verdict())
+	}
+	return verdicts, nil
+}
+
+// A test is one result node: what is asked and what is due.
+type test struct {
+	at       Verdict
+	due      any
+	inputs   map[string]any
+	of       *subject
+	question int
+}
+
+// refuse makes a test unsupported.
+func (t *test) refuse(said string) *test {
+	t.at.Outcome, t.at.Said = Unsupported, said
+	return t
+}
+
+// A runner plans the tests of one file.
+type runner struct {
+	file      *dmn.File
+	translate Translator
+	subjects  map[string]*subject
+	order     []*subject
+}
+
+// plan finds what a test asks, and translates its values.
+func (r *runner) plan(c *Case, result *Result) *test {
+	t := &test{at: Verdict{Case: c.ID, Node: result.Name}}
+	s, refused := r.subject(c, result.Name)
+	if refused != "" {
+		return t.refuse(refused)
+	}
+	t.inputs = map[string]any{}
+	for i := range c.Inputs {
+		value, err := c.Inputs[i].Value.json(s.words)
+		if err != nil {
+			return t.refuse(fmt.Sprintf("input %s: %v", c.Inputs[i].Name, err))
+		}
+		t.inputs[s.words.of(c.Inputs[i].Name)] = value
+	}
+	if !result.Error {
+		due, err := result.Expected.json(s.words)
+		if err != nil {
+			return t.refuse(fmt.Sprintf("due: %v", err))
+		}
+		t.due = due
+	}
+	t.of, t.question = s, len(s.questions)
+	s.questions = append(s.questions, t.inputs)
+	return t
+}
+
+// subject is the service that a result node asks; or why there is none.
+func (r *runner) subject(c *Case, node string) (*subject, string) {
+	key := c.Type + "\x00" + c.Invocable + "\x00" + node
+	given := r.givenDecisions(c)
+	for _, decision := range given {
+		key += "\x00" + decision.Name()
+	}
+	s, known := r.subjects[key]
+	if !known {
+		s = r.newSubject(c, node, given)
+		r.subjects[key] = s
+		if s.refused == "" {
+			r.order = append(r.order, s)
+		}
+	}
+	return s, s.refused
+}
+
+// givenDecisions are the decisions for which a case brings values.
+func (r *runner) givenDecisions(c *Case) []*dmn.Decision {
+	var given []*dmn.Decision
+	for _, input := range c.Inputs {
+		if decision := decisionNamed(r.file, input.Name); decision != nil {
+			given = append(given, decision)
+		}
+	}
+	return given
+}
+
+func (r *runner) newSubject(c *Case, node string, given []*dmn.Decision) *subject {
+	if c.Type == "bkm" {
+		return &subject{refused: "a business knowledge model is not asked by itself"}
+	}
+	name := node
+	if c.Type == "decisionService" && c.Invocable != "" {
+		name = c.Invocable
+	}
+	decision, service := decisionNamed(r.file, name), serviceNamed(r.file, name)
+	if service != nil && (c.Type == "decisionService" || decision == nil) {
+		return r.ofService(service)
+	}
+	if decision == nil {
+		return &subject{refused: fmt.Sprintf("%s has no decision %q", r.file.Path, name)}
+	}
+	return r.ofDecision(decision, given)
+}
+
+// ofDecision is a subject that answers one decision.
+func (r *runner) ofDecision(decision *dmn.Decision, given []*dmn.Decision) *subject {
+	wanted := append([]*dmn.Decision{decision}, given...)
+	made := r.translate(without(r.file, wanted...))
+	if len(made.Refusals) > 0 {
+		return &subject{refused: strings.Join(made.Refusals, "; ")}
+	}
+	s := &subject{model: *made.Model, words: wordsOf(made.Names)}
+	asked := model.Service{Name: "asked", Outputs: []string{s.words.of(decision.Name())}, InputData: made.Model.Inputs}
+	isGiven := map[string]bool{}
+	for _, d := range given {
+		if d != decision {
+			isGiven[s.words.of(d.Name())] = true
+		}
+	}
+	for _, d := range made.Model.Decisions {
+		if isGiven[d.Name] {
+			asked.InputDecisions = append(asked.InputDecisions, d.Name)
+		} else if d.Name != asked.Outputs[0] {
+			asked.Encapsulated = append(asked.Encapsulated, d.Name)
+		}
+	}
+	s.model.Services, s.service = []model.Service{asked}, "asked"
+	return s
+}
+
+// ofService is a subject that answers a service of the file.
+func (r *runner) ofService(service *dmn.DecisionService) *subject {
+	var wanted []*dmn.Decision
+	for _, list := range [][]*dmn.Reference{service.Outputs, service.Encapsulated, service.Decisions} {
+		for _, reference := range list {
+			if decision := decisionOf(r.file, reference); decision != nil {
+				wanted = append(wanted, decision)
+			}
+		}
+	}
+	part := without(r.file, wanted...)
+	part.Services = []*dmn.DecisionService{service}
+	part.Inputs = r.file.Inputs
+	made := r.translate(part)
+	if len(made.Refusals) > 0 {
+		return &subject{refused: strings.Join(made.Refusals, "; ")}
+	}
+	if len(made.Model.Services) != 1 {
+		return &subject{refused: fmt.Sprintf("the service %q is not imported", service.Name())}
+	}
+	return &subject{model: *made.Model, words: wordsOf(made.Names), service: made.Model.Services[0].Name}
+}
+
+// wordsOf turns the names of the words round.
+func wordsOf(names map[string]string) words {
+	w := words{}
+	for word, name := range names {
+		w[feel.Canonical(name)] = word
+	}
+	return w
+}
+
+// of is the word of a name.
+func (w words) of(name string) string {
+	if word, found := w[feel.Canonical(name)]; found {
+		return word
+	}
+	return name
+}
+
+// verdict compares what is due with what came.
+func (t *test) verdict() Verdict {
+	if t.at.Outcome != "" {
+		return t.at
+	}
+	if t.of.refused != "" {
+		return t.refuse(t.of.refused).at
+	}
+	if t.question >= len(t.of.answers) {
+		return t.refuse("the engine gave no answer").at
+	}
+	a := t.of.answers[t.question]
+	switch {
+	case a.Refused != "":
+		return t.refuse("the engine refuses the values: " + a.Refused).at
+	case a.Fault != "":
+		t.at.Outcome, t.at.Said = Fail, fmt.Sprintf("due %s, came a value past the limits", said(t.due))
+	case same(t.due, a.Result):
+		t.at.Outcome = Pass
+	default:
+		t.at.Outcome, t.at.Said = Fail, fmt.Sprintf("due %s, came %s", said(t.due), said(a.Result))
+	}
+	return t.at
+}

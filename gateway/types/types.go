@@ -1,0 +1,205 @@
+// Package types holds values to the JSON Schemas that desk import writes of the types of DMN files: the keywords type, enum,
+// minimum, maximum, exclusiveMinimum, exclusiveMaximum, items and properties. Other keywords say nothing.
+package types
+
+import (
+	"encoding/json"
+	"fmt"
+	"math/big"
+	"strings"
+
+	"gateway/lines"
+)
+
+// A Type is a schema that was read.
+type Type struct {
+	kinds      []string
+	enum       []any
+	ends       []bound
+	items      *Type
+	properties map[string]*Type
+	// order has the names of the properties in the order of their bytes.
+	order []string
+}
+
+// A bound is one end of a range of numbers.
+type bound struct {
+	at          *big.Rat
+	text        string
+	below, open bool
+}
+
+// A form is a schema as it is written.
+type form struct {
+	Type             any             `json:"type"`
+	Enum             []any           `json:"enum"`
+	Minimum          json.Number     `json:"minimum"`
+	Maximum          json.Number     `json:"maximum"`
+	ExclusiveMinimum json.Number     `json:"exclusiveMinimum"`
+	ExclusiveMaximum json.Number     `json:"exclusiveMaximum"`
+	Items            json.RawMessage `json:"items"`
+	Properties       map[string]json.RawMessage
+}
+
+// Read reads a schema.
+func Read(text json.RawMessage) (*Type, error) {
+	decoder := json.NewDecoder(strings.NewReader(string(text)))
+	decoder.UseNumber()
+	var it form
+	if err := decoder.Decode(&it); err != nil {
+		return nil, fmt.Errorf("reading a type: %w", err)
+	}
+	t := &Type{enum: it.Enum, properties: map[string]*Type{}}
+	switch kind := it.Type.(type) {
+	case string:
+		t.kinds = []string{kind}
+	case []any:
+		for _, name := range kind {
+			t.kinds = append(t.kinds, fmt.Sprint(name))
+		}
+	}
+	t.bound(it.Minimum, true, false)
+	t.bound(it.Maximum, false, false)
+	t.bound(it.ExclusiveMinimum, true, true)
+	t.bound(it.ExclusiveMaximum, false, true)
+	return t, t.parts(&it)
+}
+
+func (t *Type) bound(limit json.Number, below, open bool) {
+	if at, is := new(big.Rat).SetString(limit.String()); is {
+		t.ends = append(t.ends, bound{at, limit.String(), below, open})
+	}
+}
+
+func (t *Type) parts(it *form) (err error) {
+	if it.Items != nil {
+		if t.items, err = Read(it.Items); err != nil {
+			return err
+		}
+	}
+	for name, text := range it.Properties {
+		if t.properties[name], err = Read(text); err != nil {
+			return fmt.Errorf("%s: %w", name, err)
+		}
+	}
+	all := make(map[string]any, len(t.properties))
+	for name := range t.properties {
+		all[name] = nil
+	}
+	t.order = lines.Keys(all)
+	return nil
+}
+
+// Check says why a value is not of this type, or gives nil. Numbers are json.Number.
+func (t *Type) Check(value any) *lines.ValueFault {
+	return t.check(value, "")
+}
+
+func (t *Type) check(value any, pointer string) *lines.ValueFault {
+	if !t.isOfKind(value) {
+		return &lines.ValueFault{Pointer: pointer,
+			Reason: fmt.Sprintf("%s is not of the type: %s", shown(value), strings.Join(t.kinds, " or "))}
+	}
+	if !t.isListed(value) {
+		return &lines.ValueFault{Pointer: pointer,
+			Reason: fmt.Sprintf("%s is not among the allowed values: %s", shown(value), shown(t.enum))}
+	}
+	switch value := value.(type) {
+	case json.Number:
+		return t.checkNumber(value, pointer)
+	case []any:
+		return t.checkItems(value, pointer)
+	case map[string]any:
+		return t.checkProperties(value, pointer)
+	}
+	return nil
+}
+
+func (t *Type) checkNumber(value json.Number, pointer string) *lines.ValueFault {
+	at, is := new(big.Rat).SetString(value.String())
+	for _, end := range t.ends {
+		if is && end.holds(at) {
+			continue
+		}
+		return &lines.ValueFault{Pointer: pointer, Reason: fmt.Sprintf("%s is not allowed: it has to be %s", value, end)}
+	}
+	return nil
+}
+
+func (b bound) holds(at *big.Rat) bool {
+	order := at.Cmp(b.at)
+	return order > 0 && b.below || order < 0 && !b.below || order == 0 && !b.open
+}
+
+func (b bound) String() string {
+	words := map[[2]bool]string{{true, false}: "at least ", {true, true}: "more than ", {false, false}: "at most ",
+		{false, true}: "less than "}
+	return words[[2]bool{b.below, b.open}] + b.text
+}
+
+func (t *Type) checkItems(value []any, pointer string) *lines.ValueFault {
+	if t.items == nil {
+		return nil
+	}
+	for at, item := range value {
+		if fault := t.items.check(item, fmt.Sprintf("%s/%d", pointer, at)); fault != nil {
+			return fault
+		}
+	}
+	return nil
+}
+
+// checkProperties holds those properties to their types that the value has. One that is missing is null, as everywhere.
+func (t *Type) checkProperties(value map[string]any, pointer string) *lines.ValueFault {
+	for _, name := range t.order {
+		part, is := value[name]
+		if !is {
+			continue
+		}
+		if fault := t.properties[name].check(part, pointer+"/"+lines.Token(name)); fault != nil {
+			return fault
+		}
+	}
+	return nil
+}
+
+func (t *Type) isOfKind(value any) bool {
+	for _, kind := range t.kinds {
+		if kindOf(value) == kind || kind == "number" && kindOf(value) == "integer" {
+			return true
+		}
+	}
+	return len(t.kinds) == 0
+}
+
+func kindOf(value any) string {
+	switch value := value.(type) {
+	case nil:
+		return "null"
+	case bool:
+		return "boolean"
+	case string:
+		return "string"
+	case json.Number:
+		if lines.IsWhole(value.String()) {
+			return "integer"
+		}
+		return "number"
+	case []any:
+		return "array"
+	}
+	return "object"
+}
+
+func (t *Type) isListed(value any) bool {
+	for _, listed := range t.enum {
+		if string(lines.Compact(nil, listed)) == string(lines.Compact(nil, value)) {
+			return true
+		}
+	}
+	return len(t.enum) == 0
+}
+
+func shown(value any) string {
+	return lines.Brief(lines.Compact(nil, value), 120)
+}

@@ -1,0 +1,94 @@
+"""What `desk check` writes for whole inputs, notes on requests, and what helps where a model is wrong."""
+
+from __future__ import annotations
+
+import json
+
+from . import output_rows as rows
+from .program import Program, Result, told
+
+MANY = '{"name":"d","needs":[],"expr":{"list":[' + ",".join(['"("'] * 150) + "]}}"
+ONE = '{"name":"d","needs":["a"],"expr":"a"}'
+ITS_SERVICE = '{"name":"s","outputs":["d"],"encapsulated":[],"inputDecisions":[],"inputData":["a"]}'
+
+
+def model(decisions: str, services: str = "") -> str:
+    return rows.MODEL % (decisions, services)
+
+
+def wholes() -> list[tuple[str, list[str], str, int, str]]:
+    """Inputs with their options, and the status and the whole output that are due."""
+    syntax = "syntax: no JSON text\n  line %d, column %d\n"
+    asked = f'{model(ONE, ITS_SERVICE)}\n{{"client":"c","service":"s","inputs":{{"a":1}}}}\n\n'
+    asked += '{"client":"c","service":"s","inputs":{"x":1,"a":1.5}}\n'
+    return [
+        ("a lawful model", [], rows.LAWFUL, 0, rows.SUMMARY),
+        ("a model on a line", [], f'{{"model":{rows.LAWFUL}}}', 0, rows.SUMMARY),
+        ("a lawful model as JSON", ["--json"], rows.LAWFUL, 0, rows.JSON_SUMMARY),
+        ("no JSON", [], "{\n}}", 3, syntax % (2, 2)),
+        ("no JSON as JSON", ["--json"], "{\n]", 3, '{"fault":"syntax"}\n{"fault":"syntax","line":2,"column":1}\n'),
+        ("no keys", [], '{"inputs":[]}', 3, rows.NO_KEYS_TOLD),
+        ("wrong keys as JSON", ["--json"], rows.WRONG_KEYS, 3, rows.WRONG_KEYS_TOLD),
+        ("a table as JSON", ["--json"], model(rows.TABLE), 3, rows.TABLE_LINES),
+        ("requests", ["--requests"], asked, 0, rows.NOTES_TOLD),
+        ("no JSON before requests", ["--requests"], "{\n}", 3, syntax % (1, 1)),
+        ("requests as JSON", ["--requests", "--json"], f'{model("")}\n{{"service":"sum","inputs":{{}}}}\nx', 0, rows.NOTE_LINES),
+    ]
+
+
+# Models, the first fault, and what is told behind its line.
+BEHIND = [
+    ("texts without a reading", model(rows.TABLE), "expression", rows.TABLE_TOLD),
+    ("texts within boxes", model(rows.BOXES), "expression", rows.BOXES_TOLD),
+    ("later faults", model(rows.LATER), "name", rows.LATER_TOLD),
+    ("rings, rules and services", model(rows.RINGS, rows.RINGS_SERVICE), "table", rows.RINGS_TOLD),
+]
+
+
+def is_behind(program: Program, text: str, fault: str, due: str) -> bool:
+    status, said = program.check(text)
+    first, _, places = said.partition("\n")
+    return status == 3 and first.startswith(f"{fault}: ") and places == due
+
+
+def ends_with(program: Program, end: str, lines: int, *options: str) -> bool:
+    """Where there are too many places, a hundred are told and the others counted."""
+    status, said = program.check(model(MANY), *options)
+    return status == 3 and said.endswith(end) and len(said.splitlines()) == lines
+
+
+def notes(program: Program, line: str) -> list[str]:
+    """What is said of a line of requests."""
+    said = program.check(f"{rows.ASKED}\n{line}", "--requests")[1].splitlines()
+    return [it[len("line 2: ") :] for it in said if it.startswith("line 2: ")]
+
+
+def name_hint(program: Program, name: str) -> list[object]:
+    said = program.lines(json.dumps({"inputs": [name], "decisions": [], "services": []}))
+    return [it.get("hint") for it in said if it.get("said") == "no name"]
+
+
+def need_hint(program: Program, name: str) -> list[object]:
+    """What helps where a decision needs this name, which the model of rings has not."""
+    whole = json.loads(rows.HELPED)
+    whole["decisions"].append({"name": "needing", "needs": [name], "expr": "1"})
+    return [it.get("hint", "") for it in program.lines(json.dumps(whole)) if it.get("fault") == "unknown" and "pointer" in it]
+
+
+def helped(program: Program) -> list[Result]:
+    """Cycles and services that do not fit, with what helps."""
+    said = {told(it): it.get("hint", "") for it in program.lines(rows.HELPED) if "pointer" in it}
+    rings = [(n, f"decisions[{n}]: needs itself, directly or through others", hint) for n, hint in rows.RING_HINTS]
+    found = [(f"ring {n}", said.get(place, "") == hint and (place in said) == bool(hint)) for n, place, hint in rings]
+    return found + [(f"service {n}", said.get(f"services[{n}]: {words}") == hint) for n, (words, hint) in enumerate(rows.SERVICE_HINTS)]
+
+
+def all_rows(program: Program) -> list[Result]:
+    found = [(name, program.check(text, *options) == (status, due)) for name, options, text, status, due in wholes()]
+    found += [(name, is_behind(program, text, fault, due)) for name, text, fault, due in BEHIND]
+    found.append(("many places", ends_with(program, "\n  and 50 more\n", 203)))
+    found.append(("many places as JSON", ends_with(program, '\n{"fault":"expression","more":50}\n', 102, "--json")))
+    found += [(f"notes on {line}", notes(program, line) == due) for line, due in rows.NOTES]
+    found += [(f"name {name!r}", name_hint(program, name) == [hint]) for name, hint in rows.NAMES]
+    found += [(f"need {name!r}", need_hint(program, name) == [hint]) for name, hint in rows.NEAR]
+    return found + helped(program)

@@ -1,0 +1,1 @@
+"""Rows of what `desk explain` tells."""
