@@ -1,6 +1,6 @@
 //! Tables that are refused, each for its own reason; wide tables; and calls while the heap refuses requests.
-mod columns;
 mod memory;
+mod wide;
 
 use dmn_table::{Output, Rule, Table, TableFault};
 use feel_lang::{Expr, Tests, read_expr, read_tests};
