@@ -6,5 +6,5 @@ pub const VERSION: &str = concat!(
     "0.12.0\n",
     "licence MIT OR Apache-2.0\n",
     "proved with rattle-kit-13f logic dac8208d650f15bf\n",
-    "sources 258cdd4da0fbe36d6043342b81d80294d3a208d8bdb0ef04e7ed3180693f2e6d",
+    "sources dbeb9befb4be962090e3aa55d618767306308e3da4d0ecc9773105da67f7eef4",
 );

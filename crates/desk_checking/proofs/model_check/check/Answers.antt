@@ -1,6 +1,12 @@
-use Rattle.std.proofs.Common.{ap, subst, ◌∙◌}
-use Rattle.desk_checking.specs.FirstFault.{IsFirstFault}
+use Rattle.std.proofs.Common.{◌≡◌, ◌++◌, List, ℕ, Some, IsUtf8, ap, subst, sym, ◌∙◌}
+use Rattle.std.specs.Prelude.{string_bytes}
+use Rattle.std.specs.Io.KnownBytes.{Appends}
+use Rattle.serde_json.specs.Data.{Data}
+use Rattle.serde_json.specs.Read.{read}
+use Rattle.desk_checking.specs.FirstFault.{IsFirstFault, subject}
 use Rattle.desk_checking.specs.Input.{model_text}
+use Rattle.desk_checking.specs.Placed.{TellsPlaces}
+use Rattle.desk_checking.specs.Told.{head}
 use Rattle.desk_checking.proofs.model_check.check.Goals as goal
 
 pub returns : goal.returns
@@ -9,9 +15,16 @@ returns g c = record {
     text = c.in_ok-text.text.items;
     read = c.in_ok-text.ensures.whole.0;
     at_end = c.in_ok-text.ensures.whole.1;
-    first = subst (λ t. IsFirstFault t c.in_ok-verdict.verdict.fault) (c.model_and_rest.ensures ∙ ap (model_text c.args.options) c.deref.ensures.value) c.in_ok-verdict.ensures;
+    first = subst (λ t. IsFirstFault t c.in_ok-verdict.verdict.fault) (c.model_and_rest.ensures ∙ ap (model_text c.args.options) c.deref.ensures.value) c.in_ok-verdict.ensures.first;
   };
   tells = c.in_ok-write_told.ensures.tells;
+  places = λ json. record {
+    text = c.in_ok-text.text.items;
+    read = c.in_ok-text.ensures.whole.0;
+    rest = string_bytes c.in_ok-verdict.verdict.rest;
+    written = subst (λ b. Appends _ _ (head b c.in_ok-verdict.verdict.fault ++ string_bytes c.in_ok-verdict.verdict.rest)) json c.in_ok-write_told.ensures.all;
+    places = subst (λ t. (d : Data) → IsUtf8 t → read t ≡ Some d → TellsPlaces (subject d) c.in_ok-verdict.verdict.fault (string_bytes c.in_ok-verdict.verdict.rest)) (c.model_and_rest.ensures ∙ ap (model_text c.args.options) c.deref.ensures.value) (c.in_ok-verdict.ensures.places json);
+  };
   long = λ e. let wrong : ⊥ = cc in absurd wrong;
   read_only_at_fault = λ e. let wrong : ⊥ = cc in absurd wrong;
   write_only_at_fault = λ e. let wrong : ⊥ = cc in absurd wrong;
