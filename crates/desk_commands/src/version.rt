@@ -6,5 +6,5 @@ pub const VERSION: &str = concat!(
     "0.12.0\n",
     "licence MIT OR Apache-2.0\n",
     "proved with rattle-kit-13f logic dac8208d650f15bf\n",
-    "sources dbeb9befb4be962090e3aa55d618767306308e3da4d0ecc9773105da67f7eef4",
+    "sources 1ce4effbf060e8a51cd7f449719e7e59238a9ea1faba5da1148efea0fc6180ae",
 );

@@ -8,4 +8,4 @@ use Rattle.desk_checking.proofs.lines.add_stop.Goals as goal
 pub returns : goal.returns
 returns c = λ head g.
     c.add_text.ensures head
-    (goes_on head _ (decimal c.at) _ (goes_on head _ (codes ",\"stop\":") _ g refl c.in_ok-push_str.ensures.bytes) (decimal_line c.at search) c.in_ok-write.ensures.bytes)
+    (goes_on head _ _ _ (goes_on head _ (codes ",\"stop\":") _ g refl c.in_ok-push_str.ensures.bytes) (decimal_line _ search) c.in_ok-write.ensures.bytes)
