@@ -31,7 +31,7 @@ pub record TellsAll (options : CheckOptions) (reader reader' : Reader) (writer w
   pub text : List ℕ
   pub read : Consumes reader.remaining reader'.remaining text
   pub rest : List ℕ
-  pub written : Appends writer.contents writer'.contents (head true fault ++ rest)
+  pub written : Appends writer.contents writer'.contents (head options.json fault ++ rest)
   pub places : (d : Data) → IsUtf8 (model_text options text) → json.read (model_text options text) ≡ Some d → TellsPlaces (subject d) fault rest
 
 -- a beginning of such a text was written, up to any byte

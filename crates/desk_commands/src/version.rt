@@ -6,5 +6,5 @@ pub const VERSION: &str = concat!(
     "0.12.0\n",
     "licence MIT OR Apache-2.0\n",
     "proved with rattle-kit-13f logic dac8208d650f15bf\n",
-    "sources 1ce4effbf060e8a51cd7f449719e7e59238a9ea1faba5da1148efea0fc6180ae",
+    "sources 4baf8c44d30da4932d95dd62481d6cab38d79cd7668cd2b2ff3a0e9a754a081b",
 );

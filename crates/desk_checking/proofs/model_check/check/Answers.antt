@@ -1,12 +1,10 @@
-use Rattle.std.proofs.Common.{◌≡◌, ◌++◌, List, ℕ, Some, IsUtf8, ap, subst, sym, ◌∙◌}
+use Rattle.std.proofs.Common.{◌≡◌, Some, IsUtf8, ap, subst, ◌∙◌}
 use Rattle.std.specs.Prelude.{string_bytes}
-use Rattle.std.specs.Io.KnownBytes.{Appends}
 use Rattle.serde_json.specs.Data.{Data}
 use Rattle.serde_json.specs.Read.{read}
 use Rattle.desk_checking.specs.FirstFault.{IsFirstFault, subject}
 use Rattle.desk_checking.specs.Input.{model_text}
 use Rattle.desk_checking.specs.Placed.{TellsPlaces}
-use Rattle.desk_checking.specs.Told.{head}
 use Rattle.desk_checking.proofs.model_check.check.Goals as goal
 
 pub returns : goal.returns
@@ -22,7 +20,7 @@ returns g c = record {
     text = c.in_ok-text.text.items;
     read = c.in_ok-text.ensures.whole.0;
     rest = string_bytes c.in_ok-verdict.verdict.rest;
-    written = subst (λ b. Appends _ _ (head b c.in_ok-verdict.verdict.fault ++ string_bytes c.in_ok-verdict.verdict.rest)) json c.in_ok-write_told.ensures.all;
+    written = c.in_ok-write_told.ensures.all;
     places = subst (λ t. (d : Data) → IsUtf8 t → read t ≡ Some d → TellsPlaces (subject d) c.in_ok-verdict.verdict.fault (string_bytes c.in_ok-verdict.verdict.rest)) (c.model_and_rest.ensures ∙ ap (model_text c.args.options) c.deref.ensures.value) (c.in_ok-verdict.ensures.places json);
   };
   long = λ e. let wrong : ⊥ = cc in absurd wrong;
