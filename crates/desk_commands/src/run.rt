@@ -6,7 +6,7 @@ ghost use Rattle.desk_lines.specs.Told.{IsTold};
 ghost use Rattle.lanes.specs.Made.{fault_in};
 ghost use Rattle.desk_checking.specs.Checked.{Checked};
 ghost use Rattle.desk_commands.specs.CommandLine.{IsCommand, kinds_of, named_by, named_in, texts_of};
-ghost use Rattle.desk_commands.specs.Status.{Does, EndsBy, Explained, Refuses, Runs, Says, ServedWith, end_text, fault_line, no_utf8_line, status_of, status_of_check, status_of_kind, stopped, wrong_words};
+ghost use Rattle.desk_commands.specs.Status.{Does, EndsBy, Explained, Refuses, Replayed, Runs, Says, ServedWith, end_text, fault_line, no_utf8_line, status_of, status_of_check, status_of_kind, stopped, wrong_words};
 
 use crate::command::read_words;
 use crate::options::{check_options_of, is_text, options_of};
@@ -138,6 +138,22 @@ fn run_explain<R: Source, W: Sink>(
     explain(alloc, reader, writer)
 }
 
+/// Replays the script of the reader, and tells the fault that ends it, if one does.
+fn run_replay<R: Source, W: Sink, F: Sink>(
+    alloc: Global,
+    reader: &mut R,
+    writer: &mut W,
+    faults: &mut F,
+) -> u8
+    requires read_counts { (R.seen reader.old).faults < 2 ^ 64 - 1 }
+    requires write_counts { (W.seen writer.old).faults < 2 ^ 64 - 1 }
+    requires fault_counts { (F.seen faults.old).faults < 2 ^ 64 - 1 }
+    ensures { EndsBy (Replayed (R.seen reader.old) (R.seen reader.new) (W.seen writer.old) (W.seen writer.new))
+        status_of (F.seen faults.old) (F.seen faults.new) result }
+{
+    tell_end(replay(alloc, reader, writer), faults)
+}
+
 /// Runs the command that the words name, and tells the fault that ends it, if one does.
 fn run_command<T: Threads + Wait + Sync, R: Source, W: Sink, F: Sink>(
     alloc: Global,
@@ -162,7 +178,7 @@ fn run_command<T: Threads + Wait + Sync, R: Source, W: Sink, F: Sink>(
     if let Some(found) = matches.subcommand_matches("explain") {
         return tell_end(run_explain(alloc, is_text(found), reader, writer), faults);
     }
-    tell_end(replay(alloc, reader, writer), faults)
+    run_replay(alloc, reader, writer, faults)
 }
 
 /// What is said where `clap` has no words.

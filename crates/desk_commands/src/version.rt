@@ -6,5 +6,5 @@ pub const VERSION: &str = concat!(
     "0.12.0\n",
     "licence MIT OR Apache-2.0\n",
     "proved with rattle-kit-13f logic dac8208d650f15bf\n",
-    "sources 4baf8c44d30da4932d95dd62481d6cab38d79cd7668cd2b2ff3a0e9a754a081b",
+    "sources f42b08e789d02a5ddbcc20e6c482ea2fb1388c99d7c607dbb96c6f024e2996ee",
 );
