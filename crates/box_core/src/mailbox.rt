@@ -248,7 +248,7 @@ impl<W: Work> Mailbox<W> {
     }
 
     /// Where a ticket stands, with its work where the request is still to be answered.
-    pub(crate) fn standing(&self, ticket: u64) -> Result<Standing<W>, AllocError>
+    pub fn standing(&self, ticket: u64) -> Result<Standing<W>, AllocError>
         ensures { IfOk result (λ standing. status_of_standing standing ≡ status_in self.now ticket) }
     {
         if ticket < self.handed {

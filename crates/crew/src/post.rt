@@ -17,7 +17,7 @@ const BETWEEN: u32 = 50;
 /// The first and the longest pause, in milliseconds, of a worker that holds a job that was refused memory.
 const FIRST_PAUSE: u64 = 1;
 
-const LONGEST_PAUSE: u64 = 100;
+const LONGEST_PAUSE: u64 = 250;
 
 /// What a worker does.
 #[derive(Clone, Copy, Drop, PartialEq, Eq)]
@@ -123,19 +123,17 @@ impl<'a, V> Post<'a, V> {
         }
     }
 
-    // It holds a job that was refused memory: it tries again after a few turns, and later once something was freed, or after
-    // pauses that grow. What was freed is read before each try but the first, behind which it stays awake.
+    // It holds a job that was refused memory: it tries again at once, and later once something was freed, or after pauses that
+    // grow. What was freed is read before each try but the first, behind which it doesn't sleep.
     fn await_memory<R: Wait>(&mut self, rt: &R) {
-        if !self.lacks {
-            self.lacks = true;
-            self.signals.begin_to_lack();
-        }
-        self.signals.add_refusal();
-        if self.turns > 0 {
-            self.stay_awake();
-        } else {
+        if self.lacks {
+            self.signals.add_refusal();
             self.signals.await_memory(rt, self.freed, self.pause);
             self.pause = LONGEST_PAUSE.min(self.pause.saturating_mul(2));
+        } else {
+            self.lacks = true;
+            self.signals.begin_to_lack();
+            self.signals.add_refusal();
         }
         self.freed = self.signals.freed();
     }

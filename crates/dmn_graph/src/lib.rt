@@ -8,7 +8,7 @@ mod rank;
 mod search;
 mod walk;
 
-pub use needs::are_needs_below;
+pub use needs::{are_below, are_needs_below};
 pub use order::order_of;
 pub use rank::{ranks_of, reached_order};
 pub use walk::{reach, set_of};

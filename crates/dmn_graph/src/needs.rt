@@ -3,7 +3,7 @@ ghost use Rattle.std.specs.Prelude.{◌≡◌, ◌<◌, ◌↔◌, IsTrue, All, 
 ghost use Rattle.dmn_graph.specs.Needs.{needs_view, needs_of, AreNeedsBelow};
 
 /// Whether each of these places is one of the first so many.
-fn are_below(places: &[usize], count: usize) -> bool
+pub fn are_below(places: &[usize], count: usize) -> bool
     ensures { IsTrue result ↔ All (λ q. q < count) places.now }
 {
     places.iter().all(|place| *place < count)

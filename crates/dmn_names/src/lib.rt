@@ -14,4 +14,4 @@ pub use distinct::{has_name_twice, have_twice};
 pub use lawful::has_bad_name;
 pub use named::{Named, names_of_values};
 pub use places::{Places, ServicePlaces};
-pub use size::is_large;
+pub use size::{MOST_DECISIONS, is_large};

@@ -6,7 +6,7 @@ ghost use Rattle.dmn_names.specs.Size.{is_large as is_large_model};
 use dmn_form::WrittenModel;
 
 /// The most decisions that a model may have.
-const MOST_DECISIONS: usize = 1000;
+pub const MOST_DECISIONS: usize = 1000;
 
 /// Whether the model has more decisions than a model may have.
 pub fn is_large(model: &WrittenModel) -> bool

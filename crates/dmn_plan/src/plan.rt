@@ -85,7 +85,7 @@ impl Plan {
     }
 
     /// The outcome of the service of this name, for these values of its parameters: its input decisions, then its input data.
-    pub(crate) fn outcome(
+    pub fn outcome(
         &self,
         alloc: Global,
         service: &str,

@@ -5,7 +5,7 @@ use std::sync::atomic::{AtomicU64, Ordering};
 
 /// How often a worker may be refused memory for the job that it holds, with nothing freed between, before it counts as starved. Its
 /// pauses make that some second.
-const TRIES: u64 = 20;
+const TRIES: u64 = 12;
 
 /// What workers share that hold a job for which there was no memory.
 ///
