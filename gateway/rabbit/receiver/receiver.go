@@ -52,16 +52,12 @@ type message struct {
 
 // Receive writes answers until the context ends, or none came for a while.
 func Receive(ctx context.Context, options Options) error {
-	r := &receiver{options: options, output: bufio.NewWriterSize(options.Output, broker.MessageBytes), moved: time.Now()}
-	for partition := 0; partition < options.Settings.Partitions; partition++ {
-		r.streams = append(r.streams, -1)
-		r.chains = append(r.chains, ledger.Chain{})
-	}
-	if err := r.restore(); err != nil {
+	r, err := newReceiver(options)
+	if err != nil {
 		return err
 	}
 	var fault error
-	err := broker.Again(ctx, options.Log, func(ctx context.Context) error {
+	err = broker.Again(ctx, options.Log, func(ctx context.Context) error {
 		err := r.run(ctx)
 		var last *final
 		if errors.As(err, &last) {
@@ -79,30 +75,44 @@ func Receive(ctx context.Context, options Options) error {
 	return fault
 }
 
+// newReceiver is a receiver that stands at the place in its file.
+func newReceiver(options Options) (*receiver, error) {
+	r := &receiver{options: options, output: bufio.NewWriterSize(options.Output, broker.MessageBytes), moved: time.Now()}
+	for partition := 0; partition < options.Settings.Partitions; partition++ {
+		r.streams = append(r.streams, -1)
+		r.chains = append(r.chains, ledger.Chain{})
+	}
+	return r, r.restore()
+}
+
 // A final error is not tried again.
 type final struct{ reason error }
 
 func (f *final) Error() string { return f.reason.Error() }
 
-// restore goes back to the place in the file, and cuts what the output has behind it.
+// restore goes back to the place in the file, and cuts what the output has behind it: all, where there is no place.
 func (r *receiver) restore() error {
-	if r.options.Place == "" {
-		return nil
-	}
-	p, err := readPlaces(r.options.Place, len(r.streams))
-	if err != nil {
-		return err
-	}
-	if p != nil {
-		for partition, at := range p.Partitions {
-			r.streams[partition], r.chains[partition] = at.Stream, ledger.Chain{Known: at.Known, Upto: at.Upto}
+	if r.options.Place != "" {
+		if err := r.restorePlace(); err != nil {
+			return err
 		}
-		r.written = p.Output
 	}
 	if !r.options.File {
 		return nil
 	}
 	return r.cutOutput()
+}
+
+func (r *receiver) restorePlace() error {
+	p, err := readPlaces(r.options.Place, len(r.streams))
+	if err != nil || p == nil {
+		return err
+	}
+	for partition, at := range p.Partitions {
+		r.streams[partition], r.chains[partition] = at.Stream, ledger.Chain{Known: at.Known, Upto: at.Upto}
+	}
+	r.written = p.Output
+	return nil
 }
 
 func (r *receiver) cutOutput() error {
@@ -130,12 +140,16 @@ func (r *receiver) run(ctx context.Context) error {
 	}
 	defer link.Close()
 	messages := make(chan message)
+	open := broker.OpenOf(len(r.streams))
 	for partition := range r.streams {
-		stream, err := link.Read(r.options.Settings.Queue(broker.Answers, partition), r.from(partition))
+		stream, err := link.Read(r.options.Settings.Queue(broker.Answers, partition), r.from(partition), open)
 		if err != nil {
 			return r.idle(err)
 		}
 		go forward(link, stream, partition, messages)
+	}
+	if err := r.pin(link); err != nil {
+		return r.idle(err)
 	}
 	ticker := time.NewTicker(savePause)
 	defer ticker.Stop()
@@ -156,6 +170,31 @@ func (r *receiver) run(ctx context.Context) error {
 			return r.idle(link.Err())
 		}
 	}
+}
+
+// pin publishes a mark in each stream that is read from its end on, and of which nothing was read yet. So there is a place
+// to go on from, and what is answered while the receiver is away is not missed.
+func (r *receiver) pin(link *broker.Link) error {
+	if r.options.From != broker.FromNext {
+		return nil
+	}
+	publisher, err := link.Publisher()
+	if err != nil {
+		return err
+	}
+	for partition, offset := range r.streams {
+		if offset >= 0 {
+			continue
+		}
+		queue := r.options.Settings.Queue(broker.Answers, partition)
+		if err := publisher.Publish(queue, amqp.Table{broker.MarkHeader: "desk receive"}, nil); err != nil {
+			return err
+		}
+	}
+	if err := publisher.Settle(); err != nil {
+		return err
+	}
+	return publisher.Close()
 }
 
 func (r *receiver) idled() bool { return r.options.Idle > 0 && time.Since(r.moved) > r.options.Idle }
@@ -190,26 +229,30 @@ func (r *receiver) from(partition int) interface{} {
 	return r.options.From
 }
 
-// take takes a message in, and writes the answers that it adds.
 func (r *receiver) take(m message) error {
 	offset, err := m.stream.Take(m.delivery, m.open)
 	if err != nil {
 		return err
 	}
-	chain, before := &r.chains[m.partition], r.streams[m.partition]
+	return r.add(m.partition, offset, m.delivery.Headers, m.delivery.Body)
+}
+
+// add takes the next message of a partition's stream in, and writes the answers that it adds.
+func (r *receiver) add(partition int, offset int64, headers amqp.Table, body []byte) error {
+	chain, before := &r.chains[partition], r.streams[partition]
 	if offset == 0 {
 		chain.Reach(ledger.Start)
 	}
 	if before >= 0 && offset > before+1 {
 		fmt.Fprintf(r.options.Log, "desk receive: partition %d: the retention has cut the messages from %d to %d before they "+
-			"were received\n", m.partition, before+1, offset-1)
+			"were received\n", partition, before+1, offset-1)
 		*chain = ledger.Chain{}
 	}
-	r.streams[m.partition], r.dirty = offset, true
-	part, is, err := broker.ReadPart(m.delivery.Headers)
+	r.streams[partition], r.dirty = offset, true
+	part, is, err := broker.ReadPart(headers)
 	switch {
 	case err != nil:
-		return &final{fmt.Errorf("partition %d, offset %d: %w", m.partition, offset, err)}
+		return &final{fmt.Errorf("partition %d, offset %d: %w", partition, offset, err)}
 	case !is:
 		return nil
 	case part.Snapshot:
@@ -218,15 +261,15 @@ func (r *receiver) take(m message) error {
 	case !chain.Fits(part.After, part.Upto):
 		return nil
 	}
-	return r.write(m, chain, part)
+	return r.write(partition, body, chain, part)
 }
 
-func (r *receiver) write(m message, chain *ledger.Chain, part broker.Part) error {
-	prefix := fmt.Sprintf(`{"partition":%d,`, m.partition)
-	for _, text := range bytes.Split(bytes.TrimSuffix(m.delivery.Body, []byte("\n")), []byte("\n")) {
+func (r *receiver) write(partition int, body []byte, chain *ledger.Chain, part broker.Part) error {
+	prefix := fmt.Sprintf(`{"partition":%d,`, partition)
+	for _, text := range bytes.Split(bytes.TrimSuffix(body, []byte("\n")), []byte("\n")) {
 		record, err := answer.ReadRecord(text)
 		if err != nil {
-			return &final{fmt.Errorf("partition %d: %w: %.100q", m.partition, err, text)}
+			return &final{fmt.Errorf("partition %d: %w: %.100q", partition, err, text)}
 		}
 		if !chain.Upto.Before(record.Place) {
 			continue
