@@ -89,7 +89,7 @@ func pass(stream *broker.Stream, mark string, from int64) (*History, int64, erro
 		case first && offset == 0:
 			h = New(true)
 		case first:
-			cut = from >= 0 && offset > from
+			cut = from == 0
 		}
 		if err := h.Take(delivery.Headers, delivery.Body); err != nil {
 			return nil, 0, fmt.Errorf("offset %d: %w", offset, err)

@@ -38,6 +38,7 @@ type receiver struct {
 	written int64 // the length of the output's file
 	streams []int64
 	chains  []ledger.Chain
+	holes   []bool    // whether offsets are missing since the last answers or snapshot
 	dirty   bool      // whether something is written, and the place isn't
 	moved   time.Time // when the last answer came
 }
@@ -81,6 +82,7 @@ func newReceiver(options Options) (*receiver, error) {
 	for partition := 0; partition < options.Settings.Partitions; partition++ {
 		r.streams = append(r.streams, -1)
 		r.chains = append(r.chains, ledger.Chain{})
+		r.holes = append(r.holes, false)
 	}
 	return r, r.restore()
 }
@@ -109,7 +111,8 @@ func (r *receiver) restorePlace() error {
 		return err
 	}
 	for partition, at := range p.Partitions {
-		r.streams[partition], r.chains[partition] = at.Stream, ledger.Chain{Known: at.Known, Upto: at.Upto}
+		r.streams[partition], r.holes[partition] = at.Stream, at.Hole
+		r.chains[partition] = ledger.Chain{Known: at.Known, Upto: at.Upto}
 	}
 	r.written = p.Output
 	return nil
@@ -243,18 +246,17 @@ func (r *receiver) add(partition int, offset int64, headers amqp.Table, body []b
 	if offset == 0 {
 		chain.Reach(ledger.Start)
 	}
-	if before >= 0 && offset > before+1 {
-		fmt.Fprintf(r.options.Log, "desk receive: partition %d: the retention has cut the messages from %d to %d before they "+
-			"were received\n", partition, before+1, offset-1)
-		*chain = ledger.Chain{}
-	}
+	r.holes[partition] = r.holes[partition] || before >= 0 && offset > before+1
 	r.streams[partition], r.dirty = offset, true
 	part, is, err := broker.ReadPart(headers)
-	switch {
-	case err != nil:
+	if err != nil {
 		return &final{fmt.Errorf("partition %d, offset %d: %w", partition, offset, err)}
-	case !is:
+	}
+	if !is {
 		return nil
+	}
+	r.lookForCut(partition, part)
+	switch {
 	case part.Snapshot:
 		chain.Reach(part.Upto)
 		return nil
@@ -262,6 +264,21 @@ func (r *receiver) add(partition int, offset int64, headers amqp.Table, body []b
 		return nil
 	}
 	return r.write(partition, body, chain, part)
+}
+
+// lookForCut tells of answers that were cut before they were received, and goes on behind them: where offsets are missing
+// and the next message is not the one that is due. Missing offsets alone say nothing: the broker takes some for itself.
+func (r *receiver) lookForCut(partition int, part broker.Part) {
+	chain, begin := &r.chains[partition], part.After
+	if part.Snapshot {
+		begin = part.Upto
+	}
+	if r.holes[partition] && chain.Known && chain.Upto.Before(begin) {
+		fmt.Fprintf(r.options.Log, "desk receive: partition %d: the retention has cut the answers behind line %v and up to "+
+			"line %v before they were received\n", partition, chain.Upto, begin)
+		chain.Reach(begin)
+	}
+	r.holes[partition] = false
 }
 
 func (r *receiver) write(partition int, body []byte, chain *ledger.Chain, part broker.Part) error {
@@ -301,7 +318,8 @@ func (r *receiver) save() error {
 	}
 	p := &places{Output: r.written}
 	for partition, chain := range r.chains {
-		p.Partitions = append(p.Partitions, place{Stream: r.streams[partition], Known: chain.Known, Upto: chain.Upto})
+		at := place{Stream: r.streams[partition], Known: chain.Known, Upto: chain.Upto, Hole: r.holes[partition]}
+		p.Partitions = append(p.Partitions, at)
 	}
 	if err := p.write(r.options.Place); err != nil {
 		return err

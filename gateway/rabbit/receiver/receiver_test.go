@@ -122,7 +122,37 @@ func TestACutIsTold(t *testing.T) {
 	f.answers(t, 0, -1, 3)
 	f.answers(t, 9, 20, 1)
 	f.saved(t)
-	if got := f.written(t); got != "0 1 2 21" || !strings.Contains(f.told.String(), "messages from 1 to 8") {
+	if got := f.written(t); got != "0 1 2 21" || !strings.Contains(f.told.String(), "behind line 2.0 and up to line 20.0") {
+		t.Errorf("%s; %s", got, f.told)
+	}
+}
+
+// A cut is known of where a mark comes first behind it, and the receiver is started again.
+func TestACutBeforeAMarkIsTold(t *testing.T) {
+	folder := t.TempDir()
+	f := opened(t, folder)
+	f.answers(t, 0, -1, 3)
+	if err := f.add(0, 9, nil, nil); err != nil {
+		t.Fatal(err)
+	}
+	f.saved(t)
+	again := opened(t, folder)
+	again.answers(t, 10, 20, 1)
+	again.saved(t)
+	if got := again.written(t); got != "0 1 2 21" || again.told.Len() == 0 {
+		t.Errorf("%s; %s", got, again.told)
+	}
+}
+
+// Offsets that the broker takes for itself are no cut, and answers that come once more behind them are not written.
+func TestMissingOffsetsAreNoCut(t *testing.T) {
+	f := opened(t, t.TempDir())
+	f.answers(t, 0, -1, 3)
+	f.answers(t, 2, 2, 1)
+	f.answers(t, 4, 0, 3)
+	f.answers(t, 6, 3, 1)
+	f.saved(t)
+	if got := f.written(t); got != "0 1 2 3 4" || f.told.Len() > 0 {
 		t.Errorf("%s; %s", got, f.told)
 	}
 }
