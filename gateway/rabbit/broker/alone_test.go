@@ -44,6 +44,7 @@ func TestBrokersAlone(t *testing.T) {
 	writing, reading := connected(t, ctx, settings), connected(t, ctx, settings)
 	removed := declareAlone(t, writing, settings)
 	defer removed()
+	time.Sleep(5 * time.Second) // the brokers make the copies of a stream once it is declared
 	read := make(chan error, settings.Partitions)
 	for partition := 0; partition < settings.Partitions; partition++ {
 		go func(queue string) { read <- readAlone(reading, queue, messages) }(settings.Queue(aloneKind, partition))
