@@ -43,8 +43,8 @@ func (s *Service) newCall(model *served, name string, body []byte) (*call, *prob
 	}
 	c := &call{service: s, model: model, done: make(chan struct{})}
 	if lines.Begins(body) != '[' {
-		job, p := model.job(service, body)
-		if p != nil {
+		job := &engine.Job{}
+		if _, p := model.request(service, body, job, service.room(1, len(body))); p != nil {
 			return nil, p
 		}
 		c.problems, c.outcomes = make([]*problem, 1), make([]engine.Outcome, 1)
@@ -66,13 +66,11 @@ func (c *call) readList(service *decisionService, body []byte) *problem {
 	}
 	c.problems, c.outcomes = make([]*problem, len(items)), make([]engine.Outcome, len(items))
 	c.jobs = make([]*engine.Job, 0, len(items))
+	jobs, room := make([]engine.Job, len(items)), service.room(len(items), len(body))
 	for at, item := range items {
-		job, p := c.model.job(service, body[item.Start:item.End])
-		if p != nil {
-			c.problems[at] = p
-			continue
+		if room, c.problems[at] = c.model.request(service, body[item.Start:item.End], &jobs[at], room); c.problems[at] == nil {
+			c.add(at, &jobs[at])
 		}
-		c.add(at, job)
 	}
 	return nil
 }
