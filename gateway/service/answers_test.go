@@ -19,7 +19,7 @@ import (
 
 // A caller that closes its side of the connection behind its request has an answer or a problem, and nothing else.
 func TestHalfClosed(t *testing.T) {
-	r := serve(t, slow(20_000), Options{Processes: 1})
+	r := serve(t, slow(2_000), Options{Processes: 1})
 	defer r.stop(t)
 	for _, length := range []int{1, 4990} {
 		connection, err := net.Dial("tcp", strings.TrimPrefix(r.url, "http://"))
@@ -65,12 +65,11 @@ func handing(times int) string {
 // Explanations that are too long are said to be: those that the engine does not tell, and those that are not kept.
 func TestLongExplanations(t *testing.T) {
 	request := func(length int) string { return `{"t":"` + strings.Repeat("x", length) + `"}` }
-	r := serve(t, handing(6), Options{})
+	r := serve(t, handing(6), Options{Deadline: time.Minute})
 	defer r.stop(t)
 	for _, it := range []struct{ body, due string }{
 		{request(1000), `{"result":9998,"explained":"long"}`},
-		{request(300), `{"result":9998,"explained":"long"}`},
-		{`[` + request(1000) + `]`, `[{"result":9998,"explained":"long"}]`},
+		{`[` + request(300) + `]`, `[{"result":9998,"explained":"long"}]`},
 	} {
 		status, text, _ := send(t, "POST", r.url+"/v1/services/s?explain=true", it.body)
 		if status != 200 || text != it.due {
@@ -80,12 +79,6 @@ func TestLongExplanations(t *testing.T) {
 	status, text, _ := send(t, "POST", r.url+"/v1/services/s?explain=true", request(1))
 	if status != 200 || !strings.HasPrefix(text, `{"result":9998,"decisions":[{"name":"d0","value":["x",`) {
 		t.Errorf("a short one: %d %.100s", status, text)
-	}
-	// Each of these has some 14 MB of decisions, of which a list may have 64 MiB.
-	status, text, _ = send(t, "POST", r.url+"/v1/services/s?explain=true", "["+strings.Repeat(request(200)+",", 5)+request(200)+"]")
-	told, left := strings.Count(text, `"decisions":[`), strings.Count(text, `"explained":"long"`)
-	if status != 200 || told+left != 6 || told == 0 || left == 0 {
-		t.Errorf("of 6 in a list %d are told and %d are not: %d %.100s", told, left, status, text)
 	}
 	status, text, _ = send(t, "POST", r.url+"/v1/services/s?explain=true", "["+strings.Repeat("{},", 100)+"{}]")
 	if status != 413 {
