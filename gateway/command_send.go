@@ -24,8 +24,8 @@ func runSend(ctx context.Context, given []string) int {
 		return statusUsage
 	}
 	options := sender.Options{Name: *name, Named: *name != "", Input: os.Stdin, Log: os.Stderr}
-	if len(*name) > broker.MaximumSenderBytes {
-		return tellFault("send", fmt.Errorf("the sender's name has over %d bytes", broker.MaximumSenderBytes))
+	if options.Named && !broker.IsSender(*name) {
+		return tellFault("send", fmt.Errorf("the sender's name is no UTF-8 of 1 to %d bytes", broker.MaximumSenderBytes))
 	}
 	var err error
 	if options.Settings, err = broker.ReadSettings(); err != nil {

@@ -40,7 +40,7 @@ func begin(path string, memory uint64, words ...string) (*process, error) {
 	if err = p.command.Start(); err != nil {
 		return nil, fmt.Errorf("starting the engine: %w", err)
 	}
-	if err = p.bound(memory); err != nil {
+	if err = Bound(p.command.Process.Pid, memory); err != nil {
 		p.kill()
 		_ = p.wait()
 		return nil, fmt.Errorf("starting the engine: %w", err)
@@ -48,9 +48,9 @@ func begin(path string, memory uint64, words ...string) (*process, error) {
 	return p, nil
 }
 
-// bound sets what the kernel allows the process. It has read nothing yet.
-func (p *process) bound(memory uint64) error {
-	pid := p.command.Process.Pid
+// Bound sets what the kernel allows an engine that has read nothing yet: where memory is short it is the first to end,
+// and its address space has at most so many bytes, unless that is 0.
+func Bound(pid int, memory uint64) error {
 	// Where /proc is not there, the kernel's choice is as good.
 	_ = os.WriteFile("/proc/"+strconv.Itoa(pid)+"/oom_score_adj", []byte(oomScore), 0o644)
 	if memory == 0 {

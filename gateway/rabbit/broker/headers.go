@@ -3,6 +3,7 @@ package broker
 import (
 	"errors"
 	"fmt"
+	"unicode/utf8"
 
 	amqp "github.com/rabbitmq/amqp091-go"
 
@@ -44,6 +45,11 @@ func ClaimHeaders(claim ledger.Claim) amqp.Table {
 		firstHeader: claim.First, namedHeader: claim.Named}
 }
 
+// IsSender tells whether a sender may have this name: UTF-8 of 1 to MaximumSenderBytes bytes, as a snapshot can hold it.
+func IsSender(name string) bool {
+	return len(name) > 0 && len(name) <= MaximumSenderBytes && utf8.ValidString(name)
+}
+
 // ReadClaim reads the headers of a message of lines.
 func ReadClaim(headers amqp.Table) (ledger.Claim, error) {
 	var claim ledger.Claim
@@ -52,8 +58,7 @@ func ReadClaim(headers amqp.Table) (ledger.Claim, error) {
 	claim.Number, is[1] = number(headers[numberHeader])
 	claim.First, is[2] = number(headers[firstHeader])
 	claim.Named, is[3] = headers[namedHeader].(bool)
-	if is != [4]bool{true, true, true, true} || len(claim.Sender) == 0 || len(claim.Sender) > MaximumSenderBytes ||
-		claim.Number < 0 || claim.First < 0 {
+	if is != [4]bool{true, true, true, true} || !IsSender(claim.Sender) || claim.Number < 0 || claim.First < 0 {
 		return claim, ErrForeign
 	}
 	return claim, nil

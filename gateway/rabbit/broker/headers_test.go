@@ -27,6 +27,7 @@ func TestHeadersComeBack(t *testing.T) {
 func TestForeignHeaders(t *testing.T) {
 	for _, headers := range []amqp.Table{nil, {"sender": "a"},
 		{"sender": "a", "number": "0", "first": int64(0), "named": false},
+		{"sender": "\xff", "number": int64(0), "first": int64(0), "named": false},
 		{"sender": "", "number": int64(0), "first": int64(0), "named": false},
 		{"sender": "a", "number": int64(-1), "first": int64(0), "named": false}} {
 		if claim, err := ReadClaim(headers); err == nil {

@@ -7,6 +7,8 @@ import (
 	"os"
 	"strconv"
 	"strings"
+
+	amqp "github.com/rabbitmq/amqp091-go"
 )
 
 // The environment variables that every program reads.
@@ -43,11 +45,17 @@ type Settings struct {
 	Partitions int
 }
 
-// ReadSettings reads the environment.
+// ReadSettings reads the environment. Without it there is one partition, at a broker on this machine. An error does not
+// tell an address, which may have a password.
 func ReadSettings() (Settings, error) {
 	settings := Settings{Addresses: []string{"amqp://127.0.0.1"}, Partitions: 1}
 	if text := os.Getenv(BrokersVariable); text != "" {
 		settings.Addresses = strings.Split(text, ",")
+	}
+	for at, address := range settings.Addresses {
+		if _, err := amqp.ParseURI(address); err != nil {
+			return settings, fmt.Errorf("%s: number %d is no address as amqp://HOST:PORT", BrokersVariable, at+1)
+		}
 	}
 	if text := os.Getenv(PartitionsVariable); text != "" {
 		number, err := strconv.Atoi(text)

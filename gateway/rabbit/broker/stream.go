@@ -8,9 +8,22 @@ import (
 	amqp "github.com/rabbitmq/amqp091-go"
 )
 
-// prefetch is how many messages of a stream may be on their way. With messages of at most a mebibyte, as the programs
+// MostOpen is how many messages of a stream may be on their way. With messages of at most a mebibyte, as the programs
 // publish them but for snapshots, these are 16 MiB.
-const prefetch = 16
+const MostOpen = 16
+
+// OpenOf is how many messages of each of so many streams that are read at once may be on their way: of full messages of
+// several lines these are 16 MiB, and of each stream at least two.
+func OpenOf(streams int) int {
+	open := WindowBytes / MessageBytes / streams
+	if open > MostOpen {
+		return MostOpen
+	}
+	if open < 2 {
+		return 2
+	}
+	return open
+}
 
 // OffsetHeader is the header in which the broker tells a message's offset.
 const OffsetHeader = "x-stream-offset"
@@ -29,13 +42,13 @@ const (
 	FromNext  = "next"
 )
 
-// Read reads a stream from a place on. Each delivery is to be handed to Take.
-func (l *Link) Read(queue string, from interface{}) (*Stream, error) {
+// Read reads a stream from a place on, with so many messages on their way. Each delivery is to be handed to Take.
+func (l *Link) Read(queue string, from interface{}, open int) (*Stream, error) {
 	channel, err := l.Channel()
 	if err != nil {
 		return nil, err
 	}
-	if err := channel.Qos(prefetch, 0, false); err != nil {
+	if err := channel.Qos(open, 0, false); err != nil {
 		return nil, l.because(fmt.Errorf("reading %s: %w", queue, err))
 	}
 	deliveries, err := channel.Consume(queue, "", false, false, false, false, amqp.Table{OffsetHeader: from})

@@ -45,13 +45,13 @@ func Mark() (string, error) {
 
 // Read publishes a mark in the stream, and reads the stream up to it from the last snapshot on: it begins with the
 // last messages, and goes further and further back until a snapshot is there. So it takes as long as the way from the
-// last snapshot is, whatever stands before it.
-func Read(link *broker.Link, publisher *broker.Publisher, queue string) (*History, error) {
+// last snapshot is, whatever stands before it. So many messages are on their way at a time.
+func Read(link *broker.Link, publisher *broker.Publisher, queue string, open int) (*History, error) {
 	mark, err := Mark()
 	if err != nil {
 		return nil, err
 	}
-	stream, err := link.Read(queue, broker.FromLast)
+	stream, err := link.Read(queue, broker.FromLast, open)
 	if err != nil {
 		return nil, err
 	}
@@ -64,7 +64,7 @@ func Read(link *broker.Link, publisher *broker.Publisher, queue string) (*Histor
 		if from < 0 {
 			from = 0
 		}
-		if stream, err = link.Read(queue, from); err != nil {
+		if stream, err = link.Read(queue, from, open); err != nil {
 			return nil, err
 		}
 		h, _, err = pass(stream, mark, from)
@@ -89,7 +89,7 @@ func pass(stream *broker.Stream, mark string, from int64) (*History, int64, erro
 		case first && offset == 0:
 			h = New(true)
 		case first:
-			cut = from >= 0 && offset > from
+			cut = from == 0
 		}
 		if err := h.Take(delivery.Headers, delivery.Body); err != nil {
 			return nil, 0, fmt.Errorf("offset %d: %w", offset, err)

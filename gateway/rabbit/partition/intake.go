@@ -42,8 +42,7 @@ func (in *intake) first() interface{} {
 // take takes in a message with its offset.
 func (in *intake) take(delivery amqp.Delivery, offset int64) {
 	if in.offset < 0 && offset > in.begin.Offset+1 {
-		fmt.Fprintf(in.log, "the retention has cut lines without an answer: those behind %v and before offset %d\n", in.begin,
-			offset)
+		fmt.Fprintf(in.log, "the retention may have cut lines: those behind %v and before offset %d\n", in.begin, offset)
 	}
 	in.offset = offset
 	if _, isMark := delivery.Headers[broker.MarkHeader]; isMark {

@@ -2,6 +2,7 @@ package partition
 
 import (
 	"fmt"
+	"time"
 
 	amqp "github.com/rabbitmq/amqp091-go"
 
@@ -10,12 +11,14 @@ import (
 	"gateway/rabbit/ledger"
 )
 
-// A snapshot is due after so much of lines and answers, or four times its own size if that is more, or after so many
-// messages.
+// A snapshot is due after so much of lines and answers, or four times its own size if that is more; after so many
+// messages; and an hour after the one before, or a minute after a takeover. So where streams are cut by age, one is left.
 const (
 	snapshotBytes    = 4 << 20
 	snapshotFactor   = 4
 	snapshotMessages = 1000
+	snapshotPause    = time.Hour
+	firstPause       = time.Minute
 )
 
 // A publisher publishes messages, and knows how many of them are without a confirm.
@@ -36,7 +39,9 @@ type output struct {
 
 	sinceBytes    int // of lines and answers since the last snapshot
 	sinceMessages int
-	size          int // of the last snapshot
+	size          int       // of the last snapshot
+	next          time.Time // when one is due whatever was answered, if it isn't zero
+	aged          bool      // whether that time has come
 }
 
 // room tells whether the next answer may be settled.
@@ -49,8 +54,11 @@ func (out *output) snapshotDue() bool {
 	if out.size*snapshotFactor > due {
 		due = out.size * snapshotFactor
 	}
-	return out.ledger.Place != ledger.Start && (out.sinceBytes >= due || out.sinceMessages >= snapshotMessages)
+	return out.ledger.Place != ledger.Start && (out.sinceBytes >= due || out.sinceMessages >= snapshotMessages || out.aged)
 }
+
+// tick looks at the time.
+func (out *output) tick(now time.Time) { out.aged = !out.next.IsZero() && now.After(out.next) }
 
 // settle takes in that an entry is settled, and adds its answer to the body if it is a new one.
 func (out *output) settle(e *entry) {
@@ -112,5 +120,6 @@ func (out *output) publishSnapshot() error {
 		return fmt.Errorf("publishing a snapshot: %w", err)
 	}
 	out.sinceBytes, out.sinceMessages, out.size = 0, 0, len(body)
+	out.next, out.aged = time.Now().Add(snapshotPause), false
 	return nil
 }

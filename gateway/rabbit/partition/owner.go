@@ -88,7 +88,7 @@ func begin(link *broker.Link, options Options, partition int) (*owner, error) {
 		return nil, err
 	}
 	answers, lines := options.Settings.Queue(broker.Answers, partition), options.Settings.Queue(broker.Lines, partition)
-	h, err := history.Read(link, publisher, answers)
+	h, err := history.Read(link, publisher, answers, broker.MostOpen)
 	if err != nil {
 		return nil, err
 	}
@@ -98,9 +98,10 @@ func begin(link *broker.Link, options Options, partition int) (*owner, error) {
 		intake: newIntake(log, q, h),
 		work: &work{log: log, options: options.Engine, deadline: int(options.Deadline / tick), queue: q, ledger: h.Ledger,
 			restarts: options.Gauges.restart},
-		output: &output{publisher: publisher, name: answers, ledger: h.Ledger, last: h.Upto(), sinceMessages: h.Messages}}
+		output: &output{publisher: publisher, name: answers, ledger: h.Ledger, last: h.Upto(), sinceMessages: h.Messages,
+			next: time.Now().Add(firstPause)}}
 	o.tail = watchTail(link, lines)
-	o.stream, err = link.Read(lines, o.intake.first())
+	o.stream, err = link.Read(lines, o.intake.first(), broker.MostOpen)
 	return o, err
 }
 
@@ -145,6 +146,7 @@ func (o *owner) wait(ticker *time.Ticker) error {
 		return o.publisher.Take(confirmation, open)
 	case <-ticker.C:
 		o.work.tick()
+		o.output.tick(time.Now())
 		o.tell()
 		return o.publisher.Late()
 	case <-o.link.Done():

@@ -260,6 +260,28 @@ func TestTakeoversAnswerAsOneProcess(t *testing.T) {
 	}
 }
 
+// Where nothing is answered for long, a snapshot comes all the same, and another one not at once.
+func TestASnapshotComesWithTime(t *testing.T) {
+	l := filled(1, 40)
+	h := take(t, l, 0, process.Options{Path: enginePath(t), Workers: 1, Longest: 1 << 20}, 1000)
+	h.read(t, 1)
+	defer h.work.end()
+	answered := len(l.answers)
+	h.output.next = time.Now().Add(-time.Second)
+	for range []int{1, 2} {
+		h.output.tick(time.Now())
+		if err := h.step(); err != nil {
+			t.Fatal(err)
+		}
+	}
+	if len(l.answers) != answered+1 {
+		t.Fatalf("%d messages more", len(l.answers)-answered)
+	}
+	if part, is, err := broker.ReadPart(l.answers[answered].Headers); err != nil || !is || !part.Snapshot {
+		t.Errorf("%+v, %v, %v", part, is, err)
+	}
+}
+
 // What an owner publishes that was stopped, and goes on when another has taken over, is left out by readers.
 func TestASecondOwnerThatGoesOn(t *testing.T) {
 	path := enginePath(t)
@@ -280,7 +302,8 @@ func TestASecondOwnerThatGoesOn(t *testing.T) {
 	equal(t, given(t, l), due(t, l, path))
 }
 
-// brokenVariable makes this program an engine that dies or stands still at some lines, and runs the one it names.
+// brokenVariable makes this program an engine that dies, stands still or writes nonsense at some lines, and runs the one
+// it names.
 const brokenVariable = "DESK_TEST_BROKEN"
 
 func TestMain(m *testing.M) {
@@ -307,18 +330,23 @@ func runBroken(path string) {
 		if strings.Contains(lines.Text(), "poison stands") {
 			time.Sleep(time.Hour)
 		}
+		if strings.Contains(lines.Text(), "poison confuses") {
+			fmt.Println("no answer")
+			continue
+		}
 		fmt.Fprintln(input, lines.Text())
 	}
 	os.Exit(0)
 }
 
-// A line at which the engine dies or stands still is refused, and the lines around it are answered.
+// A line at which the engine dies, stands still or writes nonsense is refused, and the lines around it are answered.
 func TestPoison(t *testing.T) {
 	path := enginePath(t)
 	l := filled(4, 40)
 	poison := `{"key":"key %d","service":"s","inputs":{"a":"poison %s"},"id":0}`
 	l.send(160, fmt.Sprintf(poison, 3, "dies"), request(3), fmt.Sprintf(poison, 4, "stands"), request(4))
-	l.send(164, request(3), request(4))
+	l.send(164, fmt.Sprintf(poison, 5, "confuses"), request(5))
+	l.send(166, request(3), request(4), request(5))
 	want := due(t, l, path)
 	t.Setenv(brokenVariable, path)
 	h := take(t, l, 0, process.Options{Path: os.Args[0], Workers: 1, Longest: 1 << 20}, 100)
@@ -337,7 +365,7 @@ func TestPoison(t *testing.T) {
 			}
 		}
 	}
-	if refused != 2 {
+	if refused != 3 {
 		t.Errorf("%d lines are refused", refused)
 	}
 }

@@ -75,7 +75,7 @@ func watchTail(link *broker.Link, queue string) *tail {
 
 // lastOffset is the offset of the first of the messages that were written last.
 func lastOffset(link *broker.Link, queue string) (int64, bool) {
-	stream, err := link.Read(queue, broker.FromLast)
+	stream, err := link.Read(queue, broker.FromLast, 1)
 	if err != nil {
 		return 0, false
 	}

@@ -140,7 +140,7 @@ func (w *work) alone() *entry {
 	return nil
 }
 
-// ended takes in that the engine has ended by itself.
+// ended takes in that the engine has ended by itself, or has to be.
 func (w *work) ended(reason error) {
 	if w.greeting > 0 {
 		w.neverGreeted(reason)
@@ -211,8 +211,8 @@ func (w *work) refuse(e *entry, reason answer.Reason) {
 // take takes in what the engine answers.
 func (w *work) take(batch []process.Answer) {
 	for _, given := range batch {
-		if err := w.takeOne(given); err != nil {
-			w.again(fmt.Errorf("%w: %.100q", err, given.Text))
+		if err := w.takeOne(given); err != nil { // as if it had died there
+			w.ended(fmt.Errorf("%w: %.100q", err, given.Text))
 			return
 		}
 	}

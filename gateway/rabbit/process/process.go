@@ -10,7 +10,9 @@ import (
 	"os/exec"
 	"strconv"
 	"sync"
+	"syscall"
 
+	"gateway/engine"
 	"gateway/rabbit/line"
 )
 
@@ -30,7 +32,8 @@ type Answer struct {
 type Options struct {
 	Path    string
 	Workers int
-	Longest int // how many bytes an answer may have
+	Longest int    // how many bytes an answer may have
+	Memory  uint64 // how many bytes the engine's address space may have; 0 is no limit
 }
 
 // A Process is one process of the engine. What is given to it waits in memory until the engine reads it.
@@ -46,11 +49,12 @@ type Process struct {
 	err     error // why it ended; to be asked once answers is closed
 }
 
-// Start starts the engine.
+// Start starts the engine, in a process group of its own, so that a signal to ours does not reach it.
 func Start(options Options) (*Process, error) {
 	command := exec.Command(options.Path, "serve", "--clients", strconv.Itoa(line.Clients), "--workers",
 		strconv.Itoa(options.Workers), "--capacity", strconv.Itoa(Capacity))
 	command.Stderr = os.Stderr
+	command.SysProcAttr = &syscall.SysProcAttr{Setpgid: true}
 	input, err := command.StdinPipe()
 	if err != nil {
 		return nil, fmt.Errorf("starting the engine: %w", err)
@@ -60,6 +64,11 @@ func Start(options Options) (*Process, error) {
 		return nil, fmt.Errorf("starting the engine: %w", err)
 	}
 	if err := command.Start(); err != nil {
+		return nil, fmt.Errorf("starting the engine: %w", err)
+	}
+	if err := engine.Bound(command.Process.Pid, options.Memory); err != nil {
+		command.Process.Kill()
+		command.Wait()
 		return nil, fmt.Errorf("starting the engine: %w", err)
 	}
 	p := &Process{command: command, answers: make(chan []Answer, 16), longest: options.Longest}

@@ -13,9 +13,10 @@ import (
 
 // A place is where a receiver stands in the answers of one partition.
 type place struct {
-	Stream int64        `json:"stream"` // the offset of the last message that was read, or -1
-	Known  bool         `json:"known"`  // whether Upto is known
-	Upto   ledger.Place `json:"upto"`   // the last line whose answer was written
+	Stream int64        `json:"stream"`         // the offset of the last message that was read, or -1
+	Known  bool         `json:"known"`          // whether Upto is known
+	Upto   ledger.Place `json:"upto"`           // the last line whose answer was written
+	Hole   bool         `json:"hole,omitempty"` // whether offsets are missing since then
 }
 
 // places are what the file of --place holds.

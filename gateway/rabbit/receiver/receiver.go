@@ -38,6 +38,7 @@ type receiver struct {
 	written int64 // the length of the output's file
 	streams []int64
 	chains  []ledger.Chain
+	holes   []bool    // whether offsets are missing since the last answers or snapshot
 	dirty   bool      // whether something is written, and the place isn't
 	moved   time.Time // when the last answer came
 }
@@ -52,16 +53,12 @@ type message struct {
 
 // Receive writes answers until the context ends, or none came for a while.
 func Receive(ctx context.Context, options Options) error {
-	r := &receiver{options: options, output: bufio.NewWriterSize(options.Output, broker.MessageBytes), moved: time.Now()}
-	for partition := 0; partition < options.Settings.Partitions; partition++ {
-		r.streams = append(r.streams, -1)
-		r.chains = append(r.chains, ledger.Chain{})
-	}
-	if err := r.restore(); err != nil {
+	r, err := newReceiver(options)
+	if err != nil {
 		return err
 	}
 	var fault error
-	err := broker.Again(ctx, options.Log, func(ctx context.Context) error {
+	err = broker.Again(ctx, options.Log, func(ctx context.Context) error {
 		err := r.run(ctx)
 		var last *final
 		if errors.As(err, &last) {
@@ -79,30 +76,46 @@ func Receive(ctx context.Context, options Options) error {
 	return fault
 }
 
+// newReceiver is a receiver that stands at the place in its file.
+func newReceiver(options Options) (*receiver, error) {
+	r := &receiver{options: options, output: bufio.NewWriterSize(options.Output, broker.MessageBytes), moved: time.Now()}
+	for partition := 0; partition < options.Settings.Partitions; partition++ {
+		r.streams = append(r.streams, -1)
+		r.chains = append(r.chains, ledger.Chain{})
+		r.holes = append(r.holes, false)
+	}
+	return r, r.restore()
+}
+
 // A final error is not tried again.
 type final struct{ reason error }
 
 func (f *final) Error() string { return f.reason.Error() }
 
-// restore goes back to the place in the file, and cuts what the output has behind it.
+// restore goes back to the place in the file, and cuts what the output has behind it: all, where there is no place.
 func (r *receiver) restore() error {
-	if r.options.Place == "" {
-		return nil
-	}
-	p, err := readPlaces(r.options.Place, len(r.streams))
-	if err != nil {
-		return err
-	}
-	if p != nil {
-		for partition, at := range p.Partitions {
-			r.streams[partition], r.chains[partition] = at.Stream, ledger.Chain{Known: at.Known, Upto: at.Upto}
+	if r.options.Place != "" {
+		if err := r.restorePlace(); err != nil {
+			return err
 		}
-		r.written = p.Output
 	}
 	if !r.options.File {
 		return nil
 	}
 	return r.cutOutput()
+}
+
+func (r *receiver) restorePlace() error {
+	p, err := readPlaces(r.options.Place, len(r.streams))
+	if err != nil || p == nil {
+		return err
+	}
+	for partition, at := range p.Partitions {
+		r.streams[partition], r.holes[partition] = at.Stream, at.Hole
+		r.chains[partition] = ledger.Chain{Known: at.Known, Upto: at.Upto}
+	}
+	r.written = p.Output
+	return nil
 }
 
 func (r *receiver) cutOutput() error {
@@ -130,12 +143,16 @@ func (r *receiver) run(ctx context.Context) error {
 	}
 	defer link.Close()
 	messages := make(chan message)
+	open := broker.OpenOf(len(r.streams))
 	for partition := range r.streams {
-		stream, err := link.Read(r.options.Settings.Queue(broker.Answers, partition), r.from(partition))
+		stream, err := link.Read(r.options.Settings.Queue(broker.Answers, partition), r.from(partition), open)
 		if err != nil {
 			return r.idle(err)
 		}
 		go forward(link, stream, partition, messages)
+	}
+	if err := r.pin(link); err != nil {
+		return r.idle(err)
 	}
 	ticker := time.NewTicker(savePause)
 	defer ticker.Stop()
@@ -156,6 +173,31 @@ func (r *receiver) run(ctx context.Context) error {
 			return r.idle(link.Err())
 		}
 	}
+}
+
+// pin publishes a mark in each stream that is read from its end on, and of which nothing was read yet. So there is a place
+// to go on from, and what is answered while the receiver is away is not missed.
+func (r *receiver) pin(link *broker.Link) error {
+	if r.options.From != broker.FromNext {
+		return nil
+	}
+	publisher, err := link.Publisher()
+	if err != nil {
+		return err
+	}
+	for partition, offset := range r.streams {
+		if offset >= 0 {
+			continue
+		}
+		queue := r.options.Settings.Queue(broker.Answers, partition)
+		if err := publisher.Publish(queue, amqp.Table{broker.MarkHeader: "desk receive"}, nil); err != nil {
+			return err
+		}
+	}
+	if err := publisher.Settle(); err != nil {
+		return err
+	}
+	return publisher.Close()
 }
 
 func (r *receiver) idled() bool { return r.options.Idle > 0 && time.Since(r.moved) > r.options.Idle }
@@ -190,43 +232,61 @@ func (r *receiver) from(partition int) interface{} {
 	return r.options.From
 }
 
-// take takes a message in, and writes the answers that it adds.
 func (r *receiver) take(m message) error {
 	offset, err := m.stream.Take(m.delivery, m.open)
 	if err != nil {
 		return err
 	}
-	chain, before := &r.chains[m.partition], r.streams[m.partition]
+	return r.add(m.partition, offset, m.delivery.Headers, m.delivery.Body)
+}
+
+// add takes the next message of a partition's stream in, and writes the answers that it adds.
+func (r *receiver) add(partition int, offset int64, headers amqp.Table, body []byte) error {
+	chain, before := &r.chains[partition], r.streams[partition]
 	if offset == 0 {
 		chain.Reach(ledger.Start)
 	}
-	if before >= 0 && offset > before+1 {
-		fmt.Fprintf(r.options.Log, "desk receive: partition %d: the retention has cut the messages from %d to %d before they "+
-			"were received\n", m.partition, before+1, offset-1)
-		*chain = ledger.Chain{}
+	r.holes[partition] = r.holes[partition] || before >= 0 && offset > before+1
+	r.streams[partition], r.dirty = offset, true
+	part, is, err := broker.ReadPart(headers)
+	if err != nil {
+		return &final{fmt.Errorf("partition %d, offset %d: %w", partition, offset, err)}
 	}
-	r.streams[m.partition], r.dirty = offset, true
-	part, is, err := broker.ReadPart(m.delivery.Headers)
-	switch {
-	case err != nil:
-		return &final{fmt.Errorf("partition %d, offset %d: %w", m.partition, offset, err)}
-	case !is:
+	if !is {
 		return nil
+	}
+	r.lookForCut(partition, part)
+	switch {
 	case part.Snapshot:
 		chain.Reach(part.Upto)
 		return nil
 	case !chain.Fits(part.After, part.Upto):
 		return nil
 	}
-	return r.write(m, chain, part)
+	return r.write(partition, body, chain, part)
 }
 
-func (r *receiver) write(m message, chain *ledger.Chain, part broker.Part) error {
-	prefix := fmt.Sprintf(`{"partition":%d,`, m.partition)
-	for _, text := range bytes.Split(bytes.TrimSuffix(m.delivery.Body, []byte("\n")), []byte("\n")) {
+// lookForCut tells of answers that were cut before they were received, and goes on behind them: where offsets are missing
+// and the next message is not the one that is due. Missing offsets alone say nothing: the broker takes some for itself.
+func (r *receiver) lookForCut(partition int, part broker.Part) {
+	chain, begin := &r.chains[partition], part.After
+	if part.Snapshot {
+		begin = part.Upto
+	}
+	if r.holes[partition] && chain.Known && chain.Upto.Before(begin) {
+		fmt.Fprintf(r.options.Log, "desk receive: partition %d: the retention has cut the answers behind line %v and up to "+
+			"line %v before they were received\n", partition, chain.Upto, begin)
+		chain.Reach(begin)
+	}
+	r.holes[partition] = false
+}
+
+func (r *receiver) write(partition int, body []byte, chain *ledger.Chain, part broker.Part) error {
+	prefix := fmt.Sprintf(`{"partition":%d,`, partition)
+	for _, text := range bytes.Split(bytes.TrimSuffix(body, []byte("\n")), []byte("\n")) {
 		record, err := answer.ReadRecord(text)
 		if err != nil {
-			return &final{fmt.Errorf("partition %d: %w: %.100q", m.partition, err, text)}
+			return &final{fmt.Errorf("partition %d: %w: %.100q", partition, err, text)}
 		}
 		if !chain.Upto.Before(record.Place) {
 			continue
@@ -258,7 +318,8 @@ func (r *receiver) save() error {
 	}
 	p := &places{Output: r.written}
 	for partition, chain := range r.chains {
-		p.Partitions = append(p.Partitions, place{Stream: r.streams[partition], Known: chain.Known, Upto: chain.Upto})
+		at := place{Stream: r.streams[partition], Known: chain.Known, Upto: chain.Upto, Hole: r.holes[partition]}
+		p.Partitions = append(p.Partitions, at)
 	}
 	if err := p.write(r.options.Place); err != nil {
 		return err

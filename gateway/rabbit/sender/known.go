@@ -15,6 +15,9 @@ import (
 // atOnce is how many partitions are asked at a time.
 const atOnce = 8
 
+// open is how many messages of each of them may be on their way.
+var open = broker.OpenOf(atOnce)
+
 // knownOfAll is what each partition knows of a sender.
 func knownOfAll(link *broker.Link, settings broker.Settings, name string) ([]*ledger.Sender, error) {
 	found, faults := make([]*ledger.Sender, settings.Partitions), make([]error, settings.Partitions)
@@ -45,7 +48,7 @@ func known(link *broker.Link, settings broker.Settings, partition int, name stri
 	if err != nil {
 		return nil, err
 	}
-	h, err := history.Read(link, publisher, settings.Queue(broker.Answers, partition))
+	h, err := history.Read(link, publisher, settings.Queue(broker.Answers, partition), open)
 	if err != nil {
 		return nil, err
 	}
@@ -72,7 +75,7 @@ func readOn(link *broker.Link, lines, mark string, l *ledger.Ledger) error {
 	if l.Place.Offset >= 0 {
 		from = l.Place.Offset
 	}
-	stream, err := link.Read(lines, from)
+	stream, err := link.Read(lines, from, open)
 	if err != nil {
 		return err
 	}

@@ -3,7 +3,6 @@ package sender
 import (
 	"fmt"
 
-	"gateway/rabbit/broker"
 	"gateway/rabbit/ledger"
 )
 
@@ -18,10 +17,11 @@ type modelTally struct{ counted bool }
 
 // A repeat finds out whether an input begins with the lines that a partition took in the sender's last run, all of
 // them and in the same order. Those are not sent again. Any other input is new from its first line on. Until that is
-// known, its lines are held back. Where they come to 16 MiB, all of which are those of the last run as far as digests
-// are known, the input counts as the same.
+// known, its lines are held back. Where they come to the limit, and all are those of the last run as far as digests are
+// known, the input counts as the same.
 type repeat struct {
 	run     *ledger.Run // the last run
+	limit   int         // how many bytes of lines are held back at most, but for the last
 	count   int64       // lines of the input so far
 	digest  ledger.Digest
 	held    []pending
@@ -46,7 +46,7 @@ func (r *repeat) take(next pending) (fresh []pending, repeated []pending, known 
 		return nil, r.held, true, nil
 	}
 	r.checked = r.checked || is
-	r.same = r.same || r.checked && r.bytes > broker.WindowBytes
+	r.same = r.same || r.checked && r.bytes > r.limit
 	if r.same {
 		repeated, r.held = r.held, nil
 	}

@@ -4,6 +4,7 @@ import (
 	"fmt"
 	"testing"
 
+	"gateway/rabbit/broker"
 	"gateway/rabbit/ledger"
 )
 
@@ -18,7 +19,7 @@ func runOf(lines ...string) *ledger.Run {
 // fed gives a repeat these lines, and tells how many are new, repeated and held back.
 func fed(t *testing.T, run *ledger.Run, lines ...string) (fresh, repeated, held int) {
 	t.Helper()
-	r := &repeat{run: run}
+	r := &repeat{run: run, limit: broker.WindowBytes}
 	for at, text := range lines {
 		newOnes, old, known, err := r.take(pending{text: []byte(text)})
 		if err != nil {
@@ -57,7 +58,7 @@ func TestALongRepeatIsNotHeld(t *testing.T) {
 	for number := 0; number < 40; number++ {
 		long = append(long, fmt.Sprintf("%d%01000000d", number, 0))
 	}
-	r := &repeat{run: runOf(long...)}
+	r := &repeat{run: runOf(long...), limit: broker.WindowBytes}
 	repeated, known := 0, false
 	for _, text := range long {
 		_, old, now, err := r.take(pending{text: []byte(text)})
@@ -72,7 +73,7 @@ func TestALongRepeatIsNotHeld(t *testing.T) {
 	if repeated != 40 || !known {
 		t.Errorf("%d repeated, %v", repeated, known)
 	}
-	r = &repeat{run: runOf(long...)}
+	r = &repeat{run: runOf(long...), limit: broker.WindowBytes}
 	long[30] = "x"
 	var err error
 	for at := 0; at < len(long) && err == nil; at++ {

@@ -139,7 +139,7 @@ func (s *sender) prepare(link *broker.Link) error {
 		if of := found[partition]; of != nil {
 			t.first, t.next = of.Next, of.Next
 			if of.Run != nil {
-				t.repeat = &repeat{run: of.Run}
+				t.repeat = &repeat{run: of.Run, limit: broker.WindowBytes / len(s.targets)}
 			}
 		}
 	}

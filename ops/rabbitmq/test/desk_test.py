@@ -15,12 +15,13 @@ import subprocess
 import tempfile
 import threading
 import time
+import urllib.request
 import uuid
 from typing import Any, Iterator
 
 HERE = pathlib.Path(__file__).resolve().parent.parent
 ROOT = HERE.parents[1]
-PACKAGES = ["rabbitmq-server", "python3-pika", "procps"]
+PACKAGES = ["rabbitmq-server", "python3-pika"]
 PROGRAM = ""
 CLIENTS = 64
 NO_LINES = 7  # so many messages of the sender x are no lines
@@ -30,7 +31,7 @@ Place = tuple[int, int]
 
 def install() -> None:
     """Installs what is missing from Debian, and builds the gateway's program."""
-    there = os.path.exists("/usr/lib/rabbitmq/bin/rabbitmq-server") and shutil.which("pgrep") and not subprocess.run(
+    there = os.path.exists("/usr/lib/rabbitmq/bin/rabbitmq-server") and not subprocess.run(
         ["/usr/bin/python3", "-c", "import pika"], stderr=subprocess.DEVNULL).returncode
     if not there:
         subprocess.run(["apt-get", "update"], check=True)
@@ -45,12 +46,14 @@ def program(*words: str) -> list[str]:
 
 
 def model(addend: int) -> str:
-    """A model with a service that takes long, and one whose answer is long."""
+    """A model with services of which one takes long, one has a long answer, and one answers what it is given."""
     decisions = [{"name": "d", "needs": ["a"], "expr": f"a * 3 + {addend}"},
+                 {"name": "same", "needs": ["a"], "expr": "a"},
                  {"name": "many", "needs": ["a"], "expr": {"list": ["a"] * 9000}},
                  {"name": "slow", "needs": ["many"], "expr": {"list": ["many = many"] * 2000}}]
     services = [{"name": name, "outputs": [output], "encapsulated": inner, "inputDecisions": [], "inputData": ["a"]}
-                for name, output, inner in (("s", "d", []), ("long", "many", []), ("slow", "slow", ["many"]))]
+                for name, output, inner in (("s", "d", []), ("echo", "same", []), ("long", "many", []),
+                                            ("slow", "slow", ["many"]))]
     return json.dumps({"model": {"inputs": ["a"], "decisions": decisions, "services": services}})
 
 
@@ -114,6 +117,7 @@ class Cluster:
         global PROGRAM
         PROGRAM = shutil.copy(ROOT / "gateway" / "out" / "desk-gateway", self.folder)
         self.processes: list[subprocess.Popen[bytes]] = []
+        self.ports: dict[int, int] = {}  # of each process, where its metrics are
         self.stopped: "subprocess.Popen[bytes] | None" = None
         self.log = open(self.folder / "partitions.log", "ab")
 
@@ -126,10 +130,27 @@ class Cluster:
                        stdout=subprocess.DEVNULL)
 
     def start(self) -> "subprocess.Popen[bytes]":
-        process = subprocess.Popen(program("partition", *self.words), stdin=subprocess.DEVNULL, stderr=self.log,
-                                   env=self.environment)
+        used = {self.ports[process.pid] for process in [*self.processes, *([self.stopped] if self.stopped else [])]}
+        port = next(port for port in range(self.port + 20, self.port + 80) if port not in used)
+        process = subprocess.Popen(program("partition", "--metrics", f"127.0.0.1:{port}", *self.words),
+                                   stdin=subprocess.DEVNULL, stderr=self.log, env=self.environment)
         self.processes.append(process)
+        self.ports[process.pid] = port
         return process
+
+    def metrics(self, process: "subprocess.Popen[bytes]") -> dict[str, float]:
+        """What a process tells Prometheus, without what the names have in common. It has to be ready."""
+        address = f"http://127.0.0.1:{self.ports[process.pid]}"
+        assert urllib.request.urlopen(f"{address}/readyz", timeout=10).status == 200
+        text = urllib.request.urlopen(f"{address}/metrics", timeout=10).read().decode()
+        return {name: float(value) for name, value in re.findall(r"^desk_partition_(\S+) (\S+)$", text, re.MULTILINE)}
+
+    def most_memory(self, partition: int) -> int:
+        """How many bytes of memory the process of a partition had at most, without its engine."""
+        status = pathlib.Path(f"/proc/{self.owner(partition)}/status").read_text()
+        found = re.search(r"^VmHWM:\s+(\d+) kB$", status, re.MULTILINE)
+        assert found
+        return int(found[1]) * 1024
 
     def told(self) -> str:
         return (self.folder / "partitions.log").read_text()
@@ -147,9 +168,24 @@ class Cluster:
         process.wait()
         self.start()
 
+    def kill_owner(self, partition: int) -> None:
+        """Kills the process of a partition, and starts another one."""
+        begun = time.monotonic()
+        while not (found := [process for process in self.processes if process.pid == self.owner(partition)]):
+            assert time.monotonic() < begun + 60, f"nobody owns partition {partition}"
+            time.sleep(0.1)
+        process = found[0]
+        self.processes.remove(process)
+        process.kill()
+        process.wait()
+        self.start()
+
     def kill_engine(self, partition: int) -> None:
         """Kills the engine of a partition, as the system does where memory is short."""
-        subprocess.run(["pkill", "-KILL", "-P", str(self.owner(partition))])  # its children alone
+        for children in pathlib.Path(f"/proc/{self.owner(partition)}/task").glob("*/children"):
+            with contextlib.suppress(OSError):  # one of them may have ended
+                for child in children.read_text().split():
+                    os.kill(int(child), signal.SIGKILL)
 
     def stop_partition(self) -> None:
         living = {str(process.pid): process for process in self.processes}
@@ -178,6 +214,11 @@ class Cluster:
 
     def come_back(self) -> None:
         self.run("brokers")
+
+    def keep(self, policy: dict[str, int]) -> None:
+        """Sets what the brokers keep of the streams."""
+        self.run("ctl", "1", "set_policy", "desk", r"^desk\.(lines|answers)\.", json.dumps(policy), "--apply-to",
+                 "queues")
 
     def end(self, passed: bool) -> None:
         for process in [*self.processes, *([self.stopped] if self.stopped else [])]:
@@ -303,7 +344,8 @@ def answers_of(records: list[Record]) -> Iterator[bytes]:
 
 
 def compare(cluster: Cluster, poison: dict[bytes, str], received: bytes) -> tuple[collections.Counter[Any], int]:
-    """Compares all streams, and what was received, with what is due. The ids, each with how often it was answered."""
+    """Compares all streams, and what was received, with what is due. The ids as JSON, each with how often it was
+    answered."""
     counts: collections.Counter[Any] = collections.Counter()
     last: dict[str, int] = {}
     same = snapshots = twice = 0
@@ -321,8 +363,8 @@ def compare(cluster: Cluster, poison: dict[bytes, str], received: bytes) -> tupl
             assert lines_received.pop(b'{"partition":%d,%s' % (partition, line[1:]), 0) == 1, f"not received: {line!r}"
             same += 1
             if "id" in value:
-                counts[value["id"]] += 1
-            if value.get("id", -1) >= 0:
+                counts[json.dumps(value["id"])] += 1
+            if isinstance(value.get("id"), int) and value["id"] >= 0:
                 assert last.get(value["key"], -2) < value["id"], f"out of order: {line!r}"
                 last[value["key"]] = value["id"]
         assert not due, f"without an answer in partition {partition}: {len(due)}"

@@ -1,0 +1,171 @@
+package receiver
+
+import (
+	"bytes"
+	"fmt"
+	"os"
+	"path/filepath"
+	"strings"
+	"testing"
+
+	"gateway/rabbit/answer"
+	"gateway/rabbit/broker"
+	"gateway/rabbit/ledger"
+)
+
+// A file is a receiver that writes into a file and keeps its place, and what it told.
+type file struct {
+	*receiver
+	path string
+	told *bytes.Buffer
+}
+
+// opened is a receiver that was started with these files.
+func opened(t *testing.T, folder string) file {
+	t.Helper()
+	path := filepath.Join(folder, "answers")
+	output, err := os.OpenFile(path, os.O_WRONLY|os.O_CREATE, 0o600)
+	if err != nil {
+		t.Fatal(err)
+	}
+	t.Cleanup(func() { output.Close() })
+	told := &bytes.Buffer{}
+	r, err := newReceiver(Options{Settings: broker.Settings{Partitions: 1}, From: broker.FromFirst,
+		Place: filepath.Join(folder, "place"), Output: output, File: true, Log: told})
+	if err != nil {
+		t.Fatal(err)
+	}
+	return file{receiver: r, path: path, told: told}
+}
+
+// answers gives the receiver a message of the answers of so many lines behind this one, each a message of its own.
+func (f file) answers(t *testing.T, stream, behind, count int64) {
+	t.Helper()
+	part := broker.Part{After: ledger.Place{Offset: behind}, Upto: ledger.Place{Offset: behind + count}}
+	if behind < 0 {
+		part.After = ledger.Start
+	}
+	var body []byte
+	for line := behind + 1; line <= behind+count; line++ {
+		body = answer.Append(body, ledger.Place{Offset: line}, []byte(`"k"`), []byte(fmt.Sprint(line)), []byte(`{"ticket":0}`))
+	}
+	if err := f.add(0, stream, broker.PartHeaders(part), body); err != nil {
+		t.Fatal(err)
+	}
+}
+
+// written are the numbers of the lines whose answers stand in the file.
+func (f file) written(t *testing.T) string {
+	t.Helper()
+	text, err := os.ReadFile(f.path)
+	if err != nil {
+		t.Fatal(err)
+	}
+	var numbers []string
+	for _, line := range strings.Split(strings.TrimSpace(string(text)), "\n") {
+		before, _, _ := strings.Cut(strings.TrimPrefix(line, `{"partition":0,"offset":`), ",")
+		numbers = append(numbers, before)
+	}
+	return strings.Join(numbers, " ")
+}
+
+func (f file) saved(t *testing.T) {
+	t.Helper()
+	if err := f.save(); err != nil {
+		t.Fatal(err)
+	}
+}
+
+// Answers that are published twice, with a gap before them or over again by a second owner are written once.
+func TestEachAnswerIsWrittenOnce(t *testing.T) {
+	f := opened(t, t.TempDir())
+	f.answers(t, 0, -1, 3)                        // 0 to 2
+	f.answers(t, 1, -1, 3)                        // the same again
+	f.answers(t, 2, 5, 1)                         // behind a gap
+	f.answers(t, 3, 0, 4)                         // 1 to 4
+	if err := f.add(0, 4, nil, nil); err != nil { // a mark
+		t.Fatal(err)
+	}
+	f.answers(t, 5, 4, 2) // 5 and 6
+	f.saved(t)
+	if got := f.written(t); got != "0 1 2 3 4 5 6" || f.told.Len() > 0 {
+		t.Errorf("%s; %s", got, f.told)
+	}
+}
+
+// A receiver that is killed, and started again, writes nothing twice and leaves nothing out.
+func TestAPlaceIsGoneBackTo(t *testing.T) {
+	folder := t.TempDir()
+	f := opened(t, folder)
+	f.answers(t, 0, -1, 3)
+	f.saved(t)
+	f.answers(t, 1, 2, 2)
+	if err := f.output.Flush(); err != nil { // and the place is not saved
+		t.Fatal(err)
+	}
+	again := opened(t, folder)
+	if from := again.from(0); from != int64(0) {
+		t.Errorf("it goes on at %v", from)
+	}
+	again.answers(t, 0, -1, 3)
+	again.answers(t, 1, 2, 2)
+	again.answers(t, 2, 4, 1)
+	again.saved(t)
+	if got := again.written(t); got != "0 1 2 3 4 5" {
+		t.Error(got)
+	}
+}
+
+// What retention has cut before it was received is told, and the receiver goes on.
+func TestACutIsTold(t *testing.T) {
+	f := opened(t, t.TempDir())
+	f.answers(t, 0, -1, 3)
+	f.answers(t, 9, 20, 1)
+	f.saved(t)
+	if got := f.written(t); got != "0 1 2 21" || !strings.Contains(f.told.String(), "behind line 2.0 and up to line 20.0") {
+		t.Errorf("%s; %s", got, f.told)
+	}
+}
+
+// A cut is known of where a mark comes first behind it, and the receiver is started again.
+func TestACutBeforeAMarkIsTold(t *testing.T) {
+	folder := t.TempDir()
+	f := opened(t, folder)
+	f.answers(t, 0, -1, 3)
+	if err := f.add(0, 9, nil, nil); err != nil {
+		t.Fatal(err)
+	}
+	f.saved(t)
+	again := opened(t, folder)
+	again.answers(t, 10, 20, 1)
+	again.saved(t)
+	if got := again.written(t); got != "0 1 2 21" || again.told.Len() == 0 {
+		t.Errorf("%s; %s", got, again.told)
+	}
+}
+
+// Offsets that the broker takes for itself are no cut, and answers that come once more behind them are not written.
+func TestMissingOffsetsAreNoCut(t *testing.T) {
+	f := opened(t, t.TempDir())
+	f.answers(t, 0, -1, 3)
+	f.answers(t, 2, 2, 1)
+	f.answers(t, 4, 0, 3)
+	f.answers(t, 6, 3, 1)
+	f.saved(t)
+	if got := f.written(t); got != "0 1 2 3 4" || f.told.Len() > 0 {
+		t.Errorf("%s; %s", got, f.told)
+	}
+}
+
+func TestAPlaceOfOtherPartitions(t *testing.T) {
+	path := filepath.Join(t.TempDir(), "place")
+	if err := (&places{Partitions: []place{{Stream: 4}}}).write(path); err != nil {
+		t.Fatal(err)
+	}
+	if p, err := readPlaces(path, 1); err != nil || p.Partitions[0].Stream != 4 {
+		t.Errorf("%+v, %v", p, err)
+	}
+	if _, err := readPlaces(path, 2); err == nil {
+		t.Error("the place of another number of partitions is read")
+	}
+}
