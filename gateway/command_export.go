@@ -67,11 +67,12 @@ func exportModel(ctx context.Context, path string, out, faults io.Writer) (int, 
 }
 
 // fileOf writes the file of a model. One that was imported is written so that it is imported again to the same model: with
-// the names and types of its file, else with less of them. Where that can't be had, it is told.
+// the names and types of its file, else with less of them, also where names would run into each other. Where that can't
+// be had, it is told.
 func fileOf(source export.Source, faults io.Writer) ([]byte, []export.Refusal) {
-	file, refusals := export.File(source)
-	if !source.Imported || len(refusals) > 0 {
-		return file, refusals
+	file, refused := export.File(source)
+	if !source.Imported {
+		return file, refused
 	}
 	for _, without := range []func(*export.Source){
 		func(*export.Source) {},
@@ -85,8 +86,10 @@ func fileOf(source export.Source, faults io.Writer) ([]byte, []export.Refusal) {
 			return again, nil
 		}
 	}
-	fmt.Fprintln(faults, "desk export: note: imported again, the file gives another model, or is refused")
-	return file, nil
+	if len(refused) == 0 {
+		fmt.Fprintln(faults, "desk export: note: imported again, the file gives another model, or is refused")
+	}
+	return file, refused
 }
 
 // importsTo tells whether a file is imported to a model.

@@ -70,6 +70,8 @@ func runHTTP(ctx context.Context, words []string) int {
 	}
 	options := parsed.options
 	options.Log = logger.Printf
+	// A log that nobody reads any more ends no service.
+	signal.Notify(make(chan os.Signal, 1), syscall.SIGPIPE)
 	hangUp := make(chan os.Signal, 1)
 	signal.Notify(hangUp, syscall.SIGHUP)
 	turn := make(chan struct{})
@@ -95,7 +97,7 @@ func serveHTTP(ctx context.Context, parsed *httpWords, options service.Options) 
 	}
 	options.ReadDMN = putDMN
 	options.Named = strings.Join(parsed.files, " ")
-	if options.Listener, err = listen(parsed.listen); err != nil {
+	if options.Listener, options.Shared, err = listen(parsed.listen); err != nil {
 		return err
 	}
 	defer options.Listener.Close()
@@ -187,19 +189,19 @@ func parseSize(text string) (int64, error) {
 	return n, nil
 }
 
-// listen opens the address, or takes the socket that systemd hands over.
-func listen(address string) (net.Listener, error) {
+// listen opens the address, or takes the socket that systemd hands over. Shared says that it did this.
+func listen(address string) (listener net.Listener, shared bool, err error) {
 	if address == "" && os.Getenv("LISTEN_PID") == strconv.Itoa(os.Getpid()) && os.Getenv("LISTEN_FDS") != "" {
-		return handedOver()
+		listener, err = handedOver()
+		return listener, true, err
 	}
 	if address == "" {
 		address = "127.0.0.1:8080"
 	}
-	listener, err := net.Listen("tcp", address)
-	if err != nil {
-		return nil, fmt.Errorf("listening: %w", err)
+	if listener, err = net.Listen("tcp", address); err != nil {
+		return nil, false, fmt.Errorf("listening: %w", err)
 	}
-	return listener, nil
+	return listener, false, nil
 }
 
 // firstHanded is the first descriptor that systemd hands over.

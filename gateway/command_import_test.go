@@ -8,6 +8,8 @@ import (
 	"path/filepath"
 	"strings"
 	"testing"
+
+	"gateway/profile"
 )
 
 const header = `<definitions xmlns="https://www.omg.org/spec/DMN/20191111/MODEL/" name="m" namespace="n">`
@@ -91,6 +93,25 @@ func TestImportOfSeveralFiles(t *testing.T) {
 	}
 }
 
+func TestImportTellsDecisionsThatGotNoService(t *testing.T) {
+	const need = `<decision id="d#" name="decision number #"><informationRequirement><requiredDecision href="&hash;d@"/>` +
+		`</informationRequirement><literalExpression><text>1</text></literalExpression></decision>`
+	var all strings.Builder
+	for i := 1; i < 500; i++ {
+		all.WriteString(strings.NewReplacer("#", fmt.Sprint(i), "@", fmt.Sprint(i-1), "&hash;", "#").Replace(need))
+	}
+	first := `<decision id="d0" name="decision number 0"><literalExpression><text>1</text></literalExpression></decision>`
+	status, out, errs := imports("--line", file(t, header+first+all.String()+"</definitions>"))
+	if status != 0 || len(out) > profile.MostLine+1 || !strings.Contains(errs, `"decision number 498" has no service of its own`) {
+		t.Errorf("status %d, %d bytes, and %.300s", status, len(out), errs)
+	}
+	for _, line := range strings.Split(strings.TrimSpace(errs), "\n") {
+		if !strings.HasPrefix(line, "desk import: the decision ") {
+			t.Errorf("told is %s", line)
+		}
+	}
+}
+
 func TestImportOfNoFiles(t *testing.T) {
 	if status, _, _ := imports(); status != statusUsage {
 		t.Errorf("status %d", status)
@@ -151,6 +172,12 @@ func TestHostileFiles(t *testing.T) {
 		"types that double":         header + `<itemDefinition name="t0"><typeRef>number</typeRef></itemDefinition>` + build(`<itemDefinition name="t#"><itemComponent name="a"><typeRef>t@</typeRef></itemComponent><itemComponent name="b"><typeRef>t@</typeRef></itemComponent></itemDefinition>`, 64) + `<inputData id="i" name="i"><variable name="i" typeRef="t63"/></inputData><decision id="d" name="d"><literalExpression><text>1</text></literalExpression></decision></definitions>`,
 		"invocations that double":   header + first + build(fmt.Sprintf(knowledge, "<literalExpression><text>[f@(), f@()]</text></literalExpression>"), 64) + knows(63) + "</definitions>",
 		"boxed ones that double":    header + first + build(fmt.Sprintf(knowledge, "<list>"+invocation+invocation+"</list>"), 64) + knows(63) + "</definitions>",
+		"calls in a row":            header + first + build(fmt.Sprintf(knowledge, "<literalExpression><text>f@()</text></literalExpression>"), 5000) + knows(4999) + "</definitions>",
+		"calls of great contexts":   header + `<itemDefinition name="t">` + repeated(9900, `<itemComponent name="c#"><typeRef>number</typeRef></itemComponent>`) + `</itemDefinition><inputData id="o" name="o"><variable name="o" typeRef="t"/></inputData><businessKnowledgeModel id="f" name="f"><encapsulatedLogic><formalParameter name="x" typeRef="t"/><literalExpression><text>1</text></literalExpression></encapsulatedLogic></businessKnowledgeModel><decision id="d" name="d"><informationRequirement><requiredInput href="#o"/></informationRequirement><knowledgeRequirement><requiredKnowledge href="#f"/></knowledgeRequirement><literalExpression><text>[f(o)` + strings.Repeat(",f(o)", 100_000) + `]</text></literalExpression></decision></definitions>`,
+		"a long name":               header + `<inputData name="` + strings.Repeat("a ", 500_000) + `"/></definitions>`,
+		"services without inputs":   header + repeated(200, `<inputData id="i#" name="i#"/>`) + `<decision id="d" name="d">` + strings.ReplaceAll(repeated(200, `<informationRequirement><requiredInput href="&hash;i#"/></informationRequirement>`), "&hash;", "#") + `<literalExpression><text>1</text></literalExpression></decision>` + strings.ReplaceAll(repeated(10_000, `<decisionService id="s#" name="s#"><outputDecision href="&hash;d"/></decisionService>`), "&hash;", "#") + "</definitions>",
+		"values and literals":       header + `<decision id="d" name="d"><decisionTable><output name="r"><outputValues><text>0` + repeated(30_000, `,#`) + `</text></outputValues></output>` + strings.Repeat(`<rule><outputEntry><text>-1</text></outputEntry></rule>`, 30_000) + "</decisionTable></decision></definitions>",
+		"ranges and literals":       header + `<decision id="d" name="d"><decisionTable><output name="r"><outputValues><text>0` + repeated(30_000, `,[#..#]`) + `</text></outputValues></output>` + strings.Repeat(`<rule><outputEntry><text>-1</text></outputEntry></rule>`, 30_000) + "</decisionTable></decision></definitions>",
 		"invocations in each other": header + first + build(fmt.Sprintf(knowledge, "<list>"+invocation+"</list>"), 2000) + knows(1999) + "</definitions>",
 	} {
 		t.Run(name, func(t *testing.T) {

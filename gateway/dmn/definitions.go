@@ -82,7 +82,7 @@ type ItemDefinition struct {
 type Text struct {
 	*Element
 	Text string
-	// Language is the expression language that it declares; empty where it declares none.
+	// Language is the expression language that it declares, else that of the file; empty where neither declares one.
 	Language string
 	// TypeRef is the declared type of its value; empty where none is declared.
 	TypeRef string

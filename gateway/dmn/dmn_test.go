@@ -109,6 +109,8 @@ func TestFilesThatAreNotRead(t *testing.T) {
 		"bytes that are no UTF-8":     {open + "\n\xff</definitions>", "no UTF-8", Place{2, 1}},
 		"UTF-16 that isn't":           {`<?xml version="1.0" encoding="UTF-16"?>` + small, "not in the encoding", Place{1, 1}},
 		"an encoding that isn't read": {`<?xml version="1.0" encoding="EBCDIC"?>` + small, "not in the encoding", Place{1, 1}},
+		"a reference to half a pair":  {open + "\n<a>&#xD800;</a></definitions>", "no character", Place{2, 4}},
+		"one in an attribute":         {open + "\n<a b='&#55296;'/></definitions>", "no character", Place{2, 1}},
 		"UTF-32":                      {"\xff\xfe\x00\x00<", "UTF-32", Place{1, 1}},
 		"half a character of UTF-16":  {string(asUTF16(small, true, true)[:101]), "within a character", Place{1, 1}},
 		"half a pair of UTF-16":       {string(asUTF16("<a>", true, true)) + "\x00\xd8", "half of a pair", Place{1, 4}},
@@ -155,6 +157,45 @@ func TestPartsThatAreNotKnown(t *testing.T) {
 	}
 	if got := strings.Join(told, " "); got != "literalExpression literalExpresion list" {
 		t.Errorf("what is not known is %s", got)
+	}
+}
+
+func TestPartsThatStandTwiceAndStrayCharacters(t *testing.T) {
+	literal := "<literalExpression><text>1</text></literalExpression>"
+	for parts, due := range map[string]string{
+		"<literalExpression><text>1</text><text>2</text></literalExpression>": "text: the element stands twice",
+		`<variable name="a"/><variable name="b"/>` + literal:                  "variable: the element stands twice",
+		literal + literal:                          "literalExpression: a second expression",
+		"<literalExpression>1</literalExpression>": "1: characters stand in literalExpression",
+		"<decisionTable><rule><inputEntry>5</inputEntry></rule></decisionTable>":                 "5: characters stand in inputEntry",
+		"<decisionTable>x<output/></decisionTable>":                                              "x: characters stand in decisionTable",
+		"<conditional><then/><then>" + literal + "</then></conditional>":                         "then: the element stands twice",
+		"<invocation>" + literal + literal + "</invocation>":                                     "literalExpression: a second expression",
+		"<decisionTable><input><inputValues/><inputValues/></input></decisionTable>":             "inputValues: the element stands twice",
+		"<decisionTable><output><outputValues/><outputValues/></output></decisionTable>":         "outputValues: the element stands twice",
+		"<invocation><binding><parameter name='a'/><parameter name='b'/></binding></invocation>": "parameter: the element stands twice",
+	} {
+		file := read(t, []byte("<definitions "+dmn13+"><decision name='d'>"+parts+"</decision></definitions>"))
+		told := ""
+		for _, fault := range file.Faults {
+			told += fault.Text + ": " + fault.Why + "; "
+		}
+		if !strings.Contains(told, due) {
+			t.Errorf("%s tells %q, due %q", parts, told, due)
+		}
+	}
+}
+
+func TestAttributesThatAreTrueOrFalse(t *testing.T) {
+	for spelled, due := range map[string]bool{"true": true, "1": true, " 1 ": true, "false": false, "0": false, "": false} {
+		file := read(t, []byte("<definitions "+dmn13+"><itemDefinition name='t' isCollection='"+spelled+"'/></definitions>"))
+		if file.Types[0].Collection != due || len(file.Faults) > 0 {
+			t.Errorf("%q is %v, with %v", spelled, file.Types[0].Collection, file.Faults)
+		}
+	}
+	file := read(t, []byte("<definitions "+dmn13+"><itemDefinition name='t' isCollection='TRUE'/></definitions>"))
+	if len(file.Faults) != 1 || file.Faults[0].Text != "TRUE" {
+		t.Errorf("the faults are %v", file.Faults)
 	}
 }
 

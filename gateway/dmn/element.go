@@ -7,6 +7,7 @@ import (
 	"fmt"
 	"io"
 	"strings"
+	"unicode/utf8"
 )
 
 // Limits of a file. A model has to fit in a line of 1,048,576 bytes, so these are far beyond any file that can be
@@ -15,6 +16,8 @@ const (
 	MostBytes    = 16 << 20
 	MostDepth    = 256
 	MostElements = 500_000
+	// MostName is how many bytes a name may have: each text that may use it is read with it.
+	MostName = 1000
 )
 
 // An Element is an element of the file, with all that stands in it.
@@ -41,12 +44,15 @@ func (e *Element) Attribute(name string) string {
 // ID is the element's id; empty where it has none.
 func (e *Element) ID() string { return e.Attribute("id") }
 
-// Name is the element's name, or its label where it has no name.
+// Name is the element's name, or its label where it has no name; a label may be a long text, which is none.
 func (e *Element) Name() string {
 	if name := e.Attribute("name"); name != "" {
 		return name
 	}
-	return e.Attribute("label")
+	if label := e.Attribute("label"); len(label) <= MostName {
+		return label
+	}
+	return ""
 }
 
 // treeReader builds the elements of one file.
@@ -76,7 +82,12 @@ func readTree(text []byte) (*Element, *Fault) {
 		if err != nil {
 			return nil, r.syntax(err)
 		}
-		if fault := r.take(token, offset); fault != nil {
+		fault := r.take(token, offset)
+		if fault == nil && hasUnknown(token) && bytes.Contains(text[offset:decoder.InputOffset()], []byte("&#")) {
+			// A reference to a half of a pair of UTF-16 is let through as the sign for what is no character.
+			fault = &Fault{Why: "no XML: a reference to what is no character"}
+		}
+		if fault != nil {
 			fault.Place = r.lines.place(offset)
 			return nil, fault
 		}
@@ -132,6 +143,9 @@ func (r *treeReader) start(token xml.StartElement, offset int) *Fault {
 	}
 	if twice := attributeTwice(token.Attr); twice != "" {
 		return &Fault{Text: twice, Why: "the attribute stands twice in its element"}
+	}
+	if name := longName(token.Attr); name != "" {
+		return &Fault{Text: name, Why: fmt.Sprintf("the name has over %d bytes", MostName), Instead: "a shorter name"}
 	}
 	e := &Element{Space: r.word(token.Name.Space), Tag: r.word(token.Name.Local), Place: r.lines.place(offset)}
 	if len(token.Attr) > 0 {
@@ -194,6 +208,21 @@ func (r *treeReader) word(text string) string {
 	return text
 }
 
+// hasUnknown tells whether a token has the sign for what is no character, U+FFFD.
+func hasUnknown(token xml.Token) bool {
+	switch t := token.(type) {
+	case xml.CharData:
+		return bytes.ContainsRune(t, utf8.RuneError)
+	case xml.StartElement:
+		for _, a := range t.Attr {
+			if strings.ContainsRune(a.Value, utf8.RuneError) {
+				return true
+			}
+		}
+	}
+	return false
+}
+
 // attributeTwice names an attribute that stands twice.
 func attributeTwice(attributes []xml.Attr) string {
 	seen := make(map[xml.Name]bool, len(attributes))
@@ -202,6 +231,16 @@ func attributeTwice(attributes []xml.Attr) string {
 			return a.Name.Local
 		}
 		seen[a.Name] = true
+	}
+	return ""
+}
+
+// longName is the name of an element where it is too long, else empty.
+func longName(attributes []xml.Attr) string {
+	for _, a := range attributes {
+		if a.Name.Local == "name" && len(a.Value) > MostName {
+			return a.Value
+		}
 	}
 	return ""
 }

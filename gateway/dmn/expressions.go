@@ -24,6 +24,9 @@ func (r *reader) expressions(take func(Expression)) map[string]part {
 // text reads an element with a text in it.
 func (r *reader) text(e *Element) *Text {
 	t := &Text{Element: e, Language: e.Attribute("expressionLanguage"), TypeRef: e.Type()}
+	if t.Language == "" {
+		t.Language = r.file.Root.Attribute("expressionLanguage")
+	}
 	r.parts(e, map[string]part{
 		"text": func(c *Element) { t.Text = c.Text },
 		"importedValues": func(c *Element) {
@@ -107,8 +110,13 @@ func (r *reader) relation(e *Element) *Relation {
 func (r *reader) invocation(e *Element) *Invocation {
 	i := &Invocation{Element: e}
 	r.parts(e, map[string]part{
-		"literalExpression": func(c *Element) { i.Function = r.text(c) },
-		"binding":           func(c *Element) { i.Bindings = append(i.Bindings, r.binding(c)) },
+		"literalExpression": func(c *Element) {
+			if i.Function != nil {
+				r.fault(c, c.Tag, fmt.Sprintf("a second expression in %s", e.Tag), "")
+			}
+			i.Function = r.text(c)
+		},
+		"binding": func(c *Element) { i.Bindings = append(i.Bindings, r.binding(c)) },
 	})
 	return i
 }

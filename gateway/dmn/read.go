@@ -73,9 +73,21 @@ func (r *reader) fault(e *Element, text, why, instead string) {
 // A part is what to do with a child of one tag; nil where it changes no answer and is passed over.
 type part func(child *Element)
 
+// once are the parts of which an element has one at most.
+var once = map[string]bool{"variable": true, "text": true, "typeRef": true, "allowedValues": true, "typeConstraint": true,
+	"functionItem": true, "inputExpression": true, "inputValues": true, "outputValues": true, "defaultOutputEntry": true,
+	"encapsulatedLogic": true, "parameter": true, "if": true, "then": true, "else": true, "requiredInput": true,
+	"requiredDecision": true, "requiredKnowledge": true}
+
 // parts hands each child to the part of its tag. A child of DMN that has none is a fault, and so is one of another
-// namespace: only extensionElements may have such.
+// namespace: only extensionElements may have such. So are a second one of what may stand once, and characters outside
+// of an element for them.
 func (r *reader) parts(e *Element, known map[string]part) {
+	if stray := strings.TrimSpace(e.Text); stray != "" {
+		r.fault(e, stray, fmt.Sprintf("characters stand in %s, outside of an element for them", e.Tag),
+			"<text> round an expression")
+	}
+	var seen map[string]bool
 	for _, child := range e.Children {
 		if child.Tag == "extensionElements" || child.Tag == "description" || child.Tag == "DMNDI" {
 			continue
@@ -84,10 +96,30 @@ func (r *reader) parts(e *Element, known map[string]part) {
 		switch {
 		case !found || child.Space != r.file.Root.Space:
 			r.fault(child, child.Tag, fmt.Sprintf("the element is not known in %s", e.Tag), "")
+		case seen[child.Tag]:
+			r.fault(child, child.Tag, fmt.Sprintf("the element stands twice in %s", e.Tag), "one of them")
 		case take != nil:
 			take(child)
 		}
+		if once[child.Tag] {
+			if seen == nil {
+				seen = map[string]bool{}
+			}
+			seen[child.Tag] = true
+		}
 	}
+}
+
+// truth is an attribute that is true or false, which may be written as 1 or 0; false where it is left out.
+func (r *reader) truth(e *Element, name string) bool {
+	switch value := e.Attribute(name); value {
+	case "true", "1":
+		return true
+	case "", "false", "0":
+	default:
+		r.fault(e, value, fmt.Sprintf("%s is neither true nor false", name), "true or false")
+	}
+	return false
 }
 
 // definitions reads the parts of the model.
@@ -112,7 +144,7 @@ func (r *reader) definitions() {
 }
 
 func (r *reader) itemDefinition(e *Element) *ItemDefinition {
-	item := &ItemDefinition{Element: e, Collection: e.Attribute("isCollection") == "true"}
+	item := &ItemDefinition{Element: e, Collection: r.truth(e, "isCollection")}
 	r.parts(e, map[string]part{
 		"typeRef":        func(c *Element) { item.TypeRef = strings.TrimSpace(c.Text) },
 		"allowedValues":  func(c *Element) { item.Allowed = r.text(c) },

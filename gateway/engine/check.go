@@ -50,9 +50,9 @@ func (f *FaultyModel) Error() string {
 func Check(ctx context.Context, path string, memory uint64, text []byte) (*Lawful, []Place, error) {
 	ctx, stop := context.WithTimeout(ctx, checkPatience)
 	defer stop()
-	lines, err := ask(ctx, path, memory, text, "check", "--json")
+	lines, err := askLines(ctx, path, memory, text, "check", "--json")
 	if err != nil {
-		return nil, nil, fmt.Errorf("checking the model: %w", err)
+		return nil, nil, fmt.Errorf("checking the model: %w", ended(err))
 	}
 	if len(lines) == 0 {
 		return nil, nil, errors.New("checking the model: the engine said nothing")
@@ -71,46 +71,73 @@ func Check(ctx context.Context, path string, memory uint64, text []byte) (*Lawfu
 	return &first.Lawful, lines[1:], nil
 }
 
-// ask runs the engine with these words over an input, and gives the lines that it writes.
-func ask(ctx context.Context, path string, memory uint64, input []byte, words ...string) ([]Place, error) {
+// ErrEnded says that the engine ended at a model that it was given, as for want of memory.
+var ErrEnded = errors.New("the engine ended at the model")
+
+// ended makes ErrEnded of the status of an engine that a model was given to.
+func ended(err error) error {
+	var exit *exec.ExitError
+	if errors.As(err, &exit) {
+		return fmt.Errorf("%w: %v", ErrEnded, err)
+	}
+	return err
+}
+
+// askLines runs the engine as ask does, and gives the lines that it writes.
+func askLines(ctx context.Context, path string, memory uint64, input []byte, words ...string) (lines []Place, err error) {
+	err = ask(ctx, path, memory, input, func(line []byte, _ bool) error {
+		lines = append(lines, append(Place(nil), line...))
+		return nil
+	}, words...)
+	return lines, err
+}
+
+// ask runs the engine with these words over an input, and hands each line that it writes to take: of one over MaxAnswer bytes
+// the first, and that it was cut. The bytes are good until take returns.
+func ask(ctx context.Context, path string, memory uint64, input []byte, take func(line []byte, cut bool) error, words ...string) error {
 	p, err := begin(path, memory, words...)
 	if err != nil {
-		return nil, err
+		return err
 	}
 	go func() {
 		_, _ = p.in.Write(input)
 		_ = p.in.Close()
 	}()
-	lines := make(chan []Place, 1)
+	taken := make(chan error, 1)
 	go func() {
-		lines <- linesOf(p)
+		taken <- takeLines(p, take)
 	}()
 	select {
-	case got := <-lines:
+	case fault := <-taken:
 		err = p.wait()
 		var exit *exec.ExitError
 		// Status 3 says that the model has a fault.
 		if errors.As(err, &exit) && exit.ExitCode() == 3 {
 			err = nil
 		}
-		return got, err
+		if err == nil {
+			err = fault
+		}
+		return err
 	case <-ctx.Done():
 		p.kill()
-		<-lines
+		<-taken
 		_ = p.wait()
-		return nil, ctx.Err()
+		return ctx.Err()
 	}
 }
 
-func linesOf(p *process) []Place {
-	var lines []Place
+// takeLines reads to the end, also behind a line that is not taken, since the engine waits for a reader.
+func takeLines(p *process, take func(line []byte, cut bool) error) (fault error) {
 	from := bufio.NewReaderSize(p.out, 64<<10)
 	for {
-		text, _, err := readLine(from, nil)
+		text, cut, err := readLine(from, nil)
 		if err != nil {
-			return lines
+			return fault
 		}
-		lines = append(lines, append(Place(nil), text...))
+		if fault == nil {
+			fault = take(text, cut)
+		}
 	}
 }
 
@@ -118,9 +145,9 @@ func linesOf(p *process) []Place {
 func Try(ctx context.Context, path string, memory uint64, model *Model) error {
 	ctx, stop := context.WithTimeout(ctx, checkPatience)
 	defer stop()
-	lines, err := ask(ctx, path, memory, model.AppendLine(nil), "serve")
+	lines, err := askLines(ctx, path, memory, model.AppendLine(nil), "serve")
 	if err != nil {
-		return fmt.Errorf("trying the model: %w", err)
+		return fmt.Errorf("trying the model: %w", ended(err))
 	}
 	if len(lines) != 1 || !bytes.Equal(lines[0], []byte(`{"line":1,"model":true}`)) {
 		return fmt.Errorf("trying the model: the engine said %q", lines)
@@ -132,7 +159,7 @@ func Try(ctx context.Context, path string, memory uint64, model *Model) error {
 func Version(ctx context.Context, path string) (string, error) {
 	ctx, stop := context.WithTimeout(ctx, checkPatience)
 	defer stop()
-	lines, err := ask(ctx, path, 0, nil, "--version")
+	lines, err := askLines(ctx, path, 0, nil, "--version")
 	if err != nil {
 		return "", fmt.Errorf("asking for the engine's version: %w", err)
 	}

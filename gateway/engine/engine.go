@@ -78,8 +78,10 @@ type engine struct {
 	age   time.Duration
 	seen  uint64
 	ended error
-	// closing says that no more comes.
-	closing bool
+	// closing says that no more comes, over that all is answered and the process was told so by the end of its input.
+	closing, over bool
+	// fault is why the last process did not end well though all was over.
+	fault error
 }
 
 func newEngine(number int, pool *Pool, model *Model) *engine {
@@ -93,7 +95,7 @@ func (e *engine) run() {
 	pause := firstPause
 	for {
 		answered, err := e.live()
-		if e.isDone() {
+		if e.isDone(err) {
 			return
 		}
 		e.pool.options.Died(e.number, err)
@@ -108,14 +110,18 @@ func (e *engine) run() {
 	}
 }
 
-// isDone says that nothing is left to be asked, and nothing comes.
-func (e *engine) isDone() bool {
+// isDone says that nothing is left to be asked, and nothing comes. The error is that of the process that ended.
+func (e *engine) isDone(err error) bool {
 	e.mu.Lock()
 	defer e.mu.Unlock()
+	if e.over {
+		e.fault = err
+	}
 	return e.closing && e.waiting == 0 && e.sent == 0 && e.again.len() == 0
 }
 
-// live is the life of one process: whether it answered a request, and how it ended.
+// live is the life of one process: whether it answered a request, and how it ended; no error where it was to end and did so
+// with status 0.
 func (e *engine) live() (bool, error) {
 	p, err := begin(e.pool.options.Path, e.pool.options.Memory,
 		"serve", "--clients", strconv.Itoa(Lanes), "--workers", "1", "--capacity", laneRoom)
@@ -152,7 +158,7 @@ func (e *engine) live() (bool, error) {
 		err = e.ended
 	case strange != nil:
 		err = strange
-	case err == nil:
+	case err == nil && !e.over:
 		err = errors.New("it ended by itself")
 	}
 	return answered, err
@@ -191,6 +197,7 @@ func (e *engine) collect(p *process, text []byte) ([]byte, []*Job) {
 			return text, dropped
 		}
 		if e.closing && e.waiting == 0 && e.again.len() == 0 && e.sent == 0 {
+			e.over = true
 			return nil, nil
 		}
 		e.wake.Wait()

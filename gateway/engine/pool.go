@@ -242,8 +242,8 @@ func (p *Pool) settled() bool {
 	return true
 }
 
-// Close waits until all that was put in is answered, closes each engine's input and waits for its end. Nothing may be put
-// in any more. Where the context ends first, the engines are ended.
+// Close waits until all that was put in is answered, closes each engine's input and waits for its end, which has to be one
+// with status 0. Nothing may be put in any more. Where the context ends first, the engines are ended.
 func (p *Pool) Close(ctx context.Context) error {
 	for _, e := range p.engines {
 		e.close()
@@ -256,11 +256,24 @@ func (p *Pool) Close(ctx context.Context) error {
 	}()
 	select {
 	case <-ended:
-		return nil
+		return p.fault()
 	case <-ctx.Done():
 	}
 	for _, e := range p.engines {
 		e.abort()
 	}
 	return fmt.Errorf("closing the engines: %w", ctx.Err())
+}
+
+// fault is why an engine did not end well, or nil.
+func (p *Pool) fault() error {
+	for _, e := range p.engines {
+		e.mu.Lock()
+		fault := e.fault
+		e.mu.Unlock()
+		if fault != nil {
+			return fmt.Errorf("closing the engines: engine %d did not end well: %w", e.number, fault)
+		}
+	}
+	return nil
 }

@@ -39,6 +39,9 @@ func spelled(n Node) string {
 	case *Negation:
 		return "-" + spelled(n.Operand)
 	case *Path:
+		if n.Respelled {
+			return spelled(n.Operand) + ".respelled<" + n.Name + ">"
+		}
 		return spelled(n.Operand) + ".<" + n.Name + ">"
 	case *Range:
 		low, high := "[", "]"
@@ -66,7 +69,8 @@ func spelled(n Node) string {
 }
 
 func TestExpressions(t *testing.T) {
-	scope := NewScope(nil, "a", "b", "a-b", "net price", "net price of goods", "date and time of birth", "x y", "in stock", "is ok?")
+	scope := NewScope(nil, "a", "b", "a-b", "net price", "net price of goods", "date and time of birth", "x y", "in stock", "is ok?",
+		"net price-tax")
 	members := NewScope(nil, "unit price", "net-weight")
 	for text, due := range map[string]string{
 		"1":                                      "1",
@@ -92,6 +96,11 @@ func TestExpressions(t *testing.T) {
 		"`net price` + 1":                        "(<net price> + 1)",
 		"a.unit price + 1":                       "(<a>.<unit price> + 1)",
 		"a.net-weight":                           "<a>.<net - weight>",
+		"a.net - weight":                         "<a>.respelled<net - weight>",
+		"a.`net - weight`":                       "<a>.<net - weight>",
+		"a.unit  price":                          "<a>.<unit price>",
+		"net price-tax":                          "<net price - tax>",
+		"net price - tax":                        "doubtful<net price - tax>",
 		"a.net-x":                                "",
 		"a.b.c":                                  "<a>.<b>.<c>",
 		"a[1].b":                                 "filter[<a>, 1].<b>",

@@ -91,14 +91,10 @@ func (s *Scope) longest(source string, all []token) (int, string) {
 	return best, spelled
 }
 
-// isOneWord tells whether the first token alone is a name.
-func (s *Scope) isOneWord(first string) bool {
-	for ; s != nil; s = s.parent {
-		if at := s.first.next[first]; at != nil && at.ends {
-			return true
-		}
-	}
-	return false
+// hasShorter tells whether a name ends before the last of these tokens, which are a name themselves.
+func (s *Scope) hasShorter(source string, all []token) bool {
+	taken, _ := s.longest(source, all[:len(all)-1])
+	return taken > 0
 }
 
 // keywords begin or part forms, so no name that is not in scope goes over them.

@@ -250,9 +250,7 @@ func (p *parser) postfix() Node {
 		switch {
 		case p.is(".") && p.peek(1).kind == word || p.is(".") && p.peek(1).kind == quoted:
 			defer p.deeper()()
-			p.at++
-			name := p.member()
-			node = &Path{p.from(start), node, name}
+			node = p.path(start, node)
 		case p.is("[") && !p.closesRange():
 			defer p.deeper()()
 			p.at++

@@ -207,7 +207,7 @@ func (p *parser) name() Node {
 	span := p.from(start)
 	n := &Name{Span: span, Name: Canonical(p.source[span.Start:span.End]), Known: true}
 	spelled := strings.Join(strings.Fields(p.source[span.Start:span.End]), " ")
-	n.Doubtful = spelled != declared && p.scope.isOneWord(p.spell(p.all[start]))
+	n.Doubtful = spelled != declared && p.scope.hasShorter(p.source, p.all[start:p.at])
 	return n
 }
 
@@ -242,14 +242,16 @@ func (p *parser) quotedName() Node {
 	return &Name{Span: p.from(start), Name: Canonical(inside), Known: known}
 }
 
-// member reads the name behind a point: the longest that is known as a member, else words.
-func (p *parser) member() string {
-	start := p.at
+// path reads a point and the name behind it: the longest that is known as a member, else words.
+func (p *parser) path(start int, operand Node) Node {
+	p.at++
 	if t := p.current(); t.kind == quoted {
 		p.at++
-		return Canonical(p.source[t.start+1 : t.end-1])
+		return &Path{Span: p.from(start), Operand: operand, Name: Canonical(p.source[t.start+1 : t.end-1]), Quoted: true}
 	}
-	if taken, _ := p.members.longest(p.source, p.all[p.at:]); taken > 0 {
+	first := p.at
+	taken, declared := p.members.longest(p.source, p.all[p.at:])
+	if taken > 0 {
 		p.at += taken
 	} else {
 		p.at++
@@ -257,6 +259,8 @@ func (p *parser) member() string {
 			p.at++
 		}
 	}
-	span := p.from(start)
-	return Canonical(p.source[span.Start:span.End])
+	span := p.from(first)
+	spelled := p.source[span.Start:span.End]
+	return &Path{Span: p.from(start), Operand: operand, Name: Canonical(spelled),
+		Respelled: taken > 0 && strings.Join(strings.Fields(spelled), " ") != declared}
 }

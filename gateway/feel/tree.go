@@ -32,7 +32,7 @@ type (
 		Span
 		Name  string
 		Known bool
-		// Doubtful tells that its signs are spaced otherwise than where it was declared, and that its first word is a name
+		// Doubtful tells that its signs are spaced otherwise than where it was declared, and that its first words are a name
 		// too: "a - b" beside the names "a-b" and "a".
 		Doubtful bool
 	}
@@ -99,11 +99,13 @@ type (
 		Operand Node
 		Type    string
 	}
-	// Path is a.name; Name is canonical.
+	// Path is a.name; Name is canonical. Respelled tells that its signs are spaced otherwise than where a member of this
+	// name was declared, Quoted that it stands between backticks.
 	Path struct {
 		Span
-		Operand Node
-		Name    string
+		Operand           Node
+		Name              string
+		Respelled, Quoted bool
 	}
 	// Filter is a[condition].
 	Filter struct {

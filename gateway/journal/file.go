@@ -58,6 +58,17 @@ func create(folder string, now time.Time, model Model) (*file, error) {
 	return f, nil
 }
 
+// makeFolder makes a folder where it is missing, and has its name on the disk.
+func makeFolder(folder string) error {
+	if _, err := os.Stat(folder); err == nil {
+		return nil
+	}
+	if err := os.MkdirAll(folder, 0o750); err != nil {
+		return err
+	}
+	return syncFolder(filepath.Dir(folder))
+}
+
 func syncFolder(folder string) error {
 	opened, err := os.Open(folder)
 	if err != nil {

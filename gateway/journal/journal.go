@@ -69,7 +69,7 @@ var ErrClosed = errors.New("the journal is closed")
 // Open makes the folder where it is missing, drops what was written in part, and takes the journal for this process alone.
 // Repaired has a sentence for each file that was cut.
 func Open(folder string, options Options) (journal *Journal, repaired []string, err error) {
-	if err := os.MkdirAll(folder, 0o750); err != nil {
+	if err := makeFolder(folder); err != nil {
 		return nil, nil, fmt.Errorf("opening the journal: %w", err)
 	}
 	lock, err := os.OpenFile(filepath.Join(folder, lockName), os.O_CREATE|os.O_RDWR, 0o640)
@@ -240,9 +240,8 @@ func (j *Journal) add(now time.Time, model Model, entries []*entry) (int64, erro
 	}
 	if f.size > j.options.Size {
 		j.forget(f)
-		if err := f.close(); err != nil {
-			return 0, fmt.Errorf("writing the journal: %w", err)
-		}
+		// The lines are on the disk, whatever closing says.
+		_ = f.close()
 	}
 	return f.size - before, nil
 }
@@ -257,9 +256,7 @@ func (j *Journal) fileOf(now time.Time, model Model) (*file, error) {
 	if len(j.files) == openFiles {
 		oldest := j.files[0]
 		j.forget(oldest)
-		if err := oldest.close(); err != nil {
-			return nil, fmt.Errorf("writing the journal: %w", err)
-		}
+		_ = oldest.close()
 	}
 	f, err := create(j.folder, now, model)
 	if err != nil {

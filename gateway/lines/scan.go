@@ -37,6 +37,9 @@ type Member struct {
 	Value Span
 }
 
+// fewMembers is how many members most objects have at most.
+const fewMembers = 4
+
 // A scanner goes through a text once.
 type scanner struct {
 	text []byte
@@ -56,6 +59,7 @@ func Members(text []byte, nesting int) (members []Member, other bool, fault *Syn
 		_, fault = s.whole()
 		return nil, true, fault
 	}
+	members = make([]Member, 0, fewMembers)
 	ok := s.object(func(m Member) { members = append(members, m) })
 	return members, false, s.ended(ok)
 }

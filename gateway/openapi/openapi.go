@@ -79,6 +79,13 @@ func call(service Service, at int) object {
 	}
 }
 
+// How a result or a problem came about, where that was asked for: one of these.
+var (
+	decisions = object{"type": "array", "items": object{"type": "object"}, "description": "How it came about"}
+	explained = object{"type": "string", "enum": []string{"long"},
+		"description": "In the place of decisions that are too long to be told"}
+)
+
 func callHeaders() []object {
 	return []object{
 		{"name": "X-Client", "in": "header", "schema": object{"type": "string", "minLength": 1, "maxLength": 64},
@@ -86,13 +93,13 @@ func callHeaders() []object {
 		{"name": "X-Request-Id", "in": "header", "schema": object{"type": "string", "maxLength": 57},
 			"description": "The request's id; one is made where it is missing"},
 		{"name": "explain", "in": "query", "schema": object{"type": "boolean"},
-			"description": "Adds how the result came about, as decisions"},
+			"description": "Adds how the result came about, as decisions; where these are too long, explained in their place"},
 	}
 }
 
 func responses() object {
 	result := object{"type": "object", "required": []string{"result"}, "properties": object{
-		"result": object{"nullable": true}, "decisions": object{"type": "array", "items": object{"type": "object"}}}}
+		"result": object{"nullable": true}, "decisions": decisions, "explained": explained}}
 	problem := object{"$ref": "#/components/schemas/Problem"}
 	all := object{"200": object{
 		"description": "The result; of a list, each request's result or problem in order",
@@ -157,8 +164,9 @@ func components(guarded bool) object {
 		"properties": object{
 			"type": text, "title": text, "status": number, "detail": text, "request": text, "pointer": text,
 			"line": number, "column": number, "fault": text,
-			"services": object{"type": "array", "items": text},
-			"errors":   object{"type": "array", "items": object{"type": "object"}},
+			"services":  object{"type": "array", "items": text},
+			"errors":    object{"type": "array", "items": object{"type": "object"}},
+			"decisions": decisions, "explained": explained,
 		},
 	}}}
 	if guarded {

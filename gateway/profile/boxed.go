@@ -73,12 +73,19 @@ func (t *translator) literal(x *dmn.Text, s *scope) (made *box, of *valueType) {
 	return made, of
 }
 
+const notFEEL = "the expression language is not FEEL"
+
+// inFEEL tells whether a text is in FEEL by the language that it or its file declares.
+func inFEEL(x *dmn.Text) bool {
+	language := strings.TrimSuffix(strings.ToLower(x.Language), "/")
+	return language == "" || language == "feel" || language == "s-feel" || strings.Contains(language+"/", "/feel/")
+}
+
 // isFEEL tells whether a text is of FEEL and not empty, and refuses it where it isn't.
 func (t *translator) isFEEL(x *dmn.Text) bool {
-	language := strings.ToLower(x.Language)
 	switch {
-	case language != "" && language != "feel" && !strings.Contains(language, "/feel") && language != "s-feel":
-		t.refusals.refuse(x.Element, x.Language, "the expression language is not FEEL", "the expression in FEEL")
+	case !inFEEL(x):
+		t.refusals.refuse(x.Element, x.Language, notFEEL, "the expression in FEEL")
 	case strings.TrimSpace(x.Text) == "":
 		t.refusals.refuse(x.Element, "", "there is no expression", "null, or a value")
 	default:

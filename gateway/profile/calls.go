@@ -28,7 +28,7 @@ var builtins = map[string]builtin{
 
 // insteadOf tells what to write in place of functions that the engine has not.
 var insteadOf = map[string]string{
-	"odd": "modulo(a, 2) = 1", "even": "modulo(a, 2) = 0",
+	"odd": "modulo(a, 2) > 0", "even": "modulo(a, 2) < 1",
 	"mean":          "sum(l) divided by count(l), by a boxed context: see docs/MODEL.md, Division",
 	"floor":         "amounts in the smallest unit; a - modulo(a, 100) rounds down to hundreds",
 	"ceiling":       "amounts in the smallest unit; a + modulo(-a, 100) rounds up to hundreds",

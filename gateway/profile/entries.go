@@ -1,7 +1,6 @@
 package profile
 
 import (
-	"math/big"
 	"strings"
 
 	"gateway/dmn"
@@ -112,7 +111,7 @@ func (r *tableReader) rangeTest(n *feel.Range) string {
 // valueTest is a value that the column's is compared with, or a list of such that is written out.
 func (r *tableReader) valueTest(n feel.Node, c column, underNot bool) string {
 	if list, is := n.(*feel.List); is {
-		return r.testList(list.Items, c, underNot)
+		return r.listTest(list, c, underNot)
 	}
 	if literal := literalType(n); literal != nil {
 		if underNot && literal.kind != nullKind && literal.kind != c.value.of.kind {
@@ -129,6 +128,19 @@ func (r *tableReader) valueTest(n feel.Node, c column, underNot bool) string {
 		return ""
 	}
 	return asTest(value)
+}
+
+// listTest is a list that is written out: the column's value is one of its members, or is the list itself.
+func (r *tableReader) listTest(n *feel.List, c column, underNot bool) string {
+	if holdsTests(n) {
+		r.refuseTests(n)
+		return "-"
+	}
+	members := r.testList(n.Items, c, underNot)
+	if members == "" || !c.value.of.mayBe(listKind) {
+		return members
+	}
+	return r.operand(n, r.scope).text
 }
 
 // asTest is a value as a test of its own: as a whole text not( .. ) would be a list of tests.
@@ -158,9 +170,9 @@ func (r *tableReader) checkEntry(entry *dmn.Text, nodes []feel.Node, c column) {
 			r.checkKind(n.High, c)
 			continue
 		}
-		if r.checkKind(n, c) && !isAllowed(n, c.allowed) {
+		if r.checkKind(n, c) && !c.allowed.allows(n) {
 			r.refuse(n, "it is none of the input values of its column", "one of the input values")
-		} else if !isAllowed(n, c.value.of.allowed) {
+		} else if !c.value.of.allowed.allows(n) {
 			r.refuse(n, "it is none of the allowed values of its column's type", "one of the allowed values")
 		}
 	}
@@ -182,87 +194,13 @@ func (r *tableReader) checkKind(n feel.Node, c column) bool {
 	return true
 }
 
-// checkAllowed refuses a literal that is none of some allowed values.
-func (r *tableReader) checkAllowed(entry *dmn.Text, allowed []feel.Node, which string) {
+// checkAllowed refuses an entry that gives a literal that is none of some allowed values.
+func (r *tableReader) checkAllowed(entry *dmn.Text, allowed valueList, which string) {
 	kept := r.trees[entry]
 	if kept == nil || kept.fault != nil || len(kept.nodes) != 1 {
 		return
 	}
-	if !isAllowed(kept.nodes[0], allowed) {
+	if literalIsForbidden(kept.nodes[0], &valueType{allowed: allowed}) {
 		r.refusals.refuse(entry.Element, entry.Text, "it is none of "+which, "one of these")
 	}
-}
-
-// isAllowed tells whether a form may be one of some values: only a literal can be told not to be. Null is, always.
-func isAllowed(n feel.Node, allowed []feel.Node) bool {
-	literal := literalType(n)
-	if literal == nil || literal.kind == nullKind || len(allowed) == 0 {
-		return true
-	}
-	for _, value := range allowed {
-		if mayEqual(n, value) {
-			return true
-		}
-	}
-	return false
-}
-
-func mayEqual(literal, value feel.Node) bool {
-	if interval, is := value.(*feel.Range); is {
-		return mayLieIn(literal, interval)
-	}
-	if literalType(value) == nil {
-		return true
-	}
-	return literalText(literal) == literalText(value)
-}
-
-// mayLieIn tells whether a number lies in a range of numbers; it is true where one of them is none.
-func mayLieIn(literal feel.Node, interval *feel.Range) bool {
-	x, low, high := rational(literal), rational(interval.Low), rational(interval.High)
-	if x == nil || low == nil || high == nil {
-		return true
-	}
-	from, to := x.Cmp(low), x.Cmp(high)
-	return (from > 0 || from == 0 && !interval.LowOpen) && (to < 0 || to == 0 && !interval.HighOpen)
-}
-
-// rational is the number of a literal; nil where it is none.
-func rational(n feel.Node) *big.Rat {
-	if negation, is := n.(*feel.Negation); is {
-		if inside := rational(negation.Operand); inside != nil {
-			return inside.Neg(inside)
-		}
-		return nil
-	}
-	number, is := n.(*feel.Number)
-	if !is || len(number.Text) > mostWord {
-		return nil
-	}
-	value, fine := new(big.Rat).SetString(number.Text)
-	if !fine {
-		return nil
-	}
-	return value
-}
-
-// literalText is a literal as the engine reads it; empty where it is none, or no whole number.
-func literalText(n feel.Node) string {
-	switch n := n.(type) {
-	case *feel.String:
-		return quotedText(n.Value)
-	case *feel.Boolean:
-		if n.Value {
-			return "true"
-		}
-		return "false"
-	case *feel.Null:
-		return "null"
-	case *feel.Number, *feel.Negation:
-		value := rational(n)
-		if value != nil && value.IsInt() && value.Num().BitLen() < 64 {
-			return value.Num().String()
-		}
-	}
-	return ""
 }

@@ -256,13 +256,13 @@ func (e evaluator) test(n feel.Node, x interface{}) interface{} {
 		}
 		return conjunction(compared(from, x, e.value(n.Low)), compared(to, x, e.value(n.High)))
 	case *feel.List:
-		// A list is asked whether it has the value: it says true or false.
+		// A list is asked whether it has the value, or is equal to it: it says true or false.
 		for _, item := range n.Items {
-			if e.test(item, x) == true {
+			if equal(x, e.value(item)) == true {
 				return true
 			}
 		}
-		return false
+		return equal(x, e.value(n)) == true
 	}
 	if feel.Any(n, func(n feel.Node) bool { _, is := n.(*feel.Input); return is }) {
 		return e.with("?", x).value(n)

@@ -191,6 +191,10 @@ func (t *translator) negation(n *feel.Negation, s *scope) phrase {
 func (t *translator) path(n *feel.Path, s *scope) phrase {
 	operand := t.operand(n.Operand, s)
 	of := operand.of.member(n.Name)
+	if n.Respelled || of != nil && of.kind == anyKind && !n.Quoted && hasOperator(n.Name) && operand.of.kind == anyKind {
+		return t.refuse(n, "behind the point it may be one name or a calculation with another one",
+			"the type of what is before the point, and the name spaced as it was declared; or parentheses: (a.b) - c")
+	}
 	if of == nil {
 		return t.refuse(n, "a value of the type "+operand.of.String()+" has no component "+n.Name,
 			"a component of its type; parts of dates and the like are not here")
@@ -198,6 +202,9 @@ func (t *translator) path(n *feel.Path, s *scope) phrase {
 	o := operand.within(rankPath)
 	return phrase{text: o.text + "." + t.words.of(n.Name), rank: rankPath, depth: 1 + o.depth, of: of}
 }
+
+// hasOperator tells whether a name has a sign in it that is an operator too.
+func hasOperator(name string) bool { return strings.ContainsAny(name, "+-*/") }
 
 // between is x >= low and x <= high.
 func between(x, low, high phrase) phrase {

@@ -150,6 +150,15 @@ func (g *graph) checkFunction(k *dmn.BusinessKnowledge) {
 	case k.Logic.Kind != "FEEL":
 		g.refusals.refuse(k.Logic.Element, k.Logic.Kind, "functions of Java and of PMML are not called",
 			"an expression of FEEL")
+	default:
+		seen := map[string]bool{}
+		for _, p := range k.Logic.Parameters {
+			if name := feel.Canonical(p.Name()); seen[name] {
+				g.refusals.refuse(p.Element, p.Name(), "the parameter's name stands twice", "another name")
+			} else {
+				seen[name] = true
+			}
+		}
 	}
 }
 
@@ -228,7 +237,7 @@ func (g *graph) known(s *source, references []*dmn.Reference) (all []*knowledge,
 	return all, services
 }
 
-// refuseTwice refuses inputs and decisions that have one name, as FEEL compares names.
+// refuseTwice refuses inputs and decisions that have one name, as FEEL compares names, and so business knowledge.
 func (g *graph) refuseTwice() {
 	byName := map[string]*node{}
 	all := append(append([]*node(nil), g.inputs...), g.decisions...)
@@ -240,6 +249,16 @@ func (g *graph) refuseTwice() {
 			continue
 		}
 		byName[canonical] = n
+	}
+	functions := map[string]*knowledge{}
+	for _, k := range g.knowledge {
+		canonical := feel.Canonical(k.name)
+		if before := functions[canonical]; before != nil {
+			g.refusals.refuse(k.Element, k.name, fmt.Sprintf("its name is that of the business knowledge at line %d",
+				before.Place.Line), "another name")
+			continue
+		}
+		functions[canonical] = k
 	}
 }
 

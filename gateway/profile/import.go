@@ -5,6 +5,7 @@ import (
 	"fmt"
 
 	"gateway/dmn"
+	"gateway/feel"
 	"gateway/model"
 )
 
@@ -107,6 +108,9 @@ func (t *translator) decision(n *node) {
 		s.bind(service, &binding{service: true})
 	}
 	for _, need := range n.needs {
+		if s.find(feel.Canonical(need.name)) != nil {
+			t.refusals.refuse(n.element(), need.name, "it needs a value and a function of this name", "another name for one of them")
+		}
 		of := need.of
 		if of == nil {
 			of = refusedType

@@ -14,6 +14,9 @@ type argument struct {
 	of    *valueType
 }
 
+// mostActive is how deep invocations may stand in each other.
+const mostActive = 1000
+
 // invoked is what an invocation of business knowledge becomes: a context whose entries are the arguments, under fresh
 // words for the parameters, and whose result is the body, which sees these alone. It is nil where it is refused.
 func (t *translator) invoked(k *knowledge, arguments []argument, refuse func(why, instead string)) (*box, *valueType) {
@@ -21,6 +24,9 @@ func (t *translator) invoked(k *knowledge, arguments []argument, refuse func(why
 	t.wrote(bytesOfEntry)
 	switch {
 	case t.full:
+		return nil, refusedType
+	case len(t.active) == mostActive:
+		refuse(fmt.Sprintf("invocations stand in each other over %d deep", mostActive), "decisions in their place")
 		return nil, refusedType
 	case t.active[k]:
 		refuse(fmt.Sprintf("%s invokes itself", k.name), "a chain of decisions, one for each step")
@@ -38,12 +44,29 @@ func (t *translator) invoked(k *knowledge, arguments []argument, refuse func(why
 	before, column, near := t.types, t.column, t.near
 	t.types, t.column, t.near = k.types, nil, k.Element
 	body, of := t.expression(k.Logic.Body, inside)
+	t.checkReturned(k, of)
 	t.types, t.column, t.near = before, column, near
 	delete(t.active, k)
 	if len(entries) == 0 {
 		return body, of
 	}
 	return &box{kind: contextBox, entries: entries, result: body}, of
+}
+
+// checkReturned holds the type of a body against that of the variable: some take it for the type of what is returned,
+// and others for that of the function.
+func (t *translator) checkReturned(k *knowledge, of *valueType) {
+	if k.Variable == nil || t.types.isFunction(k.Variable.TypeRef) {
+		return
+	}
+	due := t.types.resolve(k.Variable.Element, k.Variable.TypeRef)
+	if due == nil {
+		return
+	}
+	if fit := of.fitOf(due); fit == never || fit == single {
+		t.refusals.refuse(k.Variable.Element, "", fmt.Sprintf("the body is of the type %s, where %s is declared", of, due),
+			"the type of the body, or none")
+	}
 }
 
 // bound gives the scope of a body, with its parameters bound to fresh words, and the entries of these.

@@ -148,18 +148,53 @@ func (t *translator) inRange(n *feel.Range, x phrase, s *scope) phrase {
 		infix(x, to, high, rankComparison, booleanType)})
 }
 
-// oneOf translates a list that is written out as a test: x is one of its members, or is in one of its ranges.
+// oneOf translates a list that is written out as a test: x is one of its members, or is the list itself. It is true or
+// false of each x, where = says null of a value of another kind.
 func (t *translator) oneOf(n *feel.List, x phrase, s *scope) phrase {
-	all := make([]phrase, len(n.Items))
-	for i, item := range n.Items {
-		made := t.condition(item, x, s)
-		if literal := literalType(item); literal != nil && literal.kind != nullKind && literal.kind != x.of.kind {
-			// Of a value of another kind a list says false, where = says null.
-			made = infix(made, "=", constant("true", booleanType), rankComparison, booleanType)
+	if holdsTests(n) {
+		return t.refuseTests(n)
+	}
+	all := make([]phrase, 0, len(n.Items)+1)
+	for _, item := range n.Items {
+		value := t.operand(item, s)
+		if why := doubtfulTest(item, value); why != "" {
+			return t.refuse(item, why, "? = "+t.slice(item)+", or a column of its own")
 		}
-		all[i] = t.shallow(made)
+		made := infix(x, "=", value, rankComparison, booleanType)
+		if value.of.kind != nullKind && value.of.kind != x.of.kind {
+			made = isTrue(made)
+		}
+		all = append(all, t.shallow(made))
+	}
+	if x.of.mayBe(listKind) {
+		all = append(all, t.shallow(isTrue(infix(x, "=", t.shallow(t.list(n, s)), rankComparison, booleanType))))
 	}
 	return anyOf(all)
+}
+
+// isTrue is a condition that is false where another one is null.
+func isTrue(p phrase) phrase {
+	return infix(p, "=", constant("true", booleanType), rankComparison, booleanType)
+}
+
+// holdsTests tells whether a list has members that are lists or tests themselves: whether the value is compared with such
+// a member or looked for in it can be read in both ways.
+func holdsTests(n *feel.List) bool {
+	for _, item := range n.Items {
+		switch item.(type) {
+		case *feel.List, *feel.Range, *feel.Unary:
+			return true
+		}
+		if usesInput(item) {
+			return true
+		}
+	}
+	return false
+}
+
+func (t *translator) refuseTests(n *feel.List) phrase {
+	return t.refuse(n, "a list with a list or a test in it, as a test: its members may be compared with the value, or asked of it",
+		"the tests without brackets round them, as 1, [5..7]")
 }
 
 // doubtfulTest tells why an expression in the place of a test may be read in two ways; empty where it may not.

@@ -150,8 +150,7 @@ func maximum(a, b int) int {
 	return b
 }
 
+var escapes = strings.NewReplacer(`\`, `\\`, `"`, `\"`, "\n", `\n`, "\r", `\r`, "\t", `\t`)
+
 // quotedText is a text as a string of the engine's language.
-func quotedText(value string) string {
-	escaped := strings.NewReplacer(`\`, `\\`, `"`, `\"`, "\n", `\n`, "\r", `\r`, "\t", `\t`).Replace(value)
-	return `"` + escaped + `"`
-}
+func quotedText(value string) string { return `"` + escapes.Replace(value) + `"` }

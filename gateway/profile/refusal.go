@@ -39,13 +39,21 @@ func (r Refusal) String() string {
 		fmt.Fprintf(&line, " (%s)", r.ID)
 	}
 	if r.Text != "" {
-		fmt.Fprintf(&line, ": %q", shortened(r.Text))
+		fmt.Fprintf(&line, "%s %q", colon(&line), shortened(r.Text))
 	}
-	fmt.Fprintf(&line, ": %s", r.Why)
+	fmt.Fprintf(&line, "%s %s", colon(&line), r.Why)
 	if r.Instead != "" {
 		fmt.Fprintf(&line, "; instead: %s", r.Instead)
 	}
 	return strings.Join(strings.Fields(line.String()), " ")
+}
+
+// colon ends a part of a line, where it has no colon at its end.
+func colon(line *strings.Builder) string {
+	if strings.HasSuffix(line.String(), ":") {
+		return ""
+	}
+	return ":"
 }
 
 func shortened(text string) string {
@@ -90,9 +98,21 @@ func (r *refusals) know(file *dmn.File, order int) {
 	walk(file.Root, nil)
 }
 
+// mostTold is how many places are told of a run.
+const mostTold = 100_000
+
 // refuse notes that an element can't be taken.
 func (r *refusals) refuse(e *dmn.Element, text, why, instead string) {
-	if made, fresh := r.made(e, text, why, instead); fresh {
+	if len(r.all) > mostTold {
+		return
+	}
+	made, fresh := r.made(e, text, why, instead)
+	if !fresh {
+		return
+	}
+	r.all = append(r.all, made)
+	if len(r.all) == mostTold {
+		made, _ = r.made(e, "", fmt.Sprintf("over %d places can't be taken: those that were looked at later are not told", mostTold), "")
 		r.all = append(r.all, made)
 	}
 }

@@ -35,10 +35,10 @@ func schemaOf(of *valueType, w *words) map[string]interface{} {
 		}
 		made["properties"] = properties
 	}
-	if len(of.allowed) == 0 {
-		narrow(made, of.noted)
+	if len(of.allowed.all) == 0 {
+		narrow(made, of.noted.all)
 	}
-	narrow(made, of.allowed)
+	narrow(made, of.allowed.all)
 	return made
 }
 

@@ -1,6 +1,8 @@
 package profile
 
 import (
+	"fmt"
+
 	"gateway/dmn"
 	"gateway/feel"
 	"gateway/model"
@@ -10,6 +12,8 @@ import (
 type services struct {
 	graph *graph
 	names map[string]bool
+	// written counts about how many bytes the services take in the model.
+	written int
 }
 
 // A service is one with the element that it came from; nil for one that the files don't have.
@@ -31,6 +35,11 @@ func (s *services) all(only string) []service {
 			}
 			if one, fine := s.declared(source, d, name); fine {
 				made = append(made, one)
+			}
+			if s.written > MostLine {
+				s.graph.refusals.refuse(d.Element, name, fmt.Sprintf("with this service the model is longer than a line of %d bytes",
+					MostLine), "fewer services, or --service NAME")
+				return made
 			}
 		}
 	}
@@ -65,6 +74,11 @@ func (s *services) declared(source *source, d *dmn.DecisionService, name string)
 	encapsulated = append(encapsulated, s.unlisted(d.Element, outputs, encapsulated, given, inputs)...)
 	made.Outputs, made.Encapsulated = wordsOf(outputs), wordsOf(encapsulated)
 	made.InputDecisions, made.InputData = wordsOf(given), wordsOf(inputs)
+	for _, list := range [][]string{{made.Name}, made.Outputs, made.Encapsulated, made.InputDecisions, made.InputData} {
+		for _, word := range list {
+			s.written += len(word) + 3
+		}
+	}
 	return made, len(s.graph.refusals.all) == before
 }
 

@@ -17,7 +17,7 @@ type column struct {
 	// text is the input expression as the table has it.
 	text string
 	// allowed are the input values; none where there are none.
-	allowed []feel.Node
+	allowed valueList
 }
 
 // An output is an output column.
@@ -25,7 +25,7 @@ type output struct {
 	clause *dmn.OutputClause
 	// of is the declared type, nil where there is none; gives joins the types of the entries.
 	of, gives *valueType
-	allowed   []feel.Node
+	allowed   valueList
 }
 
 // tableReader translates one table.
@@ -122,7 +122,7 @@ func (r *tableReader) inputColumn(clause *dmn.InputClause) {
 	}
 	if clause.Values != nil {
 		c.allowed = r.types.values(clause.Values, c.value.of)
-		if len(c.allowed) > 0 && clause.Expression != nil {
+		if len(c.allowed.all) > 0 && clause.Expression != nil {
 			r.noted(c)
 		}
 	}
@@ -189,7 +189,7 @@ func (r *tableReader) outputColumn(clause *dmn.OutputClause, i int) {
 			of = anyType
 		}
 		o.allowed = r.types.values(clause.Values, of)
-		made.Values = listed(o.allowed)
+		made.Values = listed(o.allowed.all)
 	}
 	if made.Values == nil && r.byPriority() {
 		r.refusals.refuse(clause.Element, name, "the hit policy goes by output values, and the output lists none",
@@ -279,20 +279,20 @@ func (r *tableReader) outputEntry(entry *dmn.Text, i int) string {
 	o := &r.outputs[i]
 	value := r.cell(entry, o.of)
 	r.checkAllowed(entry, o.allowed, "the output values")
-	if o.of != nil {
-		r.checkAllowed(entry, o.of.allowed, "the allowed values of its type")
-	}
 	o.gives = joined(o.gives, value.of)
 	return value.text
 }
 
-// cell translates an expression in a table, which is a text in any case, and holds it against a declared type.
-func (r *tableReader) cell(entry *dmn.Text, due *valueType) phrase {
+// cell translates an expression in a table, which is a text in any case, and holds it against its own declared type and
+// that of its column.
+func (r *tableReader) cell(entry *dmn.Text, ofColumn *valueType) phrase {
 	b, of := r.literal(entry, r.scope)
-	if due != nil {
-		b, of = r.conform(b, of, due, func(why, instead string) {
-			r.refusals.refuse(entry.Element, entry.Text, why, instead)
-		})
+	for _, due := range []*valueType{r.types.resolve(entry.Element, entry.TypeRef), ofColumn} {
+		if due != nil {
+			b, of = r.conform(b, of, due, func(why, instead string) {
+				r.refusals.refuse(entry.Element, entry.Text, why, instead)
+			})
+		}
 	}
 	if b.kind == textBox {
 		p := b.value

@@ -98,6 +98,12 @@ func (t *types) resolve(e *dmn.Element, ref string) *valueType {
 	return refusedType
 }
 
+// isFunction tells whether a name is that of a type of functions.
+func (t *types) isFunction(ref string) bool {
+	item, found := t.items[feel.Canonical(ref)]
+	return found && item.Function || strings.HasPrefix(strings.ToLower(ref[strings.LastIndexByte(ref, ':')+1:]), "function")
+}
+
 // ofItem is the type of a definition; refusedType where it is made of itself.
 func (t *types) ofItem(item *dmn.ItemDefinition) *valueType {
 	if done, found := t.resolved[item]; found {
@@ -150,7 +156,7 @@ func (t *types) plainItem(item *dmn.ItemDefinition) *valueType {
 // narrowed is a type with the allowed values of a definition.
 func (t *types) narrowed(item *dmn.ItemDefinition, plain *valueType) *valueType {
 	allowed := t.values(item.Allowed, plain)
-	if len(allowed) == 0 {
+	if len(allowed.all) == 0 {
 		return plain
 	}
 	narrow := *plain
@@ -159,27 +165,42 @@ func (t *types) narrowed(item *dmn.ItemDefinition, plain *valueType) *valueType 
 }
 
 // values reads a list of values; each literal has to be of the type. Where the text can't be read it is none.
-func (t *types) values(text *dmn.Text, of *valueType) []feel.Node {
+func (t *types) values(text *dmn.Text, of *valueType) valueList {
 	if strings.TrimSpace(text.Text) == "" {
-		return nil
+		return valueList{}
+	}
+	if !inFEEL(text) {
+		t.refusals.refuse(text.Element, text.Language, notFEEL, "the values in FEEL")
+		return valueList{}
 	}
 	nodes, fault := feel.Values(text.Text)
 	if fault != nil {
 		t.refusals.refuse(text.Element, text.Text, fault.Why, fault.Instead)
-		return nil
+		return valueList{}
 	}
 	for _, node := range nodes {
-		literal := literalType(node)
-		if literal == nil {
-			continue
-		}
-		if literal.fitOf(of) == never {
-			t.refusals.refuse(text.Element, text.Text, fmt.Sprintf("a value is of the type %s, where %s is declared",
-				literal, of), "values of the declared type")
-			return nil
+		if why, instead := notOfType(node, of); why != "" {
+			t.refusals.refuse(text.Element, text.Text, why, instead)
+			return valueList{}
 		}
 	}
-	return nodes
+	made := listOfValues(nodes)
+	if len(made.others) > mostOthers {
+		t.refusals.refuse(text.Element, text.Text, fmt.Sprintf("over %d ranges and tests", mostOthers), "fewer, wider ones")
+		return valueList{}
+	}
+	return made
+}
+
+// notOfType tells why a form can't be one of the values of a type; empty where it may be.
+func notOfType(node feel.Node, of *valueType) (why, instead string) {
+	if name, is := node.(*feel.Name); is {
+		return fmt.Sprintf("%s is no value", name.Name), "a text stands in quotes"
+	}
+	if literal := literalType(node); literal != nil && literal.fitOf(of) == never {
+		return fmt.Sprintf("a value is of the type %s, where %s is declared", literal, of), "values of the declared type"
+	}
+	return "", ""
 }
 
 // literalType is the type of a literal; nil where the form is none.

@@ -1,9 +1,5 @@
 package profile
 
-import (
-	"gateway/feel"
-)
-
 type kindOfType uint8
 
 const (
@@ -29,16 +25,18 @@ type valueType struct {
 	// parts counts the type itself and all parts of its parts.
 	parts int
 	// allowed are the values that the type is narrowed to; none where it isn't.
-	allowed []feel.Node
+	allowed valueList
 
 	// noted are the input values of a column that is an input of the model by itself: they are for who calls.
-	noted []feel.Node
+	noted valueList
 
 	// open tells that it is of an input without a declared type: what it is given to may tell its type. For an entry of
 	// such an input, parent and field tell which.
 	open   bool
 	parent *valueType
-	field  string
+	// fitting keeps how other contexts stand to this one, which may have many entries.
+	fitting map[*valueType]fit
+	field   string
 }
 
 var (
@@ -108,9 +106,22 @@ func (t *valueType) fitOf(due *valueType) fit {
 	case t.kind == listKind:
 		return t.element.fitOf(due.element)
 	case t.kind == contextKind:
-		return t.fieldsFit(due)
+		return t.contextFit(due)
 	}
 	return fits
+}
+
+// contextFit tells how a context stands to a declared one; of each two it is found out once.
+func (t *valueType) contextFit(due *valueType) fit {
+	if known, found := due.fitting[t]; found && !t.open {
+		return known
+	}
+	found := t.fieldsFit(due)
+	if due.fitting == nil {
+		due.fitting = map[*valueType]fit{}
+	}
+	due.fitting[t] = found
+	return found
 }
 
 func (t *valueType) fieldsFit(due *valueType) fit {
@@ -179,8 +190,11 @@ func joined(a, b *valueType) *valueType {
 	return &valueType{kind: a.kind}
 }
 
+// mostJoined is how many entries two contexts may have that are joined entry by entry; of greater ones nothing is known.
+const mostJoined = 100
+
 func joinedContexts(a, b *valueType) *valueType {
-	if len(a.fields) != len(b.fields) {
+	if len(a.fields) != len(b.fields) || len(a.fields) > mostJoined {
 		return anyType
 	}
 	both := &valueType{kind: contextKind, fields: map[string]*valueType{}}

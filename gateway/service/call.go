@@ -11,7 +11,7 @@ import (
 	"gateway/lines"
 )
 
-// maxAnswers is the most bytes of results of one call.
+// maxAnswers is the most bytes of results and explanations of one call.
 const maxAnswers = 64 << 20
 
 // A call is what one body asks for: a single request, or a list of them.
@@ -24,11 +24,11 @@ type call struct {
 	problems []*problem
 	outcomes []engine.Outcome
 	jobs     []*engine.Job
-	// explained has how each answer came about, where that was asked for.
+	// explained has how each answer came about, where that was asked for and there is an answer.
 	explained []engine.Explanation
 	// left is how many jobs are out, users how many of the jobs and the handler still hold the bytes.
 	left, users atomic.Int32
-	// bytes is how much of the service's budget is held, answers how much of that are results.
+	// bytes is how much of the service's budget is held, answers how much of that are results and explanations.
 	bytes, answers atomic.Int64
 	done           chan struct{}
 }
@@ -43,8 +43,8 @@ func (s *Service) newCall(model *served, name string, body []byte) (*call, *prob
 	}
 	c := &call{service: s, model: model, done: make(chan struct{})}
 	if lines.Begins(body) != '[' {
-		job, p := model.job(service, body)
-		if p != nil {
+		job := &engine.Job{}
+		if _, p := model.request(service, body, job, service.room(1, len(body))); p != nil {
 			return nil, p
 		}
 		c.problems, c.outcomes = make([]*problem, 1), make([]engine.Outcome, 1)
@@ -66,13 +66,11 @@ func (c *call) readList(service *decisionService, body []byte) *problem {
 	}
 	c.problems, c.outcomes = make([]*problem, len(items)), make([]engine.Outcome, len(items))
 	c.jobs = make([]*engine.Job, 0, len(items))
+	jobs, room := make([]engine.Job, len(items)), service.room(len(items), len(body))
 	for at, item := range items {
-		job, p := c.model.job(service, body[item.Start:item.End])
-		if p != nil {
-			c.problems[at] = p
-			continue
+		if room, c.problems[at] = c.model.request(service, body[item.Start:item.End], &jobs[at], room); c.problems[at] == nil {
+			c.add(at, &jobs[at])
 		}
-		c.add(at, job)
 	}
 	return nil
 }
@@ -85,15 +83,12 @@ func (c *call) add(at int, job *engine.Job) {
 
 // settle notes what became of a request.
 func (c *call) settle(job *engine.Job, outcome engine.Outcome) {
-	if size := int64(len(outcome.Value)); size > 0 {
-		switch {
-		case c.answers.Add(size) > maxAnswers:
-			outcome = engine.Outcome{Kind: engine.Huge}
-		case !c.service.bodies.take(size):
-			outcome = engine.Outcome{Kind: engine.Waited}
-		default:
-			c.bytes.Add(size)
-		}
+	switch c.hold(len(outcome.Value)) {
+	case problemHuge:
+		outcome = engine.Outcome{Kind: engine.Huge}
+	case problemFull:
+		c.problems[job.Place] = problemFull.with("the bytes of the result are too many to be held")
+		outcome = engine.Outcome{Kind: engine.Dropped}
 	}
 	c.outcomes[job.Place] = outcome
 	if c.left.Add(-1) == 0 {
@@ -103,6 +98,22 @@ func (c *call) settle(job *engine.Job, outcome engine.Outcome) {
 	c.release()
 }
 
+// hold takes bytes of a result or an explanation into the budgets of the call and of the service, or says which of them has
+// no room.
+func (c *call) hold(size int) *problemKind {
+	switch {
+	case size == 0:
+	case c.answers.Add(int64(size)) > maxAnswers:
+		c.answers.Add(-int64(size))
+		return problemHuge
+	case !c.service.bodies.take(int64(size)):
+		return problemFull
+	default:
+		c.bytes.Add(int64(size))
+	}
+	return nil
+}
+
 // release gives the bytes back once neither the handler nor a job holds them.
 func (c *call) release() {
 	if c.users.Add(-1) == 0 {
@@ -110,28 +121,31 @@ func (c *call) release() {
 	}
 }
 
-// put puts the requests in, behind those that the client put in before. With engine.ErrSwitched the call is to be made
-// anew, since another model is in force by now.
-func (c *call) put(who caller) (*turn, *problem, error) {
+// put puts the requests in, behind those of the calls before. With engine.ErrSwitched the call is to be made anew, since
+// another model is in force by now.
+func (c *call) put(asked *asking) (*problem, error) {
 	n := len(c.jobs)
 	if n == 0 {
 		close(c.done)
-		return nil, nil, nil
+		return nil, nil
 	}
-	it, refused := c.service.clients.enter(who.client, n)
+	name := asked.who.client
+	it, refused := c.service.clients.enter(name, n)
 	if refused != nil {
-		return nil, refused.with(""), nil
+		return refused.with(""), nil
 	}
 	c.client = it
 	c.left.Store(int32(n))
 	c.users.Add(int32(n))
-	t, err := it.order(func() error { return c.service.pool.Put(who.client, c.jobs) })
-	if err != nil {
+	asked.turn.waitToPut()
+	if err := c.service.pool.Put(name, c.jobs); err != nil {
 		c.users.Add(-int32(n))
 		c.service.clients.answered(it, n)
 		c.service.clients.leave(it)
+		return nil, err
 	}
-	return t, nil, err
+	c.service.turns.put(asked.turn)
+	return nil, nil
 }
 
 // errGone says that the caller went away.
@@ -223,9 +237,12 @@ func (c *call) appendResult(to []byte, at int) []byte {
 	}
 	to = append(to, `{"result":`...)
 	to = append(to, value...)
-	if told := c.explanation(at); told != nil {
+	switch told := c.explanation(at); {
+	case told.IsLong:
+		to = append(to, `,"explained":"long"`...)
+	case told.Decisions != nil:
 		to = append(to, `,"decisions":`...)
-		to = append(to, told...)
+		to = append(to, told.Decisions...)
 	}
 	return append(to, '}')
 }
@@ -236,8 +253,13 @@ func (c *call) problemAt(at int) *problem {
 		return c.problems[at]
 	}
 	p := problemOf(c.outcomes[at])
-	if p != nil {
-		p.Decisions = c.explanation(at)
+	if p == nil {
+		return nil
+	}
+	told := c.explanation(at)
+	p.Decisions = told.Decisions
+	if told.IsLong {
+		p.Explained = "long"
 	}
 	return p
 }

@@ -14,12 +14,13 @@ import (
 // statusGone is what is counted where the caller went away before its answer.
 const statusGone = 499
 
-// An asking is what a call's head and body say.
+// An asking is what a call's head and body say, with the call's place among those of its client.
 type asking struct {
 	who     caller
 	name    string
 	explain bool
 	body    []byte
+	turn    *turn
 }
 
 // servicesPath answers POST /v1/services/SERVICE, and gives the status.
@@ -32,7 +33,8 @@ func (s *Service) servicesPath(w http.ResponseWriter, r *http.Request, id string
 		p.write(w, id)
 		return p.Status
 	}
-	c, t, p := s.ask(asked)
+	defer s.turns.end(asked.turn)
+	c, p := s.ask(asked)
 	if p != nil {
 		s.bodies.give(int64(len(asked.body)))
 		p.write(w, id)
@@ -40,8 +42,11 @@ func (s *Service) servicesPath(w http.ResponseWriter, r *http.Request, id string
 	}
 	defer c.release()
 	defer s.clients.leave(c.client)
-	defer t.end()
+	// The jobs have what they need of it.
+	asked.body = nil
 	if err := c.wait(r.Context()); err != nil {
+		// Whoever closed no more than its own side reads this.
+		problemLeft.with("").write(w, id)
 		return statusGone
 	}
 	p = c.keep(id)
@@ -49,13 +54,27 @@ func (s *Service) servicesPath(w http.ResponseWriter, r *http.Request, id string
 		p = c.explain(r.Context())
 	}
 	s.metrics.asked(c)
-	t.wait()
 	w.Header()["Desk-Model"] = c.model.sum
-	if p != nil {
-		p.write(w, id)
-		return p.Status
+	return c.answer(w, r, id, asked.turn, p)
+}
+
+// answer gives the answer, or a problem of the whole call. Where engines were asked it comes behind those of the calls
+// before, and is on its way when it returns.
+func (c *call) answer(w http.ResponseWriter, r *http.Request, id string, t *turn, p *problem) int {
+	if len(c.jobs) > 0 {
+		t.waitToAnswer()
 	}
-	return c.write(w, r, id, t != nil)
+	status := http.StatusOK
+	if p != nil {
+		status = p.Status
+		p.write(w, id)
+	} else {
+		status = c.write(w, r, id)
+	}
+	if flusher, is := w.(http.Flusher); is && t != nil {
+		flusher.Flush()
+	}
+	return status
 }
 
 // readAsking reads a call's head, and then its body, whose bytes are held in the budget of the service.
@@ -73,8 +92,11 @@ func (s *Service) readAsking(w http.ResponseWriter, r *http.Request) (it asking,
 	if s.journal != nil && s.journal.Fault() != nil {
 		return it, problemJournal.with("")
 	}
-	it.body, p = s.readBody(w, r)
-	return it, p
+	if it.body, p = s.readBody(w, r); p != nil {
+		return it, p
+	}
+	it.turn = s.turns.begin(it.who.client)
+	return it, nil
 }
 
 // wantsExplanation reads the parameters of a call: explain, true or false.
@@ -94,15 +116,18 @@ func wantsExplanation(query string) (bool, *problem) {
 }
 
 // ask makes a call and puts its requests in, under the model in force at that moment.
-func (s *Service) ask(asked asking) (*call, *turn, *problem) {
+func (s *Service) ask(asked asking) (*call, *problem) {
 	for {
 		c, p := s.newCall(s.model.Load(), asked.name, asked.body)
 		if p != nil {
-			return nil, nil, p
+			return nil, p
+		}
+		if asked.explain && len(c.jobs) > maxExplained {
+			return nil, problemLong.with("at most 100 requests of a list are explained")
 		}
 		c.users.Store(1)
 		c.bytes.Store(int64(len(asked.body)))
-		t, p, err := c.put(asked.who)
+		p, err := c.put(&asked)
 		if errors.Is(err, engine.ErrSwitched) {
 			continue
 		}
@@ -110,31 +135,29 @@ func (s *Service) ask(asked asking) (*call, *turn, *problem) {
 			p = problemInside.with(err.Error())
 		}
 		if p != nil {
-			return nil, nil, p
+			return nil, p
 		}
-		return c, t, nil
+		return c, nil
 	}
 }
 
-// write gives the answer. A client's answer is on its way before the next one begins.
-func (c *call) write(w http.ResponseWriter, r *http.Request, id string, inOrder bool) int {
-	status := http.StatusOK
+// write gives the answer.
+func (c *call) write(w http.ResponseWriter, r *http.Request, id string) int {
 	if c.isList {
 		text := c.appendList(nil)
 		limitWrite(r, len(text))
-		writeJSON(w, status, text)
-	} else if p := c.problemAt(0); p != nil {
-		status = p.Status
+		writeJSON(w, http.StatusOK, text)
+		return http.StatusOK
+	}
+	if p := c.problemAt(0); p != nil {
+		limitWrite(r, len(p.Decisions))
 		p.write(w, id)
-	} else {
-		text := c.appendResult(make([]byte, 0, len(c.outcomes[0].Value)+16), 0)
-		limitWrite(r, len(text))
-		writeJSON(w, status, append(text, '\n'))
+		return p.Status
 	}
-	if flusher, is := w.(http.Flusher); inOrder && is {
-		flusher.Flush()
-	}
-	return status
+	text := c.appendResult(make([]byte, 0, len(c.outcomes[0].Value)+16), 0)
+	limitWrite(r, len(text))
+	writeJSON(w, http.StatusOK, append(text, '\n'))
+	return http.StatusOK
 }
 
 // firstRoom is how much of a body is made room for before it comes.

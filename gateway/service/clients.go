@@ -5,7 +5,7 @@ import (
 	"sync/atomic"
 )
 
-// clients counts what is taken and not yet answered, in all and for each client, and keeps each client's calls in order.
+// clients counts what is taken and not yet answered, in all and for each client.
 type clients struct {
 	clientLimit, limit int
 
@@ -19,10 +19,6 @@ type client struct {
 	name string
 	// out is how many requests of it are out, calls how many calls are not over.
 	out, calls int
-	// put is held while a call's requests are put in, so that calls have one order.
-	put sync.Mutex
-	// last is closed once the last call put in has its answer; nil before the first.
-	last chan struct{}
 }
 
 func newClients(clientLimit, limit int) *clients {
@@ -88,53 +84,6 @@ func (c *clients) count() (requests, named int) {
 	c.mu.Lock()
 	defer c.mu.Unlock()
 	return c.out, len(c.byName)
-}
-
-// A turn is a call's place among those of its client.
-type turn struct {
-	before, after chan struct{}
-}
-
-// order runs put, and where it succeeds gives the call its place behind those before it.
-func (it *client) order(put func() error) (*turn, error) {
-	if it == nil {
-		return nil, put()
-	}
-	it.put.Lock()
-	defer it.put.Unlock()
-	if err := put(); err != nil {
-		return nil, err
-	}
-	t := &turn{before: it.last, after: make(chan struct{})}
-	it.last = t.after
-	return t, nil
-}
-
-// wait waits until all calls before have their answers.
-func (t *turn) wait() {
-	if t != nil && t.before != nil {
-		<-t.before
-	}
-}
-
-// end says that this call has its answer, or that nobody waits for it. The calls behind still wait for those before.
-func (t *turn) end() {
-	if t == nil {
-		return
-	}
-	if t.before == nil {
-		close(t.after)
-		return
-	}
-	select {
-	case <-t.before:
-		close(t.after)
-	default:
-		go func() {
-			<-t.before
-			close(t.after)
-		}()
-	}
 }
 
 // A budget is a number of bytes that may be held.

@@ -2,6 +2,7 @@ package service
 
 import (
 	"context"
+	"encoding/json"
 	"errors"
 	"time"
 
@@ -16,12 +17,15 @@ const (
 	explainPatience = 20 * time.Second
 )
 
-// explain asks how the answers of a call came about.
+// explain asks how the answers of a call came about: its results, and those that broke a limit.
 func (c *call) explain(ctx context.Context) *problem {
-	if len(c.jobs) > maxExplained {
-		return problemLong.with("at most 100 requests of a list are explained")
+	var asked []*engine.Job
+	for _, job := range c.jobs {
+		if kind := c.outcomes[job.Place].Kind; kind == engine.Result || kind == engine.Limit {
+			asked = append(asked, job)
+		}
 	}
-	if len(c.jobs) == 0 {
+	if len(asked) == 0 {
 		return nil
 	}
 	s := c.service
@@ -29,33 +33,39 @@ func (c *call) explain(ctx context.Context) *problem {
 	case s.explaining <- struct{}{}:
 		defer func() { <-s.explaining }()
 	case <-ctx.Done():
-		return problemWaited.with("")
+		return problemLeft.with("")
 	}
-	told, err := engine.Explain(ctx, s.options.Engine, s.options.Memory, s.options.Deadline+explainPatience, c.model.engine, c.jobs)
-	if errors.Is(err, context.DeadlineExceeded) {
+	ctx, stop := context.WithTimeout(ctx, s.options.Deadline+explainPatience)
+	defer stop()
+	room := func(size int) bool { return c.hold(size) == nil }
+	told, err := engine.Explain(ctx, s.options.Engine, s.options.Memory, c.model.engine, asked, room)
+	switch {
+	case errors.Is(err, context.DeadlineExceeded):
 		return problemLate.with("the explanation takes longer than it may")
-	}
-	if err != nil {
+	case errors.Is(err, context.Canceled):
+		return problemLeft.with("")
+	case err != nil:
 		s.options.Log("%v", err)
 		return problemDied.with("the explanation failed")
 	}
 	c.explained = make([]engine.Explanation, len(c.outcomes))
-	for at, job := range c.jobs {
-		c.explained[job.Place] = c.model.named(told[at])
+	for at, job := range asked {
+		told[at].Decisions = c.model.named(told[at].Decisions)
+		c.explained[job.Place] = told[at]
 	}
 	return nil
 }
 
-// explanation is what is told of a request, or nil.
+// explanation is what is told of a request: nothing where that was not asked for.
 func (c *call) explanation(at int) engine.Explanation {
 	if c.explained == nil {
-		return nil
+		return engine.Explanation{}
 	}
 	return c.explained[at]
 }
 
-// named gives an explanation the names of the file.
-func (m *served) named(told engine.Explanation) engine.Explanation {
+// named gives the decisions of an explanation the names of the file.
+func (m *served) named(told json.RawMessage) json.RawMessage {
 	if len(m.words) == 0 || told == nil {
 		return told
 	}

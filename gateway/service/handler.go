@@ -56,6 +56,10 @@ func (s *Service) handler() http.Handler {
 			problemPath.with(r.URL.Path).write(w, id)
 			return
 		}
+		// A model that is put may take long; all else is at hand.
+		if r.Method != http.MethodPut {
+			limitWrite(r, longAnswer+1)
+		}
 		page(w, r)
 	})
 }

@@ -109,7 +109,7 @@ func (m *metrics) called(status int, took time.Duration) {
 func (m *metrics) asked(c *call) {
 	results := 0
 	for _, job := range c.jobs {
-		p := problemOf(c.outcomes[job.Place])
+		p := c.problemAt(job.Place)
 		if p == nil {
 			results++
 			continue

@@ -15,8 +15,10 @@ type Options struct {
 	Named string
 	// ReadDMN reads .dmn files that are put; nil where none are read.
 	ReadDMN func(text []byte) (*Source, error)
-	// Listener is where connections come in.
+	// Listener is where connections come in. Shared says that its socket stays open when the service ends, so that what waits
+	// there is taken by another process.
 	Listener net.Listener
+	Shared   bool
 	// Processes is the number of engines, Memory the limit of the address space of each in bytes (0 is none), and
 	// Deadline how long an engine may be at one request.
 	Processes int

@@ -30,6 +30,8 @@ var (
 		"The paths are /v1/services/SERVICE, /v1/model, /openapi.json, /healthz, /readyz and /metrics."}
 	problemService = &problemKind{"service", http.StatusNotFound, "The model has no such service",
 		"services lists those that there are."}
+	problemLeft = &problemKind{"left", http.StatusBadRequest, "The caller closed its side of the connection",
+		"An answer is given on a connection that the caller keeps open in both directions."}
 	problemMethod = &problemKind{"method", http.StatusMethodNotAllowed, "The path does not take this method",
 		"The header Allow lists those that it takes."}
 	problemLong = &problemKind{"long", http.StatusRequestEntityTooLarge, "The request is too long",
@@ -65,7 +67,7 @@ var (
 	problemDied = &problemKind{"died", http.StatusInternalServerError, "An engine ended at the request",
 		"It was tried twice. It may need more memory than --memory allows."}
 	problemHuge = &problemKind{"huge", http.StatusInternalServerError, "The result is too long",
-		"A result has at most 16 MiB."}
+		"A result has at most 16 MiB, and those of a list have 64 MiB in all."}
 	problemInside = &problemKind{"inside", http.StatusInternalServerError, "The service has a fault",
 		"The operator sees more in the service's log."}
 )
@@ -74,9 +76,9 @@ var (
 var problemKinds = func() map[string]*problemKind {
 	kinds := map[string]*problemKind{}
 	for _, kind := range []*problemKind{
-		problemSyntax, problemHeader, problemToken, problemRight, problemPath, problemService, problemMethod, problemLong,
-		problemShape, problemValue, problemLimit, problemModel, problemMatch, problemBusy, problemFull, problemStopping,
-		problemJournal, problemState, problemWaited, problemLate, problemDied, problemHuge, problemInside,
+		problemSyntax, problemHeader, problemLeft, problemToken, problemRight, problemPath, problemService, problemMethod,
+		problemLong, problemShape, problemValue, problemLimit, problemModel, problemMatch, problemBusy, problemFull,
+		problemStopping, problemJournal, problemState, problemWaited, problemLate, problemDied, problemHuge, problemInside,
 	} {
 		kinds[kind.word] = kind
 	}
@@ -101,8 +103,9 @@ type problem struct {
 	// Fault is the first fault of a model, and Errors has all its places.
 	Fault  string            `json:"fault,omitempty"`
 	Errors []json.RawMessage `json:"errors,omitempty"`
-	// Decisions tell how it came to the problem, where that was asked for.
+	// Decisions tell how it came to the problem, where that was asked for. Explained is "long" where they are too long.
 	Decisions json.RawMessage `json:"decisions,omitempty"`
+	Explained string          `json:"explained,omitempty"`
 
 	allow string
 }

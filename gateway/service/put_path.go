@@ -8,6 +8,7 @@ import (
 	"net/http"
 	"strconv"
 	"strings"
+	"time"
 
 	"gateway/engine"
 	"gateway/lines"
@@ -32,7 +33,7 @@ func (s *Service) modelPath(w http.ResponseWriter, r *http.Request) {
 	w.Header()["Desk-Model"] = model.sum
 	w.Header().Set("ETag", `"`+model.engine.Sum+`"`)
 	if r.URL.Query().Get("text") == "true" {
-		writeJSON(w, http.StatusOK, append(append([]byte(nil), model.engine.Text...), '\n'))
+		writeJSON(w, http.StatusOK, model.engine.Text)
 		return
 	}
 	writePage(w, http.StatusOK, model.page(s.version))
@@ -109,7 +110,10 @@ func (s *Service) putInForce(ctx context.Context, before, model *served) *proble
 			return problemState.with("")
 		}
 	}
-	s.pool.Switch(model.engine, func() { s.model.Store(model) })
+	s.pool.Switch(model.engine, func() {
+		model.since = time.Now()
+		s.model.Store(model)
+	})
 	s.options.Log("a model was put: SHA-256 %s, before it %s", model.engine.Sum, before.engine.Sum)
 	if err := s.pool.Settle(ctx); err != nil {
 		s.options.Log("a model was put, and not all engines have taken it yet: %v", err)
@@ -163,8 +167,13 @@ func faultProblem(err error) *problem {
 		p.Errors = places.Errors()
 		return p
 	}
-	if errors.Is(err, errLongModel) {
+	switch {
+	case errors.Is(err, errLongModel):
 		return problemModel.with(err.Error())
+	case errors.Is(err, engine.ErrEnded):
+		return problemModel.with(err.Error() + "; it may need more memory than --memory allows")
+	case errors.Is(err, context.DeadlineExceeded):
+		return problemLate.with("checking the model takes longer than a minute")
 	}
 	return problemInside.with(err.Error())
 }

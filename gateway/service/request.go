@@ -11,39 +11,44 @@ import (
 // lineOverhead is the most that stands on a request's line before its inputs' key.
 const lineOverhead = len(`{"client":"lane99",`)
 
-// job makes the request of a service from the text of its inputs, or says why the engine would not take it.
-func (m *served) job(service *decisionService, text []byte) (*engine.Job, *problem) {
+// inputsKey is the key of its inputs.
+const inputsKey = `"inputs":`
+
+// request makes the request of a service from the text of its inputs, or says why the engine would not take it. Its line is
+// added to room, which is given back.
+func (m *served) request(service *decisionService, text []byte, job *engine.Job, room []byte) ([]byte, *problem) {
 	if lines.Begins(text) != '{' {
-		return nil, m.noObject(text)
+		return room, m.noObject(text)
 	}
 	members, _, fault := lines.Members(text, lines.MaxNesting-1)
 	if fault != nil {
-		return nil, syntaxProblem(fault)
+		return room, syntaxProblem(fault)
 	}
 	if len(m.words) > 0 {
 		renamed, err := lines.Rename(text, m.words)
 		if err != nil {
-			return nil, problemInside.with(err.Error())
+			return room, problemInside.with(err.Error())
 		}
 		text = renamed
 		if members, _, fault = lines.Members(text, lines.MaxNesting-1); fault != nil {
-			return nil, syntaxProblem(fault)
+			return room, syntaxProblem(fault)
 		}
 	}
 	if p := m.values(service, text, members); p != nil {
-		return nil, p
+		return room, p
 	}
-	room := lines.MaxLine - lineOverhead - len(`"inputs":`) - len(service.tail)
-	text = lines.OneLine(text, room)
-	if len(text) > room {
-		return nil, problemLong.with(fmt.Sprintf("the inputs have %d bytes, and at most %d are taken for this service",
-			len(text), room))
+	most := lines.MaxLine - lineOverhead - len(inputsKey) - len(service.tail)
+	text = lines.OneLine(text, most)
+	if len(text) > most {
+		return room, problemLong.with(fmt.Sprintf("the inputs have %d bytes, and at most %d are taken for this service",
+			len(text), most))
 	}
-	rest := make([]byte, 0, len(`"inputs":`)+len(text)+len(service.tail))
-	rest = append(rest, `"inputs":`...)
-	rest = append(rest, text...)
-	rest = append(rest, service.tail...)
-	return &engine.Job{Model: m.engine, Rest: rest}, nil
+	start := len(room)
+	room = append(room, inputsKey...)
+	room = append(room, text...)
+	room = append(room, service.tail...)
+	job.Model, job.Rest = m.engine, room[start:len(room):len(room)]
+	return room, nil
 }
 
 func (m *served) noObject(text []byte) *problem {
@@ -61,9 +66,9 @@ func syntaxProblem(fault *lines.SyntaxFault) *problem {
 
 // values holds the values of a service's parameters to the engine's limits, and to the types of the file.
 func (m *served) values(service *decisionService, text []byte, members []lines.Member) *problem {
-	for at, counts := range lastOnes(members) {
-		member := members[at]
-		if !counts || !service.parameters[member.Key] {
+	comesAgain := again(members)
+	for at, member := range members {
+		if !service.parameters[member.Key] || comesAgain(at) {
 			continue
 		}
 		fault := lines.Value(text, member.Value)
@@ -81,15 +86,26 @@ func (m *served) values(service *decisionService, text []byte, members []lines.M
 	return nil
 }
 
-// lastOnes says of each member whether it is the last of its key. The engine keeps that one alone.
-func lastOnes(members []lines.Member) []bool {
-	last := make([]bool, len(members))
-	seen := make(map[string]bool, len(members))
-	for at := len(members) - 1; at >= 0; at-- {
-		last[at] = !seen[members[at].Key]
-		seen[members[at].Key] = true
+// fewMembers is how many members are compared each with each.
+const fewMembers = 16
+
+// again says of each member whether its key comes again behind it. The engine keeps the last member of a key alone.
+func again(members []lines.Member) func(at int) bool {
+	if len(members) <= fewMembers {
+		return func(at int) bool {
+			for _, other := range members[at+1:] {
+				if other.Key == members[at].Key {
+					return true
+				}
+			}
+			return false
+		}
 	}
-	return last
+	last := make(map[string]int, len(members))
+	for at := range members {
+		last[members[at].Key] = at
+	}
+	return func(at int) bool { return last[members[at].Key] != at }
 }
 
 // pointer is a JSON Pointer with the names of the file.

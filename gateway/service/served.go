@@ -38,6 +38,11 @@ type decisionService struct {
 	tail []byte
 }
 
+// room is for the lines of so many requests, whose inputs have so many bytes in all.
+func (d *decisionService) room(requests, bytes int) []byte {
+	return make([]byte, 0, bytes+requests*(len(inputsKey)+len(d.tail)))
+}
+
 // read asks the engine what a model is. Where it has a fault the error is a *engine.FaultyModel.
 func (s *Service) read(ctx context.Context, source *Source, origin string) (*served, error) {
 	lawful, warnings, err := engine.Check(ctx, s.options.Engine, s.options.Memory, source.Text)

@@ -30,6 +30,7 @@ type Service struct {
 	journal      *journal.Journal
 	statePath    string
 	clients      *clients
+	turns        *turns
 	bodies       budget
 	metrics      *metrics
 	model        atomic.Pointer[served]
@@ -57,13 +58,17 @@ func Run(ctx context.Context, options Options) error {
 	debug.SetGCPercent(garbagePercent)
 	debug.SetMemoryLimit(heapLimit)
 	s, err := newService(ctx, options)
+	if err == nil {
+		err = s.begin(ctx)
+	}
+	if err != nil && ctx.Err() != nil {
+		options.Log("ended before it began to serve")
+		return nil
+	}
 	if err != nil {
 		return err
 	}
-	if err := s.begin(ctx); err != nil {
-		return err
-	}
-	go s.turns(ctx)
+	go s.renew(ctx)
 	return s.serve(ctx)
 }
 
@@ -73,7 +78,7 @@ func newService(ctx context.Context, options Options) (*Service, error) {
 		return nil, err
 	}
 	s := &Service{options: options, version: version, engineHeader: []string{version}, statePath: options.State}
-	s.clients = newClients(options.ClientLimit, options.Limit)
+	s.clients, s.turns = newClients(options.ClientLimit, options.Limit), newTurns()
 	s.bodies.limit = bodiesLimit
 	s.explaining = make(chan struct{}, options.Processes)
 	s.metrics = newMetrics(s)
@@ -156,8 +161,8 @@ func (s *Service) died(number int, err error) {
 	s.options.Log("engine %d ended and is begun anew: %v", number, err)
 }
 
-// turns begins new files of the journal, and reads the tokens again, whenever it is told to.
-func (s *Service) turns(ctx context.Context) {
+// renew begins new files of the journal, and reads the tokens again, whenever it is told to.
+func (s *Service) renew(ctx context.Context) {
 	for {
 		select {
 		case <-ctx.Done():
@@ -208,7 +213,7 @@ func (s *Service) serve(ctx context.Context) error {
 		return fmt.Errorf("serving: %w", err)
 	case <-ctx.Done():
 	}
-	return s.stop(server, listener)
+	return s.stop(server, listener, failed)
 }
 
 func (s *Service) originOf(model *served) string {
@@ -227,13 +232,20 @@ func (s *Service) count(_ net.Conn, state http.ConnState) {
 	}
 }
 
-func (s *Service) stop(server *http.Server, listener net.Listener) error {
+// stop ends in order. Ended is sent to once no connection is accepted any more.
+func (s *Service) stop(server *http.Server, listener net.Listener, ended <-chan error) error {
 	notify("STOPPING=1")
 	s.options.Log("ending: what was taken is answered")
 	ctx, stop := context.WithTimeout(context.Background(), stopPatience)
 	defer stop()
 	s.stopping.Store(true)
+	if !s.options.Shared {
+		if err := shutOut(s.options.Listener); err != nil {
+			s.options.Log("connections that were not accepted yet may be cut off: %v", err)
+		}
+	}
 	_ = listener.Close()
+	<-ended
 	// Whoever keeps a connection open may have sent a request that was not read yet. Each answer says that it is the last.
 	for until := time.Now().Add(drainPatience); s.connections.Load() > 0 && time.Now().Before(until); {
 		time.Sleep(10 * time.Millisecond)

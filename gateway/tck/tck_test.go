@@ -86,6 +86,9 @@ func TestEachResultNodeHasAVerdict(t *testing.T) {
 		`<testCase id="11" type="bkm" invocableName="f"><resultNode name="f"><expected/></resultNode></testCase>`:                                 "11/f UNSUPPORTED a business knowledge model is not asked by itself",
 		`<testCase id="12"><inputNode name="Full Price"><list><item><value xsi:type="xsd:date">2020-01-01</value></item></list></inputNode>` +
 			`<resultNode name="All"><expected/></resultNode></testCase>`: "12/All UNSUPPORTED input Full Price: item 1: the profile has no values of the type date",
+		`<testCase id="13">` + price + `1e999999999</value></inputNode><resultNode name="All"><expected/></resultNode></testCase>`: `13/All UNSUPPORTED input Full Price: "1e999999999" is no number`,
+		`<testCase id="14">` + price + `1.0E1</value></inputNode><resultNode name="Net Price"><expected>` +
+			`<value xsi:type="xsd:double">9.0e0</value></expected></resultNode></testCase>`: "14/Net Price PASS",
 	} {
 		if got := verdicts(t, cases); len(got) != 1 || got[0] != due {
 			t.Errorf("%q\n due %q", got, due)

@@ -4,6 +4,7 @@ import (
 	"encoding/json"
 	"fmt"
 	"math/big"
+	"regexp"
 	"strings"
 )
 
@@ -70,10 +71,16 @@ func (s *Scalar) json() (any, error) {
 	return nil, fmt.Errorf("the profile has no values of the type %s", kind)
 }
 
+// decimal is a number as XML Schema writes it, with an exponent that is not far out.
+var decimal = regexp.MustCompile(`^[-+]?([0-9]+\.?[0-9]*|\.[0-9]+)([eE][-+]?[0-9]{1,3})?$`)
+
 // whole is a number; one that is not whole is an error.
 func whole(text string) (any, error) {
-	number, ok := new(big.Rat).SetString(text)
-	if !ok || len(text) > 64 {
+	number, ok := new(big.Rat), len(text) <= 64 && decimal.MatchString(text)
+	if ok {
+		_, ok = number.SetString(text)
+	}
+	if !ok {
 		return nil, fmt.Errorf("%q is no number", text)
 	}
 	if !number.IsInt() {

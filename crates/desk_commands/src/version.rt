@@ -6,5 +6,5 @@ pub const VERSION: &str = concat!(
     "0.12.1\n",
     "licence MIT OR Apache-2.0\n",
     "proved with rattle-kit-13f logic dac8208d650f15bf\n",
-    "sources 2d6c919b406eb093e8054b7c65e04da25e1c7c1a350ff7a82cd79d5817f6db5c",
+    "sources 7ecd1ffa20fcc91b3763218297a0670776551816aeacdd96abc99a7dc045da1f",
 );

@@ -29,6 +29,9 @@ pub record LaneEnd (W O : Type 0) : Type 0 where
   -- which end it is: its link to the client, and its number among the lane's ends
   pub link : Link
   pub number : ℕ
+  -- how many answers wait in its ring at most, until the client takes them in
+  pub room : ℕ
+  pub is_of_four : room ≡ 4
   -- the jobs that the worker took from the lane, and the answers that it sent to it, each in order
   pub taken : List (Ticketed W)
   pub sent : List (Ticketed W)

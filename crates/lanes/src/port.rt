@@ -1,7 +1,7 @@
 //! What one worker has of one lane.
 ghost use Rattle.std.specs.Prelude.{◌≡◌, ◌++◌, MatchResult};
 ghost use Rattle.crossbeam_deque.specs.Handles.{view as pass_view, IsPassOf, stealer_deque};
-ghost use Rattle.rtrb.specs.Ring.{sent};
+ghost use Rattle.rtrb.specs.Ring.{producer_capacity, sent};
 ghost use Rattle.lanes.specs.Books.{ticket_of, Rises, Rises-prop};
 ghost use Rattle.lanes.specs.Held.{held_in};
 
@@ -32,20 +32,21 @@ pub struct Port<W: Work> {
     pub(crate) held: Held<W>,
     ghost seated: { IsPassOf (stealer_deque thief) seat },
     ghost live: { (pass_view seat).live ≡ 1 },
+    ghost room: { producer_capacity sender ≡ 4 },
     ghost rises: { Rises ticket_of (pass_view seat).taken } by { Rises-prop ticket_of (pass_view seat).taken },
     ghost carried: { sent sender ++ held_in held ≡ (pass_view seat).taken },
 }
 
 impl<W: Work> Model for Port<W> {
     ghost use Rattle.crossbeam_deque.specs.Handles.{view as pass_view, stealer_deque};
-    ghost use Rattle.rtrb.specs.Ring.{sent};
+    ghost use Rattle.rtrb.specs.Ring.{producer_capacity, sent};
     ghost use Rattle.lanes.specs.Ends.{LaneEnd};
     ghost use Rattle.lanes.specs.Identities.{sender_ring, link};
     ghost use Rattle.lanes.specs.Numbers.{rising};
 
     ghost Value = { LaneEnd W W.Out };
 
-    ghost view = { λ port. record { link = link (stealer_deque port.thief) (sender_ring port.sender); number = port.seat.id; taken = (pass_view port.seat).taken; sent = sent port.sender; held = port.held; rises = rising _ port.rises; carried = port.carried } };
+    ghost view = { λ port. record { link = link (stealer_deque port.thief) (sender_ring port.sender); number = port.seat.id; room = producer_capacity port.sender; is_of_four = port.room; taken = (pass_view port.seat).taken; sent = sent port.sender; held = port.held; rises = rising _ port.rises; carried = port.carried } };
 }
 
 impl<W: Work> Port<W> {

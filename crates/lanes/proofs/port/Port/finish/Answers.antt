@@ -9,7 +9,7 @@ use Rattle.lanes.proofs.port.Port.finish.Goals as goal
 pub invariant_of-self-inside : goal.invariant_of-self-inside
 invariant_of-self-inside g c =
     let self = c.self.inside in
-    (self.seated, (self.live, (self.rises, (ap (λ h. sent self.sender ++ held_in h) (c.in-Nothing.ensures.after ∙ c.in-Nothing.ensures.value) ∙ self.carried, tt))))
+    (self.seated, (self.live, (self.room, (self.rises, (ap (λ h. sent self.sender ++ held_in h) (c.in-Nothing.ensures.after ∙ c.in-Nothing.ensures.value) ∙ self.carried, tt)))))
 
 pub returns-in-Nothing : goal.returns-in-Nothing
 returns-in-Nothing g c =
@@ -23,7 +23,7 @@ returns-in-Nothing g c =
 pub invariant_of-self-inside-in-Err : goal.invariant_of-self-inside-in-Err
 invariant_of-self-inside-in-Err g c =
     let self = c.self.inside in
-    (self.seated, (self.live, (self.rises, (ap (λ h. sent self.sender ++ held_in h) (ap held.Job c.in-Err.ensures.run ∙ c.in-Job.ensures.value) ∙ self.carried, tt))))
+    (self.seated, (self.live, (self.room, (self.rises, (ap (λ h. sent self.sender ++ held_in h) (ap held.Job c.in-Err.ensures.run ∙ c.in-Job.ensures.value) ∙ self.carried, tt)))))
 
 pub returns-in-Err : goal.returns-in-Err
 returns-in-Err g c = rw (← c.self.view_is) (record {

@@ -1,0 +1,49 @@
+package engine
+
+import (
+	"context"
+	"os"
+	"path/filepath"
+	"strings"
+	"testing"
+	"time"
+)
+
+// An engine that does not end with status 0 once all is answered is told.
+func TestEnginesEndWell(t *testing.T) {
+	path, err := filepath.Abs(desk())
+	if err != nil {
+		t.Fatal(err)
+	}
+	script := filepath.Join(t.TempDir(), "desk")
+	text := "#!/bin/sh\n'" + path + "' \"$@\"\nexit 7\n"
+	if err := os.WriteFile(script, []byte(text), 0o700); err != nil {
+		t.Fatal(err)
+	}
+	model := adding(1)
+	p := Start(Options{Path: script, Processes: 1, Deadline: 20 * time.Second, Patience: time.Minute, Died: func(int, error) {}}, model)
+	var all asked
+	put(t, p, "", all.job(model, adds(1)))
+	all.once(t)
+	if got := string(all.outcomes[0].Value); got != "2" {
+		t.Errorf("the request has %q", got)
+	}
+	ctx, stop := context.WithTimeout(context.Background(), time.Minute)
+	defer stop()
+	if err := p.Close(ctx); err == nil || !strings.Contains(err.Error(), "exit status 7") {
+		t.Errorf("closing says %v", err)
+	}
+}
+
+// A request that is given up at the end is no fault of the end.
+func TestPoisonAtTheEnd(t *testing.T) {
+	model := slow(20_000)
+	p := start(t, Options{Processes: 1, Deadline: 300 * time.Millisecond}, model)
+	var all asked
+	put(t, p, "", all.job(model, long(4990)))
+	end(t, p)
+	all.once(t)
+	if all.outcomes[0].Kind != Late {
+		t.Errorf("kind %d", all.outcomes[0].Kind)
+	}
+}

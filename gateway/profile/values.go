@@ -1,0 +1,95 @@
+package profile
+
+import (
+	"math/big"
+
+	"gateway/feel"
+)
+
+// A valueList is a list of allowed values, of input values or of output values. Without any it allows all.
+type valueList struct {
+	all []feel.Node
+	// literals has the literals as the engine reads them; others are the ranges and tests.
+	literals map[string]bool
+	others   []feel.Node
+}
+
+// mostOthers is how many ranges and tests a list may have: each literal is held against each of them.
+const mostOthers = 100
+
+func listOfValues(nodes []feel.Node) valueList {
+	made := valueList{all: nodes, literals: map[string]bool{}}
+	for _, n := range nodes {
+		if literalType(n) == nil {
+			made.others = append(made.others, n)
+		} else {
+			made.literals[literalText(n)] = true
+		}
+	}
+	return made
+}
+
+// allows tells whether a form may be one of the values: only a literal can be told not to be. Null is, always.
+func (v *valueList) allows(n feel.Node) bool {
+	literal := literalType(n)
+	if literal == nil || literal.kind == nullKind || len(v.all) == 0 || v.literals[literalText(n)] {
+		return true
+	}
+	for _, other := range v.others {
+		interval, is := other.(*feel.Range)
+		if !is || mayLieIn(n, interval) {
+			return true
+		}
+	}
+	return false
+}
+
+// mayLieIn tells whether a number lies in a range of numbers; it is true where one of them is none.
+func mayLieIn(literal feel.Node, interval *feel.Range) bool {
+	x, low, high := rational(literal), rational(interval.Low), rational(interval.High)
+	if x == nil || low == nil || high == nil {
+		return true
+	}
+	from, to := x.Cmp(low), x.Cmp(high)
+	return (from > 0 || from == 0 && !interval.LowOpen) && (to < 0 || to == 0 && !interval.HighOpen)
+}
+
+// rational is the number of a literal; nil where it is none.
+func rational(n feel.Node) *big.Rat {
+	if negation, is := n.(*feel.Negation); is {
+		if inside := rational(negation.Operand); inside != nil {
+			return inside.Neg(inside)
+		}
+		return nil
+	}
+	number, is := n.(*feel.Number)
+	if !is || len(number.Text) > mostWord {
+		return nil
+	}
+	value, fine := new(big.Rat).SetString(number.Text)
+	if !fine {
+		return nil
+	}
+	return value
+}
+
+// literalText is a literal as the engine reads it; empty where it is none, or no whole number.
+func literalText(n feel.Node) string {
+	switch n := n.(type) {
+	case *feel.String:
+		return quotedText(n.Value)
+	case *feel.Boolean:
+		if n.Value {
+			return "true"
+		}
+		return "false"
+	case *feel.Null:
+		return "null"
+	case *feel.Number, *feel.Negation:
+		value := rational(n)
+		if value != nil && value.IsInt() && value.Num().BitLen() < 64 {
+			return value.Num().String()
+		}
+	}
+	return ""
+}

@@ -1,0 +1,86 @@
+package service
+
+import (
+	"fmt"
+	"net"
+	"syscall"
+	"time"
+
+	"golang.org/x/net/bpf"
+	"golang.org/x/sys/unix"
+)
+
+const (
+	// handshakePatience is how long a connection that has begun may take to be there.
+	handshakePatience = 250 * time.Millisecond
+	// acceptPatience is how long connections that are there may take to be accepted.
+	acceptPatience = 2 * time.Second
+)
+
+// shutOut lets no connection begin at a socket any more, and waits until those that have begun are accepted: what waits in
+// the kernel when a socket is closed is reset, though its caller may have sent a request. Callers that come meanwhile have no
+// answer from the kernel; they try again after a second, and are refused once the socket is closed.
+func shutOut(listener net.Listener) error {
+	socket, is := listener.(*net.TCPListener)
+	if !is {
+		return nil
+	}
+	raw, err := socket.SyscallConn()
+	if err != nil {
+		return fmt.Errorf("letting no connection begin: %w", err)
+	}
+	if err := dropBeginnings(raw); err != nil {
+		return fmt.Errorf("letting no connection begin: %w", err)
+	}
+	time.Sleep(handshakePatience)
+	for until := time.Now().Add(acceptPatience); waiting(raw) > 0 && time.Now().Before(until); {
+		time.Sleep(10 * time.Millisecond)
+	}
+	return nil
+}
+
+// Places in a TCP header.
+const (
+	flagsAt = 13
+	flagSYN = 0x02
+	flagACK = 0x10
+)
+
+// dropBeginnings has the kernel drop what would begin a connection: a segment with SYN and without ACK.
+func dropBeginnings(raw syscall.RawConn) error {
+	program, err := bpf.Assemble([]bpf.Instruction{
+		bpf.LoadAbsolute{Off: flagsAt, Size: 1},
+		bpf.ALUOpConstant{Op: bpf.ALUOpAnd, Val: flagSYN | flagACK},
+		bpf.JumpIf{Cond: bpf.JumpEqual, Val: flagSYN, SkipTrue: 1},
+		bpf.RetConstant{Val: 1 << 18},
+		bpf.RetConstant{Val: 0},
+	})
+	if err != nil {
+		return err
+	}
+	filter := make([]unix.SockFilter, len(program))
+	for at, step := range program {
+		filter[at] = unix.SockFilter{Code: step.Op, Jt: step.Jt, Jf: step.Jf, K: step.K}
+	}
+	var failed error
+	err = raw.Control(func(descriptor uintptr) {
+		failed = unix.SetsockoptSockFprog(int(descriptor), unix.SOL_SOCKET, unix.SO_ATTACH_FILTER,
+			&unix.SockFprog{Len: uint16(len(filter)), Filter: &filter[0]})
+	})
+	if err == nil {
+		err = failed
+	}
+	return err
+}
+
+// waiting is how many connections wait to be accepted.
+func waiting(raw syscall.RawConn) int {
+	count := 0
+	_ = raw.Control(func(descriptor uintptr) {
+		// Of a socket that listens, this number is that of the connections in its queue.
+		if info, err := unix.GetsockoptTCPInfo(int(descriptor), unix.IPPROTO_TCP, unix.TCP_INFO); err == nil {
+			count = int(info.Unacked)
+		}
+	})
+	return count
+}
