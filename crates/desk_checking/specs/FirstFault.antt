@@ -3,7 +3,7 @@ use Rattle.std.specs.Prelude.{◌≡◌, ℕ, List, Option, None, Some, option_m
 use Rattle.serde_json.specs.Data.{Data}
 use Rattle.serde_json.specs.Find.{get}
 use Rattle.serde_json.specs.Read.{read}
-use Rattle.feel_lang.specs.Expr.{Expr}
+use Rattle.feel_text.specs.Expr.{Expr}
 use Rattle.dmn_table.specs.Table.{Table}
 use Rattle.dmn_form.specs.Model.{Model}
 use Rattle.dmn_plan.specs.declared.fault.ModelFault.{ModelFault}

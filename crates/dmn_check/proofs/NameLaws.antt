@@ -5,7 +5,7 @@ use Rattle.std.specs.List.{list_any, flat_map}
 use Rattle.std.proofs.lemmas.List.Folds.{list_any-append}
 use Rattle.std.proofs.lemmas.Slice.Eq.{bytes_eq-Decides}
 use Rattle.feel_value.specs.Distinct.{is_among, are_distinct}
-use Rattle.feel_lang.specs.Lexical.{is_name}
+use Rattle.feel_text.specs.Lexical.{is_name}
 use Rattle.dmn_form.specs.Model.{Name, expression, table, list, context, context_with, Members, no_members, member, Entries, no_entries, entry, Service}
 use Rattle.dmn_form.specs.Draft.{WrittenTable, Logic, Written, Draft}
 use Rattle.dmn_names.specs.Names.{have_bad, have_twice, has_bad_name, has_name_twice}

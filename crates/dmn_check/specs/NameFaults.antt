@@ -1,7 +1,7 @@
 -- The texts in the place of a name that are no names, and the names that stand twice in a list.
 use Rattle.std.specs.Prelude.{ℕ, List, [], ◌∷◌, ◌++◌, length, take, drop, Bool, not}
 use Rattle.feel_value.specs.Distinct.{is_among}
-use Rattle.feel_lang.specs.Lexical.{is_name}
+use Rattle.feel_text.specs.Lexical.{is_name}
 use Rattle.dmn_form.specs.Model.{Name, Service}
 use Rattle.dmn_form.specs.Draft.{Written, Draft}
 use Rattle.dmn_names.specs.Parts.{output_names, value_names, service_names}

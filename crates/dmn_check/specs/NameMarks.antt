@@ -1,6 +1,6 @@
 -- Internal, cited by no public contract: whether a text has a fault of names.
 use Rattle.std.specs.Prelude.{Bool, not}
-use Rattle.feel_lang.specs.Lexical.{is_name}
+use Rattle.feel_text.specs.Lexical.{is_name}
 use Rattle.dmn_form.specs.Model.{Name}
 use Rattle.dmn_check.specs.declared.marks.NameFault.{NameFault}
 use Rattle.dmn_check.specs.declared.marks.NameFault.TheVariants.{Unlawful, Repeated}

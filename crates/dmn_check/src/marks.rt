@@ -1,6 +1,6 @@
 //! Which names of a list have a fault.
 ghost use Rattle.std.specs.Prelude.{◌≡◌, not, OnOk, IfOk, map, if◌then◌else◌};
-ghost use Rattle.feel_lang.specs.Lexical.{is_name as is_name_of};
+ghost use Rattle.feel_text.specs.Lexical.{is_name as is_name_of};
 ghost use Rattle.dmn_check.specs.declared.place.Step.TheVariants as step;
 ghost use Rattle.dmn_check.specs.declared.place.Key.TheVariants as key;
 ghost use Rattle.dmn_check.specs.Findings.{behind, here};

@@ -1,6 +1,6 @@
 //! Texts without a reading.
 ghost use Rattle.std.specs.Prelude.{◌≡◌, not, OnOk, IfOk, map, option_map, string_bytes, is_some, nat_lt};
-ghost use Rattle.feel_lang.specs.Readings.{expr_of, tests_of, literal_of};
+ghost use Rattle.feel_text.specs.Readings.{expr_of, tests_of, literal_of};
 ghost use Rattle.dmn_form.specs.FormView.{column_view, rule_view, table_view};
 ghost use Rattle.dmn_check.specs.declared.place.Step.TheVariants as step;
 ghost use Rattle.dmn_check.specs.declared.place.Key.TheVariants as key;

@@ -9,7 +9,7 @@ use Rattle.feel_value.specs.Json.{json_of}
 use Rattle.json_writer.specs.Bounded.{longer}
 use Rattle.json_writer.proofs.Longer.{Text, longer_again, longer_thrice, keyed}
 pub use Rattle.json_writer.proofs.Longer.{row_more, row_ended, row_begun}
-use Rattle.feel_lang.specs.Meaning.{Bindings}
+use Rattle.feel_text.specs.Meaning.{Bindings}
 use Rattle.dmn_table.specs.Hits.{values_of}
 use Rattle.dmn_table.specs.Table.{Rule, Table}
 use Rattle.dmn_explain.specs.How.{valued, told_as, members_from, numbered_hits, hits_and_defaults, inputs_and_hits, table_told}

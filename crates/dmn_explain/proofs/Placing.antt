@@ -10,9 +10,9 @@ use Rattle.serde_json.specs.Data.{Data, string, object, Items, no_items, member,
 use Rattle.feel_value.specs.Datum.{Datum}
 use Rattle.feel_value.specs.Found.{value_of, ◌>>=◌}
 use Rattle.feel_value.specs.declared.feel.Outcome.{Outcome}
-use Rattle.feel_lang.specs.Expr.{Expr}
-use Rattle.feel_lang.specs.Meaning.{Bindings}
-use Rattle.feel_lang.specs.Needed.{bindings_from, found_at}
+use Rattle.feel_text.specs.Expr.{Expr}
+use Rattle.feel_text.specs.Meaning.{Bindings}
+use Rattle.feel_text.specs.Needed.{bindings_from, found_at}
 use Rattle.dmn_table.specs.Table.{Table}
 use Rattle.dmn_graph.specs.Reach.{Each, IsInOrder}
 use Rattle.dmn_form.specs.Model.{Name, Boxed, Service, Model}

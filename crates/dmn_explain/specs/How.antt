@@ -7,8 +7,8 @@ use Rattle.feel_value.specs.Datum as datum
 use Rattle.feel_value.specs.Datum.{Datum, items_of}
 use Rattle.feel_value.specs.Json.{json_of}
 use Rattle.feel_value.specs.Found.{value_of, ◌>>=◌, each, outcome_from}
-use Rattle.feel_lang.specs.Expr.{Expr}
-use Rattle.feel_lang.specs.Meaning.{Bindings}
+use Rattle.feel_text.specs.Expr.{Expr}
+use Rattle.feel_text.specs.Meaning.{Bindings}
 use Rattle.dmn_table.specs.Table.{Column, Rule, Table}
 use Rattle.dmn_table.specs.Hits.{values_of, does_hit, kept, output_of}
 use Rattle.dmn_form.specs.Model as form

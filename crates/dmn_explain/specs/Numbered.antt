@@ -2,7 +2,7 @@
 use Rattle.std.specs.Prelude.{ℕ, List, Option, Some}
 use Rattle.feel_value.specs.Datum.{Datum}
 use Rattle.feel_value.specs.Found.{◌>>=◌, each}
-use Rattle.feel_lang.specs.Meaning.{Bindings}
+use Rattle.feel_text.specs.Meaning.{Bindings}
 use Rattle.dmn_table.specs.Hits.{does_hit, kept}
 use Rattle.dmn_table.specs.Parts.{rule_view}
 use Rattle.dmn_table.specs.Table.{Rule}

@@ -5,8 +5,8 @@ use Rattle.std.specs.List.{slice_get}
 use Rattle.serde_json.specs.Data.{Data, string, object, Items, no_items, member, no_members}
 use Rattle.feel_value.specs.Found.{◌>>=◌}
 use Rattle.feel_value.specs.declared.feel.Outcome.{Outcome}
-use Rattle.feel_lang.specs.Expr.{Expr}
-use Rattle.feel_lang.specs.Needed.{bindings_from, found_at}
+use Rattle.feel_text.specs.Expr.{Expr}
+use Rattle.feel_text.specs.Needed.{bindings_from, found_at}
 use Rattle.dmn_table.specs.Table.{Table}
 use Rattle.dmn_form.specs.Model.{Boxed}
 use Rattle.dmn_logic.specs.LogicView.{logic_view}

@@ -6,8 +6,8 @@ use Rattle.serde_json.specs.Written.{comma_if, compact_text, members_text}
 use Rattle.feel_value.specs.Datum.{Datum}
 use Rattle.feel_value.specs.Json.{json_of}
 use Rattle.feel_value.specs.Found.{value_of}
-use Rattle.feel_lang.specs.Expr.{Expr}
-use Rattle.feel_lang.specs.Meaning.{Bindings}
+use Rattle.feel_text.specs.Expr.{Expr}
+use Rattle.feel_text.specs.Meaning.{Bindings}
 use Rattle.dmn_table.specs.Table.{Table}
 use Rattle.dmn_form.specs.Model.{Boxed}
 use Rattle.dmn_logic.specs.Boxed.{boxed}

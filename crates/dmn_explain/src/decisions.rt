@@ -3,7 +3,7 @@ ghost use Rattle.std.specs.Prelude.{◌≡◌, ◌<◌, ◌++◌, OnOk, IfOk, le
 ghost use Rattle.std.specs.List.{All, zip};
 ghost use Rattle.serde_json.specs.Data.{Items, array};
 ghost use Rattle.serde_json.specs.Written.{compact_text, items_text};
-ghost use Rattle.feel_lang.specs.Needed.{found_at};
+ghost use Rattle.feel_text.specs.Needed.{found_at};
 ghost use Rattle.dmn_logic.specs.LogicView.{logic_view};
 ghost use Rattle.dmn_service.specs.Decision.{parameters_of, outcome_of};
 ghost use Rattle.dmn_service.specs.Plan.{HasPlacesWithin};

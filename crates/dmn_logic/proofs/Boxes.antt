@@ -7,7 +7,7 @@ use Rattle.std.proofs.lemmas.Grind.{common_steps}
 use Rattle.feel_value.specs.Datum.{Datum}
 use Rattle.feel_value.specs.declared.feel.Outcome.{Outcome}
 use Rattle.feel_value.specs.declared.feel.Outcome.TheVariants.{Is, Limit}
-use Rattle.feel_lang.specs.Meaning.{Bindings}
+use Rattle.feel_text.specs.Meaning.{Bindings}
 use Rattle.feel_value.specs.Found.{value_of, ◌>>=◌, outcome_from}
 use Rattle.dmn_table.proofs.Each.{after}
 use Rattle.dmn_form.specs.Model.{member, entry, context, context_with, entries_of}

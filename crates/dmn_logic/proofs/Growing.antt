@@ -9,7 +9,7 @@ use Rattle.feel_value.specs.declared.feel.Outcome.{Outcome}
 use Rattle.feel_value.specs.declared.feel.Outcome.TheVariants.{Is, Limit}
 use Rattle.feel_value.proofs.Room.{behind, behind-append, too_much}
 use Rattle.feel_value.proofs.ContextRoom.{too_many_entries}
-use Rattle.feel_lang.specs.Meaning.{Bindings}
+use Rattle.feel_text.specs.Meaning.{Bindings}
 use Rattle.feel_value.specs.Found.{outcome_from}
 use Rattle.dmn_table.proofs.Each.{after}
 use Rattle.dmn_logic.specs.Boxed.{boxed, member_values, entry_values}

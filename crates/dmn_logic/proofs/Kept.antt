@@ -1,6 +1,6 @@
 -- Decisions whose logic is read keep their names and what they need.
 use Rattle.std.proofs.Common.{◌≡◌, List, map, ap, Option, None, Some}
-use Rattle.feel_lang.specs.Expr.{Expr}
+use Rattle.feel_text.specs.Expr.{Expr}
 use Rattle.feel_value.specs.Found.{◌>>=◌}
 use Rattle.dmn_table.specs.Table.{Table}
 use Rattle.dmn_form.specs.Model.{Name, Decision}

@@ -1,6 +1,6 @@
 -- Reading tables and contexts from their parts.
 use Rattle.std.proofs.Common.{◌≡◌, ℕ, List, [], ◌∷◌, map, length, refl, sym, ap, ap₂, ◌∙◌, false, Option, Some, None, Vec, Box, String, Global}
-use Rattle.feel_lang.specs.Expr.{Expr}
+use Rattle.feel_text.specs.Expr.{Expr}
 use Rattle.dmn_table.specs.declared.fault.TableFault.{TableFault}
 use Rattle.dmn_table.specs.declared.table.Output.{Output}
 use Rattle.dmn_table.specs.declared.table.Rule as rule

@@ -1,9 +1,9 @@
 -- What reading a table tells of it as it is written.
 use Rattle.std.proofs.Common.{◌≡◌, ℕ, List, map, length, refl, ap, ap₂, ◌∙◌, subst, Bool, true, false, ◌||◌, Option, None, Some}
 use Rattle.std.specs.Option.{is_none, is_some}
-use Rattle.feel_lang.specs.Expr.{Expr}
-use Rattle.feel_lang.specs.Tests.{Tests}
-use Rattle.feel_lang.specs.Readings.{expr_of, tests_of, literal_of}
+use Rattle.feel_text.specs.Expr.{Expr}
+use Rattle.feel_text.specs.Tests.{Tests}
+use Rattle.feel_text.specs.Readings.{expr_of, tests_of, literal_of}
 use Rattle.feel_value.specs.Datum.{Datum}
 use Rattle.dmn_table.specs.declared.fault.TableFault.{TableFault}
 use Rattle.dmn_table.specs.declared.hit_policy.HitPolicy.{HitPolicy}

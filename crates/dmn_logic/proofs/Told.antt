@@ -3,8 +3,8 @@ use Rattle.std.proofs.Common.{◌≡◌, ℕ, List, [], ◌∷◌, ◌++◌, map
 use Rattle.std.specs.List.{list_any}
 use Rattle.std.specs.Option.{is_none}
 use Rattle.std.proofs.lemmas.List.Folds.{list_any-append}
-use Rattle.feel_lang.specs.Expr.{Expr}
-use Rattle.feel_lang.specs.Readings.{expr_of}
+use Rattle.feel_text.specs.Expr.{Expr}
+use Rattle.feel_text.specs.Readings.{expr_of}
 use Rattle.feel_value.specs.Found.{◌>>=◌}
 use Rattle.dmn_table.specs.Table.{Table}
 use Rattle.dmn_form.specs.Model.{Name, expression, table, list, context, context_with, Members, no_members, member, members_of, Entries, no_entries, entry, entries_of, Decision}

@@ -3,7 +3,7 @@ use Rattle.std.proofs.Common.{◌≡◌, ℕ, List, [], ◌∷◌, map, length, 
 use Rattle.std.specs.List.{list_any}
 use Rattle.std.proofs.lemmas.List.{length-map}
 use Rattle.std.specs.Option.{is_none}
-use Rattle.feel_lang.specs.Readings.{expr_of, tests_of, literal_of}
+use Rattle.feel_text.specs.Readings.{expr_of, tests_of, literal_of}
 use Rattle.feel_value.specs.Found.{◌>>=◌, each}
 use Rattle.dmn_form.specs.Draft.{WrittenColumn, WrittenRule}
 use Rattle.dmn_logic.specs.Faults.{has_no_expression, is_unread_column, is_unread_rule}

@@ -4,8 +4,8 @@ use Rattle.feel_value.specs.Datum as datum
 use Rattle.feel_value.specs.Datum.{Datum, items_of, entries_of}
 use Rattle.feel_value.specs.Outcome.{held}
 use Rattle.feel_value.specs.declared.feel.Outcome.{Outcome}
-use Rattle.feel_lang.specs.Expr.{Expr}
-use Rattle.feel_lang.specs.Meaning.{den, Bindings}
+use Rattle.feel_text.specs.Expr.{Expr}
+use Rattle.feel_text.specs.Meaning.{den, Bindings}
 use Rattle.feel_value.specs.Found.{value_of, ◌>>=◌, outcome_from}
 use Rattle.dmn_table.specs.Table.{Table}
 use Rattle.dmn_table.specs.Result.{table_result}

@@ -2,7 +2,7 @@
 use Rattle.std.specs.Prelude.{ℕ, List, map, length, Bool, ◌||◌, option_to_list}
 use Rattle.std.specs.List.{list_any}
 use Rattle.std.specs.Option.{is_none, is_some}
-use Rattle.feel_lang.specs.Readings.{expr_of, tests_of, literal_of}
+use Rattle.feel_text.specs.Readings.{expr_of, tests_of, literal_of}
 use Rattle.dmn_table.specs.Faults.{table_fault}
 use Rattle.dmn_form.specs.Draft.{WrittenColumn, WrittenRule, WrittenTable, Logic, Written}
 use Rattle.dmn_logic.specs.Parts.{texts_in, tables_in}

@@ -1,7 +1,7 @@
 -- The logic of decisions, read from the texts that it is written in.
 use Rattle.std.specs.Prelude.{ℕ, List, Option, None, Some, option_map}
-use Rattle.feel_lang.specs.Expr.{Expr}
-use Rattle.feel_lang.specs.Readings.{expr_of, tests_of, literal_of}
+use Rattle.feel_text.specs.Expr.{Expr}
+use Rattle.feel_text.specs.Readings.{expr_of, tests_of, literal_of}
 use Rattle.feel_value.specs.Found.{◌>>=◌, each}
 use Rattle.dmn_table.specs.Faults.{policy_of}
 use Rattle.dmn_table.specs.Table.{Column, Rule, Table}

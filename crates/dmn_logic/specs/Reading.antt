@@ -1,8 +1,8 @@
 -- Internal: no public contract cites these words. What reading the parts of decisions gives, part by part: what was read, or else
 -- that some text has no reading, or else that some table is refused.
 use Rattle.std.specs.Prelude.{ℕ, List, [], ◌∷◌, map, length, Option, None, Some}
-use Rattle.feel_lang.specs.Expr.{Expr}
-use Rattle.feel_lang.specs.Readings.{expr_of}
+use Rattle.feel_text.specs.Expr.{Expr}
+use Rattle.feel_text.specs.Readings.{expr_of}
 use Rattle.feel_value.specs.Found.{each}
 use Rattle.dmn_table.specs.Faults.{table_fault, policy_of}
 use Rattle.dmn_table.specs.Table.{Column, Rule, Table}

@@ -1,6 +1,6 @@
 //! The texts of expressions, unary tests and literals. Those of a decision are read under the names that it needs.
 ghost use Rattle.std.specs.Prelude.{◌≡◌, IfOk, option_map, map, string_bytes};
-ghost use Rattle.feel_lang.specs.Readings.{expr_of, tests_of as tests_in, literal_of as literal_in};
+ghost use Rattle.feel_text.specs.Readings.{expr_of, tests_of as tests_in, literal_of as literal_in};
 ghost use Rattle.feel_value.specs.Found.{each};
 ghost use Rattle.dmn_logic.specs.ReadLogic.{read_if};
 

@@ -5,7 +5,7 @@ use Rattle.std.specs.String.{string_cmp}
 use Rattle.std.proofs.lemmas.List.{at_drop_all, get_or_default}
 use Rattle.std.proofs.lemmas.Map.Text.{btree_map_updates_text}
 use Rattle.feel_value.proofs.ByName.{flipped}
-use Rattle.feel_lang.proofs.Bindings.{same_text}
+use Rattle.feel_text.proofs.Bindings.{same_text}
 use Rattle.dmn_form.specs.Model.{Name}
 use Rattle.dmn_names.specs.Places.{place_among}
 use Rattle.dmn_names.specs.Index.{names_in, first_of, place_if}

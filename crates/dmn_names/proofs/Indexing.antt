@@ -1,9 +1,9 @@
 -- Names that are found by their order, or one after another.
 use Rattle.std.proofs.Common.{◌≡◌, ℕ, ◌+◌, ◌<◌, zero, suc, List, [], ◌∷◌, drop, length, get_or, Option, Some, None, option_map, MatchOption, refl, sym, ap, ap₂, ◌∙◌, Bool, true, false, if◌then◌else◌, Bor, bytes_eq, arith}
 use Rattle.std.proofs.lemmas.List.{at_drop_more, get_or-map, length-map}
-use Rattle.feel_lang.specs.NameOrder.{IsInOrder, IsNameAt}
-use Rattle.feel_lang.proofs.Bindings.{same_text, text_itself}
-use Rattle.feel_lang.proofs.Ordered.{same_position}
+use Rattle.feel_text.specs.NameOrder.{IsInOrder, IsNameAt}
+use Rattle.feel_text.proofs.Bindings.{same_text, text_itself}
+use Rattle.feel_text.proofs.Ordered.{same_position}
 use Rattle.dmn_form.specs.Model.{Name}
 use Rattle.dmn_names.specs.Places.{place_among}
 use Rattle.dmn_names.specs.Index.{names_in}

@@ -1,7 +1,7 @@
 -- No name stands twice among names that rise.
 use Rattle.std.proofs.Common.{◌≡◌, ap, ap₂, refl, List, [], ◌∷◌, true, false, not, ◌&&◌, ◌||◌, Greater, is_lt}
-use Rattle.feel_lang.specs.NameOrder.{name_cmp, IsBefore}
-use Rattle.feel_lang.proofs.NameOrder.{before_later, less_turned, unlike}
+use Rattle.feel_text.specs.NameOrder.{name_cmp, IsBefore}
+use Rattle.feel_text.proofs.NameOrder.{before_later, less_turned, unlike}
 use Rattle.feel_value.specs.Distinct.{is_among, are_distinct}
 use Rattle.dmn_form.specs.Model.{Name}
 use Rattle.dmn_names.specs.Names.{have_twice}

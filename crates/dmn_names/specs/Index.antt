@@ -3,7 +3,7 @@ use Rattle.std.specs.Prelude.{◌≡◌, ℕ, List, map, Bool, String, Option, N
 use Rattle.std.specs.BTreeMap.{BTreeMap, get_by_text}
 use Rattle.std.specs.declared.alloc.Global.{Global}
 use Rattle.std.specs.Borrow.{Bor}
-use Rattle.feel_lang.specs.NameOrder.{IsInOrder}
+use Rattle.feel_text.specs.NameOrder.{IsInOrder}
 use Rattle.dmn_form.specs.Model.{Name}
 use Rattle.dmn_names.specs.Places.{place_among}
 use Rattle.dmn_names.specs.declared.index.Order.{Order}

@@ -2,7 +2,7 @@
 use Rattle.std.specs.Prelude.{List, Bool, not}
 use Rattle.std.specs.List.{list_any}
 use Rattle.feel_value.specs.Distinct.{is_among, are_distinct}
-use Rattle.feel_lang.specs.Lexical.{is_name}
+use Rattle.feel_text.specs.Lexical.{is_name}
 use Rattle.dmn_form.specs.Model.{Name}
 use Rattle.dmn_form.specs.Draft.{Draft}
 use Rattle.dmn_names.specs.Parts.{value_names, name_lists}

@@ -1,7 +1,7 @@
 -- Internal, cited by no public contract: names of which each comes behind the one before it.
 use Rattle.std.specs.Prelude.{List, [], ◌∷◌, Bool, true, ◌&&◌}
 use Rattle.std.specs.Ordering.{is_lt}
-use Rattle.feel_lang.specs.NameOrder.{name_cmp}
+use Rattle.feel_text.specs.NameOrder.{name_cmp}
 use Rattle.dmn_form.specs.Model.{Name}
 
 -- they rise, and the first comes behind this name

@@ -1,7 +1,7 @@
 //! Where names stand in a list.
 ghost use Rattle.std.specs.Prelude.{◌≡◌, ℕ, List, IfOk, OnOk, IsTrue, bytes_eq, map};
 ghost use Rattle.std.specs.BTreeMap.{get_by_text};
-ghost use Rattle.feel_lang.specs.NameOrder.{IsInOrder, IsNameAt};
+ghost use Rattle.feel_text.specs.NameOrder.{IsInOrder, IsNameAt};
 ghost use Rattle.dmn_names.specs.Index.{names_in, first_of, place_if, AreFirstPlaces};
 ghost use Rattle.dmn_names.specs.Places.{place_among};
 

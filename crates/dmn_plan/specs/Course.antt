@@ -1,7 +1,7 @@
 -- How a request is answered, decision by decision.
 use Rattle.std.specs.Prelude.{◌≡◌, List, map, Option, Some, Result, Ok}
 use Rattle.std.specs.List.{zip}
-use Rattle.feel_lang.specs.Expr.{Expr}
+use Rattle.feel_text.specs.Expr.{Expr}
 use Rattle.dmn_table.specs.Table.{Table}
 use Rattle.dmn_graph.specs.Within.{IsReachOf}
 use Rattle.dmn_form.specs.Model.{Service, Model}

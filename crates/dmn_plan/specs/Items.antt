@@ -1,7 +1,7 @@
 -- Internal, cited by no public contract: names, needs and logic of items.
 use Rattle.std.specs.Prelude.{◌≡◌, ℕ, List, [], ◌++◌, map, length, Option, option_map}
 use Rattle.std.specs.Arc.{arc_str_bytes}
-use Rattle.feel_lang.specs.Expr.{Expr}
+use Rattle.feel_text.specs.Expr.{Expr}
 use Rattle.dmn_table.specs.Table.{Table}
 use Rattle.dmn_form.specs.Draft.{Draft}
 use Rattle.dmn_form.specs.Model.{Name, Boxed}

@@ -1,6 +1,6 @@
 -- Internal but for `fault_of`: what is found on the way to a plan.
 use Rattle.std.specs.Prelude.{◌≡◌, ℕ, List, map, Some, option_map, Result, false}
-use Rattle.feel_lang.specs.Expr.{Expr}
+use Rattle.feel_text.specs.Expr.{Expr}
 use Rattle.dmn_table.specs.Table.{Table}
 use Rattle.dmn_form.specs.Draft.{Draft}
 use Rattle.dmn_form.specs.Model.{Boxed, Model}

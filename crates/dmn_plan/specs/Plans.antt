@@ -2,7 +2,7 @@
 use Rattle.std.specs.Prelude.{◌≡◌, ◌<◌, ◌≤◌, ℕ, List, [], ◌∷◌, ◌++◌, map, length, true, Option, None, Some, option_map, Result, Ok, Err, string_bytes, nat_eq, slice_index_or, drop, ⊤}
 use Rattle.std.specs.Arc.{arc_str_bytes}
 use Rattle.std.specs.List.{All}
-use Rattle.feel_lang.specs.Expr.{Expr}
+use Rattle.feel_text.specs.Expr.{Expr}
 use Rattle.dmn_table.specs.Table.{Table}
 use Rattle.dmn_form.specs.Draft.{Draft}
 use Rattle.dmn_form.specs.Model.{Name, Boxed, Service, Model}

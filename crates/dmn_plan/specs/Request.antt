@@ -8,7 +8,7 @@ use Rattle.feel_value.specs.Faults.{json_reading}
 use Rattle.feel_value.specs.declared.feel.Outcome.{Outcome}
 use Rattle.feel_value.specs.declared.feel.Outcome.TheVariants.{Limit}
 use Rattle.feel_value.specs.declared.fault.ValueFault.{ValueFault}
-use Rattle.feel_lang.specs.Expr.{Expr}
+use Rattle.feel_text.specs.Expr.{Expr}
 use Rattle.feel_value.specs.Found.{each}
 use Rattle.dmn_table.specs.Table.{Table}
 use Rattle.dmn_form.specs.Model.{Name, Service, Model}

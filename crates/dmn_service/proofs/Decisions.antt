@@ -5,7 +5,7 @@ use Rattle.std.specs.Prelude.{bytes_eq, nat_eq, ◌||◌, ◌≢◌, ◌⊎◌, 
 use Rattle.std.specs.List.{list_any, filter_map, cons_option}
 use Rattle.std.proofs.lemmas.Bool.Decides.{eqb_tells}
 use Rattle.std.proofs.lemmas.Slice.Eq.{bytes_eq-Decides}
-use Rattle.feel_lang.specs.Expr.{Expr}
+use Rattle.feel_text.specs.Expr.{Expr}
 use Rattle.feel_value.specs.Distinct.{are_distinct}
 use Rattle.dmn_table.specs.Table.{Table}
 use Rattle.dmn_form.specs.Model.{Name, Decision, Model}

@@ -9,8 +9,8 @@ use Rattle.feel_value.specs.Datum.{Datum}
 use Rattle.feel_value.specs.declared.feel.Outcome.{Outcome}
 use Rattle.feel_value.specs.declared.feel.Outcome.TheVariants.{Is, Limit}
 use Rattle.feel_value.specs.Found.{value_of, ◌>>=◌, each, outcome_from}
-use Rattle.feel_lang.specs.Expr.{Expr}
-use Rattle.feel_lang.specs.Needed.{bindings_from, found_at}
+use Rattle.feel_text.specs.Expr.{Expr}
+use Rattle.feel_text.specs.Needed.{bindings_from, found_at}
 use Rattle.dmn_table.specs.Table.{Table}
 use Rattle.dmn_form.specs.Model.{Name, Boxed}
 use Rattle.dmn_logic.specs.Boxed.{boxed}

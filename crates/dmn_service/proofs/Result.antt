@@ -6,9 +6,9 @@ use Rattle.std.proofs.lemmas.Bool.Decides.{eqb_tells}
 use Rattle.feel_value.specs.Datum.{Datum}
 use Rattle.feel_value.specs.declared.feel.Outcome.{Outcome}
 use Rattle.feel_value.specs.declared.feel.Outcome.TheVariants.{Is}
-use Rattle.feel_lang.specs.Expr.{Expr}
-use Rattle.feel_lang.specs.Meaning.{Bindings}
-use Rattle.feel_lang.specs.Needed.{found_at}
+use Rattle.feel_text.specs.Expr.{Expr}
+use Rattle.feel_text.specs.Meaning.{Bindings}
+use Rattle.feel_text.specs.Needed.{found_at}
 use Rattle.feel_value.specs.Found.{value_of, ◌>>=◌, each, outcome_from}
 use Rattle.feel_value.specs.Distinct.{are_distinct}
 use Rattle.dmn_table.specs.Hits.{one_or_context}

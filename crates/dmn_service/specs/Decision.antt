@@ -3,8 +3,8 @@ use Rattle.std.specs.Prelude.{ℕ, zero, suc, List, [], ◌∷◌, ◌++◌, Opt
 use Rattle.feel_value.specs.Datum.{Datum, null}
 use Rattle.feel_value.specs.declared.feel.Outcome.{Outcome}
 use Rattle.feel_value.specs.declared.feel.Outcome.TheVariants.{Is, Limit}
-use Rattle.feel_lang.specs.Expr.{Expr}
-use Rattle.feel_lang.specs.Meaning.{Bindings}
+use Rattle.feel_text.specs.Expr.{Expr}
+use Rattle.feel_text.specs.Meaning.{Bindings}
 use Rattle.feel_value.specs.Found.{value_of, ◌>>=◌, each, outcome_from}
 use Rattle.dmn_table.specs.Hits.{one_or_context}
 use Rattle.dmn_table.specs.Table.{Table}

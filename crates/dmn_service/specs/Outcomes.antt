@@ -4,8 +4,8 @@ use Rattle.std.specs.List.{zip}
 use Rattle.feel_value.specs.Datum.{Datum}
 use Rattle.feel_value.specs.Found.{value_of}
 use Rattle.feel_value.specs.declared.feel.Outcome.{Outcome}
-use Rattle.feel_lang.specs.Expr.{Expr}
-use Rattle.feel_lang.specs.Needed.{found_at}
+use Rattle.feel_text.specs.Expr.{Expr}
+use Rattle.feel_text.specs.Needed.{found_at}
 use Rattle.dmn_table.specs.Table.{Table}
 use Rattle.dmn_graph.specs.Reach.{Each}
 use Rattle.dmn_form.specs.Model.{Name, Service, Model}

@@ -4,7 +4,7 @@ use Rattle.std.specs.Arc.{arc_str_bytes}
 use Rattle.std.specs.List.{filter_map, zip, All}
 use Rattle.feel_value.specs.Datum.{Datum}
 use Rattle.feel_value.specs.declared.feel.Outcome.{Outcome}
-use Rattle.feel_lang.specs.Expr.{Expr}
+use Rattle.feel_text.specs.Expr.{Expr}
 use Rattle.feel_value.specs.Distinct.{are_distinct}
 use Rattle.dmn_table.specs.Table.{Table}
 use Rattle.dmn_graph.specs.Reach.{Each, IsInOrder, has_same}

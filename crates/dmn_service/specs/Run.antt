@@ -5,9 +5,9 @@ use Rattle.std.specs.List.{slice_get}
 use Rattle.feel_value.specs.Datum.{Datum, null}
 use Rattle.feel_value.specs.declared.feel.Outcome.{Outcome}
 use Rattle.feel_value.specs.declared.feel.Outcome.TheVariants.{Is}
-use Rattle.feel_lang.specs.Expr.{Expr}
-use Rattle.feel_lang.specs.Meaning.{Bindings}
-use Rattle.feel_lang.specs.Needed.{bindings_from}
+use Rattle.feel_text.specs.Expr.{Expr}
+use Rattle.feel_text.specs.Meaning.{Bindings}
+use Rattle.feel_text.specs.Needed.{bindings_from}
 use Rattle.feel_value.specs.Found.{value_of, ◌>>=◌, each, outcome_from}
 use Rattle.dmn_table.specs.Hits.{one_or_context}
 use Rattle.dmn_table.specs.Table.{Table}

@@ -4,7 +4,7 @@ use Rattle.std.proofs.lemmas.List.{length-map}
 use Rattle.feel_value.specs.Datum.{Datum, number}
 use Rattle.feel_value.specs.Outcome.{held}
 use Rattle.feel_value.specs.declared.feel.Outcome.{Outcome}
-use Rattle.feel_lang.specs.Meaning.{Bindings}
+use Rattle.feel_text.specs.Meaning.{Bindings}
 use Rattle.feel_value.specs.Found.{each, ◌>>=◌, value_of, outcome_from}
 use Rattle.dmn_table.specs.Hits.{hit_of, values_of, output_of}
 use Rattle.dmn_table.specs.Priority.{Hit, places_of}

@@ -11,7 +11,7 @@ use Rattle.std.proofs.lemmas.Nat.Bits.{bit_at_set_same, bit_at_set_other, bit_at
 use Rattle.std.proofs.lemmas.Option.{get_or_from_slice_get, same_Some, slice_get-get_or}
 use Rattle.feel_value.specs.Datum.{Datum}
 use Rattle.feel_value.specs.Limits.{is_value}
-use Rattle.feel_lang.specs.declared.class.Class.{Class}
+use Rattle.feel_text.specs.declared.class.Class.{Class}
 use Rattle.dmn_table.specs.Classes.{AreRowsOf, IsBlockWord, IsRowOf, IsUnsetIn, KeepsLimits, MissesAt, TellsBlock, TellsBlocks, TellsBreaking, TellsColumn, TellsColumns, TellsRules, TellsUnset, TellsWord}
 use Rattle.dmn_table.specs.declared.classes.BlockWords.{BlockWords}
 use Rattle.dmn_table.specs.declared.classes.ClassRules.{ClassRules}

@@ -3,10 +3,10 @@ use Rattle.std.proofs.Common.{◌≡◌, ℕ, List, [], ◌∷◌, refl, Option,
 use Rattle.std.specs.Prelude.{codes}
 use Rattle.feel_value.specs.Datum.{Datum, null, number, text, list, context, items_of, entries_of}
 use Rattle.feel_value.specs.declared.feel.Outcome.TheVariants.{Is, Limit}
-use Rattle.feel_lang.specs.Expr.{Expr, Null, Number, Text, Name as name, Negate, Binary}
-use Rattle.feel_lang.specs.declared.expr.Operator.TheVariants.{Add}
-use Rattle.feel_lang.specs.Meaning.{Bindings}
-use Rattle.feel_lang.specs.Tests.{Tests, Compares, Above, OneOf, Any as any}
+use Rattle.feel_text.specs.Expr.{Expr, Null, Number, Text, Name as name, Negate, Binary}
+use Rattle.feel_text.specs.declared.expr.Operator.TheVariants.{Add}
+use Rattle.feel_text.specs.Meaning.{Bindings}
+use Rattle.feel_text.specs.Tests.{Tests, Compares, Above, OneOf, Any as any}
 use Rattle.dmn_table.specs.declared.hit_policy.HitPolicy.{HitPolicy}
 use Rattle.dmn_table.specs.declared.hit_policy.HitPolicy.TheVariants.{Unique, Any, Priority, First, OutputOrder, RuleOrder, Collect, Sum, Least, Greatest, Count}
 use Rattle.dmn_table.specs.declared.fault.TableFault.TheVariants.{Hit, Columns, Operator}

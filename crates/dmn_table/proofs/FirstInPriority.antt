@@ -12,7 +12,7 @@ use denote.Ref.{Bor}
 use Rattle.feel_value.specs.Datum.{Datum}
 use Rattle.feel_value.specs.declared.feel.Outcome.{Outcome}
 use Rattle.feel_value.specs.declared.feel.Outcome.TheVariants.{Is}
-use Rattle.feel_lang.specs.Meaning.{Bindings}
+use Rattle.feel_text.specs.Meaning.{Bindings}
 use Rattle.dmn_table.specs.declared.table.Rule.{Rule}
 use Rattle.feel_value.specs.Found.{each, ◌>>=◌, outcome_from}
 use Rattle.dmn_table.specs.Hits.{hit_of}

@@ -3,7 +3,7 @@ use Rattle.std.proofs.Common.{◌≡◌, List, [], ◌∷◌, length, refl, ap, 
 use denote.Ref.{Bor}
 use Rattle.feel_value.specs.Datum.{Datum}
 use Rattle.feel_value.specs.declared.feel.Outcome.{Outcome}
-use Rattle.feel_lang.specs.Meaning.{Bindings}
+use Rattle.feel_text.specs.Meaning.{Bindings}
 use Rattle.dmn_table.specs.declared.table.Rule as rule
 use Rattle.feel_value.specs.Found.{◌>>=◌, each, outcome_from}
 use Rattle.dmn_table.specs.Hits.{hits, hit_of, values_of}

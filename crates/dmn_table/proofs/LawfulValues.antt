@@ -8,7 +8,7 @@ use Rattle.feel_value.specs.Datum.{Datum}
 use Rattle.feel_value.specs.Found.{◌>>=◌, value_of, each}
 use Rattle.feel_value.specs.declared.feel.Outcome.{Outcome}
 use Rattle.feel_value.specs.declared.feel.Outcome.TheVariants.{Is, Limit}
-use Rattle.feel_lang.specs.Meaning.{Bindings}
+use Rattle.feel_text.specs.Meaning.{Bindings}
 use Rattle.dmn_table.specs.declared.table.Rule as rule
 use Rattle.dmn_table.specs.Hits.{hit_of, output_of, values_of}
 use Rattle.dmn_table.specs.Priority.{Hit, places_of}

@@ -5,10 +5,10 @@ use Rattle.std.proofs.lemmas.List.Elements.{All-drop, All-map, All-push}
 use Rattle.std.specs.List.{zip, list_all}
 use Rattle.feel_value.specs.Datum.{Datum}
 use Rattle.feel_value.specs.Found.{each, ◌>>=◌}
-use Rattle.feel_lang.specs.Expr.{Expr}
-use Rattle.feel_lang.specs.Meaning.{Bindings}
-use Rattle.feel_lang.specs.Satisfied.{satisfied, Broken}
-use Rattle.feel_lang.specs.Tests.{Tests}
+use Rattle.feel_text.specs.Expr.{Expr}
+use Rattle.feel_text.specs.Meaning.{Bindings}
+use Rattle.feel_text.specs.Satisfied.{satisfied, Broken}
+use Rattle.feel_text.specs.Tests.{Tests}
 use Rattle.dmn_table.specs.Columns.{asked_view, unasked, hits_by, hits_from, left_hits, hitting, KeepTheirLimits}
 use Rattle.dmn_table.specs.Hits.{does_hit, kept, values_of}
 use Rattle.dmn_table.specs.Parts.{rule_view}

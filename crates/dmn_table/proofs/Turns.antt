@@ -6,7 +6,7 @@ use Rattle.feel_value.specs.Datum.{Datum, list, item, items_of}
 use Rattle.feel_value.specs.Limits.{is_value}
 use Rattle.feel_value.specs.declared.feel.Outcome.TheVariants.{Is, Limit}
 use Rattle.feel_value.proofs.Room.{behind, too_much}
-use Rattle.feel_lang.specs.Meaning.{Bindings}
+use Rattle.feel_text.specs.Meaning.{Bindings}
 use Rattle.dmn_table.specs.declared.table.Rule.{Rule}
 use Rattle.feel_value.specs.Found.{◌>>=◌, outcome_from}
 use Rattle.dmn_table.specs.Parts.{rule_view}

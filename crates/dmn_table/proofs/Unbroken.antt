@@ -4,10 +4,10 @@ use Rattle.std.proofs.lemmas.List.Elements.{All-head, All-tail}
 use Rattle.std.specs.List.{zip, list_all, slice_get}
 use Rattle.std.proofs.lemmas.Option.{same_Some}
 use Rattle.feel_value.specs.Datum.{Datum}
-use Rattle.feel_lang.specs.Meaning.{Bindings}
-use Rattle.feel_lang.specs.Satisfied.{satisfied, Answer, Told, Broken, held_of}
-use Rattle.feel_lang.specs.Tests.{Tests}
-use Rattle.feel_lang.specs.declared.holds_tests.Held.TheVariants as held
+use Rattle.feel_text.specs.Meaning.{Bindings}
+use Rattle.feel_text.specs.Satisfied.{satisfied, Answer, Told, Broken, held_of}
+use Rattle.feel_text.specs.Tests.{Tests}
+use Rattle.feel_text.specs.declared.held.Held.TheVariants as held
 use Rattle.feel_value.specs.declared.logic.Truth.TheVariants.{Yes, No, Unknown}
 use Rattle.feel_value.specs.Found.{each, ◌>>=◌}
 use Rattle.dmn_table.specs.Hits.{does_hit, is_satisfied}

@@ -11,7 +11,7 @@ use Rattle.feel_value.specs.Logic.{is_yes}
 use Rattle.feel_value.specs.Outcome.{held}
 use Rattle.feel_value.specs.declared.feel.Outcome.TheVariants.{Is}
 use Rattle.feel_value.proofs.Laws.{equal_itself}
-use Rattle.feel_lang.specs.Meaning.{Bindings}
+use Rattle.feel_text.specs.Meaning.{Bindings}
 use Rattle.dmn_table.specs.declared.table.Rule.{Rule}
 use Rattle.feel_value.specs.Found.{◌>>=◌, outcome_from}
 use Rattle.dmn_table.specs.Parts.{rule_view}

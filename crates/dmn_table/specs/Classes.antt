@@ -5,12 +5,12 @@ use Rattle.std.specs.Int.{bit_at}
 use denote.Ref.{Bor}
 use Rattle.feel_value.specs.Datum.{Datum}
 use Rattle.feel_value.specs.Limits.{is_value}
-use Rattle.feel_lang.specs.Classes.{is_in_class}
-use Rattle.feel_lang.specs.Meaning.{Bindings}
-use Rattle.feel_lang.specs.Satisfied.{satisfied, held_of}
-use Rattle.feel_lang.specs.Tests.{Tests}
-use Rattle.feel_lang.specs.declared.class.Class.{Class}
-use Rattle.feel_lang.specs.declared.holds_tests.Held.TheVariants.{No}
+use Rattle.feel_text.specs.Classes.{is_in_class}
+use Rattle.feel_text.specs.Meaning.{Bindings}
+use Rattle.feel_text.specs.Satisfied.{satisfied, held_of}
+use Rattle.feel_text.specs.Tests.{Tests}
+use Rattle.feel_text.specs.declared.class.Class.{Class}
+use Rattle.feel_text.specs.declared.held.Held.TheVariants.{No}
 use Rattle.dmn_table.specs.declared.classes.BlockWords.{BlockWords}
 use Rattle.dmn_table.specs.declared.classes.ClassRules.{ClassRules}
 use Rattle.dmn_table.specs.declared.classes.ColumnClasses.{ColumnClasses}

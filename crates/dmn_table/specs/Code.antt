@@ -4,9 +4,9 @@ use Rattle.std.specs.Prelude.{◌≡◌, ℕ, List, Option, ◌==◌, refl, if�
 use Rattle.std.specs.Coded.{Coded, code_by, coded×, coded_ℕ, coded_list, coded_option}
 use Rattle.feel_value.specs.Code.{datum_code}
 use Rattle.feel_value.specs.Datum.{Datum}
-use Rattle.feel_lang.specs.Code.{expr_code, tests_code}
-use Rattle.feel_lang.specs.Expr.{Expr}
-use Rattle.feel_lang.specs.Tests.{Tests}
+use Rattle.feel_text.specs.Code.{expr_code, tests_code}
+use Rattle.feel_text.specs.Expr.{Expr}
+use Rattle.feel_text.specs.Tests.{Tests}
 use Rattle.dmn_table.specs.declared.hit_policy.HitPolicy.{HitPolicy}
 use Rattle.dmn_table.specs.declared.hit_policy.HitPolicy.TheVariants.{Unique, Any, Priority, First, OutputOrder, RuleOrder, Collect, Sum, Least, Greatest, Count}
 use Rattle.dmn_table.specs.Table.{Column, Rule, Table}

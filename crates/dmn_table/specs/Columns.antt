@@ -3,9 +3,9 @@ use Rattle.std.specs.Prelude.{ℕ, List, [], ◌∷◌, drop, map, All, Bool, tr
 use Rattle.std.specs.List.{list_all, zip}
 use Rattle.feel_value.specs.Datum.{Datum}
 use Rattle.feel_value.specs.Found.{each, ◌>>=◌}
-use Rattle.feel_lang.specs.Meaning.{Bindings}
-use Rattle.feel_lang.specs.Satisfied.{satisfied}
-use Rattle.feel_lang.specs.Expr.{Expr}
+use Rattle.feel_text.specs.Meaning.{Bindings}
+use Rattle.feel_text.specs.Satisfied.{satisfied}
+use Rattle.feel_text.specs.Expr.{Expr}
 use Rattle.dmn_table.specs.Hits.{is_satisfied, values_of}
 use Rattle.dmn_table.specs.Parts.{rule_view}
 use Rattle.dmn_table.specs.RuleOutputs.{hits_among}

@@ -6,9 +6,9 @@ use Rattle.feel_value.specs.Logic.{is_yes}
 use Rattle.feel_value.specs.Outcome.{held}
 use Rattle.feel_value.specs.declared.feel.Outcome.{Outcome}
 use Rattle.feel_value.specs.declared.feel.Outcome.TheVariants.{Is}
-use Rattle.feel_lang.specs.Expr.{Expr}
-use Rattle.feel_lang.specs.Meaning.{den, Bindings}
-use Rattle.feel_lang.specs.Satisfied.{satisfied, Answer, Told, Broken}
+use Rattle.feel_text.specs.Expr.{Expr}
+use Rattle.feel_text.specs.Meaning.{den, Bindings}
+use Rattle.feel_text.specs.Satisfied.{satisfied, Answer, Told, Broken}
 use Rattle.feel_value.specs.Found.{value_of, ◌>>=◌, each}
 use Rattle.dmn_table.specs.Table.{Column, Rule, Table}
 use Rattle.dmn_table.specs.Priority.{places_of, Hit}

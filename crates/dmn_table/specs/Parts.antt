@@ -1,7 +1,7 @@
 -- What the parts of the code's tables stand for.
 use Rattle.std.specs.Prelude.{◌≡◌, ℕ, List, map, length, Option, None, Some}
 use Rattle.std.specs.Arc.{arc_str_bytes}
-use Rattle.feel_lang.specs.Expr.{Expr}
+use Rattle.feel_text.specs.Expr.{Expr}
 use Rattle.dmn_table.specs.declared.fault.TableFault.{TableFault}
 use Rattle.dmn_table.specs.declared.hit_policy.HitPolicy.{HitPolicy}
 use Rattle.dmn_table.specs.declared.table.Output.{Output}

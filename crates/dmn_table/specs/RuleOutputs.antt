@@ -6,7 +6,7 @@ use Rattle.feel_value.specs.Datum.{Datum, null, list, items_of}
 use Rattle.feel_value.specs.Limits.{is_value, nodes, depth}
 use Rattle.feel_value.specs.declared.feel.Outcome.{Outcome}
 use Rattle.feel_value.specs.declared.feel.Outcome.TheVariants.{Is, Limit}
-use Rattle.feel_lang.specs.Meaning.{Bindings}
+use Rattle.feel_text.specs.Meaning.{Bindings}
 use Rattle.dmn_table.specs.declared.table.Rule as rule
 use Rattle.feel_value.specs.Found.{value_of, ◌>>=◌, each}
 use Rattle.dmn_table.specs.Hits.{does_hit, kept, values_of, output_of}

@@ -1,8 +1,8 @@
 -- What a decision table is: input expressions, output columns, and rules with an entry for each column.
 use Rattle.std.specs.Prelude.{ℕ, List, Option}
 use Rattle.feel_value.specs.Datum.{Datum}
-use Rattle.feel_lang.specs.Expr.{Expr}
-use Rattle.feel_lang.specs.Tests.{Tests}
+use Rattle.feel_text.specs.Expr.{Expr}
+use Rattle.feel_text.specs.Tests.{Tests}
 use Rattle.dmn_table.specs.declared.hit_policy.HitPolicy.{HitPolicy}
 
 -- an output column: its name, its list of output values (empty where it has none) and its default

@@ -1,9 +1,9 @@
 -- Internal: no public contract cites these words. Input entries that break no limit, whatever the values.
 use Rattle.std.specs.Prelude.{List, All, ◌≢◌}
 use Rattle.feel_value.specs.Datum.{Datum}
-use Rattle.feel_lang.specs.Meaning.{Bindings}
-use Rattle.feel_lang.specs.Satisfied.{satisfied, Broken}
-use Rattle.feel_lang.specs.Tests.{Tests}
+use Rattle.feel_text.specs.Meaning.{Bindings}
+use Rattle.feel_text.specs.Satisfied.{satisfied, Broken}
+use Rattle.feel_text.specs.Tests.{Tests}
 use Rattle.dmn_table.specs.declared.table.Rule as rule
 
 -- these unary tests break no limit, whatever the value and whatever the names stand for

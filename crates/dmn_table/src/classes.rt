@@ -1,8 +1,8 @@
 //! Which rules a value can't hit, told by the class that it has in its column.
 ghost use Rattle.std.specs.Prelude.{◌≡◌, ◌<◌, ℕ, All, List, IfOk, IfSome, IsFalse, IsTrue, true, Some, slice_get};
 ghost use Rattle.std.specs.Int.{bit_at};
-ghost use Rattle.feel_lang.specs.Classes.{is_in_class};
-ghost use Rattle.feel_lang.specs.declared.class.Class.{Class as ClassData};
+ghost use Rattle.feel_text.specs.Classes.{is_in_class};
+ghost use Rattle.feel_text.specs.declared.class.Class.{Class as ClassData};
 ghost use Rattle.feel_value.specs.Datum.{text as text_datum};
 ghost use Rattle.feel_value.specs.View.{datum_of};
 ghost use Rattle.dmn_table.specs.Classes.{AreRowsOf, IsRowOf, IsUnsetIn, KeepsLimits, MissesAt, TellsBlock, TellsBreaking, TellsBlocks, TellsColumn, TellsColumns, TellsRules, TellsUnset};

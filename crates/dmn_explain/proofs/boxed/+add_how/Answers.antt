@@ -6,7 +6,7 @@ use Rattle.serde_json.specs.Data.{array, object, no_members}
 use Rattle.serde_json.specs.Written.{compact_text, items_text, members_text}
 use Rattle.feel_value.specs.Datum.{Datum}
 use Rattle.feel_value.specs.Found.{value_of}
-use Rattle.feel_lang.specs.Meaning.{Bindings}
+use Rattle.feel_text.specs.Meaning.{Bindings}
 use Rattle.dmn_table.specs.Table.{Table}
 use Rattle.dmn_form.specs.Model.{context, table}
 use Rattle.dmn_logic.specs.Boxed.{boxed}

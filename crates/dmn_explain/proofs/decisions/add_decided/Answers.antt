@@ -3,8 +3,8 @@ use Rattle.std.specs.Arc.{arc_str_bytes}
 use Rattle.std.specs.Prelude.{codes}
 use Rattle.serde_json.specs.Written.{members_text}
 use Rattle.feel_value.specs.Datum.{Datum}
-use Rattle.feel_lang.specs.Meaning.{Bindings}
-use Rattle.feel_lang.specs.Needed.{found_at, bindings_from}
+use Rattle.feel_text.specs.Meaning.{Bindings}
+use Rattle.feel_text.specs.Needed.{found_at, bindings_from}
 use Rattle.dmn_logic.specs.LogicView.{logic_view}
 use Rattle.json_writer.specs.Bounded.{longer}
 use Rattle.dmn_explain.specs.Explanation.{how_under}

@@ -3,7 +3,7 @@ use Rattle.std.specs.Arc.{arc_str_bytes}
 use Rattle.std.specs.Prelude.{codes}
 use Rattle.serde_json.specs.Data.{no_members}
 use Rattle.feel_value.specs.Datum.{Datum}
-use Rattle.feel_lang.specs.Needed.{found_at}
+use Rattle.feel_text.specs.Needed.{found_at}
 use Rattle.json_writer.specs.Bounded.{longer}
 use Rattle.dmn_explain.specs.Text.{name_text, valued_text}
 use Rattle.dmn_explain.proofs.Pieces.{named_added_by}

@@ -1,6 +1,6 @@
 use Rattle.std.proofs.Common.{◌≡◌, ap, sym, ◌∙◌, subst, Option, Some, None, Bool, false, if◌then◌else◌, IfOk, ◌+◌, [], ◌∷◌, ◌++◌, drop}
 use Rattle.std.specs.Arc.{arc_str_bytes}
-use Rattle.feel_lang.specs.Meaning.{Bindings}
+use Rattle.feel_text.specs.Meaning.{Bindings}
 use Rattle.feel_value.specs.Datum.{list as list_value, items_of, context as context_value, entries_of}
 use Rattle.feel_value.specs.Limits.{is_value, keeps_limits}
 use Rattle.dmn_form.specs.Model.{context}

@@ -1,5 +1,5 @@
 use Rattle.std.proofs.Common.{ap, sym, ◌∙◌, string_bytes}
-use Rattle.feel_lang.specs.Readings.{tests_of}
+use Rattle.feel_text.specs.Readings.{tests_of}
 use Rattle.dmn_table.proofs.Each.{each_begun, each_done, each_more, each_none}
 use Rattle.dmn_logic.proofs.texts.all_tests_of.Goals as goal
 

@@ -1,5 +1,5 @@
 use Rattle.std.proofs.Common.{◌≡◌, drop, map, string_bytes}
-use Rattle.feel_lang.specs.Readings.{expr_of}
+use Rattle.feel_text.specs.Readings.{expr_of}
 use Rattle.feel_value.specs.Found.{each}
 use Rattle.dmn_table.proofs.Each.{after}
 use Rattle.dmn_logic.proofs.texts.expressions_of.Given as goal

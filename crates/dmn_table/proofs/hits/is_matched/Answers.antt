@@ -2,11 +2,11 @@ use Rattle.std.proofs.Common.{◌≡◌, List, [], ◌∷◌, refl, sym, ap, ◌
 use denote.Ref.{Bor}
 use Rattle.std.specs.List.{zip, list_all}
 use Rattle.feel_value.specs.Datum.{Datum as Feel}
-use Rattle.feel_lang.specs.Tests.{Tests}
+use Rattle.feel_text.specs.Tests.{Tests}
 use Rattle.std.specs.Slice.Iter.{iter_rest}
 use Rattle.std.specs.Iterator.Adapters.{zip_first, zip_second}
 use Rattle.std.proofs.lemmas.Slice.Zip.{Zip-more}
-use Rattle.feel_lang.specs.Satisfied.{satisfied}
+use Rattle.feel_text.specs.Satisfied.{satisfied}
 use Rattle.feel_value.specs.Found.{each, ◌>>=◌}
 use Rattle.dmn_table.specs.Hits.{is_satisfied}
 use Rattle.dmn_table.specs.Parts.{rule_view}

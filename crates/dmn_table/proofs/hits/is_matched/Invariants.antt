@@ -2,7 +2,7 @@ use Rattle.std.proofs.Common.{◌≡◌, ◌&&◌, Some}
 use Rattle.std.specs.List.{zip, list_all}
 use Rattle.std.specs.Slice.Iter.{iter_rest}
 use Rattle.std.specs.Iterator.Adapters.{zip_first, zip_second}
-use Rattle.feel_lang.specs.Satisfied.{satisfied}
+use Rattle.feel_text.specs.Satisfied.{satisfied}
 use Rattle.feel_value.specs.Found.{each, ◌>>=◌}
 use Rattle.dmn_table.specs.Parts.{rule_view}
 use Rattle.dmn_table.specs.Hits.{does_hit, is_satisfied}

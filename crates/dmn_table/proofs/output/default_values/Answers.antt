@@ -1,6 +1,6 @@
 use Rattle.std.proofs.Common.{List, map, refl, sym, ap, ◌∙◌, Option}
 use Rattle.feel_value.specs.Datum.{Datum}
-use Rattle.feel_lang.specs.Meaning.{Bindings}
+use Rattle.feel_text.specs.Meaning.{Bindings}
 use Rattle.dmn_table.specs.declared.table.Output.{Output}
 use Rattle.feel_value.specs.Found.{value_of}
 use Rattle.dmn_table.specs.Parts.{column_view}

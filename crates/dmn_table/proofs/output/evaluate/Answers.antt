@@ -1,7 +1,7 @@
 use Rattle.std.proofs.Common.{refl, sym, ap, ◌∙◌, Option}
 use Rattle.feel_value.specs.Datum.{Datum}
-use Rattle.feel_lang.specs.Expr.{Expr}
-use Rattle.feel_lang.specs.Meaning.{den, Bindings}
+use Rattle.feel_text.specs.Expr.{Expr}
+use Rattle.feel_text.specs.Meaning.{den, Bindings}
 use Rattle.feel_value.specs.Found.{value_of}
 use Rattle.dmn_table.specs.Hits.{values_of}
 use Rattle.dmn_table.proofs.Each.{rest_begun, rest_done, rest_more, rest_none}

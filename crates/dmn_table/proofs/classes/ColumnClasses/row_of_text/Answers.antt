@@ -1,6 +1,6 @@
 use Rattle.std.proofs.Common.{◌≡◌, ◌∙◌, true, eq-eqb, ap, arith}
 use Rattle.feel_value.specs.Datum.{text}
-use Rattle.feel_lang.specs.Classes.{is_in_class}
+use Rattle.feel_text.specs.Classes.{is_in_class}
 use Rattle.dmn_table.proofs.ClassWords.{row_found}
 use Rattle.dmn_table.proofs.classes.ColumnClasses.row_of_text.Goals as goal
 

@@ -1,0 +1,6 @@
+pub mod Index
+pub mod Few
+pub mod Modulo
+pub mod ListMembers
+pub mod ExprViews
+pub mod Paths

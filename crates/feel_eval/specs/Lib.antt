@@ -1,0 +1,5 @@
+pub mod Numbers
+pub mod Index
+pub mod Few
+pub mod Operands
+pub mod Scalars

@@ -1,0 +1,178 @@
+//! Names with values.
+ghost use Rattle.std.specs.Prelude.{◌≡◌, ◌≤◌, ◌<◌, ◌+◌, ◌^◌, [], ◌∷◌, ◌++◌, length, take, option_map, unwrap_or, MatchResult};
+ghost use Rattle.std.specs.Cow.{cow_str_bytes};
+ghost use Rattle.feel_text.specs.Meaning.{bound};
+ghost use Rattle.feel_text.specs.Needed.{bindings_from};
+
+use crate::added::Added;
+use crate::lent::Lent;
+use feel_text::{Needs, Reference};
+use feel_value::{Feel, Outcome};
+use std::alloc::{AllocError, Global};
+use std::borrow::CowStr;
+use std::marker::Model;
+
+/// A list of names with values, of which the last binding of a name counts.
+///
+/// Binding, finding and cutting off one name take steps in proportion to the logarithm of how many names there are.
+#[derive(Drop)]
+pub struct Env<'a> {
+    // What a decision needs. It is looked at where it lies.
+    lent: Option<Lent<'a>>,
+    // Those behind it, once there are some.
+    added: Option<Added<'a>>,
+    alloc: Global,
+}
+
+impl<'a> Model for Env<'a> {
+    ghost use Rattle.std.specs.Prelude.{◌++◌, List, ℕ, unwrap_or, []};
+    ghost use Rattle.std.specs.Coded.{coded_list, coded×, coded_ℕ};
+    ghost use Rattle.feel_value.specs.Datum.{Datum};
+    ghost use Rattle.feel_value.specs.Code.{datum_code};
+
+    ghost Value = { List (List ℕ × Datum) };
+
+    ghost coded = { coded_list (coded× (coded_list coded_ℕ) datum_code) };
+
+    ghost view = { λ e. unwrap_or e.lent [] ++ unwrap_or e.added [] };
+}
+
+impl<'a> Env<'a> {
+    /// An environment with no names. It takes no memory, and keeps the allocator for its bindings.
+    pub fn new(alloc: Global) -> Env<'a>
+        ensures { result ≡ [] }
+    {
+        Env {
+            lent: None,
+            added: None,
+            alloc,
+        }
+    }
+
+    /// An environment with these names, bound to the values that were found at their places; None where no value was found for
+    /// one of them, as where a limit is broken. It looks at the values where they lie, so it takes no memory.
+    pub fn over(alloc: Global, needs: &'a Needs, found: &'a [Outcome]) -> Option<Env<'a>>
+        ensures { result ≡ bindings_from found.now needs.now }
+    {
+        let lent = Lent::of(needs, found)?;
+        Some(Env {
+            lent: Some(lent),
+            added: None,
+            alloc,
+        })
+    }
+
+    /// Binds a name to a value, which hides what the name was bound to before. Where memory is refused nothing changes,
+    /// and the value is gone.
+    pub fn bind(&mut self, name: &str, value: Feel) -> Result<(), AllocError>
+        ensures { MatchResult result (λ _. self.new ≡ self.old ++ (name.now, value) ∷ []) (λ _. self.new ≡ self.old) }
+    {
+        let name = String::from_str(self.alloc, name)?;
+        self.bind_either(CowStr::Owned(name), value)
+    }
+
+    /// The same with a name that is lent for as long as the environment is there, and not copied.
+    pub fn bind_lent(&mut self, name: &'a str, value: Feel) -> Result<(), AllocError>
+        ensures { MatchResult result (λ _. self.new ≡ self.old ++ (name.now, value) ∷ []) (λ _. self.new ≡ self.old) }
+    {
+        self.bind_either(CowStr::Borrowed(name), value)
+    }
+
+    #[tactic(auto, using(crate::proofs::Few::one_behind))]
+    fn bind_either(&mut self, name: CowStr<'a>, value: Feel) -> Result<(), AllocError>
+        ensures { MatchResult result (λ _. self.new ≡ self.old ++ (cow_str_bytes name.entry, value) ∷ []) (λ _. self.new ≡ self.old) }
+    {
+        if let Some(added) = &mut self.added {
+            return added.bind(name, value);
+        }
+        let mut added = Added::new(self.alloc);
+        added.bind(name, value)?;
+        self.added = Some(added);
+        Ok(())
+    }
+
+    /// The value of the last binding of the name.
+    #[inline(never)]
+    #[tactic(auto, using(crate::proofs::Few::bound_both))]
+    pub fn find(&self, name: &str) -> Option<&Feel>
+        ensures { option_map (λ v. v.now) result ≡ bound name.now self.now }
+    {
+        if let Some(value) = find_added(&self.added, name) {
+            return Some(value);
+        }
+        self.lent.as_ref()?.find(name)
+    }
+
+    // The same of a name as it stands in a text.
+    #[tactic(auto, using(crate::proofs::Few::bound_both))]
+    pub(crate) fn find_at(&self, reference: &Reference) -> Option<&Feel>
+        ensures { option_map (λ v. v.now) result ≡ bound reference.now.name self.now }
+    {
+        if let Some(value) = find_added(&self.added, reference.name.as_str()) {
+            return Some(value);
+        }
+        self.lent.as_ref()?.find_at(reference)
+    }
+
+    /// How many bindings there are, hidden ones included.
+    pub fn len(&self) -> usize
+        ensures { result ≡ length self.now }
+    {
+        lent_len(&self.lent) + added_len(&self.added)
+    }
+
+    /// Drops all bindings but the first `len`; what they hid counts again. It takes no memory.
+    pub fn cut(&mut self, len: usize)
+        requires { len ≤ length self.old }
+        ensures { self.new ≡ take len self.old }
+    {
+        let lent = lent_len(&self.lent);
+        if len > lent {
+            cut_added(&mut self.added, len - lent);
+            return;
+        }
+        self.added = None;
+        if let Some(lent) = &mut self.lent {
+            lent.cut(len);
+        }
+    }
+}
+
+// The value of the last binding of the name behind what is lent.
+fn find_added<'b>(added: &'b Option<Added<'_>>, name: &str) -> Option<&'b Feel>
+    ensures { option_map (λ v. v.now) result ≡ bound name.now (unwrap_or added.now []) }
+{
+    added.as_ref()?.find(name)
+}
+
+// Drops all bindings behind what is lent but the first so many.
+fn cut_added(added: &mut Option<Added<'_>>, len: usize)
+    requires { len ≤ length (unwrap_or added.old []) }
+    ensures { unwrap_or added.new [] ≡ take len (unwrap_or added.old []) }
+{
+    if let Some(added) = added {
+        added.cut(len);
+    }
+}
+
+// How many bindings there are behind what is lent.
+fn added_len(added: &Option<Added<'_>>) -> usize
+    ensures number { result ≡ length (unwrap_or added.now []) }
+    ensures small { result < 2 ^ 63 + 8 }
+{
+    match added {
+        Some(added) => added.len(),
+        None => 0,
+    }
+}
+
+// How many bindings are lent.
+fn lent_len(lent: &Option<Lent<'_>>) -> usize
+    ensures number { result ≡ length (unwrap_or lent.now []) }
+    ensures small { result < 2 ^ 60 }
+{
+    match lent {
+        Some(lent) => lent.len(),
+        None => 0,
+    }
+}

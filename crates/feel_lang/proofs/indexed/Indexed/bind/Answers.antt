@@ -1,9 +1,0 @@
-use Rattle.feel_lang.specs.declared.indexed.Binding.{Binding}
-use Rattle.feel_lang.proofs.Bindings.{bound_more}
-use Rattle.feel_lang.proofs.indexed.Indexed.bind.Goals as goal
-
-pub invariant_of-self-2 : goal.invariant_of-self-2
-invariant_of-self-2 c =
-    let binding : Binding = record { name = c.args.name; value = c.args.value; hidden = c.in_ok-hidden.hidden } in
-    rw (c.in_ok-push.ensures.items, c.in_ok-hidden.ensures.items) (bound_more c.self.inside.bindings.items binding c.self.inside.places c.placed.new.places c.self.invariant
-    c.in_ok-hidden.ensures.place c.in_ok-hidden.ensures.hidden)

@@ -1,6 +1,0 @@
-use Rattle.std.proofs.Common.{◌∙◌, sym}
-use Rattle.feel_lang.proofs.WithinLimits.{tests_within}
-use Rattle.feel_lang.proofs.input_entry.Tests.keep_limits.Goals as goal
-
-pub returns : goal.returns
-returns c h v m = tests_within c.args.self.now v m (rw (sym c.self.view_is) (sym c.self.invariant.1 ∙ h))

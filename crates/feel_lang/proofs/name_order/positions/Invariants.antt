@@ -1,5 +1,0 @@
-use Rattle.feel_lang.specs.NameOrder.{AreAll}
-use Rattle.feel_lang.proofs.name_order.positions.Given as goal
-
-abbrev pub invariant-loop-position : goal.invariant-loop-position
-invariant-loop-position l = AreAll l.position l.positions.items
