@@ -23,8 +23,8 @@ use Rattle.feel_text.specs.contracts.reference.Reference as Reference
 use Rattle.feel_text.specs.contracts.input_entry.Tests as Tests
 use Rattle.feel_text.proofs.class.Class.TheSendSync as class
 use Rattle.feel_text.proofs.ready.Span.TheSendSync as span
-use Rattle.dmn_table.specs.contracts.classes.ClassRules as ClassRules
-use Rattle.dmn_table.specs.contracts.classes.ColumnClasses as ColumnClasses
+use Rattle.table_classes.specs.contracts.classes.ClassRules as ClassRules
+use Rattle.table_classes.specs.contracts.classes.ColumnClasses as ColumnClasses
 use Rattle.dmn_table.specs.contracts.table.Output as Output
 use Rattle.dmn_table.specs.contracts.table.Rule as Rule
 use Rattle.dmn_table.specs.contracts.table.Table as Table

@@ -15,7 +15,6 @@ pub mod EqualPlaces
 pub mod FirstInPriority
 pub mod FittingHits
 pub mod Unbroken
-pub mod ClassWords
 pub mod OneByOne
 pub mod WordHits
 pub mod Scalars

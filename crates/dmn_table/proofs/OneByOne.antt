@@ -14,7 +14,8 @@ use Rattle.dmn_table.specs.Hits.{does_hit, kept, values_of}
 use Rattle.dmn_table.specs.Parts.{rule_view}
 use Rattle.dmn_table.specs.RuleOutputs.{hits_among}
 use Rattle.dmn_table.specs.Table.{Rule}
-use Rattle.dmn_table.specs.Unbroken.{KeepLimits, AllKeepLimits}
+use Rattle.dmn_table.specs.Unbroken.{AllKeepLimits}
+use Rattle.table_classes.specs.Unbroken.{KeepLimits}
 use Rattle.dmn_table.specs.declared.columns.Asked.{Asked}
 use Rattle.dmn_table.specs.declared.table.Rule as rule
 use Rattle.dmn_table.proofs.Unbroken.{answers_of, all_told}

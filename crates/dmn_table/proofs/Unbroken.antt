@@ -12,7 +12,7 @@ use Rattle.feel_value.specs.declared.logic.Truth.TheVariants.{Yes, No, Unknown}
 use Rattle.feel_value.specs.Found.{each, ◌>>=◌}
 use Rattle.dmn_table.specs.Hits.{does_hit, is_satisfied}
 use Rattle.dmn_table.specs.Table.{Rule}
-use Rattle.dmn_table.specs.Unbroken.{KeepLimits}
+use Rattle.table_classes.specs.Unbroken.{KeepLimits}
 
 -- whether each of these tests is met by its value
 abbrev pub answers_of : Bindings → List (Tests × Datum) → Option (List Bool)

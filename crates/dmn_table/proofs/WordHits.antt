@@ -1,15 +1,16 @@
 -- The rules that hit where some are known to miss.
-use Rattle.std.proofs.Common.{◌≡◌, ◌∙◌, sym, ap, ap₂, refl, ℕ, zero, suc, ◌+◌, ◌*◌, ◌<◌, ◌≤◌, List, [], ◌∷◌, ◌++◌, map, take, drop, length, get_or, Bool, true, false, Option, None, Some, append_assoc, arith}
+use Rattle.std.proofs.Common.{◌≡◌, ◌∙◌, sym, ap, ap₂, refl, ℕ, zero, suc, ◌+◌, ◌*◌, ◌<◌, ◌≤◌, List, [], ◌∷◌, ◌++◌, map, take, drop, length, get_or, Bool, true, false, Option, None, Some, option_map, append_assoc, arith}
 use Rattle.std.specs.List.{slice_get}
 use Rattle.std.specs.Int.{bit_at}
 use denote.Ref.{Bor}
-use Rattle.std.proofs.lemmas.List.{length-take, take-append-drop, map-append}
-use Rattle.std.proofs.lemmas.Option.{get_or_from_slice_get, same_Some, slice_get_within}
+use Rattle.std.proofs.lemmas.List.{drop-map, length-take, take-append-drop, map-append}
+use Rattle.std.proofs.lemmas.Option.{get_or_from_slice_get, same_Some, slice_get-map, slice_get_within}
 use Rattle.feel_value.specs.Datum.{Datum}
 use Rattle.feel_value.specs.Found.{each, ◌>>=◌}
 use Rattle.feel_text.specs.Meaning.{Bindings}
-use Rattle.dmn_table.specs.Classes.{AreRowsOf, IsUnsetIn, MissUnset}
-use Rattle.dmn_table.specs.declared.classes.ClassRules.{ClassRules}
+use Rattle.table_classes.specs.Classes.{AreRowsOf, IsUnsetIn}
+use Rattle.table_classes.specs.declared.classes.ClassRules.{ClassRules}
+use Rattle.dmn_table.specs.Classes.{MissUnset, input_entries}
 use Rattle.dmn_table.specs.declared.table.Rule as code
 use Rattle.dmn_table.specs.Hits.{does_hit, kept}
 use Rattle.dmn_table.specs.Parts.{rule_view}
@@ -153,8 +154,15 @@ block_broken m vs whole old k rest block others before front back none =
     ∙ ap (λ rs. after old (hits_among m vs rs)) (parted k rest block others front back)
     ∙ ap (after old) (none_behind m vs (map rule_view block) (map rule_view others) (none_after old (hits_among m vs (map rule_view block)) none)))
 
+-- the input entries of a rule behind others
+input_entries_behind : (n i : ℕ) (rules : List code.Rule) (r : code.Rule) → slice_get (drop n rules) i ≡ Some r → slice_get (drop n (input_entries rules)) i ≡ Some r.tests.items
+input_entries_behind n i rules r there =
+    ap (λ es. slice_get es i) (drop-map (λ (x : code.Rule). x.tests.items) n rules)
+    ∙ slice_get-map (λ (x : code.Rule). x.tests.items) (drop n rules) i
+    ∙ ap (option_map (λ (x : code.Rule). x.tests.items)) there
+
 -- in a block a rule whose bit is not set misses
-pub block_misses : (m : Bindings) (vs : List Datum) (rules block rest : List code.Rule) (rows : List (Option (Bor ClassRules))) (place k word : ℕ) → AreRowsOf rules vs rows
+pub block_misses : (m : Bindings) (vs : List Datum) (rules block rest : List code.Rule) (rows : List (Option (Bor ClassRules))) (place k word : ℕ) → AreRowsOf (input_entries rules) vs rows
     → ((i : ℕ) → i < 64 → bit_at word i ≡ 0 → IsUnsetIn rows place i) → rest ≡ drop (64 * place) rules → block ≡ take k rest → k ≤ 64 → MissUnset m vs block word
 block_misses m vs rules block rest rows place k word told unset left front few = λ i r there zero.
     let within : slice_get (take k rest) i ≡ Some r = ap (λ rs. slice_get rs i) (sym front) ∙ there in
@@ -162,5 +170,5 @@ block_misses m vs rules block rest rows place k word told unset left front few =
     let here : slice_get (drop (64 * place) rules) i ≡ Some r = ap (λ rs. slice_get rs i) (sym left) ∙ in_front k rest i r within in
     let u = unset i small zero in
     let row = told u.column u.row u.there in
-    let at = row.of_class.1 place u.word u.has i r small here u.unset in
+    let at = row.of_class.1 place u.word u.has i r.tests.items small (input_entries_behind (64 * place) i rules r here) u.unset in
     missed_at m vs (rule_view r) u.column at.missed.entry row.value at.keeps at.missed.there row.there (at.missed.misses row.value m row.lawful row.of_class.0)

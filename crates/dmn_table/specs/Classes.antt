@@ -1,105 +1,17 @@
--- Internal: no public contract cites these words. Which rules a class of values can't meet.
-use Rattle.std.specs.Prelude.{◌≡◌, ◌<◌, ◌*◌, ℕ, List, drop, true, false, Option, Some}
-use Rattle.std.specs.List.{slice_get, All}
+-- Internal: no public contract cites these words. What the classes of a table's columns are told of, and what they tell.
+use Rattle.std.specs.Prelude.{◌≡◌, ℕ, List, map, false, Some}
+use Rattle.std.specs.List.{slice_get}
 use Rattle.std.specs.Int.{bit_at}
-use denote.Ref.{Bor}
 use Rattle.feel_value.specs.Datum.{Datum}
-use Rattle.feel_value.specs.Limits.{is_value}
-use Rattle.feel_text.specs.Classes.{is_in_class}
 use Rattle.feel_text.specs.Meaning.{Bindings}
-use Rattle.feel_text.specs.Satisfied.{satisfied, held_of}
 use Rattle.feel_text.specs.Tests.{Tests}
-use Rattle.feel_text.specs.declared.class.Class.{Class}
-use Rattle.feel_text.specs.declared.held.Held.TheVariants.{No}
-use Rattle.dmn_table.specs.declared.classes.BlockWords.{BlockWords}
-use Rattle.dmn_table.specs.declared.classes.ClassRules.{ClassRules}
-use Rattle.dmn_table.specs.declared.classes.ColumnClasses.{ColumnClasses}
 use Rattle.dmn_table.specs.declared.table.Rule as rule
 use Rattle.dmn_table.specs.Hits.{does_hit}
 use Rattle.dmn_table.specs.Parts.{rule_view}
-use Rattle.dmn_table.specs.Unbroken.{KeepLimits}
 
--- no value of the class meets the tests, whatever the names stand for
-abbrev pub Misses : Class → Tests → Type 0
-Misses class tests = (v : Datum) (m : Bindings) → is_value v ≡ true → is_in_class class v ≡ true → held_of (satisfied tests v m) ≡ No
-
--- the rule has an entry in this column, and no value of the class meets it
-pub record MissesAt (class : Class) (column : ℕ) (r : rule.Rule) : Type 0 where
-  pub entry : Tests
-  pub there : slice_get r.tests.items column ≡ Some entry
-  pub misses : Misses class entry
-
--- of these rules, whose first stands at the lowest bit, this holds of each whose bit is not set
-abbrev pub TellsUnset : (rule.Rule → Type 0) → List rule.Rule → ℕ → Type 0
-TellsUnset P rules word = (i : ℕ) (r : rule.Rule) → i < 64 → slice_get rules i ≡ Some r → bit_at word i ≡ 0 → P r
-
--- no entry of the rule breaks a limit
-abbrev pub KeepsLimits : rule.Rule → Type 0
-KeepsLimits r = KeepLimits r.tests.items
-
--- of these rules, 64 to a word, none breaks a limit whose bit is not set
-abbrev pub TellsBreaking : List rule.Rule → List ℕ → Type 0
-TellsBreaking rules words = (w word : ℕ) → slice_get words w ≡ Some word → TellsUnset KeepsLimits (drop (64 * w) rules) word
-
--- no entry of the rule breaks a limit, and no value of the class meets the one in this column
-pub record IsPassedOver (class : Class) (column : ℕ) (r : rule.Rule) : Type 0 where
-  pub missed : MissesAt class column r
-  pub keeps : KeepsLimits r
-
--- of these rules, each whose bit is not set is passed over for the class in this column
-abbrev pub TellsWord : List rule.Rule → ℕ → Class → ℕ → Type 0
-TellsWord rules column class word = TellsUnset (IsPassedOver class column) rules word
-
--- the same of all rules, 64 to a word
-abbrev pub TellsRules : List rule.Rule → ℕ → ClassRules → Type 0
-TellsRules rules column row =
-    (w word : ℕ) → slice_get row.words.items w ≡ Some word → TellsWord (drop (64 * w) rules) column row.class word
-
--- the words of a block of rules tell this, one for each class
-abbrev pub TellsBlock : List rule.Rule → ℕ → List Class → List ℕ → Type 0
-TellsBlock rules column classes words = (c word : ℕ) (class : Class) → slice_get words c ≡ Some word → slice_get classes c ≡ Some class → TellsWord rules column class word
-
--- those of each block do
-abbrev pub TellsBlocks : List rule.Rule → ℕ → List Class → List BlockWords → Type 0
-TellsBlocks rules column classes blocks = (w : ℕ) (block : BlockWords) → slice_get blocks w ≡ Some block → TellsBlock (drop (64 * w) rules) column classes block.words.items
-
--- a word of a block
-pub record IsBlockWord (blocks : List BlockWords) (place w word : ℕ) : Type 0 where
-  pub block : BlockWords
-  pub there : slice_get blocks w ≡ Some block
-  pub has : slice_get block.words.items place ≡ Some word
-
--- each class of the column tells this
-abbrev pub TellsColumn : List rule.Rule → ℕ → ColumnClasses → Type 0
-TellsColumn rules column classes = All (TellsRules rules column) classes.rows.items
-
--- each column's classes do
-abbrev pub TellsColumns : List rule.Rule → List ColumnClasses → Type 0
-TellsColumns rules columns = (k : ℕ) (classes : ColumnClasses) → slice_get columns k ≡ Some classes → TellsColumn rules k classes
-
--- the value in a column is of this class
-abbrev pub IsRowOf : List rule.Rule → ℕ → Datum → ClassRules → Type 0
-IsRowOf rules column v row = (is_in_class row.class v ≡ true) × TellsRules rules column row
-
--- there is a value in this column, and it is of this class
-pub record IsRowAt (rules : List rule.Rule) (values : List Datum) (column : ℕ) (row : ClassRules) : Type 0 where
-  pub value : Datum
-  pub there : slice_get values column ≡ Some value
-  pub lawful : is_value value ≡ true
-  pub of_class : IsRowOf rules column value row
-
--- of each column the class of its value, where there is one
-abbrev pub AreRowsOf : List rule.Rule → List Datum → List (Option (Bor ClassRules)) → Type 0
-AreRowsOf rules values rows = (k : ℕ) (row : Bor ClassRules) → slice_get rows k ≡ Some (Some row) → IsRowAt rules values k row.now
-
--- a bit that is not set is not set in a word of one of the rows
-pub record IsUnsetIn (rows : List (Option (Bor ClassRules))) (w i : ℕ) : Type 0 where
-  pub column : ℕ
-  pub row : Bor ClassRules
-  pub word : ℕ
-  pub there : slice_get rows column ≡ Some (Some row)
-  pub has : slice_get row.now.words.items w ≡ Some word
-  pub unset : bit_at word i ≡ 0
+-- of each rule its input entries
+abbrev pub input_entries : List rule.Rule → List (List Tests)
+input_entries rules = map (λ r. r.tests.items) rules
 
 -- each rule whose bit is not set misses, the first having the lowest bit
 abbrev pub MissUnset : Bindings → List Datum → List rule.Rule → ℕ → Type 0

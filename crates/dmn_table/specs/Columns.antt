@@ -10,7 +10,7 @@ use Rattle.dmn_table.specs.Hits.{is_satisfied, values_of}
 use Rattle.dmn_table.specs.Parts.{rule_view}
 use Rattle.dmn_table.specs.RuleOutputs.{hits_among}
 use Rattle.dmn_table.specs.Table.{Rule}
-use Rattle.dmn_table.specs.Unbroken.{KeepLimits}
+use Rattle.table_classes.specs.Unbroken.{KeepLimits}
 use Rattle.dmn_table.specs.declared.columns.Asked.{Asked}
 use Rattle.dmn_table.specs.declared.table.Rule as rule
 

@@ -1,6 +1,6 @@
 //! The rules that hit, and their outputs and places.
 ghost use Rattle.std.specs.Prelude.{◌≡◌, ◌≤◌, ◌++◌, IsTrue, IfOk, IfSome, OnOk, Some, None, true, if◌then◌else◌, length, map, option_map};
-ghost use Rattle.dmn_table.specs.Classes.{MissUnset, TellsColumns};
+ghost use Rattle.dmn_table.specs.Classes.{MissUnset, input_entries};
 ghost use Rattle.feel_value.specs.Distinct.{are_distinct};
 ghost use Rattle.feel_value.specs.Found.{each};
 ghost use Rattle.feel_value.specs.declared.feel.Outcome.TheVariants.{Is};
@@ -8,10 +8,11 @@ ghost use Rattle.dmn_table.specs.Hits.{does_hit as does_hit_of, hit_of as hit_of
 ghost use Rattle.dmn_table.specs.Listed.{listed_values, places_among};
 ghost use Rattle.dmn_table.specs.Parts.{rule_view, column_view, names_of};
 ghost use Rattle.dmn_table.specs.RuleOutputs.{rules_view, hits_among, fitting};
-ghost use Rattle.dmn_table.specs.Unbroken.{KeepLimits, AllKeepLimits};
+ghost use Rattle.dmn_table.specs.Unbroken.{AllKeepLimits};
 ghost use Rattle.dmn_table.specs.View.{hit_view, ranked_hit};
+ghost use Rattle.table_classes.specs.Classes.{TellsColumns};
+ghost use Rattle.table_classes.specs.Unbroken.{KeepLimits};
 
-use crate::classes::{ColumnClasses, WORD, common, rows_of};
 use crate::listed::{Listed, lists_of};
 use crate::output::{evaluated, lawful_values, one_or_context};
 use crate::priority::{Hit, Ranked};
@@ -19,6 +20,7 @@ use crate::table::{Output, Rule};
 use feel_lang::{Env, Held, holds};
 use feel_value::{Feel, Members, Outcome};
 use std::alloc::{AllocError, Global};
+use table_classes::{ColumnClasses, WORD, common, rows_of};
 
 /// Whether the rule hits, for these values of the input expressions; None where an entry breaks a limit. All entries are
 /// evaluated but those after a miss that are known to break no limit, since these change nothing: where all are known to
@@ -106,7 +108,7 @@ fn hits_by_classes<'a>(
     env: &Env,
 ) -> Result<Option<Vec<&'a Rule>>, AllocError>
     requires keep { IsTrue keep_limits → AllKeepLimits rules.now }
-    requires tell { TellsColumns rules.now columns.now }
+    requires tell { TellsColumns (input_entries rules.now) columns.now }
     ensures { IfOk result (λ found. option_map (λ v. rules_view v.items) found ≡ hits_among env.now values.now (map rule_view rules.now)) }
 {
     let rows = rows_of(alloc, columns, values)?;
@@ -161,7 +163,7 @@ pub(crate) fn rules_that_hit<'a>(
     env: &Env,
 ) -> Result<Option<Vec<&'a Rule>>, AllocError>
     requires keep { IsTrue keep_limits → AllKeepLimits rules.now }
-    requires tell { IfSome classes.now (λ columns. TellsColumns rules.now columns.items) }
+    requires tell { IfSome classes.now (λ columns. TellsColumns (input_entries rules.now) columns.items) }
     ensures { IfOk result (λ found. option_map (λ v. rules_view v.items) found ≡ hits_among env.now values.now (map rule_view rules.now)) }
 {
     let Some(columns) = classes else {

@@ -2,7 +2,6 @@
 //! result of the outputs of the rules that hit.
 #![tactic(auto)]
 
-mod classes;
 mod collected;
 mod columns;
 mod decision;

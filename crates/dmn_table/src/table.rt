@@ -5,9 +5,9 @@ ghost use Rattle.std.specs.List.{list_all, list_any};
 ghost use Rattle.dmn_table.specs.Faults.{columns_fit as columns_fit_of, fits_columns};
 ghost use Rattle.feel_value.specs.Distinct.{are_distinct};
 ghost use Rattle.dmn_table.specs.Parts.{names_of, entry_counts, fault_of_parts, MakesTable};
-ghost use Rattle.dmn_table.specs.Unbroken.{KeepLimits, AllKeepLimits};
+ghost use Rattle.dmn_table.specs.Unbroken.{AllKeepLimits};
+ghost use Rattle.table_classes.specs.Unbroken.{KeepLimits};
 
-use crate::classes::{ColumnClasses, classes_of_columns};
 use crate::columns::MOST_KEPT;
 use crate::fault::TableFault;
 use crate::hit_policy::HitPolicy;
@@ -17,6 +17,7 @@ use feel_value::{Feel, Outcome};
 use std::alloc::{AllocError, Global};
 use std::marker::Model;
 use std::sync::ArcStr;
+use table_classes::{ColumnClasses, HasTests, classes_of_columns};
 
 /// The fewest rules that are worth the classes of their columns.
 const FEWEST_RULES: usize = 64;
@@ -61,7 +62,15 @@ impl Rule {
     pub(crate) fn keeps_limits(&self) -> bool
         ensures { IsTrue result → KeepLimits self.now.tests.items }
     {
-        self.tests.iter().all(|tests| tests.keep_limits())
+        table_classes::keep_limits(&self.tests)
+    }
+}
+
+impl HasTests for Rule {
+    ghost tests_of = { λ r. r.tests.items };
+
+    fn tests(&self) -> &[Tests] {
+        &self.tests
     }
 }
 
@@ -87,14 +96,15 @@ impl Model for Table {
 
     ghost coded = { table_code };
 
-    ghost use Rattle.dmn_table.specs.Classes.{TellsColumns};
+    ghost use Rattle.table_classes.specs.Classes.{TellsColumns};
+    ghost use Rattle.dmn_table.specs.Classes.{input_entries};
     ghost use Rattle.dmn_table.specs.Faults.{columns_fit, operator_fits};
     ghost use Rattle.dmn_table.specs.Parts.{table_of, names_of, entry_counts};
     ghost use Rattle.dmn_table.specs.Unbroken.{AllKeepLimits};
 
     ghost view = { λ t. table_of t.policy t.inputs.items t.outputs.items t.rules.items };
 
-    ghost invariant = { λ t. (columns_fit (length t.inputs.items) (names_of t.outputs.items) (entry_counts t.rules.items) ≡ true) × (operator_fits t.policy (names_of t.outputs.items) ≡ true) × (IsTrue t.entries_keep_limits → AllKeepLimits t.rules.items) × IfSome t.classes (λ columns. TellsColumns t.rules.items columns.items) };
+    ghost invariant = { λ t. (columns_fit (length t.inputs.items) (names_of t.outputs.items) (entry_counts t.rules.items) ≡ true) × (operator_fits t.policy (names_of t.outputs.items) ≡ true) × (IsTrue t.entries_keep_limits → AllKeepLimits t.rules.items) × IfSome t.classes (λ columns. TellsColumns (input_entries t.rules.items) columns.items) };
 }
 
 impl Table {

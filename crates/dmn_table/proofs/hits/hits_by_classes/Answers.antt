@@ -1,8 +1,9 @@
 use Rattle.std.proofs.Common.{◌∙◌, ◌+◌, sym, ap, subst, refl, map, Some, None, if◌then◌else◌, arith}
-use Rattle.dmn_table.specs.Classes.{AreRowsOf}
+use Rattle.dmn_table.specs.Classes.{input_entries}
 use Rattle.dmn_table.specs.Parts.{rule_view}
 use Rattle.dmn_table.specs.RuleOutputs.{rules_view, hits_among}
-use Rattle.dmn_table.proofs.ClassWords.{rest_after}
+use Rattle.table_classes.specs.Classes.{AreRowsOf}
+use Rattle.table_classes.proofs.ClassWords.{rest_after}
 use Rattle.dmn_table.proofs.WordHits.{block_broken, block_misses, block_more}
 use Rattle.dmn_table.proofs.hits.hits_by_classes.Goals as goal
 
@@ -11,7 +12,7 @@ add_hits-requires-clause-others c =
     let rules = c.args.rules.now in
     let values = c.args.values.now in
     block_misses c.args.env.now values rules c.split_at.result.0.now c.loop-rest.rest.now c.deref.result.now c.loop-rest.place c.min.result c.common-word.result
-    (subst (AreRowsOf rules values) (sym c.deref.ensures.value) (c.in_ok-rows.ensures rules c.requires.tell))
+    (subst (AreRowsOf (input_entries rules) values) (sym c.deref.ensures.value) (c.in_ok-rows.ensures (input_entries rules) c.requires.tell))
     c.common-word.ensures c.loop-rest.invariant.left c.split_at.ensures.front (omega (arith, c.min.ensures))
 
 pub returns-then-not-all : goal.returns-then-not-all

@@ -1,0 +1,2 @@
+pub mod Unbroken
+pub mod Classes
