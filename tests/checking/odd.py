@@ -18,11 +18,21 @@ def warnings(program: Program, text: str) -> list[str] | None:
     return [f"{path_of(it)}: {it['warning']}: {it['said']}" for it in said if "warning" in it and "pointer" in it]
 
 
-def warned(program: Program, old: str, new: str) -> list[str] | None:
-    """What is odd in the sound model with a text in the place of another."""
-    if old not in rows.SOUND:
+def warned(program: Program, model: str, old: str, new: str) -> list[str] | None:
+    """What is odd in a sound model with a text in the place of another."""
+    if old not in model:
         return None
-    return warnings(program, rows.SOUND.replace(old, new, 1))
+    return warnings(program, model.replace(old, new, 1))
+
+
+def is_silent_of_brought(program: Program) -> bool:
+    """Nothing is said of what a decision never gives whose value a request may bring."""
+    model = rows.TABLES
+    for old, new in rows.BROUGHT:
+        if old not in model:
+            return False
+        model = model.replace(old, new, 1)
+    return warnings(program, model) == []
 
 
 def is_counted(program: Program) -> bool:
@@ -32,10 +42,13 @@ def is_counted(program: Program) -> bool:
 
 
 def all_rows(program: Program) -> list[Result]:
-    found = [(f"a sound model {n}", warnings(program, it) == []) for n, it in enumerate((rows.SOUND, rows.LOAN))]
-    for some in (rows.UNBOUND, rows.UNREACHED, rows.UNUSED, rows.VALUES, rows.KINDS):
-        found += [(f"odd {new!r}", warned(program, old, new) == due) for old, new, due in some]
+    found = [(f"a sound model {n}", warnings(program, it) == []) for n, it in enumerate((rows.SOUND, rows.LOAN, rows.TABLES))]
+    for some in (rows.UNBOUND, rows.UNREACHED, rows.UNUSED, rows.VALUES, rows.KINDS, rows.PRIORITY):
+        found += [(f"odd {new!r}", warned(program, rows.SOUND, old, new) == due) for old, new, due in some]
+    for some in (rows.ORDER, rows.SLIPS, rows.NEVER):
+        found += [(f"odd {new!r}", warned(program, rows.TABLES, old, new) == due) for old, new, due in some]
+    found.append(("brought", is_silent_of_brought(program)))
     for cell in rows.UNMET:
-        found.append((f"unmet {cell}", warned(program, "[18..65)", cell) == [f"{CELL}: unmet tests: no value meets {cell}"]))
-    found += [(f"met {cell}", warned(program, "[18..65)", cell) == []) for cell in rows.MET]
+        found.append((f"unmet {cell}", warned(program, rows.SOUND, "[18..65)", cell) == [f"{CELL}: unmet tests: no value meets {cell}"]))
+    found += [(f"met {cell}", warned(program, rows.SOUND, "[18..65)", cell) == []) for cell in rows.MET]
     return [*found, ("a hundred of a kind", is_counted(program))]

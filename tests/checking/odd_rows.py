@@ -197,6 +197,8 @@ UNMET: list[str] = [
     ">= null",
     "[null..5]",
     "[7..5], (1..1)",
+    "> 9223372036854775807",
+    "< -9223372036854775807",
 ]
 
 # Cells that some value meets.
@@ -213,4 +215,168 @@ MET: list[str] = [
     "-5",
     "[-2..-1]",
     "(4..6]",
+    ">= 9223372036854775807",
+    "<= -9223372036854775807",
+]
+
+# A sound model whose tables go by several policies and look at each other, each text of which stands there first where a row replaces it.
+TABLES = r"""{
+    "inputs": ["age", "amount"],
+    "decisions": [
+        {"name": "risk", "needs": ["age"], "expr": {"table": {
+            "hit": "F", "inputs": ["age"],
+            "outputs": [{"name": "level", "default": "\"none\""}, {"name": "points"}],
+            "rules": [
+                {"when": ["< 18"], "then": ["\"High\"", "3"]},
+                {"when": ["[18..65)"], "then": ["\"Low\"", "1"]}]}}},
+        {"name": "parts", "needs": ["amount"], "expr": {"context": [
+            {"name": "half", "expr": "amount"},
+            {"name": "word", "expr": "\"x\""}]}},
+        {"name": "fee", "needs": ["risk", "parts"], "expr": {"table": {
+            "hit": "C+", "inputs": ["risk.level", "parts.half"],
+            "outputs": [{"name": "fee"}],
+            "rules": [
+                {"when": ["\"High\"", "> 1000"], "then": ["50"]},
+                {"when": ["not(\"none\", \"Low\")", "-"], "then": ["risk.points"]}]}}},
+        {"name": "rank", "needs": ["amount"], "expr": {"table": {
+            "hit": "U", "inputs": ["amount"],
+            "outputs": [{"name": "rank"}],
+            "rules": [
+                {"when": ["<= 10"], "then": ["1"]},
+                {"when": ["> 10"], "then": ["2"]}]}}},
+        {"name": "all", "needs": ["fee", "rank"], "expr": "fee + rank"}],
+    "services": [
+        {"name": "s", "outputs": ["all"], "encapsulated": ["risk", "parts", "fee", "rank"], "inputDecisions": [],
+         "inputData": ["age", "amount"]}]}"""
+
+RISK = "decisions[0].expr.table"
+FEE = "decisions[2].expr.table"
+RANK = "decisions[3].expr.table"
+
+# Rules that never decide, or that hit with others, and priorities that there are none of.
+ORDER: Rows = [
+    (
+        '"hit": "U"',
+        '"hit": "P"',
+        [f"{RANK}.hit: no priority: under P the listed output values have priority, and no column lists any"],
+    ),
+    (
+        '"hit": "U"',
+        '"hit": "O"',
+        [f"{RANK}.hit: no priority: under O the listed output values have priority, and no column lists any"],
+    ),
+    ('["[18..65)"]', '["-"]', []),
+    ('["< 18"]', '[" - "]', [f"{RISK}.rules[1]: never decides: rule 1 takes everything, so this one never decides"]),
+    (
+        '["[18..65)"]',
+        '[" < 18"]',
+        [f"{RISK}.rules[1]: never decides: rule 1 has the same tests, so this one never decides"],
+    ),
+    (
+        '["> 10"]',
+        '["-"]',
+        [f"{RANK}.rules[1]: two hits: it takes everything, so where another rule hits too the result is null"],
+    ),
+    (
+        '["> 10"]',
+        '["<= 10 "]',
+        [f"{RANK}.rules[1]: two hits: rule 1 has the same tests, so where both hit the result is null"],
+    ),
+    ('["\\"High\\"", "> 1000"]', '["not(\\"none\\", \\"Low\\")", "-"]', []),
+    (
+        '["50"]',
+        '["\\"50\\""]',
+        [f'{FEE}.rules[0].then[0]: no number: "50" is no number, so where this rule hits the result is null'],
+    ),
+    (
+        '["50"]',
+        '["null"]',
+        [f"{FEE}.rules[0].then[0]: no number: null is no number, so where this rule hits the result is null"],
+    ),
+]
+
+# Under P the rule that takes everything goes before the others only where it has the highest of the listed values.
+PRIORITY: Rows = [
+    (
+        '{"when": ["not(\\"hill\\", \\"plain\\")", "< 18, >= 65"], "then": ["\\"LOW\\""]}',
+        '{"when": ["-", "-"], "then": ["\\"HIGH\\""]}',
+        ["decisions[1].expr.table.rules[2]: never decides: rule 2 takes everything, so this one never decides"],
+    ),
+    (
+        '{"when": ["not(\\"hill\\", \\"plain\\")", "< 18, >= 65"], "then": ["\\"LOW\\""]}',
+        '{"when": ["-", "-"], "then": ["\\"LOW\\""]}',
+        [],
+    ),
+]
+
+# Cells and expressions that say another thing than they look like.
+SLIPS: Rows = [
+    (
+        '["> 10"]',
+        '["amount > 10"]',
+        [
+            f"{RANK}.rules[1].when[0]: truth in cell: amount > 10 is true or false, with which the input is compared; a test begins with its sign, as > 5",
+        ],
+    ),
+    ('["> 10"]', '["if amount > 10 then 1 else 2"]', []),
+    ('"> 1000"', '"parts.half > 1000"', []),
+    (
+        '["< 18"]',
+        '["[1,5]"]',
+        [f"{RISK}.rules[0].when[0]: list for interval: [1,5] is a list of two numbers; an interval has two dots, as [1..5]"],
+    ),
+    ('["> 10"]', '["[11, 12]"]', []),
+    (
+        '["> 10"]',
+        '["> 1,000"]',
+        [f"{RANK}.rules[1].when[0]: cut number: a comma parts two tests: > 1,000; a number has none"],
+    ),
+    ('["> 10"]', '["> 11, 000"]', []),
+    (
+        '{"name": "half", "expr": "amount"}',
+        '{"name": "half", "expr": "amount + \\"1\\""}',
+        ['decisions[1].expr.context[0].expr: added text: + adds numbers, and what it makes of a text is null: amount + "1"'],
+    ),
+]
+
+# What is asked for and never comes.
+NEVER: Rows = [
+    (
+        '["\\"High\\"", "> 1000"]',
+        '["\\"HIGH\\"", "> 1000"]',
+        [f'{FEE}.rules[0].when[0]: never given: risk never is "HIGH"; is it "High"?'],
+    ),
+    (
+        'not(\\"none\\", \\"Low\\")',
+        'not(\\"nine\\", 7)',
+        [
+            f'{FEE}.rules[1].when[0]: never given: risk never is "nine"; is it "none"?',
+            f"{FEE}.rules[1].when[0]: never given: risk never is 7",
+        ],
+    ),
+    (
+        '{"name": "level", "default": "\\"none\\""}',
+        '{"name": "level"}',
+        [f'{FEE}.rules[1].when[0]: never given: risk never is "none"'],
+    ),
+    ('"default": "\\"none\\""', '"default": "age"', []),
+    (
+        '["risk.level", ',
+        '["risk.levl", ',
+        [f"{FEE}.inputs[0]: no entry: risk has no entry levl, so it is null; is it level?"],
+    ),
+    (
+        '"parts.half"]',
+        '"parts.hal"]',
+        [f"{FEE}.inputs[1]: no entry: parts has no entry hal, so it is null; is it half?"],
+    ),
+    ('"fee + rank"', '"fee + rank.rank"', ["decisions[4].expr: no entry: rank has no entry rank, so it is null"]),
+    ('"fee + rank"', '"fee.fee + rank"', []),
+]
+
+# Of a decision whose value a request may bring nothing is known.
+BROUGHT = [
+    ('"encapsulated": ["risk", "parts", "fee", "rank"], "inputDecisions": []', '"encapsulated": ["parts", "fee", "rank"], "inputDecisions": ["risk"]'),
+    ('["\\"High\\"", "> 1000"]', '["\\"HIGH\\"", "> 1000"]'),
+    ('["risk.points"]', '["risk.point"]'),
 ]

@@ -19,6 +19,16 @@ fn kind_word(kind: OddityKind) -> &'static str {
         OddityKind::UnlistedValue => "unlisted value",
         OddityKind::UnmetTests => "unmet tests",
         OddityKind::OtherKind => "other kind",
+        OddityKind::NeverDecides => "never decides",
+        OddityKind::TwoHits => "two hits",
+        OddityKind::NoPriority => "no priority",
+        OddityKind::NoNumber => "no number",
+        OddityKind::TruthInCell => "truth in cell",
+        OddityKind::ListForInterval => "list for interval",
+        OddityKind::CutNumber => "cut number",
+        OddityKind::AddedText => "added text",
+        OddityKind::NeverGiven => "never given",
+        OddityKind::NoEntry => "no entry",
     }
 }
 
@@ -46,6 +56,92 @@ fn unbound(
         text.push_str("; a text stands in quotes")?;
     }
     Ok(text)
+}
+
+/// Which rule, counted from 1, takes what a rule would.
+fn earlier_rule(alloc: Global, first: usize, takes_all: bool) -> Result<String, AllocError> {
+    let number = first.saturating_add(1);
+    if takes_all {
+        format!(in alloc; "rule {number} takes everything")
+    } else {
+        format!(in alloc; "rule {number} has the same tests")
+    }
+}
+
+/// Adds what may be meant in the place of a text.
+fn or_near(mut text: String, near: Option<&str>) -> Result<String, AllocError> {
+    if let Some(near) = near {
+        write!(text, "; is it {near}?")?;
+    }
+    Ok(text)
+}
+
+/// What is odd in the cells of a table, in words.
+fn sentence_of_cells(alloc: Global, oddity: &Oddity) -> Result<String, AllocError> {
+    match oddity {
+        Oddity::TruthInCell { text } => {
+            format!(in alloc;
+                "{text} is true or false, with which the input is compared; a test begins with its sign, as > 5"
+            )
+        }
+        Oddity::ListForInterval { text } => {
+            format!(in alloc;
+                "{text} is a list of two numbers; an interval has two dots, as [1..5]"
+            )
+        }
+        Oddity::CutNumber { text } => {
+            format!(in alloc; "a comma parts two tests: {text}; a number has none")
+        }
+        Oddity::NoNumber { text } => {
+            format!(in alloc; "{text} is no number, so where this rule hits the result is null")
+        }
+        _ => Ok(String::new(alloc)),
+    }
+}
+
+/// What is odd in rules, and in what decisions give each other, in words.
+fn sentence_of_rules(alloc: Global, oddity: &Oddity) -> Result<String, AllocError> {
+    match oddity {
+        Oddity::NeverDecides { first, takes_all } => {
+            let mut text = earlier_rule(alloc, *first, *takes_all)?;
+            text.push_str(", so this one never decides")?;
+            Ok(text)
+        }
+        Oddity::TwoHits { first: Some(first) } => {
+            let mut text = earlier_rule(alloc, *first, false)?;
+            text.push_str(", so where both hit the result is null")?;
+            Ok(text)
+        }
+        Oddity::TwoHits { first: None } => String::from_str(
+            alloc,
+            "it takes everything, so where another rule hits too the result is null",
+        ),
+        Oddity::NoPriority { hit } => {
+            format!(in alloc;
+                "under {hit} the listed output values have priority, and no column lists any"
+            )
+        }
+        Oddity::AddedText { text } => {
+            format!(in alloc; "+ adds numbers, and what it makes of a text is null: {text}")
+        }
+        Oddity::NeverGiven {
+            text,
+            decision,
+            near,
+        } => {
+            let said = format!(in alloc; "{decision} never is {text}")?;
+            or_near(said, near.as_ref().map(|near| near.as_str()))
+        }
+        Oddity::NoEntry {
+            decision,
+            entry,
+            near,
+        } => {
+            let said = format!(in alloc; "{decision} has no entry {entry}, so it is null")?;
+            or_near(said, near.as_ref().map(|near| near.as_str()))
+        }
+        oddity => sentence_of_cells(alloc, oddity),
+    }
 }
 
 /// What is odd, in words.
@@ -78,6 +174,7 @@ fn sentence(alloc: Global, oddity: &Oddity) -> Result<String, AllocError> {
             let (kind, others) = (kind_name(*kind), kind_name(*others));
             format!(in alloc; "{text} is for {kind}, and the other rules are for {others}")
         }
+        oddity => sentence_of_rules(alloc, oddity),
     }
 }
 

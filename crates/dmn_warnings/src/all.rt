@@ -1,6 +1,7 @@
 //! All warnings of a model.
 
 use crate::book::Book;
+use crate::given::Given;
 use crate::reached::look_at_values;
 use crate::scope::Scope;
 use crate::walk::Walk;
@@ -19,6 +20,8 @@ pub fn warnings(alloc: Global, model: &WrittenModel) -> Result<Warnings, AllocEr
     let mut walk = Walk {
         book,
         scope: Scope::new(alloc),
+        given: Given::of(alloc, model)?,
+        needs: 0,
         model,
     };
     walk.look_at_decisions()?;

@@ -2,6 +2,7 @@
 
 use crate::book::Book;
 use crate::literal_tests::literal_tests;
+use crate::slips::{Compared, has_interval, look_at_slips};
 use crate::warning::{LiteralKind, Oddity, OddityKind};
 use dmn_check::{Key, Step};
 use dmn_form::{WrittenRule, WrittenTable};
@@ -150,11 +151,29 @@ fn note_odd_one(
     book.keep(&cell_steps(odd.last, input), oddity)
 }
 
+/// Whether some cell of an input has an interval.
+fn have_interval(book: &Book, input: usize, rules: &[WrittenRule]) -> Result<bool, AllocError> {
+    for rule in rules {
+        let Some(text) = rule.tests.get(input) else {
+            continue;
+        };
+        if has_interval(book, text.as_str())? {
+            return Ok(true);
+        }
+    }
+    Ok(false)
+}
+
 /// Looks at the input entries of the table that the walk is at.
 pub(crate) fn look_at_cells(book: &mut Book, table: &WrittenTable) -> Result<(), AllocError> {
     for input in 0..table.inputs.len() {
         let tallies = look_at_input(book, input, &table.rules)?;
         note_odd_one(book, input, &table.rules, &tallies)?;
+        let compared = Compared {
+            with_intervals: have_interval(book, input, &table.rules)?,
+            with_numbers_or_texts: tallies.numbers.count > 0 || tallies.texts.count > 0,
+        };
+        look_at_slips(book, input, &table.rules, compared)?;
     }
     Ok(())
 }

@@ -123,7 +123,23 @@ fn compared(text: &str) -> Option<&str> {
     Some(rest.strip_prefix('=').unwrap_or(rest))
 }
 
-/// The comparison that a text spells, if it compares with a literal. Nothing is less or greater than null or a boolean.
+/// Whether some value stands so to a literal: the sign of the comparison begins the text. Nothing is less or greater than null or a
+/// boolean, less than the empty text, or past the range of numbers.
+fn is_comparison_met(text: &str, value: &Value) -> bool {
+    match value {
+        Value::Number(number) if text.starts_with("<=") || text.starts_with(">=") => {
+            *number >= -i64::MAX
+        }
+        Value::Number(number) if text.starts_with('<') => *number > -i64::MAX,
+        Value::Number(number) => *number < i64::MAX,
+        Value::Text(other) => {
+            !other.as_str().is_empty() || !text.starts_with('<') || text.starts_with("<=")
+        }
+        _ => false,
+    }
+}
+
+/// The comparison that a text spells, if it compares with a literal.
 fn comparison(alloc: Global, text: &str) -> Result<Option<LiteralTest>, AllocError> {
     let Some(operand) = compared(text) else {
         return Ok(None);
@@ -132,7 +148,7 @@ fn comparison(alloc: Global, text: &str) -> Result<Option<LiteralTest>, AllocErr
         return Ok(None);
     };
     let kind = kind_of(value.value());
-    let is_met = matches!(kind, Some(LiteralKind::Number | LiteralKind::Text));
+    let is_met = is_comparison_met(text, value.value());
     Ok(Some(LiteralTest { kind, is_met }))
 }
 
@@ -180,6 +196,18 @@ fn listed_tests(alloc: Global, text: &str) -> Result<Option<LiteralTests>, Alloc
         kind = None;
     }
     Ok(Some(LiteralTests { kind, are_met }))
+}
+
+/// The literals with which tests compare the input for being equal.
+pub(crate) fn compared_literals(alloc: Global, text: &str) -> Result<Vec<&str>, AllocError> {
+    let text = text.trim_ascii();
+    let mut literals = Vec::new(alloc);
+    for part in parts(alloc, negated(text).unwrap_or(text), LexemeKind::Comma)? {
+        if literal(alloc, part)?.is_some() {
+            literals.push(part.trim_ascii())?;
+        }
+    }
+    Ok(literals)
 }
 
 /// The unary tests that a text spells, if all of them compare with literals. Those of a `not` are taken to be met.

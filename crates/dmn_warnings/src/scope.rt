@@ -62,6 +62,11 @@ impl<'m> Scope<'m> {
         Ok(())
     }
 
+    /// The number of the binding that a name has here.
+    pub(crate) fn number_of(&self, name: &str) -> Option<usize> {
+        self.numbers.get(name).copied()
+    }
+
     /// Notes that a text uses a name, and tells whether it is bound.
     pub(crate) fn use_name(&mut self, name: &str) -> bool {
         let Some(number) = self.numbers.get(name) else {

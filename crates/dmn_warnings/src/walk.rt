@@ -2,7 +2,9 @@
 
 use crate::book::Book;
 use crate::cells::look_at_cells;
+use crate::given::Given;
 use crate::outputs::look_at_outputs;
+use crate::rules::look_at_order;
 use crate::scope::Scope;
 use crate::unbound::look_at_text;
 use crate::warning::{Oddity, OddityKind};
@@ -17,6 +19,9 @@ use std::alloc::AllocError;
 pub(crate) struct Walk<'m> {
     pub(crate) book: Book,
     pub(crate) scope: Scope<'m>,
+    pub(crate) given: Given<'m>,
+    /// How many of the bindings are what the decision needs: the first ones.
+    pub(crate) needs: usize,
     pub(crate) model: &'m WrittenModel,
 }
 
@@ -67,8 +72,18 @@ impl<'m> Walk<'m> {
         self.look_at_rules(&table.rules)?;
         look_at_outputs(&mut self.book, table)?;
         look_at_cells(&mut self.book, table)?;
+        self.look_at_all_asked(table)?;
+        look_at_order(&mut self.book, table)?;
         self.book.leave();
         Ok(())
+    }
+
+    /// Whether a name stands for what the decision needs, and no entry of a context hides it.
+    pub(crate) fn is_need(&self, name: &str) -> bool {
+        match self.scope.number_of(name) {
+            Some(number) => number < self.needs,
+            None => false,
+        }
     }
 
     /// The name of the binding of this number, if no text uses it and that is to be kept.
@@ -182,6 +197,7 @@ impl<'m> Walk<'m> {
     /// Looks at a decision. No name is bound before.
     fn look_at_decision(&mut self, decision: &'m WrittenDecision) -> Result<(), AllocError> {
         self.bind_needs(decision)?;
+        self.needs = decision.needs.len();
         self.book.enter(Step::Key(Key::Expr))?;
         self.look_at_logic(&decision.logic)?;
         self.book.leave();

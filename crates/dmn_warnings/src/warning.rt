@@ -70,6 +70,66 @@ pub enum Oddity {
         /// The kind of the literals in the other rules.
         others: LiteralKind,
     },
+    /// A rule under `F` or `P` behind one that goes before it wherever it hits.
+    NeverDecides {
+        /// That rule; the first of the table is 0.
+        first: usize,
+        /// That rule hits whatever the inputs are; otherwise it has the same tests.
+        takes_all: bool,
+    },
+    /// A rule under `U` that hits where another one does, so that the result is null.
+    TwoHits {
+        /// The rule before it with the same tests; None where this one hits whatever the inputs are.
+        first: Option<usize>,
+    },
+    /// A table under `P` or `O` of which no column lists values, so that no rule goes before another.
+    NoPriority {
+        /// The hit policy.
+        hit: String,
+    },
+    /// A literal that is no number, where the result is made of numbers.
+    NoNumber {
+        /// The literal.
+        text: String,
+    },
+    /// Unary tests of which one is true or false, beside tests of numbers or texts: `a > 5` in the place of `> 5`.
+    TruthInCell {
+        /// The tests.
+        text: String,
+    },
+    /// A list of two numbers beside intervals: `[1,5]` in the place of `[1..5]`.
+    ListForInterval {
+        /// The tests.
+        text: String,
+    },
+    /// A number with a comma before its last three digits, which makes it two: `1,000`.
+    CutNumber {
+        /// The tests.
+        text: String,
+    },
+    /// A `+` beside a text in quotes: what it gives is null.
+    AddedText {
+        /// The expression or the tests.
+        text: String,
+    },
+    /// A literal that is asked for and that the decision under the input never gives.
+    NeverGiven {
+        /// The literal.
+        text: String,
+        /// The decision.
+        decision: String,
+        /// A literal that it gives and that differs by one letter, or in capital letters.
+        near: Option<String>,
+    },
+    /// An entry that is taken of the value of a needed decision and that it never has.
+    NoEntry {
+        /// The decision.
+        decision: String,
+        /// The name of the entry.
+        entry: String,
+        /// An entry that it has and whose name differs by one letter.
+        near: Option<String>,
+    },
 }
 
 /// A kind of oddity: `Oddity` without its data.
@@ -93,6 +153,26 @@ pub enum OddityKind {
     UnmetTests,
     /// Unary tests of another kind than the others.
     OtherKind,
+    /// A rule that never decides.
+    NeverDecides,
+    /// A rule beside which another one hits where one alone may.
+    TwoHits,
+    /// Priorities without listed values.
+    NoPriority,
+    /// What is no number where numbers are due.
+    NoNumber,
+    /// A test that is true or false.
+    TruthInCell,
+    /// A list in the place of an interval.
+    ListForInterval,
+    /// A number that a comma makes two.
+    CutNumber,
+    /// A text that is added.
+    AddedText,
+    /// A literal that never comes.
+    NeverGiven,
+    /// An entry that there never is.
+    NoEntry,
 }
 
 impl Oddity {
@@ -108,12 +188,22 @@ impl Oddity {
             Oddity::UnlistedValue { .. } => OddityKind::UnlistedValue,
             Oddity::UnmetTests { .. } => OddityKind::UnmetTests,
             Oddity::OtherKind { .. } => OddityKind::OtherKind,
+            Oddity::NeverDecides { .. } => OddityKind::NeverDecides,
+            Oddity::TwoHits { .. } => OddityKind::TwoHits,
+            Oddity::NoPriority { .. } => OddityKind::NoPriority,
+            Oddity::NoNumber { .. } => OddityKind::NoNumber,
+            Oddity::TruthInCell { .. } => OddityKind::TruthInCell,
+            Oddity::ListForInterval { .. } => OddityKind::ListForInterval,
+            Oddity::CutNumber { .. } => OddityKind::CutNumber,
+            Oddity::AddedText { .. } => OddityKind::AddedText,
+            Oddity::NeverGiven { .. } => OddityKind::NeverGiven,
+            Oddity::NoEntry { .. } => OddityKind::NoEntry,
         }
     }
 }
 
 /// All kinds of oddities.
-pub(crate) const ODDITY_KINDS: [OddityKind; 9] = [
+pub(crate) const ODDITY_KINDS: [OddityKind; 19] = [
     OddityKind::Unbound,
     OddityKind::Unneeded,
     OddityKind::Unreached,
@@ -123,6 +213,16 @@ pub(crate) const ODDITY_KINDS: [OddityKind; 9] = [
     OddityKind::UnlistedValue,
     OddityKind::UnmetTests,
     OddityKind::OtherKind,
+    OddityKind::NeverDecides,
+    OddityKind::TwoHits,
+    OddityKind::NoPriority,
+    OddityKind::NoNumber,
+    OddityKind::TruthInCell,
+    OddityKind::ListForInterval,
+    OddityKind::CutNumber,
+    OddityKind::AddedText,
+    OddityKind::NeverGiven,
+    OddityKind::NoEntry,
 ];
 
 /// An oddity and its place.
