@@ -5,6 +5,7 @@ import (
 	"errors"
 	"fmt"
 	"io"
+	"runtime"
 	"sort"
 	"strconv"
 	"sync"
@@ -201,6 +202,10 @@ func (e *engine) collect(p *process, text []byte) ([]byte, []*Job) {
 			return nil, nil
 		}
 		e.wake.Wait()
+		e.mu.Unlock()
+		// Whoever is about to put a request in comes first, so that an engine is woken once for all of them.
+		runtime.Gosched()
+		e.mu.Lock()
 	}
 }
 
