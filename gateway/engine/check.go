@@ -131,7 +131,7 @@ func ask(ctx context.Context, path string, memory uint64, input []byte, take fun
 func takeLines(p *process, take func(line []byte, cut bool) error) (fault error) {
 	from := bufio.NewReaderSize(p.out, 64<<10)
 	for {
-		text, cut, err := readLine(from, nil)
+		text, cut, err := readLine(from)
 		if err != nil {
 			return fault
 		}

@@ -5,6 +5,7 @@ import (
 	"errors"
 	"fmt"
 	"io"
+	"runtime"
 	"sort"
 	"strconv"
 	"sync"
@@ -201,6 +202,10 @@ func (e *engine) collect(p *process, text []byte) ([]byte, []*Job) {
 			return nil, nil
 		}
 		e.wake.Wait()
+		e.mu.Unlock()
+		// Whoever is about to put a request in comes first, so that an engine is woken once for all of them.
+		runtime.Gosched()
+		e.mu.Lock()
 	}
 }
 
@@ -293,49 +298,58 @@ func (e *engine) tell(text []byte, model *Model) []byte {
 // read reads what the process writes to its end. It gives an error where that is none of an engine's lines.
 func (e *engine) read(p *process) error {
 	from := bufio.NewReaderSize(p.out, 256<<10)
-	var room []byte
+	var replies []reply
+	var jobs []*Job
 	for {
-		text, cut, err := readLine(from, room)
-		if errors.Is(err, io.EOF) {
+		var err, strange error
+		replies, err = readReplies(from, replies[:0])
+		jobs, strange = e.settle(replies, jobs[:0])
+		for at, job := range jobs {
+			if job != nil {
+				job.Done(job, replies[at].outcome)
+			}
+			jobs[at], replies[at] = nil, reply{}
+		}
+		switch {
+		case strange != nil:
+			return strange
+		case errors.Is(err, io.EOF):
 			return nil
-		}
-		if err != nil {
+		case err != nil:
 			return fmt.Errorf("reading what the engine writes: %w", err)
-		}
-		r, err := readReply(text, cut)
-		if err != nil {
-			return err
-		}
-		job, err := e.settle(r)
-		if err != nil {
-			return err
-		}
-		if job != nil {
-			job.Done(job, r.outcome)
 		}
 	}
 }
 
-// settle finds the request that a reply is of. A reply to a model has none.
-func (e *engine) settle(r reply) (*Job, error) {
+// settle finds the requests that replies are of, and adds them to jobs. A reply to a model has none: there nil is added.
+func (e *engine) settle(replies []reply, jobs []*Job) ([]*Job, error) {
 	e.mu.Lock()
 	defer e.mu.Unlock()
-	e.answers++
 	e.moved = time.Now()
-	job, err := e.answered(r)
-	if job == nil {
+	// One signal is enough for all: whoever waits looks at everything anew.
+	isDue := false
+	for _, r := range replies {
+		e.answers++
+		job, err := e.answered(r)
+		if err != nil {
+			e.wake.Signal()
+			return jobs, err
+		}
+		jobs = append(jobs, job)
+		if job == nil {
+			isDue = true
+			continue
+		}
+		e.sent--
+		e.sentBytes -= len(job.Rest)
+		if e.alone == job {
+			e.alone = nil
+		}
+	}
+	if isDue || e.waiting > 0 || e.again.len() > 0 || e.told != e.target || e.closing {
 		e.wake.Signal()
-		return nil, err
 	}
-	e.sent--
-	e.sentBytes -= len(job.Rest)
-	if e.alone == job {
-		e.alone = nil
-	}
-	if e.waiting > 0 || e.again.len() > 0 || e.told != e.target || e.closing {
-		e.wake.Signal()
-	}
-	return job, nil
+	return jobs, nil
 }
 
 func (e *engine) answered(r reply) (*Job, error) {

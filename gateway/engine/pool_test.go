@@ -167,6 +167,23 @@ func TestRefusalsAreOfTheirRequests(t *testing.T) {
 	end(t, p)
 }
 
+// killBusy kills an engine's process, once all is answered that was out when the one before was killed: a request that is
+// asked again, alone, is given up when the process ends at it, whoever ended that.
+func killBusy(e *engine) {
+	for {
+		e.mu.Lock()
+		free := e.process != nil && e.taken != nil && e.alone == nil && e.again.len() == 0
+		if free {
+			e.process.kill()
+		}
+		e.mu.Unlock()
+		if free {
+			return
+		}
+		time.Sleep(50 * time.Microsecond)
+	}
+}
+
 // Processes are killed while requests are out: each has its own result once all the same.
 func TestKilledEngines(t *testing.T) {
 	model := adding(7)
@@ -176,12 +193,7 @@ func TestKilledEngines(t *testing.T) {
 	for n := 0; n < 20_000; n++ {
 		put(t, p, fmt.Sprint(n%10), all.job(model, adds(n)))
 		if n%4000 == 2000 {
-			e := p.engines[(n/4000)%2]
-			e.mu.Lock()
-			if e.process != nil {
-				e.process.kill()
-			}
-			e.mu.Unlock()
+			killBusy(p.engines[(n/4000)%2])
 		}
 	}
 	all.once(t)

@@ -6,7 +6,6 @@ import (
 	"encoding/json"
 	"errors"
 	"fmt"
-	"strconv"
 )
 
 // MaxAnswer is the most bytes of an engine's answer that are kept. A result that is longer is given up.
@@ -28,12 +27,12 @@ type reply struct {
 
 // readLine reads a line without its newline. Of one over MaxAnswer bytes it gives the first, and says so. The bytes are
 // good until the next call.
-func readLine(from *bufio.Reader, room []byte) (text []byte, cut bool, err error) {
+func readLine(from *bufio.Reader) (text []byte, cut bool, err error) {
 	text, err = from.ReadSlice('\n')
 	if err == nil {
 		return text[:len(text)-1], false, nil
 	}
-	room = append(room[:0], text...)
+	room := append([]byte(nil), text...)
 	for errors.Is(err, bufio.ErrBufferFull) {
 		text, err = from.ReadSlice('\n')
 		if len(room)+len(text) > MaxAnswer {
@@ -46,6 +45,34 @@ func readLine(from *bufio.Reader, room []byte) (text []byte, cut bool, err error
 		return nil, false, err
 	}
 	return bytes.TrimSuffix(room, []byte("\n")), cut, nil
+}
+
+// mostReplies is the most replies that are read before their requests are told.
+const mostReplies = 64
+
+// readReplies waits for a line of an engine, and reads it and those that came with it. What it gives with an error stood
+// before.
+func readReplies(from *bufio.Reader, replies []reply) ([]reply, error) {
+	for {
+		text, cut, err := readLine(from)
+		if err != nil {
+			return replies, err
+		}
+		r, err := readReply(text, cut)
+		if err != nil {
+			return replies, err
+		}
+		replies = append(replies, r)
+		if len(replies) == mostReplies || !hasLine(from) {
+			return replies, nil
+		}
+	}
+}
+
+// hasLine says whether a whole line is there without waiting for it.
+func hasLine(from *bufio.Reader) bool {
+	there, _ := from.Peek(from.Buffered())
+	return bytes.IndexByte(there, '\n') >= 0
 }
 
 var (
@@ -68,8 +95,8 @@ func readReply(text []byte, cut bool) (reply, error) {
 	if at < 0 {
 		return reply{}, strange(text)
 	}
-	ticket, err := strconv.ParseUint(string(bytes.TrimSuffix(value[at+len(ticketKey):], []byte("}"))), 10, 64)
-	if err != nil {
+	ticket, is := number(bytes.TrimSuffix(value[at+len(ticketKey):], []byte("}")))
+	if !is {
 		return reply{}, strange(text)
 	}
 	kept := append([]byte(nil), value[:at]...)
@@ -83,14 +110,31 @@ func laneOf(text []byte) (int, []byte) {
 	}
 	rest := text[len(clientKey):]
 	at := bytes.IndexByte(rest, '"')
-	if at < 1 || at > 2 {
+	if at < 0 {
 		return -1, text
 	}
-	lane, err := strconv.Atoi(string(rest[:at]))
-	if err != nil || lane < 0 || lane >= Lanes {
+	lane, is := number(rest[:at])
+	if !is || lane >= Lanes {
 		return -1, text
 	}
-	return lane, rest[at:]
+	return int(lane), rest[at:]
+}
+
+// mostDigits is how many digits a number has at most that is below 2^64 whatever they are.
+const mostDigits = 19
+
+// number reads a number that is digits alone.
+func number(text []byte) (n uint64, is bool) {
+	if len(text) == 0 || len(text) > mostDigits {
+		return 0, false
+	}
+	for _, c := range text {
+		if c < '0' || c > '9' {
+			return 0, false
+		}
+		n = n*10 + uint64(c-'0')
+	}
+	return n, true
 }
 
 // readOther reads a line that is no result.

@@ -91,8 +91,8 @@ func TestResultsWithoutRoom(t *testing.T) {
 	s := &Service{clients: newClients(10, 10)}
 	s.bodies.limit = 10
 	c := &call{service: s, problems: make([]*problem, 2), outcomes: make([]engine.Outcome, 2), done: make(chan struct{})}
-	c.add(0, &engine.Job{})
-	c.add(1, &engine.Job{})
+	c.add(0, &engine.Job{}, c.settle)
+	c.add(1, &engine.Job{}, c.settle)
 	if _, refused := s.clients.enter("", 2); refused != nil {
 		t.Fatal(refused)
 	}

@@ -31,6 +31,13 @@ type call struct {
 	// bytes is how much of the service's budget is held, answers how much of that are results and explanations.
 	bytes, answers atomic.Int64
 	done           chan struct{}
+	// one has the room of a call that is a single request, so that it is made with the call.
+	one struct {
+		problem [1]*problem
+		outcome [1]engine.Outcome
+		job     engine.Job
+		jobs    [1]*engine.Job
+	}
 }
 
 // newCall reads the body of a call to a service, which is named by its word or by its name in the file.
@@ -43,12 +50,11 @@ func (s *Service) newCall(model *served, name string, body []byte) (*call, *prob
 	}
 	c := &call{service: s, model: model, done: make(chan struct{})}
 	if lines.Begins(body) != '[' {
-		job := &engine.Job{}
-		if _, p := model.request(service, body, job, service.room(1, len(body))); p != nil {
+		if _, p := model.request(service, body, &c.one.job, service.room(1, len(body))); p != nil {
 			return nil, p
 		}
-		c.problems, c.outcomes = make([]*problem, 1), make([]engine.Outcome, 1)
-		c.add(0, job)
+		c.problems, c.outcomes, c.jobs = c.one.problem[:], c.one.outcome[:], c.one.jobs[:0]
+		c.add(0, &c.one.job, c.settle)
 		return c, nil
 	}
 	c.isList = true
@@ -67,17 +73,19 @@ func (c *call) readList(service *decisionService, body []byte) *problem {
 	c.problems, c.outcomes = make([]*problem, len(items)), make([]engine.Outcome, len(items))
 	c.jobs = make([]*engine.Job, 0, len(items))
 	jobs, room := make([]engine.Job, len(items)), service.room(len(items), len(body))
+	settle := c.settle
 	for at, item := range items {
 		if room, c.problems[at] = c.model.request(service, body[item.Start:item.End], &jobs[at], room); c.problems[at] == nil {
-			c.add(at, &jobs[at])
+			c.add(at, &jobs[at], settle)
 		}
 	}
 	return nil
 }
 
-func (c *call) add(at int, job *engine.Job) {
+// add adds a request, which settle is told of.
+func (c *call) add(at int, job *engine.Job, settle func(*engine.Job, engine.Outcome)) {
 	job.Place = at
-	job.Done = c.settle
+	job.Done = settle
 	c.jobs = append(c.jobs, job)
 }
 

@@ -82,9 +82,8 @@ func (s *Service) readAsking(w http.ResponseWriter, r *http.Request) (it asking,
 	if it.who, p = s.caller(r); p != nil {
 		return it, p
 	}
-	var err error
-	if it.name, err = url.PathUnescape(strings.TrimPrefix(r.URL.EscapedPath(), servicesPath)); err != nil {
-		return it, problemPath.with(r.URL.Path)
+	if it.name, p = serviceName(r.URL); p != nil {
+		return it, p
 	}
 	if it.explain, p = wantsExplanation(r.URL.RawQuery); p != nil {
 		return it, p
@@ -97,6 +96,19 @@ func (s *Service) readAsking(w http.ResponseWriter, r *http.Request) (it asking,
 	}
 	it.turn = s.turns.begin(it.who.client)
 	return it, nil
+}
+
+// serviceName is the service that a path names.
+func serviceName(path *url.URL) (string, *problem) {
+	if path.RawPath == "" {
+		// The path was written as it is written by default, so nothing is lost in the text that stands for it.
+		return strings.TrimPrefix(path.Path, servicesPath), nil
+	}
+	name, err := url.PathUnescape(strings.TrimPrefix(path.EscapedPath(), servicesPath))
+	if err != nil {
+		return "", problemPath.with(path.Path)
+	}
+	return name, nil
 }
 
 // wantsExplanation reads the parameters of a call: explain, true or false.

@@ -38,7 +38,7 @@ func (s *Service) handler() http.Handler {
 	return http.HandlerFunc(func(w http.ResponseWriter, r *http.Request) {
 		start := time.Now()
 		header := w.Header()
-		id := requestID(r)
+		id := requestID(r, start)
 		header["X-Request-Id"] = []string{id}
 		header["Desk-Engine"] = s.engineHeader
 		if s.stopping.Load() {
@@ -70,12 +70,12 @@ const maxID = 57
 
 // requestID is the caller's X-Request-Id where it is of 1 to 57 letters, digits and signs of `-._~:/+=@`, and else one that
 // begins with the time.
-func requestID(r *http.Request) string {
+func requestID(r *http.Request, now time.Time) string {
 	if values := r.Header["X-Request-Id"]; len(values) == 1 && isID(values[0]) {
 		return values[0]
 	}
 	id := make([]byte, 0, 48)
-	id = time.Now().UTC().AppendFormat(id, "20060102T150405.000Z-")
+	id = now.UTC().AppendFormat(id, "20060102T150405.000Z-")
 	id = append(id, idStart...)
 	return string(strconv.AppendUint(id, idCount.Add(1), 10))
 }

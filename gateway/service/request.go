@@ -66,9 +66,9 @@ func syntaxProblem(fault *lines.SyntaxFault) *problem {
 
 // values holds the values of a service's parameters to the engine's limits, and to the types of the file.
 func (m *served) values(service *decisionService, text []byte, members []lines.Member) *problem {
-	comesAgain := again(members)
+	last := lastMembers(members)
 	for at, member := range members {
-		if !service.parameters[member.Key] || comesAgain(at) {
+		if !service.parameters[member.Key] || comesAgain(members, last, at) {
 			continue
 		}
 		fault := lines.Value(text, member.Value)
@@ -89,23 +89,29 @@ func (m *served) values(service *decisionService, text []byte, members []lines.M
 // fewMembers is how many members are compared each with each.
 const fewMembers = 16
 
-// again says of each member whether its key comes again behind it. The engine keeps the last member of a key alone.
-func again(members []lines.Member) func(at int) bool {
+// lastMembers has the place of the last member of each key. Of few members it has none: each of them is compared with each.
+func lastMembers(members []lines.Member) map[string]int {
 	if len(members) <= fewMembers {
-		return func(at int) bool {
-			for _, other := range members[at+1:] {
-				if other.Key == members[at].Key {
-					return true
-				}
-			}
-			return false
-		}
+		return nil
 	}
 	last := make(map[string]int, len(members))
 	for at := range members {
 		last[members[at].Key] = at
 	}
-	return func(at int) bool { return last[members[at].Key] != at }
+	return last
+}
+
+// comesAgain says whether a member's key comes again behind it. The engine keeps the last member of a key alone.
+func comesAgain(members []lines.Member, last map[string]int, at int) bool {
+	if last != nil {
+		return last[members[at].Key] != at
+	}
+	for _, other := range members[at+1:] {
+		if other.Key == members[at].Key {
+			return true
+		}
+	}
+	return false
 }
 
 // pointer is a JSON Pointer with the names of the file.

@@ -18,6 +18,7 @@ import (
 type caller struct {
 	// client is the name under which its requests keep their order; empty where they keep none.
 	client string
+	// mayPut says that a PUT of it is taken.
 	mayPut bool
 }
 
@@ -106,7 +107,7 @@ func (s *Service) caller(r *http.Request) (caller, *problem) {
 	}
 	all := s.tokens.Load()
 	if all == nil {
-		return caller{client: named, mayPut: isLocal(r)}, nil
+		return caller{client: named, mayPut: r.Method == http.MethodPut && isLocal(r)}, nil
 	}
 	scheme, sent, _ := strings.Cut(r.Header.Get("Authorization"), " ")
 	it, is := (*all)[sha256.Sum256([]byte(strings.TrimSpace(sent)))]

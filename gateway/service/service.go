@@ -9,6 +9,7 @@ import (
 	"net/http"
 	"os"
 	"path/filepath"
+	"runtime"
 	"runtime/debug"
 	"sync"
 	"sync/atomic"
@@ -53,10 +54,38 @@ const (
 	heapLimit      = 512 << 20
 )
 
-// Run serves until the context ends and what was taken is answered.
-func Run(ctx context.Context, options Options) error {
+// leastAtOnce is on how many processors this program runs at once at least, so that a long body holds up no small one.
+const leastAtOnce = 2
+
+// atOnce is on how many processors this program runs at once, of those that there are: on half of them, or on all that the
+// engines leave. On more its threads take time from the engines to wake each other for little.
+func atOnce(processors, engines int) int {
+	number := processors - engines
+	if half := processors / 2; number < half {
+		number = half
+	}
+	if number < leastAtOnce {
+		number = leastAtOnce
+	}
+	if number > processors {
+		number = processors
+	}
+	return number
+}
+
+// setRuntime tells Go's runtime how many processors and how much memory to use. The environment may say otherwise of the
+// processors.
+func setRuntime(engines int) {
 	debug.SetGCPercent(garbagePercent)
 	debug.SetMemoryLimit(heapLimit)
+	if os.Getenv("GOMAXPROCS") == "" {
+		runtime.GOMAXPROCS(atOnce(runtime.NumCPU(), engines))
+	}
+}
+
+// Run serves until the context ends and what was taken is answered.
+func Run(ctx context.Context, options Options) error {
+	setRuntime(options.Processes)
 	s, err := newService(ctx, options)
 	if err == nil {
 		err = s.begin(ctx)
