@@ -1,5 +1,5 @@
 -- Names with values, found by a map, one binding after the other.
-use Rattle.std.proofs.Common.{◌≡◌, ◌∙◌, sym, ap, refl, subst, ℕ, suc, ◌<◌, ◌≤◌, Bool, true, false, List, [], ◌∷◌, ◌++◌, take, length, get_or, Option, Some, None, Result, Ok, Err, Global, bytes_eq, if◌then◌else◌, arith, inl, inr, Ordering}
+use Rattle.std.proofs.Common.{◌≡◌, ◌∙◌, sym, ap, refl, subst, ℕ, ◌<◌, ◌≤◌, Bool, true, false, List, [], ◌∷◌, ◌++◌, take, length, get_or, Option, Some, None, Result, Ok, Err, Global, bytes_eq, if◌then◌else◌, arith, inl, inr, Ordering}
 use Rattle.feel_value.specs.Datum.{Datum}
 use Rattle.std.specs.Prelude.{IsSome, OnOk, OnErr}
 use Rattle.std.specs.BTreeMap.{BTreeMap, get, is_at, Updates, UpdatesBy}

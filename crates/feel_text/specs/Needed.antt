@@ -1,4 +1,4 @@
--- Needed names by places. Internal to this crate are `names_of` and `IsListed`; `AreLent` stands behind `lent_to` in `feel_eval`.
+-- Internal but for `Places`, `bindings_from`, `found_at`, `is_found`, `need_at`, `named_places` and `lent_to`: needed names by places.
 use Rattle.std.specs.Prelude.{◌≡◌, ◌<◌, ◌≤◌, ◌^◌, ℕ, List, [], map, length, slice_index_or, Bool, Option, Some, is_some, IsTrue, unwrap_or}
 use Rattle.std.specs.List.{slice_get}
 use Rattle.feel_value.specs.Datum.{Datum, null}
