@@ -6,5 +6,5 @@ pub const VERSION: &str = concat!(
     "0.13.0\n",
     "licence MIT OR Apache-2.0\n",
     "proved with rattle-kit-13f logic dac8208d650f15bf\n",
-    "sources 67ac0d41642790564ea5c49d023d08b80762a82a95e1fed9c9adef188d5b18c7",
+    "sources 68e7ceaab7234139e68dcc6f4ba8663e97218abcb664e1e02f3164644066fc71",
 );

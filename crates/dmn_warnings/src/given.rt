@@ -6,20 +6,16 @@ use dmn_form::{WrittenColumn, WrittenDecision, WrittenLogic, WrittenModel, Writt
 use std::alloc::{AllocError, Global};
 use std::collections::{BTreeMap, BTreeSet};
 
-/// An entry of a decision's value, or the value itself.
-#[derive(Drop)]
-struct Entry<'m> {
-    name: &'m str,
-    /// The literals that come under it, beside null; None where other values may come.
-    literals: Option<BTreeSet<String>>,
-}
+/// The literals that come under an entry or as a value, beside null; None where other values may come.
+type Literals = Option<BTreeSet<String>>;
 
 /// What is known of a decision's value.
 #[derive(Drop)]
-struct Gives<'m> {
-    /// It is a context of the entries, and otherwise what stands under the only one.
-    is_context: bool,
-    entries: Vec<Entry<'m>>,
+enum Gives<'m> {
+    /// It is no context of known entries.
+    Value(Literals),
+    /// It is a context of these entries.
+    Context(BTreeMap<&'m str, Literals>),
 }
 
 /// What the decisions of a model give, as far as it is known, by their names. Of one whose value a request may bring nothing is.
@@ -70,34 +66,27 @@ fn gives_of_table(alloc: Global, table: &WrittenTable) -> Result<Option<Gives<'_
     if !matches!(table.hit.as_str(), "U" | "A" | "P" | "F") {
         return Ok(None);
     }
-    let mut entries = Vec::new(alloc);
+    if let [column] = table.outputs.as_slice() {
+        let literals = literals_of(alloc, table, 0, column)?;
+        return Ok(Some(Gives::Value(literals)));
+    }
+    let mut entries = BTreeMap::new(alloc);
     for (index, column) in table.outputs.iter().enumerate() {
         let literals = literals_of(alloc, table, index, column)?;
-        let name = column.name.as_str();
-        entries.push(Entry { name, literals })?;
+        entries.insert(column.name.as_str(), literals)?;
     }
-    let is_context = entries.len() > 1;
-    Ok(Some(Gives {
-        is_context,
-        entries,
-    }))
+    Ok(Some(Gives::Context(entries)))
 }
 
 fn gives_of_context(
     alloc: Global,
     written: &[(String, WrittenLogic)],
 ) -> Result<Gives<'_>, AllocError> {
-    let mut entries = Vec::new(alloc);
+    let mut entries = BTreeMap::new(alloc);
     for (name, _) in written {
-        let name = name.as_str();
-        let literals = None;
-        entries.push(Entry { name, literals })?;
+        entries.insert(name.as_str(), None)?;
     }
-    let is_context = true;
-    Ok(Gives {
-        is_context,
-        entries,
-    })
+    Ok(Gives::Context(entries))
 }
 
 fn gives_of(alloc: Global, decision: &WrittenDecision) -> Result<Option<Gives<'_>>, AllocError> {
@@ -120,34 +109,20 @@ fn brought(alloc: Global, model: &WrittenModel) -> Result<BTreeSet<&str>, AllocE
 }
 
 impl<'m> Gives<'m> {
-    /// What stands under an entry, or the value itself where no entry is asked for.
-    fn find(&self, entry: Option<&str>) -> Option<&Entry<'m>> {
-        let Some(name) = entry else {
-            return if self.is_context {
-                None
-            } else {
-                self.entries.first()
-            };
-        };
-        if !self.is_context {
-            return None;
+    /// The literals under an entry, or of the value itself where no entry is asked for; None where they are not known.
+    fn literals(&self, entry: Option<&str>) -> Option<&BTreeSet<String>> {
+        match (self, entry) {
+            (Gives::Value(literals), None) => literals.as_ref(),
+            (Gives::Context(entries), Some(name)) => entries.get(name)?.as_ref(),
+            _ => None,
         }
-        for entry in &self.entries {
-            if entry.name == name {
-                return Some(entry);
-            }
-        }
-        None
     }
 
     /// Whether a path to this entry is null, whatever the value is.
     fn lacks(&self, entry: &str) -> bool {
-        if self.is_context {
-            return self.find(Some(entry)).is_none();
-        }
-        match self.entries.first() {
-            Some(value) => value.literals.is_some(),
-            None => false,
+        match self {
+            Gives::Value(literals) => literals.is_some(),
+            Gives::Context(entries) => !entries.contains_key(entry),
         }
     }
 }
@@ -175,7 +150,7 @@ impl<'m> Given<'m> {
         entry: Option<&str>,
     ) -> Option<&BTreeSet<String>> {
         let gives = self.decisions.get(decision)?;
-        gives.find(entry)?.literals.as_ref()
+        gives.literals(entry)
     }
 
     /// Whether a path from a decision's value to this entry is null, whatever the value is.
@@ -188,13 +163,12 @@ impl<'m> Given<'m> {
 
     /// An entry of a decision's value whose name differs from this one by one letter.
     pub(crate) fn near(&self, decision: &str, entry: &str) -> Option<&'m str> {
-        let gives = self.decisions.get(decision)?;
-        if !gives.is_context {
+        let Gives::Context(entries) = self.decisions.get(decision)? else {
             return None;
-        }
-        for known in &gives.entries {
-            if is_near(known.name, entry) {
-                return Some(known.name);
+        };
+        for (known, _) in entries {
+            if is_near(known, entry) {
+                return Some(*known);
             }
         }
         None
