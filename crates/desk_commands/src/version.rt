@@ -6,5 +6,5 @@ pub const VERSION: &str = concat!(
     "0.12.1\n",
     "licence MIT OR Apache-2.0\n",
     "proved with rattle-kit-13f logic dac8208d650f15bf\n",
-    "sources 7ecd1ffa20fcc91b3763218297a0670776551816aeacdd96abc99a7dc045da1f",
+    "sources 63d2e47ad2847618e8f085f6d7ffef7c984d9e69d35257e5947c83d11304bf19",
 );
