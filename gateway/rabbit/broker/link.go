@@ -15,7 +15,8 @@ import (
 const (
 	heartbeat   = 10 * time.Second
 	dialTimeout = 5 * time.Second
-	closePause  = time.Second // how long a connection may take to end in good order
+	dialTurn    = 500 * time.Millisecond // how long a broker has until the next is tried beside it
+	closePause  = time.Second            // how long a connection may take to end in good order
 	// Patience is how long the broker may take to do what it is asked for.
 	Patience = 30 * time.Second
 )
@@ -30,19 +31,52 @@ type Link struct {
 	err        error
 }
 
-// Connect connects to one of the brokers, the first in random order that can be reached. The link fails where the
-// context ends.
+// ErrAway tells that no broker can be reached.
+var ErrAway = errors.New("no broker can be reached")
+
+type dialed struct {
+	link *Link
+	err  error
+}
+
+// Connect connects to one of the brokers, in random order. One that does not answer at once holds nothing up: the next
+// is tried beside it. The link fails where the context ends.
 func Connect(ctx context.Context, settings Settings, name string) (*Link, error) {
+	order, open := rand.Perm(len(settings.Addresses)), 0
+	results := make(chan dialed, len(order))
 	var last error
-	for _, at := range rand.Perm(len(settings.Addresses)) {
-		link, err := dial(ctx, settings.Addresses[at], name)
-		if err == nil {
-			go link.watch(ctx)
-			return link, nil
+	for len(order) > 0 || open > 0 {
+		var turn <-chan time.Time
+		if len(order) > 0 {
+			go func(address string) {
+				link, err := dial(ctx, address, name)
+				results <- dialed{link, err}
+			}(settings.Addresses[order[0]])
+			order, open = order[1:], open+1
+			turn = time.After(dialTurn)
 		}
-		last = err
+		select {
+		case <-turn:
+		case result := <-results:
+			open--
+			if result.err == nil {
+				go closeOthers(results, open)
+				go result.link.watch(ctx)
+				return result.link, nil
+			}
+			last = result.err
+		}
 	}
-	return nil, fmt.Errorf("no broker can be reached: %w", last)
+	return nil, fmt.Errorf("%w: %v", ErrAway, last)
+}
+
+// closeOthers closes the connections that came too late.
+func closeOthers(results <-chan dialed, open int) {
+	for ; open > 0; open-- {
+		if result := <-results; result.err == nil {
+			result.link.Close()
+		}
+	}
 }
 
 func dial(ctx context.Context, address, name string) (*Link, error) {
@@ -130,7 +164,7 @@ func (l *Link) Err() error { return l.err }
 func (l *Link) Channel() (*amqp.Channel, error) {
 	channel, err := l.connection.Channel()
 	if err != nil {
-		return nil, l.because(fmt.Errorf("opening a channel: %w", err))
+		return nil, l.Because(fmt.Errorf("opening a channel: %w", err))
 	}
 	closed := channel.NotifyClose(make(chan *amqp.Error, 1))
 	go func() {
@@ -141,8 +175,8 @@ func (l *Link) Channel() (*amqp.Channel, error) {
 	return channel, nil
 }
 
-// because is the reason why the link failed, if it has, and otherwise the error.
-func (l *Link) because(err error) error {
+// Because is the reason why the link failed, if it has, and otherwise the error.
+func (l *Link) Because(err error) error {
 	select {
 	case <-l.done:
 		return l.err
@@ -162,7 +196,7 @@ func (l *Link) DeclareStreams(settings Settings, partition int) error {
 	for _, kind := range []Kind{Lines, Answers} {
 		queue := settings.Queue(kind, partition)
 		if _, err := channel.QueueDeclare(queue, true, false, false, false, stream); err != nil {
-			return l.because(fmt.Errorf("queue %s: %w", queue, err))
+			return l.Because(fmt.Errorf("queue %s: %w", queue, err))
 		}
 	}
 	return nil
