@@ -1,0 +1,63 @@
+package lease
+
+import (
+	"context"
+	"strings"
+	"testing"
+	"time"
+
+	"gateway/rabbit/broker"
+	"gateway/rabbit/fake"
+)
+
+func connected(t *testing.T, b *fake.Broker, partitions int) (*broker.Link, broker.Settings) {
+	t.Helper()
+	ctx, stop := context.WithCancel(context.Background())
+	t.Cleanup(stop)
+	settings := broker.Settings{Addresses: []string{b.Address}, Partitions: partitions}
+	link, err := broker.Connect(ctx, settings, "test")
+	if err != nil {
+		t.Fatal(err)
+	}
+	t.Cleanup(link.Close)
+	return link, settings
+}
+
+// A partition that is free is taken at once, also where the queues of others do not confirm.
+func TestALeaseBesideQueuesThatDoNotConfirm(t *testing.T) {
+	b := fake.Start(t)
+	b.Confirms = func(queue string) bool { return fake.Is(queue, "lease", "3") }
+	b.Full = func(queue string) bool { return fake.Is(queue, "lease", "3") }
+	link, settings := connected(t, b, 8)
+	begun := time.Now()
+	held, err := Wait(context.Background(), link, settings)
+	if err != nil || held.Partition != 3 || time.Since(begun) > 5*time.Second {
+		t.Errorf("%+v, %v, after %v", held, err, time.Since(begun))
+	}
+}
+
+// The partitions that were asked for are given up once one is held.
+func TestTheOthersAreGivenUp(t *testing.T) {
+	b := fake.Start(t)
+	b.Full = func(queue string) bool { return fake.Is(queue, "lease", "1") || fake.Is(queue, "lease", "2") }
+	link, settings := connected(t, b, 4)
+	held, err := Wait(context.Background(), link, settings)
+	if err != nil {
+		t.Fatal(err)
+	}
+	for begun := time.Now(); len(b.Cancelled()) < 3; time.Sleep(10 * time.Millisecond) {
+		if time.Since(begun) > 10*time.Second {
+			t.Fatalf("partition %d is held, and only %v are given up", held.Partition, b.Cancelled())
+		}
+	}
+}
+
+// Where the broker ends the waiting for a lease, all is begun anew.
+func TestAWaitingThatTheBrokerEnds(t *testing.T) {
+	b := fake.Start(t)
+	b.Ends = func(queue string) bool { return fake.Is(queue, "lease", "1") }
+	link, settings := connected(t, b, 2)
+	if _, err := Wait(context.Background(), link, settings); err == nil || !strings.Contains(err.Error(), "partition 1") {
+		t.Error(err)
+	}
+}
