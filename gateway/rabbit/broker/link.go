@@ -4,7 +4,6 @@ import (
 	"context"
 	"errors"
 	"fmt"
-	"math/rand"
 	"net"
 	"sync"
 	"time"
@@ -24,6 +23,7 @@ const (
 // A Link is a connection to one of the brokers. It fails as a whole: where a channel, a message or a wait fails, all
 // of it ends, and the work is begun anew on another.
 type Link struct {
+	Address    string // of the broker
 	connection *amqp.Connection
 	socket     net.Conn
 	done       chan struct{}
@@ -42,7 +42,7 @@ type dialed struct {
 // Connect connects to one of the brokers, in random order. One that does not answer at once holds nothing up: the next
 // is tried beside it. The link fails where the context ends.
 func Connect(ctx context.Context, settings Settings, name string) (*Link, error) {
-	order, open := rand.Perm(len(settings.Addresses)), 0
+	order, open := settings.order(), 0
 	results := make(chan dialed, len(order))
 	var last error
 	for len(order) > 0 || open > 0 {
@@ -51,7 +51,7 @@ func Connect(ctx context.Context, settings Settings, name string) (*Link, error)
 			go func(address string) {
 				link, err := dial(ctx, address, name)
 				results <- dialed{link, err}
-			}(settings.Addresses[order[0]])
+			}(order[0])
 			order, open = order[1:], open+1
 			turn = time.After(dialTurn)
 		}
@@ -80,7 +80,7 @@ func closeOthers(results <-chan dialed, open int) {
 }
 
 func dial(ctx context.Context, address, name string) (*Link, error) {
-	link := &Link{done: make(chan struct{})}
+	link := &Link{Address: address, done: make(chan struct{})}
 	properties := amqp.NewConnectionProperties()
 	properties["connection_name"] = name
 	connection, err := amqp.DialConfig(address, amqp.Config{

@@ -69,8 +69,8 @@ func (t *taker) own(ctx context.Context) error {
 	return nil
 }
 
-// take takes a partition over. Where a broker does nothing for a while it fails, to be begun anew, and next time has twice
-// as much patience.
+// take takes a partition over. Where a broker does nothing for a while it fails, to be begun anew at another one, and next
+// time has twice as much patience.
 func (t *taker) take(link *broker.Link, partition int) (*owner, error) {
 	log := prefixed{t.options.Log, fmt.Sprintf("partition %d: ", partition)}
 	patience := t.patience
@@ -79,10 +79,10 @@ func (t *taker) take(link *broker.Link, partition int) (*owner, error) {
 	s.end()
 	if err != nil {
 		fmt.Fprintf(log, "not taken over, after %v: %v\n", s, err)
-		t.patience = longer(t.patience)
+		t.patience, t.options.Settings.Last = longer(t.patience), link.Address
 		return nil, err
 	}
-	t.patience = firstPatience
+	t.patience, t.options.Settings.Last = firstPatience, ""
 	fmt.Fprintf(log, "goes on behind line %v, after %v\n", o.intake.upto, s)
 	return o, nil
 }
