@@ -43,8 +43,8 @@ func Wait(ctx context.Context, link *broker.Link, settings broker.Settings) (*Le
 		return nil, fmt.Errorf("the lease: %w", err)
 	}
 	w := &waiting{link: link, channel: channel, publisher: publisher, settings: settings, won: make(chan *Lease, settings.Partitions),
-		enough: make(chan struct{}), asked: make(chan error, 1)}
-	go func() { w.asked <- w.ask() }()
+		enough: make(chan struct{}), asked: make(chan struct{}), faults: make(chan error, 1)}
+	go w.ask()
 	return w.wait(ctx)
 }
 
@@ -57,33 +57,39 @@ type waiting struct {
 	settings  broker.Settings
 	won       chan *Lease
 	enough    chan struct{} // is closed once a lease is won
-	asked     chan error    // has a value once no more are asked for
+	asked     chan struct{} // is closed once no more are asked for
+	faults    chan error    // has a value where asking has failed
 }
 
 func (w *waiting) wait(ctx context.Context) (*Lease, error) {
-	asked := w.asked
-	for {
-		select {
-		case lease := <-w.won:
-			close(w.enough)
-			go w.giveUp(lease, asked)
-			go lease.keep()
-			return lease, nil
-		case err := <-asked:
-			if err != nil {
-				return nil, err
-			}
-			asked = nil
-		case <-w.link.Done():
-			return nil, w.link.Err()
-		case <-ctx.Done():
-			return nil, ctx.Err()
-		}
+	select {
+	case lease := <-w.won:
+		close(w.enough)
+		go w.giveUp(lease)
+		go lease.keep()
+		return lease, nil
+	case err := <-w.faults:
+		return nil, err
+	case <-w.link.Done():
+		return nil, w.link.Err()
+	case <-ctx.Done():
+		return nil, ctx.Err()
 	}
 }
 
-// ask asks for the leases, until one is won. It waits for confirms once it has asked for all.
-func (w *waiting) ask() error {
+// ask asks for the leases, until one is won. Once it has asked for all, it waits for the confirms.
+func (w *waiting) ask() {
+	err := w.askAll()
+	close(w.asked)
+	if err == nil && !w.isEnough() {
+		err = w.publisher.Settle()
+	}
+	if err != nil {
+		w.faults <- err
+	}
+}
+
+func (w *waiting) askAll() error {
 	for _, partition := range rand.Perm(w.settings.Partitions) {
 		if w.isEnough() {
 			return nil
@@ -93,7 +99,7 @@ func (w *waiting) ask() error {
 			return fmt.Errorf("queue %s: %w", lease.queue, err)
 		}
 	}
-	return w.publisher.Settle()
+	return nil
 }
 
 // askFor asks for a lease; it is handed over through won once it is this process's.
@@ -140,13 +146,11 @@ func (w *waiting) isEnough() bool {
 
 // giveUp gives up the other partitions, once no more are asked for, and then gives back what was won of them: before, it
 // would come back.
-func (w *waiting) giveUp(held *Lease, asked <-chan error) {
-	if asked != nil {
-		select {
-		case <-asked:
-		case <-w.link.Done():
-			return
-		}
+func (w *waiting) giveUp(held *Lease) {
+	select {
+	case <-w.asked:
+	case <-w.link.Done():
+		return
 	}
 	for partition := 0; partition < w.settings.Partitions; partition++ {
 		if partition == held.Partition {

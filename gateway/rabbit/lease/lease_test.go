@@ -23,7 +23,7 @@ func connected(t *testing.T, b *fake.Broker, partitions int) (*broker.Link, brok
 	return link, settings
 }
 
-// A partition that is free is taken at once, also where the queues of others do not confirm.
+// A partition that is free is taken at once, also where the queues of others do not confirm, and these are given up.
 func TestALeaseBesideQueuesThatDoNotConfirm(t *testing.T) {
 	b := fake.Start(t)
 	b.Confirms = func(queue string) bool { return fake.Is(queue, "lease", "3") }
@@ -32,7 +32,18 @@ func TestALeaseBesideQueuesThatDoNotConfirm(t *testing.T) {
 	begun := time.Now()
 	held, err := Wait(context.Background(), link, settings)
 	if err != nil || held.Partition != 3 || time.Since(begun) > 5*time.Second {
-		t.Errorf("%+v, %v, after %v", held, err, time.Since(begun))
+		t.Fatalf("%+v, %v, after %v", held, err, time.Since(begun))
+	}
+	givenUp(t, b, 7)
+}
+
+// givenUp waits until so many consumers were cancelled.
+func givenUp(t *testing.T, b *fake.Broker, count int) {
+	t.Helper()
+	for begun := time.Now(); len(b.Cancelled()) < count; time.Sleep(10 * time.Millisecond) {
+		if time.Since(begun) > 10*time.Second {
+			t.Fatalf("only %v are given up", b.Cancelled())
+		}
 	}
 }
 
@@ -41,15 +52,10 @@ func TestTheOthersAreGivenUp(t *testing.T) {
 	b := fake.Start(t)
 	b.Full = func(queue string) bool { return fake.Is(queue, "lease", "1") || fake.Is(queue, "lease", "2") }
 	link, settings := connected(t, b, 4)
-	held, err := Wait(context.Background(), link, settings)
-	if err != nil {
+	if _, err := Wait(context.Background(), link, settings); err != nil {
 		t.Fatal(err)
 	}
-	for begun := time.Now(); len(b.Cancelled()) < 3; time.Sleep(10 * time.Millisecond) {
-		if time.Since(begun) > 10*time.Second {
-			t.Fatalf("partition %d is held, and only %v are given up", held.Partition, b.Cancelled())
-		}
-	}
+	givenUp(t, b, 3)
 }
 
 // Where the broker ends the waiting for a lease, all is begun anew.

@@ -268,8 +268,8 @@ func (w *work) tellBegun() {
 		return
 	}
 	now := time.Now()
-	fmt.Fprintf(w.log, "the engine has begun, after %v (its start %v)\n", now.Sub(w.taken).Round(time.Millisecond),
-		now.Sub(w.started).Round(time.Millisecond))
+	fmt.Fprintf(w.log, "the engine has begun, %v behind the log, %v after its start\n",
+		now.Sub(w.taken).Round(time.Millisecond), now.Sub(w.started).Round(time.Millisecond))
 	w.taken = time.Time{}
 }
 
