@@ -185,19 +185,23 @@ func (l *Link) Because(err error) error {
 	}
 }
 
-// DeclareStreams makes the streams of a partition that aren't there.
+// DeclareStreams makes the streams of a partition that aren't there. The broker isn't asked for how many messages they
+// have: it would ask the node of a stream's leader, and wait for it without end. That the channel ends in good order says
+// that all is done.
 func (l *Link) DeclareStreams(settings Settings, partition int) error {
 	channel, err := l.Channel()
 	if err != nil {
 		return err
 	}
-	defer channel.Close()
 	stream := amqp.Table{"x-queue-type": "stream", "x-queue-leader-locator": "least-leaders"}
 	for _, kind := range []Kind{Lines, Answers} {
 		queue := settings.Queue(kind, partition)
-		if _, err := channel.QueueDeclare(queue, true, false, false, false, stream); err != nil {
+		if _, err := channel.QueueDeclare(queue, true, false, false, true, stream); err != nil {
 			return l.Because(fmt.Errorf("queue %s: %w", queue, err))
 		}
+	}
+	if err := channel.Close(); err != nil {
+		return l.Because(fmt.Errorf("the streams of partition %d: %w", partition, err))
 	}
 	return nil
 }

@@ -34,3 +34,25 @@ func TestNoBroker(t *testing.T) {
 		t.Errorf("%v", err)
 	}
 }
+
+// Streams whose leader does not tell how many messages there are hold nothing up.
+func TestStreamsThatAreNotCounted(t *testing.T) {
+	b := fake.Start(t)
+	b.Counts = func(string) bool { return false }
+	settings := Settings{Addresses: []string{b.Address}, Partitions: 1}
+	link, err := Connect(context.Background(), settings, "test")
+	if err != nil {
+		t.Fatal(err)
+	}
+	defer link.Close()
+	done := make(chan error, 1)
+	go func() { done <- link.DeclareStreams(settings, 0) }()
+	select {
+	case err := <-done:
+		if err != nil {
+			t.Error(err)
+		}
+	case <-time.After(5 * time.Second):
+		t.Error("it waits")
+	}
+}

@@ -19,6 +19,8 @@ type Broker struct {
 	Confirms func(queue string) bool
 	// Full tells of a queue whether its first consumer is handed a message.
 	Full func(queue string) bool
+	// Counts tells of a queue whether the broker knows how many messages it has; otherwise it tells nothing of it to who asks.
+	Counts func(queue string) bool
 	// Ends tells of a queue whether its consumers are ended, as where it is deleted.
 	Ends func(queue string) bool
 
@@ -28,8 +30,8 @@ type Broker struct {
 
 // Start starts a broker that ends with the test.
 func Start(t *testing.T) *Broker {
-	never := func(string) bool { return false }
-	b := &Broker{Confirms: func(string) bool { return true }, Full: never, Ends: never}
+	always, never := func(string) bool { return true }, func(string) bool { return false }
+	b := &Broker{Confirms: always, Counts: always, Full: never, Ends: never}
 	b.Address = "amqp://" + listen(t, b.serve)
 	return b
 }
@@ -75,6 +77,7 @@ const (
 	frameMethod = 1
 	frameHeader = 2
 	frameEnd    = 0xCE
+	noWait      = 16 // of the bits of a queue's declaration
 )
 
 // A session is a connection.
@@ -125,7 +128,12 @@ func (s *session) take(channel uint16, m method, rest []byte) {
 	case method{85, 10}, method{60, 10}, method{20, 40}, method{10, 50}: // confirms, a window, an end
 		s.send(channel, method{m.class, m.number + 1})
 	case method{50, 10}: // a queue
-		s.send(channel, method{50, 11}, short(text(rest[2:])), make([]byte, 8))
+		queue := text(rest[2:])
+		if isWaiting := rest[3+len(queue)]&noWait == 0; isWaiting && !s.broker.Counts(queue) {
+			return
+		} else if isWaiting {
+			s.send(channel, method{50, 11}, short(queue), make([]byte, 8))
+		}
 	case method{60, 40}: // a message
 		exchange := text(rest[2:])
 		s.queue = text(rest[3+len(exchange):])

@@ -102,17 +102,18 @@ func (w *waiting) askAll() error {
 	return nil
 }
 
-// askFor asks for a lease; it is handed over through won once it is this process's.
+// askFor asks for a lease; it is handed over through won once it is this process's. The broker isn't asked for how many
+// messages the queue has, which its leader would have to tell.
 func (w *waiting) askFor(l *Lease) error {
 	arguments := amqp.Table{"x-queue-type": "quorum", "x-single-active-consumer": true, "x-max-length": int64(1)}
-	if _, err := w.channel.QueueDeclare(l.queue, true, false, false, false, arguments); err != nil {
-		return err
-	}
-	if err := w.publisher.Publish(l.queue, nil, nil); err != nil { // a second message is dropped
+	if _, err := w.channel.QueueDeclare(l.queue, true, false, false, true, arguments); err != nil {
 		return err
 	}
 	deliveries, err := w.channel.Consume(l.queue, strconv.Itoa(l.Partition), false, false, false, false, nil)
 	if err != nil {
+		return err
+	}
+	if err := w.publisher.Publish(l.queue, nil, nil); err != nil { // a second message is dropped
 		return err
 	}
 	l.deliveries = deliveries

@@ -28,6 +28,7 @@ func TestALeaseBesideQueuesThatDoNotConfirm(t *testing.T) {
 	b := fake.Start(t)
 	b.Confirms = func(queue string) bool { return fake.Is(queue, "lease", "3") }
 	b.Full = func(queue string) bool { return fake.Is(queue, "lease", "3") }
+	b.Counts = b.Confirms
 	link, settings := connected(t, b, 8)
 	begun := time.Now()
 	held, err := Wait(context.Background(), link, settings)
