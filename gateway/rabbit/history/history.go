@@ -28,10 +28,11 @@ type History struct {
 // Upto is the place up to which all is answered.
 func (h *History) Upto() ledger.Place { return h.chain.Upto }
 
-// firstStep is how many messages are read back first, and step how many times more each time.
+// firstStep is how many messages are read back first, and step how many times more each time. A small snapshot is among
+// the first, and a large one among those of the second step, where messages of others are few.
 const (
-	firstStep = 128
-	step      = 8
+	firstStep = 160
+	step      = 7
 )
 
 // Mark is a name that no other mark has.

@@ -18,8 +18,8 @@ const (
 	snapshotBytes    = 4 << 20
 	snapshotFactor   = 4
 	snapshotMessages = 1000
-	smallMessages    = 100
-	smallSnapshot    = 64 << 10
+	smallMessages    = 150
+	smallSnapshot    = 128 << 10
 	snapshotPause    = time.Hour
 	firstPause       = time.Minute
 )
