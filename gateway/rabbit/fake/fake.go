@@ -21,6 +21,8 @@ type Broker struct {
 	Full func(queue string) bool
 	// Counts tells of a queue whether the broker knows how many messages it has; otherwise it tells nothing of it to who asks.
 	Counts func(queue string) bool
+	// Refuses tells of a queue whether it can't be read, as a stream without a copy at this broker.
+	Refuses func(queue string) bool
 	// Ends tells of a queue whether its consumers are ended, as where it is deleted.
 	Ends func(queue string) bool
 
@@ -31,7 +33,7 @@ type Broker struct {
 // Start starts a broker that ends with the test.
 func Start(t *testing.T) *Broker {
 	always, never := func(string) bool { return true }, func(string) bool { return false }
-	b := &Broker{Confirms: always, Counts: always, Full: never, Ends: never}
+	b := &Broker{Confirms: always, Counts: always, Full: never, Refuses: never, Ends: never}
 	b.Address = "amqp://" + listen(t, b.serve)
 	return b
 }
@@ -140,6 +142,10 @@ func (s *session) take(channel uint16, m method, rest []byte) {
 	case method{60, 20}: // a consumer
 		queue := text(rest[2:])
 		tag := text(rest[3+len(queue):])
+		if s.broker.Refuses(queue) {
+			s.send(channel, method{20, 40}, []byte{406 >> 8, 406 & 255}, short("no copy is here"), []byte{0, 60, 0, 20})
+			return
+		}
 		s.send(channel, method{60, 21}, short(tag))
 		if s.broker.Full(queue) {
 			s.deliver(channel, tag, queue)

@@ -4,6 +4,7 @@ package partition
 
 import (
 	"context"
+	"errors"
 	"fmt"
 	"io"
 	"os"
@@ -69,17 +70,20 @@ func (t *taker) own(ctx context.Context) error {
 	return nil
 }
 
-// take takes a partition over. Where a broker does nothing for a while it fails, to be begun anew at another one, and next
-// time has twice as much patience.
+// take takes a partition over. Where a broker does nothing for a while it fails, and next time has twice as much patience.
+// Where it fails, whatever the reason, it is begun anew at another broker.
 func (t *taker) take(link *broker.Link, partition int) (*owner, error) {
 	log := prefixed{t.options.Log, fmt.Sprintf("partition %d: ", partition)}
-	patience := t.patience
-	s := beginSteps(patience, func() { link.Fail(fmt.Errorf("the broker did nothing for %v in a takeover", patience)) })
+	late := fmt.Errorf("the broker did nothing for %v in a takeover", t.patience)
+	s := beginSteps(t.patience, func() { link.Fail(late) })
 	o, err := begin(link, t.options, partition, log, s)
 	s.end()
 	if err != nil {
 		fmt.Fprintf(log, "not taken over, after %v: %v\n", s, err)
-		t.patience, t.options.Settings.Last = longer(t.patience), link.Address
+		if errors.Is(err, late) {
+			t.patience = longer(t.patience)
+		}
+		t.options.Settings.Last = link.Address
 		return nil, err
 	}
 	t.patience, t.options.Settings.Last = firstPatience, ""
