@@ -5,6 +5,7 @@ import (
 	"errors"
 	"fmt"
 	"net"
+	"strings"
 	"sync"
 	"time"
 
@@ -185,15 +186,22 @@ func (l *Link) Because(err error) error {
 	}
 }
 
-// DeclareStreams makes the streams of a partition that aren't there. The broker isn't asked for how many messages they
-// have: it would ask the node of a stream's leader, and wait for it without end. That the channel ends in good order says
-// that all is done.
-func (l *Link) DeclareStreams(settings Settings, partition int) error {
+// SegmentBytes is how long a file of a stream gets. A broker that becomes the leader of a stream reads the newest file
+// message by message before it does anything else, which takes long with the 500 MB that are RabbitMQ's own.
+const SegmentBytes = 16 << 20
+
+// DeclareStreams makes the streams of a partition that aren't there, with files so long, or as long as RabbitMQ makes them
+// where that is 0. The broker isn't asked for how many messages they have: it would ask the node of a stream's leader, and
+// wait for it without end. That the channel ends in good order says that all is done.
+func (l *Link) DeclareStreams(settings Settings, partition int, segment int64) error {
 	channel, err := l.Channel()
 	if err != nil {
 		return err
 	}
 	stream := amqp.Table{"x-queue-type": "stream", "x-queue-leader-locator": "least-leaders"}
+	if segment > 0 {
+		stream["x-stream-max-segment-size-bytes"] = segment
+	}
 	for _, kind := range []Kind{Lines, Answers} {
 		queue := settings.Queue(kind, partition)
 		if _, err := channel.QueueDeclare(queue, true, false, false, true, stream); err != nil {
@@ -204,4 +212,10 @@ func (l *Link) DeclareStreams(settings Settings, partition int) error {
 		return l.Because(fmt.Errorf("the streams of partition %d: %w", partition, err))
 	}
 	return nil
+}
+
+// IsOther tells of a failure whether a queue is there with other arguments than it was declared with.
+func IsOther(failure error) bool {
+	var reason *amqp.Error
+	return errors.As(failure, &reason) && reason.Code == amqp.PreconditionFailed && strings.Contains(reason.Reason, "inequivalent arg")
 }

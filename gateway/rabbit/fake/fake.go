@@ -19,6 +19,8 @@ type Broker struct {
 	Confirms func(queue string) bool
 	// Full tells of a queue whether its first consumer is handed a message.
 	Full func(queue string) bool
+	// Other tells of a queue whether it was made with other arguments.
+	Other func(queue string) bool
 	// Counts tells of a queue whether the broker knows how many messages it has; otherwise it tells nothing of it to who asks.
 	Counts func(queue string) bool
 	// Refuses tells of a queue whether it can't be read, as a stream without a copy at this broker.
@@ -33,7 +35,7 @@ type Broker struct {
 // Start starts a broker that ends with the test.
 func Start(t *testing.T) *Broker {
 	always, never := func(string) bool { return true }, func(string) bool { return false }
-	b := &Broker{Confirms: always, Counts: always, Full: never, Refuses: never, Ends: never}
+	b := &Broker{Confirms: always, Counts: always, Full: never, Refuses: never, Ends: never, Other: never}
 	b.Address = "amqp://" + listen(t, b.serve)
 	return b
 }
@@ -131,6 +133,10 @@ func (s *session) take(channel uint16, m method, rest []byte) {
 		s.send(channel, method{m.class, m.number + 1})
 	case method{50, 10}: // a queue
 		queue := text(rest[2:])
+		if s.broker.Other(queue) {
+			s.send(channel, method{20, 40}, []byte{406 >> 8, 406 & 255}, short("PRECONDITION_FAILED - inequivalent arg"), []byte{0, 50, 0, 10})
+			return
+		}
 		if isWaiting := rest[3+len(queue)]&noWait == 0; isWaiting && !s.broker.Counts(queue) {
 			return
 		} else if isWaiting {

@@ -32,7 +32,7 @@ type Options struct {
 
 // Run owns partitions until the context ends.
 func Run(ctx context.Context, options Options) error {
-	t := &taker{options: options, patience: firstPatience}
+	t := &taker{options: options, patience: firstPatience, segment: broker.SegmentBytes}
 	return broker.Again(ctx, options.Log, t.own)
 }
 
@@ -40,6 +40,7 @@ func Run(ctx context.Context, options Options) error {
 type taker struct {
 	options  Options
 	patience time.Duration // of the next takeover
+	segment  int64         // how long the files of the streams are, or 0 where an earlier program has made these
 }
 
 // own waits for a partition that is free, and owns it until the connection is lost.
@@ -76,12 +77,15 @@ func (t *taker) take(link *broker.Link, partition int) (*owner, error) {
 	log := prefixed{t.options.Log, fmt.Sprintf("partition %d: ", partition)}
 	late := fmt.Errorf("the broker did nothing for %v in a takeover", t.patience)
 	s := beginSteps(t.patience, func() { link.Fail(late) })
-	o, err := begin(link, t.options, partition, log, s)
+	o, err := t.begin(link, partition, log, s)
 	s.end()
 	if err != nil {
 		fmt.Fprintf(log, "not taken over, after %v: %v\n", s, err)
 		if errors.Is(err, late) {
 			t.patience = longer(t.patience)
+		}
+		if broker.IsOther(err) {
+			t.segment = broker.SegmentBytes - t.segment
 		}
 		t.options.Settings.Last = link.Address
 		return nil, err
@@ -108,8 +112,9 @@ type owner struct {
 }
 
 // begin takes up a partition where its last answer stands.
-func begin(link *broker.Link, options Options, partition int, log io.Writer, s *steps) (*owner, error) {
-	if err := link.DeclareStreams(options.Settings, partition); err != nil {
+func (t *taker) begin(link *broker.Link, partition int, log io.Writer, s *steps) (*owner, error) {
+	options := t.options
+	if err := link.DeclareStreams(options.Settings, partition, t.segment); err != nil {
 		return nil, err
 	}
 	publisher, err := link.Publisher()

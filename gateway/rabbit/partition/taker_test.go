@@ -16,7 +16,8 @@ func taken(t *testing.T, b *fake.Broker) (*taker, string) {
 	t.Helper()
 	var log bytes.Buffer
 	settings := broker.Settings{Addresses: []string{b.Address}, Partitions: 1}
-	taker := &taker{options: Options{Settings: settings, Log: &log, Gauges: NewGauges()}, patience: 200 * time.Millisecond}
+	taker := &taker{options: Options{Settings: settings, Log: &log, Gauges: NewGauges()}, patience: 200 * time.Millisecond,
+		segment: broker.SegmentBytes}
 	link, err := broker.Connect(context.Background(), settings, "test")
 	if err != nil {
 		t.Fatal(err)
@@ -57,5 +58,15 @@ func TestATakeoverAtABrokerThatRefuses(t *testing.T) {
 	}
 	if !strings.Contains(text, "the streams are there") || !strings.Contains(text, "no copy is here") {
 		t.Error(text)
+	}
+}
+
+// Streams that an earlier program has made, with files of another length, are taken as they are.
+func TestATakeoverOfStreamsWithOtherArguments(t *testing.T) {
+	b := fake.Start(t)
+	b.Other = func(queue string) bool { return fake.Is(queue, "answers", "0") }
+	taker, text := taken(t, b)
+	if taker.segment != 0 || !strings.Contains(text, "inequivalent arg") {
+		t.Errorf("then %d, and told was %s", taker.segment, text)
 	}
 }
