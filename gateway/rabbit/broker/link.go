@@ -188,7 +188,7 @@ func (l *Link) Because(err error) error {
 
 // SegmentBytes is how long a file of a stream gets. A broker that becomes the leader of a stream reads the newest file
 // message by message before it does anything else, which takes long with the 500 MB that are RabbitMQ's own.
-const SegmentBytes = 16 << 20
+const SegmentBytes = 8 << 20
 
 // DeclareStreams makes the streams of a partition that aren't there, with files so long, or as long as RabbitMQ makes them
 // where that is 0. The broker isn't asked for how many messages they have: it would ask the node of a stream's leader, and
