@@ -4,8 +4,8 @@ import (
 	"context"
 	"errors"
 	"fmt"
-	"math/rand"
 	"net"
+	"strings"
 	"sync"
 	"time"
 
@@ -15,7 +15,8 @@ import (
 const (
 	heartbeat   = 10 * time.Second
 	dialTimeout = 5 * time.Second
-	closePause  = time.Second // how long a connection may take to end in good order
+	dialTurn    = 500 * time.Millisecond // how long a broker has until the next is tried beside it
+	closePause  = time.Second            // how long a connection may take to end in good order
 	// Patience is how long the broker may take to do what it is asked for.
 	Patience = 30 * time.Second
 )
@@ -23,6 +24,7 @@ const (
 // A Link is a connection to one of the brokers. It fails as a whole: where a channel, a message or a wait fails, all
 // of it ends, and the work is begun anew on another.
 type Link struct {
+	Address    string // of the broker
 	connection *amqp.Connection
 	socket     net.Conn
 	done       chan struct{}
@@ -30,23 +32,56 @@ type Link struct {
 	err        error
 }
 
-// Connect connects to one of the brokers, the first in random order that can be reached. The link fails where the
-// context ends.
+// ErrAway tells that no broker can be reached.
+var ErrAway = errors.New("no broker can be reached")
+
+type dialed struct {
+	link *Link
+	err  error
+}
+
+// Connect connects to one of the brokers, in random order. One that does not answer at once holds nothing up: the next
+// is tried beside it. The link fails where the context ends.
 func Connect(ctx context.Context, settings Settings, name string) (*Link, error) {
+	order, open := settings.order(), 0
+	results := make(chan dialed, len(order))
 	var last error
-	for _, at := range rand.Perm(len(settings.Addresses)) {
-		link, err := dial(ctx, settings.Addresses[at], name)
-		if err == nil {
-			go link.watch(ctx)
-			return link, nil
+	for len(order) > 0 || open > 0 {
+		var turn <-chan time.Time
+		if len(order) > 0 {
+			go func(address string) {
+				link, err := dial(ctx, address, name)
+				results <- dialed{link, err}
+			}(order[0])
+			order, open = order[1:], open+1
+			turn = time.After(dialTurn)
 		}
-		last = err
+		select {
+		case <-turn:
+		case result := <-results:
+			open--
+			if result.err == nil {
+				go closeOthers(results, open)
+				go result.link.watch(ctx)
+				return result.link, nil
+			}
+			last = result.err
+		}
 	}
-	return nil, fmt.Errorf("no broker can be reached: %w", last)
+	return nil, fmt.Errorf("%w: %v", ErrAway, last)
+}
+
+// closeOthers closes the connections that came too late.
+func closeOthers(results <-chan dialed, open int) {
+	for ; open > 0; open-- {
+		if result := <-results; result.err == nil {
+			result.link.Close()
+		}
+	}
 }
 
 func dial(ctx context.Context, address, name string) (*Link, error) {
-	link := &Link{done: make(chan struct{})}
+	link := &Link{Address: address, done: make(chan struct{})}
 	properties := amqp.NewConnectionProperties()
 	properties["connection_name"] = name
 	connection, err := amqp.DialConfig(address, amqp.Config{
@@ -130,7 +165,7 @@ func (l *Link) Err() error { return l.err }
 func (l *Link) Channel() (*amqp.Channel, error) {
 	channel, err := l.connection.Channel()
 	if err != nil {
-		return nil, l.because(fmt.Errorf("opening a channel: %w", err))
+		return nil, l.Because(fmt.Errorf("opening a channel: %w", err))
 	}
 	closed := channel.NotifyClose(make(chan *amqp.Error, 1))
 	go func() {
@@ -141,8 +176,8 @@ func (l *Link) Channel() (*amqp.Channel, error) {
 	return channel, nil
 }
 
-// because is the reason why the link failed, if it has, and otherwise the error.
-func (l *Link) because(err error) error {
+// Because is the reason why the link failed, if it has, and otherwise the error.
+func (l *Link) Because(err error) error {
 	select {
 	case <-l.done:
 		return l.err
@@ -151,19 +186,36 @@ func (l *Link) because(err error) error {
 	}
 }
 
-// DeclareStreams makes the streams of a partition that aren't there.
-func (l *Link) DeclareStreams(settings Settings, partition int) error {
+// SegmentBytes is how long a file of a stream gets. A broker that becomes the leader of a stream reads the newest file
+// message by message before it does anything else, which takes long with the 500 MB that are RabbitMQ's own.
+const SegmentBytes = 8 << 20
+
+// DeclareStreams makes the streams of a partition that aren't there, with files so long, or as long as RabbitMQ makes them
+// where that is 0. The broker isn't asked for how many messages they have: it would ask the node of a stream's leader, and
+// wait for it without end. That the channel ends in good order says that all is done.
+func (l *Link) DeclareStreams(settings Settings, partition int, segment int64) error {
 	channel, err := l.Channel()
 	if err != nil {
 		return err
 	}
-	defer channel.Close()
 	stream := amqp.Table{"x-queue-type": "stream", "x-queue-leader-locator": "least-leaders"}
+	if segment > 0 {
+		stream["x-stream-max-segment-size-bytes"] = segment
+	}
 	for _, kind := range []Kind{Lines, Answers} {
 		queue := settings.Queue(kind, partition)
-		if _, err := channel.QueueDeclare(queue, true, false, false, false, stream); err != nil {
-			return l.because(fmt.Errorf("queue %s: %w", queue, err))
+		if _, err := channel.QueueDeclare(queue, true, false, false, true, stream); err != nil {
+			return l.Because(fmt.Errorf("queue %s: %w", queue, err))
 		}
 	}
+	if err := channel.Close(); err != nil {
+		return l.Because(fmt.Errorf("the streams of partition %d: %w", partition, err))
+	}
 	return nil
+}
+
+// IsOther tells of a failure whether a queue is there with other arguments than it was declared with.
+func IsOther(failure error) bool {
+	var reason *amqp.Error
+	return errors.As(failure, &reason) && reason.Code == amqp.PreconditionFailed && strings.Contains(reason.Reason, "inequivalent arg")
 }

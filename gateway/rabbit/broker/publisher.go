@@ -28,7 +28,7 @@ func (l *Link) Publisher() (*Publisher, error) {
 		return nil, err
 	}
 	if err := channel.Confirm(false); err != nil {
-		return nil, l.because(fmt.Errorf("asking for confirms: %w", err))
+		return nil, l.Because(fmt.Errorf("asking for confirms: %w", err))
 	}
 	confirms := channel.NotifyPublish(make(chan amqp.Confirmation, maximumOpen))
 	returned := channel.NotifyReturn(make(chan amqp.Return, maximumOpen))
@@ -43,7 +43,7 @@ func (p *Publisher) Publish(queue string, headers amqp.Table, body []byte) error
 	now := time.Now()
 	message := amqp.Publishing{Headers: headers, Body: body, Timestamp: now, DeliveryMode: amqp.Persistent}
 	if err := p.channel.PublishWithContext(context.Background(), "", queue, true, false, message); err != nil {
-		return p.link.because(fmt.Errorf("publishing to %s: %w", queue, err))
+		return p.link.Because(fmt.Errorf("publishing to %s: %w", queue, err))
 	}
 	p.open = append(p.open, now)
 	return nil
@@ -55,7 +55,7 @@ func (p *Publisher) Confirms() <-chan amqp.Confirmation { return p.confirms }
 // Take takes in the confirm of the oldest message without one.
 func (p *Publisher) Take(confirmation amqp.Confirmation, open bool) error {
 	if !open {
-		return p.link.because(errors.New("the channel ended"))
+		return p.link.Because(errors.New("the channel ended"))
 	}
 	if !confirmation.Ack || len(p.open) == 0 {
 		return errors.New("the broker refused a message")
@@ -63,7 +63,7 @@ func (p *Publisher) Take(confirmation amqp.Confirmation, open bool) error {
 	select {
 	case message, open := <-p.returned: // what comes back is confirmed too, but later
 		if !open {
-			return p.link.because(errors.New("the channel ended"))
+			return p.link.Because(errors.New("the channel ended"))
 		}
 		return fmt.Errorf("no queue %s (%s): does a partition run, and with the same %s?", message.RoutingKey,
 			message.ReplyText, PartitionsVariable)
@@ -103,7 +103,7 @@ func (p *Publisher) Settle() error {
 // Close ends the publisher's channel.
 func (p *Publisher) Close() error {
 	if err := p.channel.Close(); err != nil {
-		return p.link.because(fmt.Errorf("ending a channel: %w", err))
+		return p.link.Because(fmt.Errorf("ending a channel: %w", err))
 	}
 	return nil
 }

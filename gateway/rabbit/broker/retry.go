@@ -2,6 +2,7 @@ package broker
 
 import (
 	"context"
+	"errors"
 	"fmt"
 	"io"
 	"math/rand"
@@ -11,7 +12,8 @@ import (
 // Pauses between two attempts.
 const (
 	firstPause   = 250 * time.Millisecond
-	longestPause = 10 * time.Second
+	longestPause = 10 * time.Second // where no broker is reached
+	reachedPause = 2 * time.Second  // the longest where one is
 	// steady is how long work must have lasted for its failure to count as the first again.
 	steady = 30 * time.Second
 )
@@ -19,22 +21,48 @@ const (
 // each is how many failures in a row there are from one that is told to the next.
 const each = 100
 
+// A pace says how long to wait after a failure: twice as long each time. A pause that has grown while no broker was
+// reached says nothing of what fails at a broker, nor the other way round.
+type pace struct {
+	away bool
+	next time.Duration
+}
+
+// pause is how long to wait at most after work that lasted so long.
+func (p *pace) pause(failure error, lasted time.Duration) time.Duration {
+	away, longest := errors.Is(failure, ErrAway), reachedPause
+	if away {
+		longest = longestPause
+	}
+	if away != p.away || lasted > steady || p.next == 0 {
+		p.away, p.next = away, firstPause
+	}
+	pause := p.next
+	if p.next *= 2; p.next > longest {
+		p.next = longest
+	}
+	return pause
+}
+
 // Again does the work until it ends without an error or the context ends. After a failure it waits, at most twice as
-// long each time, and at most 10 s. The first failure and each hundredth in a row are told.
+// long each time: up to 10 s where no broker is reached, and up to 2 s where one is. The first failure and each
+// hundredth in a row are told.
 func Again(ctx context.Context, log io.Writer, work func(ctx context.Context) error) error {
-	pause := firstPause
+	var pace pace
 	for failures := 1; ; failures++ {
 		begun := time.Now()
 		err := work(ctx)
 		if err == nil || ctx.Err() != nil {
 			return ctx.Err()
 		}
-		if time.Since(begun) > steady {
-			failures, pause = 1, firstPause
+		lasted := time.Since(begun)
+		if lasted > steady {
+			failures = 1
 		}
 		if failures == 1 || failures%each == 0 {
 			fmt.Fprintf(log, "desk: failure %d in a row: %v; trying again\n", failures, err)
 		}
+		pause := pace.pause(err, lasted)
 		// Not all come back at once.
 		wait := time.NewTimer(pause/2 + time.Duration(rand.Int63n(int64(pause/2))))
 		select {
@@ -42,9 +70,6 @@ func Again(ctx context.Context, log io.Writer, work func(ctx context.Context) er
 			wait.Stop()
 			return ctx.Err()
 		case <-wait.C:
-		}
-		if pause *= 2; pause > longestPause {
-			pause = longestPause
 		}
 	}
 }

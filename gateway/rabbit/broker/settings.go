@@ -4,6 +4,7 @@ package broker
 
 import (
 	"fmt"
+	"math/rand"
 	"os"
 	"strconv"
 	"strings"
@@ -43,6 +44,7 @@ const (
 type Settings struct {
 	Addresses  []string // of the scheme amqp or amqps
 	Partitions int
+	Last       string // the address that is tried last, since it has failed, or empty
 }
 
 // ReadSettings reads the environment. Without it there is one partition, at a broker on this machine. An error does not
@@ -65,6 +67,19 @@ func ReadSettings() (Settings, error) {
 		settings.Partitions = number
 	}
 	return settings, nil
+}
+
+// order is the addresses in random order, but for the last.
+func (s Settings) order() []string {
+	var order, last []string
+	for _, at := range rand.Perm(len(s.Addresses)) {
+		if address := s.Addresses[at]; address == s.Last {
+			last = append(last, address)
+		} else {
+			order = append(order, address)
+		}
+	}
+	return append(order, last...)
 }
 
 // Queue is the name of a partition's queue. It has the number of partitions: who counts with another finds no queue.

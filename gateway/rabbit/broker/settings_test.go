@@ -33,3 +33,19 @@ func TestAWrongAddress(t *testing.T) {
 		}
 	}
 }
+
+// A broker that has failed is tried last.
+func TestTheOrderOfBrokers(t *testing.T) {
+	settings := Settings{Addresses: []string{"a", "b", "c"}, Last: "b"}
+	first := make(map[string]bool)
+	for range make([]int, 100) {
+		order := settings.order()
+		if len(order) != 3 || order[2] != "b" {
+			t.Fatal(order)
+		}
+		first[order[0]] = true
+	}
+	if len(first) != 2 {
+		t.Error(first)
+	}
+}

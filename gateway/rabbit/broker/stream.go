@@ -33,6 +33,16 @@ type Stream struct {
 	link       *Link
 	channel    *amqp.Channel
 	Deliveries <-chan amqp.Delivery
+	together   int // so many messages are acknowledged together
+	taken      int // since the last of them
+}
+
+// Together lets so many messages be acknowledged together, which is less work for the broker. It is for a stream that is
+// soon closed: what isn't acknowledged is an old delivery to the broker after a while.
+func (s *Stream) Together(count int) {
+	if count > 1 {
+		s.together = count
+	}
 }
 
 // Where a reader of a stream begins, beside an offset (an int64) and a time (a time.Time).
@@ -49,22 +59,25 @@ func (l *Link) Read(queue string, from interface{}, open int) (*Stream, error) {
 		return nil, err
 	}
 	if err := channel.Qos(open, 0, false); err != nil {
-		return nil, l.because(fmt.Errorf("reading %s: %w", queue, err))
+		return nil, l.Because(fmt.Errorf("reading %s: %w", queue, err))
 	}
 	deliveries, err := channel.Consume(queue, "", false, false, false, false, amqp.Table{OffsetHeader: from})
 	if err != nil {
-		return nil, l.because(fmt.Errorf("reading %s: %w", queue, err))
+		return nil, l.Because(fmt.Errorf("reading %s: %w", queue, err))
 	}
-	return &Stream{link: l, channel: channel, Deliveries: deliveries}, nil
+	return &Stream{link: l, channel: channel, Deliveries: deliveries, together: 1}, nil
 }
 
 // Take lets the broker send the next message, and tells the offset of this one.
 func (s *Stream) Take(delivery amqp.Delivery, open bool) (int64, error) {
 	if !open {
-		return 0, s.link.because(errors.New("the stream's reader ended"))
+		return 0, s.link.Because(errors.New("the stream's reader ended"))
 	}
-	if err := delivery.Ack(false); err != nil {
-		return 0, s.link.because(fmt.Errorf("reading a stream: %w", err))
+	if s.taken++; s.taken >= s.together {
+		if err := delivery.Ack(s.taken > 1); err != nil {
+			return 0, s.link.Because(fmt.Errorf("reading a stream: %w", err))
+		}
+		s.taken = 0
 	}
 	offset, is := delivery.Headers[OffsetHeader].(int64)
 	if !is {
@@ -91,7 +104,7 @@ func (s *Stream) Next() (amqp.Delivery, int64, error) {
 // Close ends the reading.
 func (s *Stream) Close() error {
 	if err := s.channel.Close(); err != nil {
-		return s.link.because(fmt.Errorf("ending a reader: %w", err))
+		return s.link.Because(fmt.Errorf("ending a reader: %w", err))
 	}
 	return nil
 }

@@ -28,10 +28,11 @@ type History struct {
 // Upto is the place up to which all is answered.
 func (h *History) Upto() ledger.Place { return h.chain.Upto }
 
-// firstStep is how many messages are read back first, and step how many times more each time.
+// firstStep is how many messages are read back first, and step how many times more each time. A small snapshot is among
+// the first, and a large one among those of the second step, where messages of others are few.
 const (
-	firstStep = 128
-	step      = 8
+	firstStep = 160
+	step      = 7
 )
 
 // Mark is a name that no other mark has.
@@ -43,10 +44,19 @@ func Mark() (string, error) {
 	return hex.EncodeToString(bytes[:]), nil
 }
 
+// A Progress is told that a message was read, or by its name that a step is done.
+type Progress interface {
+	Moved()
+	Passed(step string)
+}
+
 // Read publishes a mark in the stream, and reads the stream up to it from the last snapshot on: it begins with the
 // last messages, and goes further and further back until a snapshot is there. So it takes as long as the way from the
-// last snapshot is, whatever stands before it. So many messages are on their way at a time.
-func Read(link *broker.Link, publisher *broker.Publisher, queue string, open int) (*History, error) {
+// last snapshot is, whatever stands before it. So many messages are on their way at a time. The progress may be nil.
+func Read(link *broker.Link, publisher *broker.Publisher, queue string, open int, progress Progress) (*History, error) {
+	if progress == nil {
+		progress = unwatched{}
+	}
 	mark, err := Mark()
 	if err != nil {
 		return nil, err
@@ -55,10 +65,13 @@ func Read(link *broker.Link, publisher *broker.Publisher, queue string, open int
 	if err != nil {
 		return nil, err
 	}
+	progress.Passed("its end is read from")
 	if err := publisher.Publish(queue, amqp.Table{broker.MarkHeader: mark}, nil); err != nil {
 		return nil, err
 	}
-	h, end, err := pass(stream, mark, -1)
+	p := &reader{mark: mark, progress: progress}
+	h, end, err := p.pass(stream, -1)
+	progress.Passed("the mark is there")
 	for back := int64(firstStep); err == nil && !h.found; back *= step {
 		from := end - back
 		if from < 0 {
@@ -67,7 +80,9 @@ func Read(link *broker.Link, publisher *broker.Publisher, queue string, open int
 		if stream, err = link.Read(queue, from, open); err != nil {
 			return nil, err
 		}
-		h, _, err = pass(stream, mark, from)
+		stream.Together(open / 4)
+		h, _, err = p.pass(stream, from)
+		progress.Passed(fmt.Sprintf("%d messages back", end-from))
 	}
 	if err != nil {
 		return nil, fmt.Errorf("reading %s: %w", queue, err)
@@ -75,9 +90,19 @@ func Read(link *broker.Link, publisher *broker.Publisher, queue string, open int
 	return h, publisher.Settle()
 }
 
+type unwatched struct{}
+
+func (unwatched) Moved()        {}
+func (unwatched) Passed(string) {}
+
+type reader struct {
+	mark     string
+	progress Progress
+}
+
 // pass reads the stream up to the mark, whose offset it tells. It was begun at the offset from, or at the last
 // messages where that is negative.
-func pass(stream *broker.Stream, mark string, from int64) (*History, int64, error) {
+func (r *reader) pass(stream *broker.Stream, from int64) (*History, int64, error) {
 	h := New(false)
 	cut := false
 	for first := true; ; first = false {
@@ -85,6 +110,7 @@ func pass(stream *broker.Stream, mark string, from int64) (*History, int64, erro
 		if err != nil {
 			return nil, 0, err
 		}
+		r.progress.Moved()
 		switch {
 		case first && offset == 0:
 			h = New(true)
@@ -94,7 +120,7 @@ func pass(stream *broker.Stream, mark string, from int64) (*History, int64, erro
 		if err := h.Take(delivery.Headers, delivery.Body); err != nil {
 			return nil, 0, fmt.Errorf("offset %d: %w", offset, err)
 		}
-		if delivery.Headers[broker.MarkHeader] != mark {
+		if delivery.Headers[broker.MarkHeader] != r.mark {
 			continue
 		}
 		if cut && !h.found {

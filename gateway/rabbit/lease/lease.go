@@ -24,7 +24,6 @@ type Lease struct {
 	Partition  int
 	queue      string
 	link       *broker.Link
-	publisher  *broker.Publisher
 	deliveries <-chan amqp.Delivery
 	held       amqp.Delivery
 }
@@ -43,84 +42,152 @@ func Wait(ctx context.Context, link *broker.Link, settings broker.Settings) (*Le
 	if err := channel.Qos(1, 0, false); err != nil {
 		return nil, fmt.Errorf("the lease: %w", err)
 	}
-	won := make(chan *Lease, settings.Partitions)
-	for _, partition := range rand.Perm(settings.Partitions) {
-		lease := &Lease{Partition: partition, queue: settings.Queue(broker.Lease, partition), link: link, publisher: publisher}
-		if err := lease.ask(channel, won); err != nil {
-			return nil, fmt.Errorf("queue %s: %w", lease.queue, err)
-		}
-	}
+	w := &waiting{link: link, channel: channel, publisher: publisher, settings: settings, won: make(chan *Lease, settings.Partitions),
+		enough: make(chan struct{}), asked: make(chan struct{}), faults: make(chan error, 1)}
+	go w.ask()
+	return w.wait(ctx)
+}
+
+// A waiting waits for the lease of any partition. It takes the first at once: a queue that does not confirm, as one
+// without a leader, does not hold up the lease of another.
+type waiting struct {
+	link      *broker.Link
+	channel   *amqp.Channel
+	publisher *broker.Publisher
+	settings  broker.Settings
+	won       chan *Lease
+	enough    chan struct{} // is closed once a lease is won
+	asked     chan struct{} // is closed once no more are asked for
+	faults    chan error    // has a value where asking has failed
+}
+
+func (w *waiting) wait(ctx context.Context) (*Lease, error) {
 	select {
-	case lease := <-won:
-		return lease, lease.hold(channel, won, settings.Partitions)
-	case <-link.Done():
-		return nil, link.Err()
+	case lease := <-w.won:
+		close(w.enough)
+		go w.giveUp(lease)
+		go lease.keep()
+		return lease, nil
+	case err := <-w.faults:
+		return nil, err
+	case <-w.link.Done():
+		return nil, w.link.Err()
 	case <-ctx.Done():
 		return nil, ctx.Err()
 	}
 }
 
-// ask asks for the lease; it is handed over through won once it is this process's.
-func (l *Lease) ask(channel *amqp.Channel, won chan<- *Lease) error {
+// ask asks for the leases, until one is won. Once it has asked for all, it waits for the confirms.
+func (w *waiting) ask() {
+	err := w.askAll()
+	close(w.asked)
+	if err == nil && !w.isEnough() {
+		err = w.publisher.Settle()
+	}
+	if err != nil {
+		w.faults <- err
+	}
+}
+
+func (w *waiting) askAll() error {
+	for _, partition := range rand.Perm(w.settings.Partitions) {
+		if w.isEnough() {
+			return nil
+		}
+		lease := &Lease{Partition: partition, queue: w.settings.Queue(broker.Lease, partition), link: w.link}
+		if err := w.askFor(lease); err != nil {
+			return fmt.Errorf("queue %s: %w", lease.queue, err)
+		}
+	}
+	return nil
+}
+
+// askFor asks for a lease; it is handed over through won once it is this process's. The broker isn't asked for how many
+// messages the queue has, which its leader would have to tell.
+func (w *waiting) askFor(l *Lease) error {
 	arguments := amqp.Table{"x-queue-type": "quorum", "x-single-active-consumer": true, "x-max-length": int64(1)}
-	if _, err := channel.QueueDeclare(l.queue, true, false, false, false, arguments); err != nil {
+	if _, err := w.channel.QueueDeclare(l.queue, true, false, false, true, arguments); err != nil {
 		return err
 	}
-	if err := l.publisher.Publish(l.queue, nil, nil); err != nil { // a second message is dropped
-		return err
-	}
-	if err := l.publisher.Settle(); err != nil {
-		return err
-	}
-	deliveries, err := channel.Consume(l.queue, strconv.Itoa(l.Partition), false, false, false, false, nil)
+	deliveries, err := w.channel.Consume(l.queue, strconv.Itoa(l.Partition), false, false, false, false, nil)
 	if err != nil {
 		return err
 	}
+	if err := w.publisher.Publish(l.queue, nil, nil); err != nil { // a second message is dropped
+		return err
+	}
 	l.deliveries = deliveries
-	go func() {
-		if delivery, open := <-deliveries; open {
-			l.held = delivery
-			won <- l
-		}
-	}()
+	go w.watch(l)
 	return nil
 }
 
-// hold gives the other partitions back, and keeps this one.
-func (l *Lease) hold(channel *amqp.Channel, won <-chan *Lease, partitions int) error {
-	for partition := 0; partition < partitions; partition++ {
-		if partition == l.Partition {
+// watch waits until the lease is this process's. Where the broker ends the waiting, as for a queue that is deleted, all
+// is begun anew: otherwise the partition would be left to the others.
+func (w *waiting) watch(l *Lease) {
+	delivery, open := <-l.deliveries
+	if open {
+		l.held = delivery
+		w.won <- l
+		return
+	}
+	err := w.link.Because(fmt.Errorf("the lease of partition %d: the broker ended the waiting for it", l.Partition))
+	if !w.isEnough() {
+		w.link.Fail(err)
+	}
+}
+
+func (w *waiting) isEnough() bool {
+	select {
+	case <-w.enough:
+		return true
+	default:
+		return false
+	}
+}
+
+// giveUp gives up the other partitions, once no more are asked for, and then gives back what was won of them: before, it
+// would come back.
+func (w *waiting) giveUp(held *Lease) {
+	select {
+	case <-w.asked:
+	case <-w.link.Done():
+		return
+	}
+	for partition := 0; partition < w.settings.Partitions; partition++ {
+		if partition == held.Partition {
 			continue
 		}
-		if err := channel.Cancel(strconv.Itoa(partition), false); err != nil {
-			return fmt.Errorf("the lease: %w", err)
+		if err := w.channel.Cancel(strconv.Itoa(partition), false); err != nil {
+			w.link.Fail(fmt.Errorf("the lease: %w", err))
+			return
 		}
 	}
-	go l.giveBack(won)
-	go func() {
-		for {
-			if err := l.renew(); err != nil {
-				l.link.Fail(fmt.Errorf("the lease of partition %d: %w", l.Partition, err))
-				return
-			}
-		}
-	}()
-	return nil
+	w.giveBack()
 }
 
-func (l *Lease) giveBack(won <-chan *Lease) {
+// giveBack gives the leases of other partitions back that are won meanwhile.
+func (w *waiting) giveBack() {
 	for {
 		select {
-		case other := <-won:
+		case other := <-w.won:
 			other.held.Nack(false, true)
-		case <-l.link.Done():
+		case <-w.link.Done():
 			return
 		}
 	}
 }
 
+// keep renews the lease until the link fails, or fails the link.
+func (l *Lease) keep() {
+	publisher, err := l.link.Publisher()
+	for err == nil {
+		err = l.renew(publisher)
+	}
+	l.link.Fail(fmt.Errorf("the lease of partition %d: %w", l.Partition, err))
+}
+
 // renew replaces the message by a new one, after a while.
-func (l *Lease) renew() error {
+func (l *Lease) renew(publisher *broker.Publisher) error {
 	while := time.NewTimer(renewal)
 	defer while.Stop()
 	select {
@@ -128,10 +195,10 @@ func (l *Lease) renew() error {
 	case <-l.link.Done():
 		return l.link.Err()
 	}
-	if err := l.publisher.Publish(l.queue, nil, nil); err != nil {
+	if err := publisher.Publish(l.queue, nil, nil); err != nil {
 		return err
 	}
-	if err := l.publisher.Settle(); err != nil {
+	if err := publisher.Settle(); err != nil {
 		return err
 	}
 	if err := l.held.Ack(false); err != nil {

@@ -12,11 +12,14 @@ import (
 )
 
 // A snapshot is due after so much of lines and answers, or four times its own size if that is more; after so many
-// messages; and an hour after the one before, or a minute after a takeover. So where streams are cut by age, one is left.
+// messages, fewer where it is small, since who takes over reads them; and an hour after the one before, or a minute after a
+// takeover. So where streams are cut by age, one is left.
 const (
 	snapshotBytes    = 4 << 20
 	snapshotFactor   = 4
 	snapshotMessages = 1000
+	smallMessages    = 150
+	smallSnapshot    = 128 << 10
 	snapshotPause    = time.Hour
 	firstPause       = time.Minute
 )
@@ -54,7 +57,11 @@ func (out *output) snapshotDue() bool {
 	if out.size*snapshotFactor > due {
 		due = out.size * snapshotFactor
 	}
-	return out.ledger.Place != ledger.Start && (out.sinceBytes >= due || out.sinceMessages >= snapshotMessages || out.aged)
+	messages := snapshotMessages
+	if out.size <= smallSnapshot {
+		messages = smallMessages
+	}
+	return out.ledger.Place != ledger.Start && (out.sinceBytes >= due || out.sinceMessages >= messages || out.aged)
 }
 
 // tick looks at the time.

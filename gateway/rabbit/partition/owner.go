@@ -4,6 +4,7 @@ package partition
 
 import (
 	"context"
+	"errors"
 	"fmt"
 	"io"
 	"os"
@@ -31,11 +32,20 @@ type Options struct {
 
 // Run owns partitions until the context ends.
 func Run(ctx context.Context, options Options) error {
-	return broker.Again(ctx, options.Log, func(ctx context.Context) error { return own(ctx, options) })
+	t := &taker{options: options, patience: firstPatience, segment: broker.SegmentBytes}
+	return broker.Again(ctx, options.Log, t.own)
+}
+
+// A taker takes partitions over, one after the other.
+type taker struct {
+	options  Options
+	patience time.Duration // of the next takeover
+	segment  int64         // how long the files of the streams are, or 0 where an earlier program has made these
 }
 
 // own waits for a partition that is free, and owns it until the connection is lost.
-func own(ctx context.Context, options Options) error {
+func (t *taker) own(ctx context.Context) error {
+	options := t.options
 	link, err := broker.Connect(ctx, options.Settings, fmt.Sprintf("desk partition, process %d", os.Getpid()))
 	if err != nil {
 		return err
@@ -47,20 +57,42 @@ func own(ctx context.Context, options Options) error {
 	if err != nil {
 		return err
 	}
-	begun := time.Now()
 	fmt.Fprintf(options.Log, "partition %d: owned by process %d\n", held.Partition, os.Getpid())
-	o, err := begin(link, options, held.Partition)
+	o, err := t.take(link, held.Partition)
 	if err != nil {
 		return fmt.Errorf("partition %d: %w", held.Partition, err)
 	}
 	defer o.work.end()
-	fmt.Fprintf(o.log, "goes on behind line %v, after %v\n", o.intake.upto, time.Since(begun).Round(time.Millisecond))
 	options.Gauges.takeover(held.Partition)
 	defer options.Gauges.left()
 	if err := o.run(); err != nil {
 		return fmt.Errorf("partition %d: %w", held.Partition, err)
 	}
 	return nil
+}
+
+// take takes a partition over. Where a broker does nothing for a while it fails, and next time has twice as much patience.
+// Where it fails, whatever the reason, it is begun anew at another broker.
+func (t *taker) take(link *broker.Link, partition int) (*owner, error) {
+	log := prefixed{t.options.Log, fmt.Sprintf("partition %d: ", partition)}
+	late := fmt.Errorf("the broker did nothing for %v in a takeover", t.patience)
+	s := beginSteps(t.patience, func() { link.Fail(late) })
+	o, err := t.begin(link, partition, log, s)
+	s.end()
+	if err != nil {
+		fmt.Fprintf(log, "not taken over, after %v: %v\n", s, err)
+		if errors.Is(err, late) {
+			t.patience = longer(t.patience)
+		}
+		if broker.IsOther(err) {
+			t.segment = broker.SegmentBytes - t.segment
+		}
+		t.options.Settings.Last = link.Address
+		return nil, err
+	}
+	t.patience, t.options.Settings.Last = firstPatience, ""
+	fmt.Fprintf(log, "goes on behind line %v, after %v\n", o.intake.upto, s)
+	return o, nil
 }
 
 // An owner owns a partition.
@@ -76,33 +108,40 @@ type owner struct {
 	output    *output
 	tail      *tail
 	report    report
+	idle      idle
 }
 
 // begin takes up a partition where its last answer stands.
-func begin(link *broker.Link, options Options, partition int) (*owner, error) {
-	if err := link.DeclareStreams(options.Settings, partition); err != nil {
+func (t *taker) begin(link *broker.Link, partition int, log io.Writer, s *steps) (*owner, error) {
+	options := t.options
+	if err := link.DeclareStreams(options.Settings, partition, t.segment); err != nil {
 		return nil, err
 	}
 	publisher, err := link.Publisher()
 	if err != nil {
 		return nil, err
 	}
+	s.Passed("the streams are there")
 	answers, lines := options.Settings.Queue(broker.Answers, partition), options.Settings.Queue(broker.Lines, partition)
-	h, err := history.Read(link, publisher, answers, broker.MostOpen)
+	h, err := history.Read(link, publisher, answers, broker.MostOpen, s)
 	if err != nil {
 		return nil, err
 	}
-	log := prefixed{options.Log, fmt.Sprintf("partition %d: ", partition)}
+	s.Passed("the mark is confirmed")
 	q := &queue{}
 	o := &owner{log: log, gauges: options.Gauges, link: link, publisher: publisher, queue: q,
 		intake: newIntake(log, q, h),
 		work: &work{log: log, options: options.Engine, deadline: int(options.Deadline / tick), queue: q, ledger: h.Ledger,
-			restarts: options.Gauges.restart},
+			restarts: options.Gauges.restart, taken: time.Now()},
 		output: &output{publisher: publisher, name: answers, ledger: h.Ledger, last: h.Upto(), sinceMessages: h.Messages,
 			next: time.Now().Add(firstPause)}}
-	o.tail = watchTail(link, lines)
 	o.stream, err = link.Read(lines, o.intake.first(), broker.MostOpen)
-	return o, err
+	if err != nil {
+		return nil, err
+	}
+	s.Passed("the log is begun")
+	o.tail = watchTail(link, lines)
+	return o, nil
 }
 
 // run works until the link fails.
@@ -122,7 +161,7 @@ func (o *owner) run() error {
 // wait waits for something to happen, and takes it in.
 func (o *owner) wait(ticker *time.Ticker) error {
 	var deliveries <-chan amqp.Delivery
-	if o.queue.bytes+o.queue.ready < broker.WindowBytes {
+	if o.room() {
 		deliveries = o.stream.Deliveries
 	}
 	var answers <-chan []process.Answer
@@ -136,6 +175,7 @@ func (o *owner) wait(ticker *time.Ticker) error {
 			return err
 		}
 		o.intake.take(delivery, offset)
+		o.idle.since = time.Now()
 	case batch, open := <-answers:
 		if open {
 			o.work.take(batch)
@@ -148,11 +188,25 @@ func (o *owner) wait(ticker *time.Ticker) error {
 		o.work.tick()
 		o.output.tick(time.Now())
 		o.tell()
+		if err := o.idle.late(time.Now(), o.unread() > 0 && o.room()); err != nil {
+			return err
+		}
 		return o.publisher.Late()
 	case <-o.link.Done():
 		return o.link.Err()
 	}
 	return nil
+}
+
+// room tells whether further messages are read.
+func (o *owner) room() bool { return o.queue.bytes+o.queue.ready < broker.WindowBytes }
+
+// unread is how many messages of the log were not read.
+func (o *owner) unread() int64 {
+	if unread := o.tail.offset() - o.intake.offset; unread > 0 {
+		return unread
+	}
+	return 0
 }
 
 // step does what can be done without waiting.

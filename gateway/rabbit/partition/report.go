@@ -34,20 +34,30 @@ type report struct {
 // tell tells how far behind the partition is, if something has changed.
 func (o *owner) tell() {
 	waiting := len(o.queue.entries)
-	unread := o.tail.offset() - o.intake.offset
-	if unread < 0 {
-		unread = 0
-	}
 	var seconds float64
 	if head := o.queue.head(); head != nil {
 		seconds = time.Since(head.sent).Seconds()
 	}
-	o.gauges.lag(waiting, unread, seconds)
+	o.gauges.lag(waiting, o.unread(), seconds)
 	text := fmt.Sprintf("read to offset %d, %d without an answer\n", o.intake.offset, waiting)
 	if now := time.Now(); text != o.report.text && now.Sub(o.report.at) > reportPause {
 		fmt.Fprint(o.log, text)
 		o.report = report{text: text, at: now}
 	}
+}
+
+// An idle reader of the log has read nothing for a while.
+type idle struct{ since time.Time }
+
+// late tells whether the broker has sent no message for too long, though some are due: the reader may be lost.
+func (i *idle) late(now time.Time, due bool) error {
+	if !due || i.since.IsZero() {
+		i.since = now
+	}
+	if now.Sub(i.since) > broker.Patience {
+		return fmt.Errorf("no message for %v, and some are there", broker.Patience)
+	}
+	return nil
 }
 
 // A tail knows, some seconds late, where the log ends.

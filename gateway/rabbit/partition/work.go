@@ -36,6 +36,8 @@ type work struct {
 	base     [line.Clients]int64        // the tickets before the engine's first
 	failed   int                        // so many engines in a row ended before they were greeted
 	pause    time.Time                  // no engine is started before
+	taken    time.Time                  // when the partition was taken over, until the first engine has begun
+	started  time.Time                  // when the engine was started
 	careful  int                        // so many entries of the queue are given one at a time
 	died     *entry                     // the entry at which the engine died alone
 	oldest   *entry                     // the entry that is the first without an answer
@@ -43,8 +45,11 @@ type work struct {
 	lonely   bool                       // whether the engine had no other entry all that time
 }
 
-// longestPause is how long an engine is left alone that has died at no line, at most.
-const longestPause = 10 * time.Second
+// How long an engine is left alone that has died at no line: twice as long each time.
+const (
+	shortestPause = 250 * time.Millisecond
+	longestPause  = 10 * time.Second
+)
 
 // greeting is a line that every engine answers, and that changes nothing.
 var greeting = []byte(fmt.Sprintf(`{"resize":"%s","capacity":%d}`, line.ClientName(0), process.Capacity))
@@ -94,7 +99,7 @@ func (w *work) start() error {
 	if err != nil {
 		return err
 	}
-	w.process, w.lines, w.base = started, 1, w.ledger.Tickets
+	w.process, w.lines, w.base, w.started = started, 1, w.ledger.Tickets, time.Now()
 	w.byLine = make(map[int64]*entry)
 	if w.ledger.Model != nil {
 		w.lines++
@@ -159,9 +164,9 @@ func (w *work) neverGreeted(reason error) {
 	if w.failed++; w.failed == 1 || w.failed%100 == 0 {
 		fmt.Fprintf(w.log, "%d engines in a row could not begin: %v\n", w.failed, reason)
 	}
-	pause := time.Second << w.failed
-	if pause > longestPause || w.failed > 4 {
-		pause = longestPause
+	pause := longestPause
+	if w.failed < 7 {
+		pause = shortestPause << (w.failed - 1)
 	}
 	w.end()
 	w.restarts()
@@ -252,8 +257,20 @@ func (w *work) greeted(a answer.Answer) error {
 	}
 	if w.greeting--; w.greeting == 0 {
 		w.failed, w.oldest = 0, nil // the time of the first line begins now
+		w.tellBegun()
 	}
 	return nil
+}
+
+// tellBegun tells how long the first engine behind a takeover took.
+func (w *work) tellBegun() {
+	if w.taken.IsZero() {
+		return
+	}
+	now := time.Now()
+	fmt.Fprintf(w.log, "the engine has begun, %v behind the log, %v after its start\n",
+		now.Sub(w.taken).Round(time.Millisecond), now.Sub(w.started).Round(time.Millisecond))
+	w.taken = time.Time{}
 }
 
 // answer answers an entry as the engine did, but for the number of the ticket or the line: the engine counts from its

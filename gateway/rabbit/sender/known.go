@@ -48,7 +48,7 @@ func known(link *broker.Link, settings broker.Settings, partition int, name stri
 	if err != nil {
 		return nil, err
 	}
-	h, err := history.Read(link, publisher, settings.Queue(broker.Answers, partition), open)
+	h, err := history.Read(link, publisher, settings.Queue(broker.Answers, partition), open, nil)
 	if err != nil {
 		return nil, err
 	}
