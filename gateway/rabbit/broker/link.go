@@ -17,6 +17,7 @@ const (
 	dialTimeout = 5 * time.Second
 	dialTurn    = 500 * time.Millisecond // how long a broker has until the next is tried beside it
 	closePause  = time.Second            // how long a connection may take to end in good order
+	reasonPause = time.Second            // how long the reason of a failure may be on its way
 	// Patience is how long the broker may take to do what it is asked for.
 	Patience = 30 * time.Second
 )
@@ -181,7 +182,7 @@ func (l *Link) Because(err error) error {
 	select {
 	case <-l.done:
 		return l.err
-	case <-time.After(50 * time.Millisecond): // the reason may be on its way
+	case <-time.After(reasonPause):
 		return err
 	}
 }
