@@ -11,7 +11,7 @@ use Rattle.dmn_table.specs.Priority.{Hit, places_of}
 use Rattle.dmn_table.specs.RuleOutputs.{rule_output, outputs_of}
 use Rattle.dmn_table.specs.Table.{Column, Rule}
 
-abbrev output_in : Hit → Datum
+abbrev pub output_in : Hit → Datum
 output_in h = h.output
 
 output_of_hit : (cs : List Column) (m : Bindings) (r : Rule) → option_map output_in (hit_of cs m r) ≡ rule_output cs m r
@@ -26,7 +26,7 @@ output_of_hit cs m r = from_values (values_of m r.gives)
     from_values None = refl
     from_values (Some ds) = from_output (places_of cs ds) (value_of (output_of cs ds))
 
-outputs_of_hits : (cs : List Column) (m : Bindings) (rs : List Rule) → option_map (map output_in) (each (hit_of cs m) rs) ≡ outputs_of cs m rs
+pub outputs_of_hits : (cs : List Column) (m : Bindings) (rs : List Rule) → option_map (map output_in) (each (hit_of cs m) rs) ≡ outputs_of cs m rs
 outputs_of_hits cs m [] = refl
 outputs_of_hits cs m (r ∷ rs) =
     go (hit_of cs m r) (each (hit_of cs m) rs) ∙ ap₂ (λ o p. o >>= λ d. p >>= λ ds. Some (d ∷ ds)) (output_of_hit cs m r) (outputs_of_hits cs m rs)

@@ -110,6 +110,14 @@ entries_of_hits inputs os rules m values hits fits found = go (each (does_hit m 
     go None e = cc
     go (Some answers) e = ap (have_entries (length os)) (same_Some _ _ e) ∙ each_have (length os) _ (kept_gives (length os) (map rule_view rules) answers gives)
 
+-- each rule has an entry for each output column, where all rules fit the columns
+pub rules_have_entries : (inputs : ℕ) (os : List Output) (rules : List rule.Rule) → columns_fit inputs (names_of os) (entry_counts rules) ≡ true → have_entries (length (map column_view os)) (map rule_view rules) ≡ true
+rules_have_entries inputs os rules fits =
+    let n = length (names_of os) in
+    let all : list_all (fits_columns inputs n) (entry_counts rules) ≡ true = and_second (nat_lt 0 n && are_distinct (names_of os)) _ fits in
+    let count : n ≡ length (map column_view os) = length-map os (λ o. arc_str_bytes o.name) ∙ sym (length-map os column_view) in
+    ap (λ k. have_entries k (map rule_view rules)) (sym count) ∙ each_have n (map rule_view rules) (gives_fit inputs n rules all)
+
 -- the names of columns that fit are distinct
 pub fitting_distinct : (inputs : ℕ) (os : List Output) (counts : List (ℕ × ℕ)) → columns_fit inputs (names_of os) counts ≡ true → are_distinct (names_of os) ≡ true
 fitting_distinct inputs os counts fits =

@@ -58,10 +58,10 @@ order : IsStrictWeakOrder (λ (ps qs : List ℕ). is_lt (slice_cmp nat_cmp ps qs
 order = ranks_by nat_list_cmp_total (λ ps. ps)
 
 module _ (n : ℕ) where
-  one_way : (ps qs : List ℕ) → length ps ≡ n → length qs ≡ n → is_higher ps qs ≡ true → is_higher qs ps ≡ false
+  pub one_way : (ps qs : List ℕ) → length ps ≡ n → length qs ≡ n → is_higher ps qs ≡ true → is_higher qs ps ≡ false
   one_way ps qs p q e = higher_is_first qs ps (q ∙ sym p) ∙ order.one_way ps qs (sym (higher_is_first ps qs (p ∙ sym q)) ∙ e)
 
-  chain : (ps qs rs : List ℕ) → length ps ≡ n → length qs ≡ n → length rs ≡ n → is_higher ps qs ≡ false → is_higher qs rs ≡ false → is_higher ps rs ≡ false
+  pub chain : (ps qs rs : List ℕ) → length ps ≡ n → length qs ≡ n → length rs ≡ n → is_higher ps qs ≡ false → is_higher qs rs ≡ false → is_higher ps rs ≡ false
   chain ps qs rs p q r e f =
       higher_is_first ps rs (p ∙ sym r)
       ∙ order.chain ps qs rs (sym (higher_is_first ps qs (p ∙ sym q)) ∙ e) (sym (higher_is_first qs rs (q ∙ sym r)) ∙ f)
@@ -99,7 +99,7 @@ module _ (n : ℕ) where
   in_priority_placed (h ∷ hs) f = put_placed h (in_priority hs) f.0 (in_priority_placed hs f.1)
 
   -- of the first two hits, only the better one counts
-  better_kept : (g h : Hit) (hs : List Hit) → length g.places ≡ n → length h.places ≡ n → EachPlaced n hs → highest_output (g ∷ h ∷ hs) ≡ highest_output (better g h ∷ hs)
+  pub better_kept : (g h : Hit) (hs : List Hit) → length g.places ≡ n → length h.places ≡ n → EachPlaced n hs → highest_output (g ∷ h ∷ hs) ≡ highest_output (better g h ∷ hs)
   better_kept g h hs lg lh l =
       output_of_first g (put_before h (in_priority hs))
       ∙ ap (λ (k : Hit). k.output) (lead_in_turn g h (in_priority hs) lg lh (in_priority_placed hs l))

@@ -13,9 +13,13 @@ pub mod StableOrder
 pub mod PriorityOrder
 pub mod EqualPlaces
 pub mod FirstInPriority
+pub mod HighestHit
+pub mod DecidingHits
+pub mod MadeByDeciders
 pub mod FittingHits
 pub mod Unbroken
 pub mod OneByOne
 pub mod WordHits
 pub mod Scalars
 pub mod LawfulValues
+pub mod FirstMiss

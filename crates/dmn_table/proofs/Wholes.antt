@@ -1,5 +1,5 @@
 -- What the outputs of rules come to, by whether there are all and what holds of them.
-use Rattle.std.proofs.Common.{◌≡◌, ◌<◌, ◌≤◌, List, [], ◌∷◌, length, refl, ap, ◌∙◌, arith, Bool, true, ◌&&◌, if◌then◌else◌, Option, None, Some, option_map, pos}
+use Rattle.std.proofs.Common.{◌≡◌, ℕ, ◌<◌, ◌≤◌, List, [], ◌∷◌, length, refl, ap, ◌∙◌, arith, Bool, true, false, ◌&&◌, if◌then◌else◌, Option, None, Some, option_map, pos}
 use Rattle.std.proofs.lemmas.List.{length-map}
 use Rattle.std.proofs.lemmas.Option.{same_Some}
 use Rattle.std.specs.List.{list_all}
@@ -14,6 +14,7 @@ use Rattle.feel_value.proofs.Laws.{equal_itself}
 use Rattle.feel_text.specs.Meaning.{Bindings}
 use Rattle.dmn_table.specs.declared.table.Rule.{Rule}
 use Rattle.feel_value.specs.Found.{◌>>=◌, outcome_from}
+use Rattle.dmn_table.specs.Deciding.{are_equal}
 use Rattle.dmn_table.specs.Parts.{rule_view}
 use Rattle.dmn_table.specs.Result.{first_of, only_one, common_one}
 use Rattle.dmn_table.specs.RuleOutputs.{rules_view, rule_output, outputs_of}
@@ -29,6 +30,14 @@ module _ (cs : List Column) (m : Bindings) where
       go : (o : Option (List Datum)) → outputs_of cs m (rules_view rs) ≡ o → is_some o ≡ true → outcome_from (λ ds. held (number (pos (length ds)))) o ≡ held (number (pos (length rs)))
       go None e h = cc
       go (Some ds) e h = ap (λ n. held (number (pos n))) (each_length (rule_output cs m) (rules_view rs) ds e ∙ length-map rs (λ r. rule_view r.now))
+
+  -- what is made of their number
+  pub by_count : (rs : List (Bor Rule)) (f : ℕ → List ℕ) → is_some (outputs_of cs m (rules_view rs)) ≡ true → option_map (λ (ds : List Datum). f (length ds)) (outputs_of cs m (rules_view rs)) ≡ Some (f (length rs))
+  by_count rs f h = go (outputs_of cs m (rules_view rs)) refl h
+    where
+      go : (o : Option (List Datum)) → outputs_of cs m (rules_view rs) ≡ o → is_some o ≡ true → option_map (λ (ds : List Datum). f (length ds)) o ≡ Some (f (length rs))
+      go None e h = cc
+      go (Some ds) e h = ap (λ n. Some (f n)) (each_length (rule_output cs m) (rules_view rs) ds e ∙ length-map rs (λ r. rule_view r.now))
 
   -- the first of at most one is the only one
   pub first_alone : (rs : List (Bor Rule)) → length rs ≤ 1
@@ -68,3 +77,24 @@ module _ (cs : List Column) (m : Bindings) where
       go (Some ds) h =
           ap (λ c. Is (if c && list_all (λ e. is_yes (equal d e)) ds then d else null)) (ap is_yes (equal_itself d))
           ∙ ap (λ c. Is (if c then d else null)) (same_Some _ _ h)
+
+  -- all of these numbers where the first equals the others, otherwise none
+  pub all_or_none : (rs rest : List (Bor Rule)) (r : Bor Rule) (d : Datum) (b : Bool) (ns : List ℕ) → rs ≡ r ∷ rest → rule_output cs m (rule_view r.now) ≡ Some d
+      → option_map (list_all (λ e. is_yes (equal d e))) (outputs_of cs m (rules_view rest)) ≡ Some b
+      → option_map (λ (ds : List Datum). if are_equal ds then ns else []) (outputs_of cs m (rules_view rs)) ≡ Some (if b then ns else [])
+  all_or_none rs rest r d b ns split e h =
+      ap (λ xs. option_map (λ (ds : List Datum). if are_equal ds then ns else []) (outputs_of cs m (rules_view xs))) split
+      ∙ ap (λ o. option_map (λ (ds : List Datum). if are_equal ds then ns else []) (o >>= λ x. outputs_of cs m (rules_view rest) >>= λ xs. Some (x ∷ xs))) e
+      ∙ go (outputs_of cs m (rules_view rest)) h
+    where
+      go : (o : Option (List Datum)) → option_map (list_all (λ e. is_yes (equal d e))) o ≡ Some b
+          → option_map (λ (ds : List Datum). if are_equal ds then ns else []) (o >>= λ ds. Some (d ∷ ds)) ≡ Some (if b then ns else [])
+      go None h = cc
+      go (Some ds) h =
+          ap (λ c. Some (if c && list_all (λ e. is_yes (equal d e)) ds then ns else [])) (ap is_yes (equal_itself d))
+          ∙ ap (λ c. Some (if c then ns else [])) (same_Some _ _ h)
+
+-- where there are no outputs, nothing is found
+pub none_found : {X Y : Type 0} (o : Option X) (f : X → Y) → is_some o ≡ false → option_map f o ≡ None
+none_found None f h = refl
+none_found (Some x) f h = cc

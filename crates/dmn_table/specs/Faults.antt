@@ -21,6 +21,20 @@ policy_among (p ∷ ps) s = if bytes_eq p.0 s then Some p.1 else policy_among ps
 abbrev pub policy_of : List ℕ → Option HitPolicy
 policy_of = policy_among hit_policies
 
+-- the text of a hit policy
+abbrev pub policy_text : HitPolicy → List ℕ
+policy_text Unique = codes "U"
+policy_text Any = codes "A"
+policy_text Priority = codes "P"
+policy_text First = codes "F"
+policy_text RuleOrder = codes "R"
+policy_text OutputOrder = codes "O"
+policy_text Collect = codes "C"
+policy_text Sum = codes "C+"
+policy_text Least = codes "C<"
+policy_text Greatest = codes "C>"
+policy_text Count = codes "C#"
+
 -- the policies that make one number of the outputs
 abbrev pub is_operator : HitPolicy → Bool
 is_operator Sum = true
@@ -28,6 +42,12 @@ is_operator Least = true
 is_operator Greatest = true
 is_operator Count = true
 is_operator _ = false
+
+-- the policies that put the hits in the order of their output values
+abbrev pub goes_by_priority : HitPolicy → Bool
+goes_by_priority Priority = true
+goes_by_priority OutputOrder = true
+goes_by_priority _ = false
 
 -- a rule's entries are as many as the columns; e has the number of its tests and of its outputs
 abbrev pub fits_columns : ℕ → ℕ → (ℕ × ℕ) → Bool

@@ -1,6 +1,6 @@
 -- Which rules of a table hit, and with what output.
-use Rattle.std.specs.Prelude.{ℕ, List, [], ◌∷◌, Bool, true, false, map, Option, None, Some}
-use Rattle.std.specs.List.{list_all, zip}
+use Rattle.std.specs.Prelude.{ℕ, List, [], ◌∷◌, Bool, true, false, not, map, Option, None, Some}
+use Rattle.std.specs.List.{list_all, position_from, zip}
 use Rattle.feel_value.specs.Datum.{Datum, context, entries_of}
 use Rattle.feel_value.specs.Logic.{is_yes}
 use Rattle.feel_value.specs.Outcome.{held}
@@ -26,6 +26,11 @@ is_satisfied Broken = None
 abbrev pub does_hit : Bindings → List Datum → Rule → Option Bool
 does_hit m values rule =
     each (λ p. is_satisfied (satisfied p.0 p.1 m)) (zip rule.tests values) >>= λ answers. Some (list_all (λ yes. yes) answers)
+
+-- the first column, from 1 on, whose entry is not satisfied by its value; none where the rule hits
+abbrev pub first_miss : Bindings → List Datum → Rule → Option (Option ℕ)
+first_miss m values rule =
+    each (λ p. is_satisfied (satisfied p.0 p.1 m)) (zip rule.tests values) >>= λ answers. Some (position_from (λ yes. not yes) 1 answers)
 
 -- the elements whose answer is true
 abbrev pub kept : {X : Type 0} → List X → List Bool → List X

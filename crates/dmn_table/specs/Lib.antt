@@ -7,7 +7,10 @@ pub mod Priority
 pub mod Listed
 pub mod RuleOutputs
 pub mod Result
+pub mod Deciding
+pub mod Picked
 pub mod Parts
 pub mod View
 pub mod Code
 pub mod Columns
+pub mod Misses

@@ -1,18 +1,14 @@
 -- Internal: no public contract cites these words. The listed values of output columns, and what finds places among them.
-use Rattle.std.specs.Prelude.{ℕ, ℤ, List, [], ◌∷◌, map, length, Bool, ◌≡◌, Option, None, Some, if◌then◌else◌}
+use Rattle.std.specs.Prelude.{ℕ, ℤ, List, [], ◌∷◌, length, Bool, ◌≡◌, Option, None, Some, if◌then◌else◌}
 use Rattle.std.specs.Option.{unwrap_or}
 use Rattle.std.specs.Ordering.{int_cmp}
 use Rattle.std.specs.BTreeMap.{get, get_by_text}
 use Rattle.feel_value.specs.Datum.{Datum, number, text}
 use Rattle.feel_value.specs.Logic.{is_yes}
 use Rattle.feel_value.specs.Comparison.{equal}
-use Rattle.dmn_table.specs.Table.{Column}
 use Rattle.dmn_table.specs.Priority.{place}
+pub use Rattle.dmn_table.specs.Priority.{listed_values}
 use Rattle.dmn_table.specs.declared.listed.Index.{Index}
-
--- the listed values of each column
-abbrev pub listed_values : List Column → List (List Datum)
-listed_values cs = map (λ c. c.values) cs
 
 -- the place of each value in the list of its column
 abbrev pub places_among : List (List Datum) → List Datum → List ℕ

@@ -1,6 +1,8 @@
 -- What the parts of the code's tables stand for.
-use Rattle.std.specs.Prelude.{◌≡◌, ℕ, List, map, length, Option, None, Some}
+use Rattle.std.specs.Prelude.{◌≡◌, ℕ, List, map, length, Bool, nat_eq, Option, None, Some}
 use Rattle.std.specs.Arc.{arc_str_bytes}
+use Rattle.std.specs.List.{list_all}
+use denote.Ref.{Bor}
 use Rattle.feel_text.specs.Expr.{Expr}
 use Rattle.dmn_table.specs.declared.fault.TableFault.{TableFault}
 use Rattle.dmn_table.specs.declared.hit_policy.HitPolicy.{HitPolicy}
@@ -14,6 +16,14 @@ column_view o = record { name = arc_str_bytes o.name; values = o.values.items; f
 
 abbrev pub rule_view : rule.Rule → Rule
 rule_view r = record { tests = r.tests.items; gives = r.gives.items }
+
+-- the rules behind references
+abbrev pub rules_view : List (Bor rule.Rule) → List Rule
+rules_view rules = map (λ r. rule_view r.now) rules
+
+-- each rule has so many output entries
+abbrev pub have_entries : ℕ → List Rule → Bool
+have_entries n rules = list_all (λ r. nat_eq (length r.gives) n) rules
 
 abbrev pub names_of : List Output → List (List ℕ)
 names_of outputs = map (λ o. arc_str_bytes o.name) outputs

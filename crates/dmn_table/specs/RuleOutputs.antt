@@ -1,22 +1,15 @@
 -- Internal: no public contract cites these words. The rules that hit, and their outputs.
-use Rattle.std.specs.Prelude.{◌≡◌, true, List, map, length, nat_eq, Option, Some, None, ℕ, Bool, if◌then◌else◌}
-use Rattle.std.specs.List.{list_all}
-use denote.Ref.{Bor}
+use Rattle.std.specs.Prelude.{◌≡◌, true, List, map, Option, Some, None, if◌then◌else◌}
 use Rattle.feel_value.specs.Datum.{Datum, null, list, items_of}
 use Rattle.feel_value.specs.Limits.{is_value, nodes, depth}
 use Rattle.feel_value.specs.declared.feel.Outcome.{Outcome}
 use Rattle.feel_value.specs.declared.feel.Outcome.TheVariants.{Is, Limit}
 use Rattle.feel_text.specs.Meaning.{Bindings}
-use Rattle.dmn_table.specs.declared.table.Rule as rule
 use Rattle.feel_value.specs.Found.{value_of, ◌>>=◌, each}
 use Rattle.dmn_table.specs.Hits.{does_hit, kept, values_of, output_of}
-use Rattle.dmn_table.specs.Parts.{rule_view}
+pub use Rattle.dmn_table.specs.Parts.{rules_view, have_entries}
 use Rattle.dmn_table.specs.Priority.{Hit}
 use Rattle.dmn_table.specs.Table.{Column, Rule}
-
--- the rules behind references
-abbrev pub rules_view : List (Bor rule.Rule) → List Rule
-rules_view rules = map (λ r. rule_view r.now) rules
 
 -- the rules that hit, for these values of the input expressions
 abbrev pub hits_among : Bindings → List Datum → List Rule → Option (List Rule)
@@ -49,7 +42,3 @@ outputs_of columns m rules = each (rule_output columns m) rules
 abbrev pub fitting : Option (List Hit) → Option (List Hit)
 fitting None = None
 fitting (Some hs) = if is_value (list (items_of (map (λ h. h.output) hs))) then Some hs else None
-
--- each rule has so many output entries
-abbrev pub have_entries : ℕ → List Rule → Bool
-have_entries n rules = list_all (λ r. nat_eq (length r.gives) n) rules

@@ -127,7 +127,7 @@ pub(crate) fn common_one(
 }
 
 /// Whether each output equals the first; None where a rule breaks a limit.
-fn all_equal(
+pub(crate) fn all_equal(
     alloc: Global,
     first: &Feel,
     rules: &[&Rule],

@@ -1,20 +1,31 @@
 //! The hit policies and their texts.
-ghost use Rattle.std.specs.Prelude.{◌≡◌};
-ghost use Rattle.dmn_table.specs.Faults.{policy_of, is_operator as makes_a_number};
+ghost use Rattle.std.specs.Prelude.{◌≡◌, Some};
+ghost use Rattle.dmn_table.specs.Faults.{policy_of, policy_text, is_operator as makes_a_number, goes_by_priority as by_priority};
 
 /// How the outputs of the rules that hit make one result.
 #[derive(Clone, Copy)]
-pub(crate) enum HitPolicy {
+pub enum HitPolicy {
+    /// `U`: the output of the only rule.
     Unique,
+    /// `A`: the output that all rules have.
     Any,
+    /// `P`: the output of the highest priority.
     Priority,
+    /// `F`: the output of the first rule.
     First,
+    /// `O`: the list of the outputs, the highest in priority first.
     OutputOrder,
+    /// `R`: the list of the outputs, in the order of the rules.
     RuleOrder,
+    /// `C`: the list of the outputs.
     Collect,
+    /// `C+`: the sum of the outputs.
     Sum,
+    /// `C<`: the least output.
     Least,
+    /// `C>`: the greatest output.
     Greatest,
+    /// `C#`: the number of the outputs.
     Count,
 }
 
@@ -39,6 +50,26 @@ impl HitPolicy {
         }
     }
 
+    /// Its text.
+    pub fn text(self) -> &'static str
+        ensures text { result.now ≡ policy_text self }
+        ensures read { policy_of result.now ≡ Some self }
+    {
+        match self {
+            HitPolicy::Unique => "U",
+            HitPolicy::Any => "A",
+            HitPolicy::Priority => "P",
+            HitPolicy::First => "F",
+            HitPolicy::OutputOrder => "O",
+            HitPolicy::RuleOrder => "R",
+            HitPolicy::Collect => "C",
+            HitPolicy::Sum => "C+",
+            HitPolicy::Least => "C<",
+            HitPolicy::Greatest => "C>",
+            HitPolicy::Count => "C#",
+        }
+    }
+
     /// Whether it makes one number of the outputs.
     pub(crate) fn is_operator(self) -> bool
         ensures { result ≡ makes_a_number self }
@@ -47,5 +78,12 @@ impl HitPolicy {
             self,
             HitPolicy::Sum | HitPolicy::Least | HitPolicy::Greatest | HitPolicy::Count
         )
+    }
+
+    /// Whether it puts the rules that hit in the order of their output values.
+    pub fn goes_by_priority(self) -> bool
+        ensures { result ≡ by_priority self }
+    {
+        matches!(self, HitPolicy::Priority | HitPolicy::OutputOrder)
     }
 }

@@ -50,19 +50,6 @@ fn is_matched(
     Ok(Some(hit))
 }
 
-/// Whether the rule hits, for these values of the input expressions of its table; None where an entry breaks a limit. All its
-/// input entries are evaluated but those after a miss that are known to break no limit.
-pub fn does_hit(
-    alloc: Global,
-    rule: &Rule,
-    values: &[Feel],
-    env: &Env,
-) -> Result<Option<bool>, AllocError>
-    ensures { IfOk result (λ hit. hit ≡ does_hit_of env.now values.now (rule_view rule.now)) }
-{
-    is_matched(alloc, rule, false, values, env)
-}
-
 /// Adds those of these rules that hit; false where an entry breaks a limit. A rule whose bit is not set is known to miss and is
 /// not asked; the first rule has the lowest bit. `keep_limits` says that all entries are known to break none.
 fn add_hits<'a>(

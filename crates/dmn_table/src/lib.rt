@@ -4,19 +4,24 @@
 
 mod collected;
 mod columns;
+mod deciders;
 mod decision;
 mod fault;
 mod hit_policy;
 mod hits;
 mod listed;
+mod misses;
 mod numbers;
 mod output;
 mod policy;
 mod priority;
 mod table;
 
+pub use deciders::deciding;
 pub use decision::decide;
 pub use fault::TableFault;
-pub use hits::does_hit;
+pub use hit_policy::HitPolicy;
+pub use listed::{Listed, listed_places, lists_of};
+pub use misses::first_miss;
 pub use output::{evaluated, has_no_default};
 pub use table::{Output, Rule, Table};

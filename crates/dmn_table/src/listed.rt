@@ -2,8 +2,8 @@
 ghost use Rattle.std.specs.Prelude.{◌≡◌, ℤ, ℕ, List, OnOk, IfOk, map, bytes_eq};
 ghost use Rattle.std.specs.Ordering.{int_cmp, is_eq};
 ghost use Rattle.std.specs.BTreeMap.{get, get_by_text};
-ghost use Rattle.dmn_table.specs.Listed.{IsIndex, PutsFirst, first_of, place_if, listed_values};
-ghost use Rattle.dmn_table.specs.Priority.{place as place_of};
+ghost use Rattle.dmn_table.specs.Listed.{IsIndex, PutsFirst, first_of, place_if};
+ghost use Rattle.dmn_table.specs.Priority.{place as place_of, listed_place as listed_place_of, listed_places as listed_places_of, listed_values};
 ghost use Rattle.dmn_table.specs.Parts.{column_view};
 
 use crate::table::Output;
@@ -82,7 +82,7 @@ impl Index {
 
 /// The listed values of an output column, with an index where one pays.
 #[derive(Drop)]
-pub(crate) struct Listed<'a> {
+pub struct Listed<'a> {
     values: &'a [Feel],
     index: Option<Index>,
 }
@@ -136,6 +136,18 @@ impl<'a> Listed<'a> {
             _ => place_along(self.values, value),
         }
     }
+
+    /// The position, from 1 on, of the first listed value that equals the value; None where none does.
+    pub fn listed_place(&self, value: &Feel) -> Option<usize>
+        ensures { result ≡ listed_place_of self.now value.now }
+    {
+        let place = self.place(value);
+        if place < self.values.len() {
+            Some(place + 1)
+        } else {
+            None
+        }
+    }
 }
 
 /// The place that is found by comparing the value with each listed one in turn.
@@ -150,8 +162,8 @@ fn place_along(listed: &[Feel], value: &Feel) -> usize
     listed.len()
 }
 
-/// The listed values of each column, where so many rules hit.
-pub(crate) fn lists_of<'a>(
+/// The listed values of each column, where so many rules hit: the more there are, the more an index pays.
+pub fn lists_of<'a>(
     alloc: Global,
     outputs: &'a [Output],
     hits: usize,
@@ -163,4 +175,19 @@ pub(crate) fn lists_of<'a>(
         lists.push(Listed::of(alloc, &output.values, hits)?)?;
     }
     Ok(lists)
+}
+
+/// Of each value its place in the list of its column, from 1 on; None where it equals none of the list.
+pub fn listed_places(
+    alloc: Global,
+    lists: &[Listed],
+    values: &[Feel],
+) -> Result<Vec<Option<usize>>, AllocError>
+    ensures { IfOk result (λ places. places.items ≡ listed_places_of lists.now values.now) }
+{
+    let mut places = Vec::with_capacity(alloc, values.len())?;
+    for (listed, value) in lists.iter().zip(values) {
+        places.push(listed.listed_place(value))?;
+    }
+    Ok(places)
 }

@@ -68,7 +68,7 @@ pub(crate) fn greatest(
 
 /// The outputs as numbers; Some(None) where one is no number, None where a rule breaks a limit. The outputs that follow one
 /// that is no number are evaluated, and not kept.
-fn numbers(
+pub(crate) fn numbers(
     alloc: Global,
     rules: &[&Rule],
     outputs: &[Output],
@@ -125,7 +125,7 @@ fn total(numbers: &[i64]) -> i128
     total
 }
 
-fn least_number(numbers: &[i64]) -> i64
+pub(crate) fn least_number(numbers: &[i64]) -> i64
     ensures { result ≡ least_of numbers.now }
 {
     let Some((first, rest)) = numbers.split_first() else {
@@ -138,7 +138,7 @@ fn least_number(numbers: &[i64]) -> i64
     least
 }
 
-fn greatest_number(numbers: &[i64]) -> i64
+pub(crate) fn greatest_number(numbers: &[i64]) -> i64
     ensures { result ≡ greatest_of numbers.now }
 {
     let Some((first, rest)) = numbers.split_first() else {

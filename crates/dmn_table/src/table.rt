@@ -110,7 +110,7 @@ impl Model for Table {
 impl Table {
     ghost use Rattle.std.specs.Prelude.{map};
     ghost use Rattle.dmn_table.specs.Hits.{output_of};
-    ghost use Rattle.dmn_table.specs.Parts.{column_view, rule_view};
+    ghost use Rattle.dmn_table.specs.Parts.{column_view, rule_view, have_entries};
 
     /// The table, or its first fault: of the text of the hit policy, of the columns, of an operator over several outputs. It
     /// takes no memory; the names of the output columns are compared each with each.
@@ -163,6 +163,13 @@ impl Table {
         })
     }
 
+    /// Its hit policy.
+    pub fn policy(&self) -> HitPolicy
+        ensures { result ≡ self.now.policy }
+    {
+        self.policy
+    }
+
     /// Its input expressions, one for each input column.
     pub fn inputs(&self) -> &[Expr]
         ensures { result.now ≡ self.now.inputs }
@@ -179,7 +186,8 @@ impl Table {
 
     /// Its rules, in their order.
     pub fn rules(&self) -> &[Rule]
-        ensures { map rule_view result.now ≡ self.now.rules }
+        ensures rules { map rule_view result.now ≡ self.now.rules }
+        ensures entries { have_entries (length self.now.outputs) self.now.rules ≡ true }
     {
         &self.rules
     }
