@@ -1,11 +1,13 @@
-//! `explain`: the lines of `serve`, answered one after another, each request with what every decision on the way came to.
+//! `explain`: the lines of `serve`, answered one after another as `serve` answers them, each with its reasons.
 #![tactic(auto)]
 
 mod answering;
 mod explanation;
+mod options;
 mod printing;
 mod run;
 mod state;
 
+pub use options::ExplainOptions;
 pub use printing::explain_in_text;
 pub use run::explain;

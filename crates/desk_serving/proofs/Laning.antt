@@ -18,7 +18,8 @@ use Rattle.lanes.proofs.Mails.{changed_length, got}
 use Rattle.desk_lines.specs.Lines.{ended}
 use Rattle.desk_serving.specs.Owed.{Lane, lane_of, due, HandsOwn, with_closed, with_handed}
 use Rattle.desk_wire.specs.Reports as reports
-use Rattle.desk_serving.proofs.Owing.{due-next, name_itself, of_other, of_same}
+use Rattle.desk_serving.proofs.Owing.{due-next, of_other, of_same}
+use Rattle.desk_requests.proofs.Names.{name_itself}
 
 -- ## Why a capacity is refused
 

@@ -10,17 +10,19 @@ use Rattle.lanes.proofs.Making.{map_set}
 use Rattle.desk_serving.specs.LanesView.{ArePolled, IsPolled, lanes_in, names_in}
 use Rattle.desk_serving.specs.declared.named_lanes.Lanes.{Lanes}
 use Rattle.desk_lines.specs.Lines.{ended}
-use Rattle.desk_serving.specs.Owed.{Lane, lane_of, replies, due, due_to, due_to_name, unhanded, AreDistinct, Hands, HandsOwn, HandsThen, with_lane, with_put, with_put_if}
+use Rattle.desk_serving.specs.Owed.{Lane, lane_of, replies, due, due_to, due_to_name, unhanded, Hands, HandsOwn, HandsThen, with_put, with_put_if}
+use Rattle.desk_requests.specs.State.{AreDistinct, with_lane}
 use Rattle.desk_wire.specs.Reports.{Report, Of, Reply, report_text}
 use Rattle.desk_wire.specs.declared.report.Told.{Told}
 use Rattle.desk_wire.specs.declared.report.Told.TheVariants as told
 use Rattle.desk_wire.specs.declared.word.Word.TheVariants as word
 use Rattle.desk_serving.specs.Script.{of_client, texts_of}
-use Rattle.desk_serving.specs.Due.{task_answer}
+use Rattle.desk_requests.specs.Due.{task_answer}
 use Rattle.feel_value.specs.Distinct.{is_among}
 use Rattle.desk_serving.proofs.Laning.{get_map}
-use Rattle.desk_serving.proofs.Standing.{distinct-push}
-use Rattle.desk_serving.proofs.Owing.{same_name, name_itself, turned_name, or_false, of_client-append, of_other, of_same, lines-append, due_to_own, due_to_other, due-whole, set_at, get_at, own_hands, hands_then_report, unhanded_at, unhanded_with}
+use Rattle.desk_requests.proofs.Callers.{distinct-push}
+use Rattle.desk_serving.proofs.Owing.{of_client-append, of_other, of_same, lines-append, due_to_own, due_to_other, due-whole, set_at, get_at, own_hands, hands_then_report, unhanded_at, unhanded_with}
+use Rattle.desk_requests.proofs.Names.{same_name, name_itself, turned_name, or_false}
 
 -- ## Lists of lanes
 

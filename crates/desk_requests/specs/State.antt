@@ -3,7 +3,8 @@
 -- Each definition is over the lines read so far, the newest first: `earlier` are the lines before the one in question. A
 -- client's lane and its tickets follow from these lines and the number of lanes: no worker, no schedule and no capacity of a
 -- lane stands here.
-use Rattle.std.specs.Prelude.{◌+◌, ℕ, Bool, false, not, ◌&&◌, if◌then◌else◌, List, [], ◌∷◌, ◌++◌, Option, Some, None, Result, Ok, Err, length, take, bytes_eq}
+use Rattle.std.specs.Prelude.{◌≡◌, ◌+◌, ℕ, Bool, false, not, ◌&&◌, ◌||◌, nat_le, if◌then◌else◌, List, [], ◌∷◌, ◌++◌, Option, Some, None, Result, Ok, Err, length, take, bytes_eq}
+use Rattle.std.specs.Coded.{×_prop, Unit-prop}
 use Rattle.std.specs.List.{list_any}
 use Rattle.serde_json.specs.Data.{Data}
 use Rattle.serde_json.specs.Written.{compact_text}
@@ -13,7 +14,7 @@ use Rattle.dmn_plan.specs.Request as plan
 use Rattle.dmn_plan.specs.declared.fault.ModelFault.{ModelFault}
 use Rattle.dmn_plan.specs.declared.fault.TaskFault.{TaskFault}
 use Rattle.desk_wire.specs.Reading.{Reading, Says}
-use Rattle.desk_serving.specs.Line.{Line, Model, Request, Close, Resize}
+use Rattle.desk_requests.specs.Line.{Line, Model, Request, Close, Resize}
 
 -- the model in force after a model line: one with a fault leaves the old one
 abbrev pub newer_model : {M : Type 0} → Data → Result M ModelFault → Option (List ℕ) → Option (List ℕ)
@@ -87,3 +88,17 @@ with_request_of name closed model reading past = past
 abbrev pub requests : List ℕ → List (Reading Line) → List plan.Request
 requests name [] = []
 requests name (reading ∷ earlier) = with_request_of name (is_closed name earlier) (in_force earlier) reading (requests name earlier)
+
+-- ## Names
+
+abbrev pub AreDistinct : List (List ℕ) → Type 0
+AreDistinct [] = Unit {0}
+AreDistinct (n ∷ names) = (is_among names n ≡ false) × AreDistinct names
+
+pub AreDistinct-prop : (names : List (List ℕ)) → IsProp (AreDistinct names)
+AreDistinct-prop [] = Unit-prop
+AreDistinct-prop (n ∷ names) = ×_prop (Prim.hlevel props) (AreDistinct-prop names)
+
+-- the names with one more, if there is a lane for it
+abbrev pub with_lane : ℕ → List ℕ → List (List ℕ) → List (List ℕ)
+with_lane lanes name names = if is_among names name || nat_le lanes (length names) then names else names ++ name ∷ []

@@ -1,5 +1,5 @@
 -- The lines of `serve`.
-use Rattle.std.specs.Prelude.{◌≡◌, ℕ, ◌^◌, ◌<◌, List, true, codes}
+use Rattle.std.specs.Prelude.{◌≡◌, ℕ, ◌^◌, ◌<◌, List, [], ◌∷◌, true, codes}
 use Rattle.serde_json.specs.Data.{Data, boolean, object, member, no_members}
 use Rattle.desk_wire.specs.Parts.{IsName, IsObject, with_name, with_number}
 use Rattle.desk_wire.specs.Reading.{Reading, ReadsAs}
@@ -32,3 +32,9 @@ IsLine says value = (object_of says ≡ value) × IsLawful says
 -- how a line of an input is read
 abbrev pub Reads : List ℕ → Reading Line → Type 0
 Reads = ReadsAs object_of IsLawful
+
+-- each line is read so; both lists are the newest first
+abbrev pub AreRead : List (List ℕ) → List (Reading Line) → Type 0
+AreRead [] [] = Unit {0}
+AreRead (line ∷ lines) (reading ∷ readings) = Reads line reading × AreRead lines readings
+AreRead lines readings = ⊥

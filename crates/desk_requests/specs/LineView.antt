@@ -1,8 +1,8 @@
 -- The line of `serve` that the code holds.
 use Rattle.serde_json.specs.View.{view}
-use Rattle.desk_serving.specs.Line as said
-use Rattle.desk_serving.specs.declared.line.Line.{Line}
-use Rattle.desk_serving.specs.declared.line.Line.TheVariants.{Model, Request, Close, Resize}
+use Rattle.desk_requests.specs.Line as said
+use Rattle.desk_requests.specs.declared.line.Line.{Line}
+use Rattle.desk_requests.specs.declared.line.Line.TheVariants.{Model, Request, Close, Resize}
 
 abbrev pub line_view : Line → said.Line
 line_view (Model model) = said.Model (view model.now)

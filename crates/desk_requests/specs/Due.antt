@@ -13,8 +13,8 @@ use Rattle.desk_wire.specs.Reports.{Report, Loaded, Faulty, Refused, Of, Reply}
 use Rattle.desk_wire.specs.Words.{fault_word, task_fault_word}
 use Rattle.desk_wire.specs.declared.report.Told.TheVariants as told
 use Rattle.desk_wire.specs.declared.word.Word.TheVariants as word
-use Rattle.desk_serving.specs.Line.{Line, Model, Request, Close, Resize}
-use Rattle.desk_serving.specs.State.{has_lane, in_force, is_closed, number_after, requests}
+use Rattle.desk_requests.specs.Line.{Line, Model, Request, Close, Resize}
+use Rattle.desk_requests.specs.State.{has_lane, in_force, is_closed, number_after, requests}
 
 -- a model that is read, or its fault
 abbrev pub model_answer : {M : Type 0} → ℕ → Result M ModelFault → Report

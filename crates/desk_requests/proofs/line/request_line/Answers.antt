@@ -1,6 +1,6 @@
 use Rattle.std.proofs.Common.{sym}
 use Rattle.serde_json.specs.Data.{string}
-use Rattle.desk_serving.proofs.line.request_line.Goals as goal
+use Rattle.desk_requests.proofs.line.request_line.Goals as goal
 
 pub returns-in_err-name-clause-other : goal.returns-in_err-name-clause-other
 returns-in_err-name-clause-other c =

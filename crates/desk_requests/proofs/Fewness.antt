@@ -3,7 +3,7 @@ use Rattle.std.proofs.Common.{◌≡◌, ◌≢◌, ◌≤◌, arith, refl, sym,
 use Rattle.serde_json.specs.Data.{Data, object}
 use Rattle.json_reader.specs.Listed.{IsNotFew, count, most_listed}
 use Rattle.json_reader.proofs.Listing.{members_within}
-use Rattle.desk_serving.specs.Line.{Line, Model, Request, Close, Resize, IsLawful, object_of}
+use Rattle.desk_requests.specs.Line.{Line, Model, Request, Close, Resize, IsLawful, object_of}
 
 are_few : (line : Line) → (object_of line ≡ object (members_within (object_of line))) × (count (members_within (object_of line)) ≤ most_listed)
 are_few (Model model) = (refl, omega arith)

@@ -2,8 +2,8 @@ use Rattle.std.proofs.Common.{rules, ◌≡◌, ℕ, List, Some, IfNone, MatchOp
 use Rattle.serde_json.specs.Data.{Data, object}
 use Rattle.json_reader.specs.Members.{members_of}
 use Rattle.desk_wire.proofs.FirstKey.{first_key, first_is, neither}
-use Rattle.desk_serving.specs.Line.{Line, Request, Close, IsLine}
-use Rattle.desk_serving.proofs.line.line_in.Goals as goal
+use Rattle.desk_requests.specs.Line.{Line, Request, Close, IsLine}
+use Rattle.desk_requests.proofs.line.line_in.Goals as goal
 
 -- a line whose first key this is names a client
 no_client : (value : Data) → first_key value ≡ codes "client" → ((name service : List ℕ) (inputs : Data) → ¬ IsLine (Request name service inputs) value)
