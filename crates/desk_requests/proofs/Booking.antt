@@ -15,7 +15,7 @@ use Rattle.desk_requests.proofs.Names.{name_itself, not_among_at, or_false, same
 
 -- ## Lists of clients
 
-same_client : (n : List ℕ) (a b : ℕ) (c d : Bool) → a ≡ b → c ≡ d → record { name = n; accepted = a; closed = c } ≡ (record { name = n; accepted = b; closed = d } : Client)
+pub same_client : (n : List ℕ) (a b : ℕ) (c d : Bool) → a ≡ b → c ≡ d → record { name = n; accepted = a; closed = c } ≡ (record { name = n; accepted = b; closed = d } : Client)
 same_client n a b c d e f = λ i. record { name = n; accepted = e i; closed = f i }
 
 -- a name with as many requests, and as closed, by more lines

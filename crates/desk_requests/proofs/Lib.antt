@@ -5,3 +5,4 @@ pub mod Models
 pub mod Readings
 pub mod Listening
 pub mod Booking
+pub mod Answering

@@ -1,5 +1,5 @@
 -- Names: each is itself, and is among names or not.
-use Rattle.std.proofs.Common.{◌≡◌, ℕ, zero, suc, Bool, true, false, List, [], ◌∷◌, ◌++◌, Some, slice_get, ◌||◌, refl, sym, ap, ◌∙◌, subst}
+use Rattle.std.proofs.Common.{◌≡◌, ℕ, zero, suc, Bool, true, false, List, [], ◌∷◌, ◌++◌, Some, length, map, slice_get, slice_index_or, take, ◌<◌, ◌||◌, refl, sym, ap, ◌∙◌, arith, subst}
 use Rattle.std.specs.Prelude.{bytes_eq}
 use Rattle.std.proofs.lemmas.Slice.Eq.{bytes_eq-Decides}
 use Rattle.feel_value.specs.Distinct.{is_among}
@@ -38,3 +38,31 @@ pub among_at : (n : List ℕ) (names : List (List ℕ)) (c : ℕ) → slice_get 
 among_at n [] c at = cc
 among_at n (k ∷ names) zero at = let is : k ≡ n = cc in let e : bytes_eq n k ≡ true = subst (λ x. bytes_eq n x ≡ true) (sym is) (name_itself n) in rw e refl
 among_at n (k ∷ names) (suc c) at = rw (among_at n names c at) (or_true (bytes_eq n k))
+
+-- ## Places
+
+pub get_at : {X : Type 0} (xs : List X) (c : ℕ) (x : X) → c < length xs → x ≡ slice_index_or xs c x → slice_get xs c ≡ Some x
+get_at [] c x lt is = absurd (omega (arith, lt))
+get_at (z ∷ xs) zero x lt is = ap Some (sym is)
+get_at (z ∷ xs) (suc c) x lt is = get_at xs c x (omega (arith, lt)) is
+
+pub get_inside : {X : Type 0} (xs : List X) (c : ℕ) (x : X) → slice_get xs c ≡ Some x → c < length xs
+get_inside [] c x h = cc
+get_inside (z ∷ xs) zero x h = omega arith
+get_inside (z ∷ xs) (suc c) x h = omega (arith, get_inside xs c x h)
+
+pub get_map : {A B : Type 0} (f : A → B) (xs : List A) (i : ℕ) (x : A) → slice_get xs i ≡ Some x → slice_get (map f xs) i ≡ Some (f x)
+get_map f [] i x e = cc
+get_map f (y ∷ xs) zero x e = let is : y ≡ x = cc in ap (λ z. Some (f z)) is
+get_map f (y ∷ xs) (suc i) x e = get_map f xs i x e
+
+pub among_take : (n : List ℕ) (names : List (List ℕ)) (i : ℕ) (m : List ℕ) → slice_get names i ≡ Some m → bytes_eq m n ≡ false → is_among (take i names) n ≡ false → is_among (take (suc i) names) n ≡ false
+among_take n [] i m at far h = cc
+among_take n (k ∷ names) zero m at far h =
+    let is : k ≡ m = cc in let e : bytes_eq n k ≡ false = turned_name n k ∙ subst (λ x. bytes_eq x n ≡ false) (sym is) far in rw e refl
+among_take n (k ∷ names) (suc i) m at far h =
+    let both = or_false (bytes_eq n k) (is_among (take i names) n) h in rw both.0 (among_take n names i m at far both.1)
+
+pub last_at : {X : Type 0} (xs : List X) (x : X) → slice_get (xs ++ x ∷ []) (length xs) ≡ Some x
+last_at [] x = refl
+last_at (y ∷ xs) x = last_at xs x

@@ -94,16 +94,6 @@ set_at [] c x y h = cc
 set_at (z ∷ xs) zero x y h = refl
 set_at (z ∷ xs) (suc c) x y h = set_at xs c x y h
 
-pub get_at : {X : Type 0} (xs : List X) (c : ℕ) (x : X) → c < length xs → x ≡ slice_index_or xs c x → slice_get xs c ≡ Some x
-get_at [] c x lt is = absurd (omega (arith, lt))
-get_at (z ∷ xs) zero x lt is = ap Some (sym is)
-get_at (z ∷ xs) (suc c) x lt is = get_at xs c x (omega (arith, lt)) is
-
-pub get_inside : {X : Type 0} (xs : List X) (c : ℕ) (x : X) → slice_get xs c ≡ Some x → c < length xs
-get_inside [] c x h = cc
-get_inside (z ∷ xs) zero x h = omega arith
-get_inside (z ∷ xs) (suc c) x h = omega (arith, get_inside xs c x h)
-
 pub unhanded-set : (lanes : List Lane) (c : ℕ) (lane new : Lane) → slice_get lanes c ≡ Some lane → new.put ≡ lane.put → new.closed ≡ lane.closed
     → unhanded (slice_set lanes c new) ≡ unhanded lanes
 unhanded-set [] c lane new h p q = cc
