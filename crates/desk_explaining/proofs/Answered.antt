@@ -164,7 +164,7 @@ heard_long state k it text text' reads adds = (Long, reads, λ lanes earlier s n
   compact_text (report_json (Refused k word.Long)) ∷ [],
   ap (λ j. compact_text (report_json (Refused j word.Long)) ∷ []) num,
   one_more text text' (report_json (Refused k word.Long)) adds,
-  stands_on state lanes earlier Long s (record { lanes = s.register.lanes; model = s.register.model; clients = s.register.clients }),
+  stands_on state lanes earlier Long s (record { count = s.register.count; model = s.register.model; clients = s.register.clients }),
 ))
 
 pub heard_blank : (state : State) (k : ℕ) (it text : List ℕ) → Reads it Blank → HearsText state k it text text state
@@ -172,7 +172,7 @@ heard_blank state k it text reads = (Blank, reads, λ lanes earlier s num. (
   [],
   refl,
   sym (append-nil text),
-  stands_on state lanes earlier Blank s (record { lanes = s.register.lanes; model = s.register.model; clients = s.register.clients }),
+  stands_on state lanes earlier Blank s (record { count = s.register.count; model = s.register.model; clients = s.register.clients }),
 ))
 
 pub heard_syntax : (state : State) (k : ℕ) (it text text' : List ℕ) → Reads it Syntax → Adds text (report_json (Refused k word.Syntax)) text' → HearsText state k it text text' state
@@ -180,7 +180,7 @@ heard_syntax state k it text text' reads adds = (Syntax, reads, λ lanes earlier
   compact_text (report_json (Refused k word.Syntax)) ∷ [],
   ap (λ j. compact_text (report_json (Refused j word.Syntax)) ∷ []) num,
   one_more text text' (report_json (Refused k word.Syntax)) adds,
-  stands_on state lanes earlier Syntax s (record { lanes = s.register.lanes; model = s.register.model; clients = s.register.clients }),
+  stands_on state lanes earlier Syntax s (record { count = s.register.count; model = s.register.model; clients = s.register.clients }),
 ))
 
 pub heard_shape : (state : State) (k : ℕ) (it text text' : List ℕ) → Reads it Shape → Adds text (report_json (Refused k word.Shape)) text' → HearsText state k it text text' state
@@ -188,7 +188,7 @@ heard_shape state k it text text' reads adds = (Shape, reads, λ lanes earlier s
   compact_text (report_json (Refused k word.Shape)) ∷ [],
   ap (λ j. compact_text (report_json (Refused j word.Shape)) ∷ []) num,
   one_more text text' (report_json (Refused k word.Shape)) adds,
-  stands_on state lanes earlier Shape s (record { lanes = s.register.lanes; model = s.register.model; clients = s.register.clients }),
+  stands_on state lanes earlier Shape s (record { count = s.register.count; model = s.register.model; clients = s.register.clients }),
 ))
 
 -- a line that asks something
@@ -222,7 +222,7 @@ at_start state lanes s = record {
   read = tt;
   answered = refl;
   stands = record {
-    register = record { lanes = refl; model = s.register.model; clients = s.register.clients ∙ ap (map (client_after [])) (no_first lanes ∙ sym (no_first state.register.lanes)) };
+    register = record { count = refl; model = s.register.model; clients = s.register.clients ∙ ap (map (client_after [])) (no_first lanes ∙ sym (no_first state.register.lanes)) };
     sum = s.sum;
   };
 }
@@ -234,7 +234,7 @@ after_line old new k it text text' lines said shows a num heard =
     let all : length a.readings ≡ length lines = read-length (reverse lines) a.readings a.read ∙ length-reverse lines in
     let number : k ≡ number_after a.readings = omega (arith, num, all) in
     let h = heard.2 lanes a.readings a.stands number in
-    let same : new.register.lanes ≡ lanes = h.3.register.lanes in
+    let same : new.register.lanes ≡ lanes = h.3.register.count in
     let answered : AreAnswered old.misses lanes (heard.0 ∷ a.readings) (said ++ h.0) = (said, h.0, a.answered, h.1, refl) in (
       h.0,
       record {

@@ -1,9 +1,10 @@
 -- Each answer is the one that is due, and what stands after it is right.
-use Rattle.std.proofs.Common.{◌≡◌, ◌≢◌, ◌+◌, ◌<◌, ◌≤◌, ◌^◌, ◌%◌, ℕ, Bool, true, false, not, is_ok, List, [], ◌∷◌, ◌++◌, Option, Some, None, Result, Ok, Err, length, map, option_map, slice_get, slice_set, string_bytes, if◌then◌else◌, refl, sym, ap, ◌∙◌, arith, subst}
+use Rattle.std.proofs.Common.{◌≡◌, ◌≢◌, ◌⊎◌, inl, inr, ◌+◌, ◌<◌, ◌≤◌, ◌^◌, ◌%◌, ℕ, Bool, true, false, not, is_ok, List, [], ◌∷◌, ◌++◌, Option, Some, None, Result, Ok, Err, length, get_or, map, option_map, slice_get, slice_set, string_bytes, if◌then◌else◌, refl, sym, ap, ◌∙◌, arith, subst}
 use Rattle.std.specs.Arc.{arc_value}
-use Rattle.std.specs.Prelude.{bytes_eq}
+use Rattle.std.specs.Prelude.{◌==◌, ◌||◌, bytes_eq, nat_lt}
+use Rattle.std.proofs.lemmas.Bool.Decides.{nat_tests}
 use Rattle.std.proofs.Math.Nat.{mod-eq_of_lt}
-use Rattle.std.proofs.lemmas.List.{length-append}
+use Rattle.std.proofs.lemmas.List.{length-append, length-map}
 use Rattle.serde_json.specs.Data.{Data}
 use Rattle.serde_json.specs.Written.{compact_text}
 use Rattle.box_core.specs.Mail.{is_no_capacity}
@@ -27,17 +28,33 @@ use Rattle.desk_requests.specs.declared.register.Register.{Register}
 use Rattle.desk_requests.proofs.Booking.{as_before, lanes-distinct, names_told, same_client, same_elsewhere, same_of_all, set_one, told_at, with_client-told}
 use Rattle.desk_requests.proofs.Callers.{requests-accepted, requests-closed, requests-few, requests-other, requests-refused}
 use Rattle.desk_requests.proofs.Models.{faulty_model, loaded_model}
-use Rattle.desk_requests.proofs.Names.{among_at, name_itself, same_name}
+use Rattle.desk_requests.proofs.Names.{among_at, get_at, get_inside, get_map, name_itself, or_true, same_name}
 
 -- ## A name that asked for a lane
 
-names_are : (clients : List held.Client) → map (λ (c : held.Client). string_bytes c.name) clients ≡ map name_of (map client_view clients)
+pub names_are : (clients : List held.Client) → map (λ (c : held.Client). string_bytes c.name) clients ≡ map name_of (map client_view clients)
 names_are [] = refl
 names_are (c ∷ clients) = ap (λ ns. string_bytes c.name ∷ ns) (names_are clients)
 
+-- the client at a place is the one that is held there
+pub at_place : (clients : List held.Client) (place : ℕ) (x : held.Client) (client : Client) → place < length clients → x ≡ get_or clients place x
+    → slice_get (map client_view clients) place ≡ Some client → client ≡ client_view x
+at_place clients place x client within is at =
+    let here : slice_get (map client_view clients) place ≡ Some (client_view x) = get_map client_view clients place x (get_at clients place x within is) in cc
+
+pub within_clients : (clients : List held.Client) (place : ℕ) → place < length (map client_view clients) → place < length clients
+within_clients clients place h = omega (arith, h, length-map clients client_view)
+
+pub within_names : (clients : List held.Client) (place : ℕ) (n : List ℕ) → slice_get (map (λ (c : held.Client). string_bytes c.name) clients) place ≡ Some n → place < length clients
+within_names clients place n at =
+    omega (arith, get_inside (map (λ (c : held.Client). string_bytes c.name) clients) place n at, length-map clients (λ (c : held.Client). string_bytes c.name))
+
+pub within_register : (register : Register) (place : ℕ) (n : List ℕ) → slice_get (names_of register) place ≡ Some n → place < length (clients_of register)
+within_register register place n at = omega (arith, within_names register.clients.items place n at, length-map register.clients.items client_view)
+
 -- The clients stand as after the earlier lines, and the line's name has its lane, if there was one.
 pub record Named (lanes : ℕ) (register : Register) (earlier : List (Reading Line)) (reading : Reading Line) : Type 0 where
-  pub lanes : register.lanes ≡ lanes
+  pub counted : register.lanes ≡ lanes
   pub model : force_of register ≡ in_force earlier
   pub clients : clients_of register ≡ map (client_after earlier) (names_with_lanes lanes (reading ∷ earlier))
   pub names : names_of register ≡ names_with_lanes lanes (reading ∷ earlier)
@@ -47,9 +64,9 @@ pub named : (old new : Register) (lanes : ℕ) (earlier : List (Reading Line)) (
     → Named lanes new earlier reading
 named old new lanes earlier reading n s cs is plan same =
     let clients : clients_of new ≡ map (client_after earlier) (names_with_lanes lanes (reading ∷ earlier)) =
-    is ∙ ap (λ j. with_client j n (clients_of old)) s.lanes ∙ ap (λ ks. with_client lanes n ks) s.clients ∙ with_client-told lanes n reading earlier cs in
+    is ∙ ap (λ j. with_client j n (clients_of old)) s.count ∙ ap (λ ks. with_client lanes n ks) s.clients ∙ with_client-told lanes n reading earlier cs in
     record {
-      lanes = same ∙ s.lanes;
+      counted = same ∙ s.count;
       model = ap (λ p. option_map arc_value p) plan ∙ s.model;
       clients = clients;
       names = names_are new.clients.items ∙ ap (map name_of) clients ∙ names_told earlier (names_with_lanes lanes (reading ∷ earlier));
@@ -69,7 +86,7 @@ client_there lanes register earlier reading n place m at =
 -- or it has none
 has_none : (lanes : ℕ) (register : Register) (earlier : List (Reading Line)) (reading : Reading Line) (n : List ℕ) → Named lanes register earlier reading
     → is_among (names_of register) n ≡ false → has_lane lanes (reading ∷ earlier) n ≡ false
-has_none lanes register earlier reading n m no = ap (λ ns. is_among ns n) (sym m.names) ∙ no
+has_none lanes register earlier reading n m absent = ap (λ ns. is_among ns n) (sym m.names) ∙ absent
 
 -- ## Clients after the line
 
@@ -83,8 +100,8 @@ unchanged lanes register earlier reading m h = m.clients ∙ same_of_all (client
 elsewhere : (lanes : ℕ) (register : Register) (earlier : List (Reading Line)) (reading : Reading Line) (n : List ℕ) → Named lanes register earlier reading
     → is_among (names_of register) n ≡ false → ((m : List ℕ) → bytes_eq n m ≡ false → client_after earlier m ≡ client_after (reading ∷ earlier) m)
     → clients_of register ≡ map (client_after (reading ∷ earlier)) (names_with_lanes lanes (reading ∷ earlier))
-elsewhere lanes register earlier reading n m no h =
-    m.clients ∙ same_elsewhere (client_after earlier) (client_after (reading ∷ earlier)) n (names_with_lanes lanes (reading ∷ earlier)) (has_none lanes register earlier reading n m no) h
+elsewhere lanes register earlier reading n m absent h =
+    m.clients ∙ same_elsewhere (client_after earlier) (client_after (reading ∷ earlier)) n (names_with_lanes lanes (reading ∷ earlier)) (has_none lanes register earlier reading n m absent) h
 
 -- of one that changes the client at a place
 changed : (lanes : ℕ) (register : Register) (earlier : List (Reading Line)) (reading : Reading Line) (n : List ℕ) (place : ℕ) (now : List Client) (client : Client) → Named lanes register earlier reading
@@ -104,7 +121,7 @@ pub load_ok : (old new : Register) (k : ℕ) (json : Data) (answer : Answer) →
 load_ok old new k json answer ok force clients same view = λ lanes earlier s num.
     let l = loaded_model json (read_model json) (in_force earlier) (number_after earlier) ok in (
       view ∙ ap Loaded num ∙ sym l.1,
-      record { lanes = same ∙ s.lanes; model = force ∙ sym l.0; clients = ap (λ ks. map client_view ks.items) clients ∙ s.clients },
+      record { count = same ∙ s.count; model = force ∙ sym l.0; clients = ap (λ ks. map client_view ks.items) clients ∙ s.clients },
     )
 
 pub load_faulty : (old new : Register) (k : ℕ) (json : Data) (answer : Answer) (fault : ModelFault) → read_model json ≡ Err fault → new ≡ old
@@ -112,10 +129,25 @@ pub load_faulty : (old new : Register) (k : ℕ) (json : Data) (answer : Answer)
 load_faulty old new k json answer fault bad same view = λ lanes earlier s num.
     let l = faulty_model json (read_model json) (in_force earlier) (number_after earlier) fault bad in (
       view ∙ ap (λ j. Faulty j (fault_word fault)) num ∙ sym l.1,
-      subst (λ r. StandsAfter lanes r (Says (Model json) ∷ earlier)) (sym same) (record { lanes = s.lanes; model = s.model ∙ sym l.0; clients = s.clients }),
+      subst (λ r. StandsAfter lanes r (Says (Model json) ∷ earlier)) (sym same) (record { count = s.count; model = s.model ∙ sym l.0; clients = s.clients }),
     )
 
 -- ## Requests
+
+-- what is due to a request, by the model in force, whether its name has a lane, and what its service makes of its inputs
+due_without_lane : (lanes : ℕ) (earlier : List (Reading Line)) (n s text : List ℕ) (i : Data) → in_force earlier ≡ Some text → has_lane lanes (Says (Request n s i) ∷ earlier) n ≡ false
+    → line_answer lanes earlier (Request n s i) ≡ Of n (number_after earlier) (told.Refused word.Clients)
+due_without_lane lanes earlier n s text i some lane =
+    ap (λ b. request_answer (number_after earlier) n (in_force earlier) b (is_closed n earlier) (length (requests n earlier)) s i) lane
+    ∙ ap (λ m. request_answer (number_after earlier) n m false (is_closed n earlier) (length (requests n earlier)) s i) some
+
+due_with_lane : (lanes : ℕ) (earlier : List (Reading Line)) (n s text : List ℕ) (i : Data) (r : Result plan.Request TaskFault) → in_force earlier ≡ Some text
+    → has_lane lanes (Says (Request n s i) ∷ earlier) n ≡ true → plan.request_of text s i ≡ r
+    → line_answer lanes earlier (Request n s i) ≡ task_answer (number_after earlier) n (is_closed n earlier) (length (requests n earlier)) r
+due_with_lane lanes earlier n s text i r some lane is =
+    ap (λ b. request_answer (number_after earlier) n (in_force earlier) b (is_closed n earlier) (length (requests n earlier)) s i) lane
+    ∙ ap (λ m. request_answer (number_after earlier) n m true (is_closed n earlier) (length (requests n earlier)) s i) some
+    ∙ ap (λ q. task_answer (number_after earlier) n (is_closed n earlier) (length (requests n earlier)) q) is
 
 pub ask_no_model : (old : Register) (k : ℕ) (n s : List ℕ) (i : Data) (answer : Answer) → force_of old ≡ None
     → answer_view answer ≡ Of n k (told.Refused word.Model) → Answers old k (Request n s i) answer old
@@ -126,7 +158,7 @@ ask_no_model old k n s i answer none view = λ lanes earlier st num.
     let due : Of n (number_after earlier) (told.Refused word.Model) ≡ line_answer lanes earlier (Request n s i) = rw nowhere refl in (
       view ∙ ap (λ j. Of n j (told.Refused word.Model)) num ∙ due,
       record {
-        lanes = st.lanes;
+        count = st.count;
         model = st.model;
         clients = st.clients
             ∙ same_of_all (client_after earlier) (client_after later) (names_with_lanes lanes earlier) (λ m. sym (as_before m earlier later (requests-refused m n s i earlier (rw nowhere refl)) refl))
@@ -141,16 +173,16 @@ asks n s text i earlier some = rw some refl
 pub ask_no_lane : (old new : Register) (k : ℕ) (n s text : List ℕ) (i : Data) (answer : Answer) → force_of old ≡ Some text → clients_of new ≡ with_client old.lanes n (clients_of old)
     → new.plan ≡ old.plan → new.lanes ≡ old.lanes → is_among (names_of new) n ≡ false
     → answer_view answer ≡ Of n k (told.Refused word.Clients) → Answers old k (Request n s i) answer new
-ask_no_lane old new k n s text i answer force is plan same no view = λ lanes earlier st num.
+ask_no_lane old new k n s text i answer force is plan same absent view = λ lanes earlier st num.
     let some : in_force earlier ≡ Some text = sym st.model ∙ force in
     let m = named old new lanes earlier (Says (Request n s i)) n st (asks n s text i earlier some) is plan same in
-    let lane = has_none lanes new earlier (Says (Request n s i)) n m no in
-    let due : Of n (number_after earlier) (told.Refused word.Clients) ≡ line_answer lanes earlier (Request n s i) = rw (some, lane) refl in (
+    let lane = has_none lanes new earlier (Says (Request n s i)) n m absent in
+    let due = sym (due_without_lane lanes earlier n s text i some lane) in (
       view ∙ ap (λ j. Of n j (told.Refused word.Clients)) num ∙ due,
       record {
-        lanes = m.lanes;
+        count = m.counted;
         model = m.model;
-        clients = elsewhere lanes new earlier (Says (Request n s i)) n m no (λ j far. sym (as_before j earlier (Says (Request n s i) ∷ earlier) (requests-other j n s i earlier far) refl));
+        clients = elsewhere lanes new earlier (Says (Request n s i)) n m absent (λ j far. sym (as_before j earlier (Says (Request n s i) ∷ earlier) (requests-other j n s i earlier far) refl));
       },
     )
 
@@ -162,11 +194,11 @@ ask_fault old new k n s text i answer place fault force is plan same at bad view
     let some : in_force earlier ≡ Some text = sym st.model ∙ force in
     let m = named old new lanes earlier (Says (Request n s i)) n st (asks n s text i earlier some) is plan same in
     let lane = has_one lanes new earlier (Says (Request n s i)) n place m at in
-    let due : Of n (number_after earlier) (told.Refused (task_fault_word fault)) ≡ line_answer lanes earlier (Request n s i) = rw (some, lane, bad) refl in
+    let due = sym (due_with_lane lanes earlier n s text i (Err fault) some lane bad) in
     let nothing : requests_under (in_force earlier) s i ≡ [] = rw (some, bad) refl in (
       view ∙ ap (λ j. Of n j (told.Refused (task_fault_word fault))) num ∙ due,
       record {
-        lanes = m.lanes;
+        count = m.counted;
         model = m.model;
         clients = unchanged lanes new earlier (Says (Request n s i)) m (λ j. sym (as_before j earlier (Says (Request n s i) ∷ earlier) (requests-refused j n s i earlier nothing) refl));
       },
@@ -212,10 +244,10 @@ ask_accepted old mid new k n s text i answer place q fits force is plan same at 
     let m = named old mid lanes earlier (Says (Request n s i)) n st (asks n s text i earlier some) is plan same in
     let lane = has_one lanes mid earlier (Says (Request n s i)) n place m at in
     let there = client_there lanes mid earlier (Says (Request n s i)) n place m at in
-    let due : task_answer (number_after earlier) n (is_closed n earlier) (length (requests n earlier)) (Ok q) ≡ line_answer lanes earlier (Request n s i) = rw (some, lane, good) refl in (
+    let due = sym (due_with_lane lanes earlier n s text i (Ok q) some lane good) in (
       view (client_after earlier n) there ∙ ap (λ j. task_answer j n (is_closed n earlier) (length (requests n earlier)) (Ok q)) num ∙ due,
       record {
-        lanes = same' ∙ m.lanes;
+        count = same' ∙ m.counted;
         model = ap (λ p. option_map arc_value p) plan' ∙ m.model;
         clients = accepted_clients lanes mid (clients_of new) earlier n s text i place q (is_closed n earlier) m some good at (subst (λ j. j < 2 ^ 64) num fits) refl (counts (client_after earlier n) there);
       },
@@ -233,15 +265,15 @@ own_close n earlier = rw (name_itself n) refl
 pub close_no_lane : (old new : Register) (k : ℕ) (n : List ℕ) (answer : Answer) → clients_of new ≡ with_client old.lanes n (clients_of old)
     → new.plan ≡ old.plan → new.lanes ≡ old.lanes → is_among (names_of new) n ≡ false
     → answer_view answer ≡ Of n k (told.Refused word.Clients) → Answers old k (Close n) answer new
-close_no_lane old new k n answer is plan same no view = λ lanes earlier st num.
+close_no_lane old new k n answer is plan same absent view = λ lanes earlier st num.
     let m = named old new lanes earlier (Says (Close n)) n st refl is plan same in
-    let lane = has_none lanes new earlier (Says (Close n)) n m no in
+    let lane = has_none lanes new earlier (Says (Close n)) n m absent in
     let due : Of n (number_after earlier) (told.Refused word.Clients) ≡ line_answer lanes earlier (Close n) = rw lane refl in (
       view ∙ ap (λ j. Of n j (told.Refused word.Clients)) num ∙ due,
       record {
-        lanes = m.lanes;
+        count = m.counted;
         model = m.model;
-        clients = elsewhere lanes new earlier (Says (Close n)) n m no (λ j far. sym (as_before j earlier (Says (Close n) ∷ earlier) refl (other_close j n earlier far)));
+        clients = elsewhere lanes new earlier (Says (Close n)) n m absent (λ j far. sym (as_before j earlier (Says (Close n) ∷ earlier) refl (other_close j n earlier far)));
       },
     )
 
@@ -250,18 +282,18 @@ abbrev pub close_said : ℕ → List ℕ → Bool → Report
 close_said k n true = Of n k told.Closed
 close_said k n false = Of n k (told.Refused word.Closed)
 
-said_of_close : (k : ℕ) (n : List ℕ) (open closed : Bool) → open ≡ not closed → close_said k n open ≡ close_answer k n true closed
+said_of_close : (k : ℕ) (n : List ℕ) (opened closed : Bool) → opened ≡ not closed → close_said k n opened ≡ close_answer k n true closed
 said_of_close k n true true e = cc
 said_of_close k n true false e = refl
 said_of_close k n false true e = refl
 said_of_close k n false false e = cc
 
-pub close_lane : (old mid new : Register) (k : ℕ) (n : List ℕ) (answer : Answer) (place : ℕ) (open : Bool) → clients_of mid ≡ with_client old.lanes n (clients_of old)
+pub close_lane : (old mid new : Register) (k : ℕ) (n : List ℕ) (answer : Answer) (place : ℕ) (opened : Bool) → clients_of mid ≡ with_client old.lanes n (clients_of old)
     → mid.plan ≡ old.plan → mid.lanes ≡ old.lanes → slice_get (names_of mid) place ≡ Some n → new.plan ≡ mid.plan → new.lanes ≡ mid.lanes
-    → ((client : Client) → slice_get (clients_of mid) place ≡ Some client → open ≡ not client.closed)
+    → ((client : Client) → slice_get (clients_of mid) place ≡ Some client → opened ≡ not client.closed)
     → ((client : Client) → slice_get (clients_of mid) place ≡ Some client → clients_of new ≡ slice_set (clients_of mid) place (with_closed client))
-    → answer_view answer ≡ close_said k n open → Answers old k (Close n) answer new
-close_lane old mid new k n answer place open is plan same at plan' same' was closes view = λ lanes earlier st num.
+    → answer_view answer ≡ close_said k n opened → Answers old k (Close n) answer new
+close_lane old mid new k n answer place opened is plan same at plan' same' was closes view = λ lanes earlier st num.
     let later = Says (Close n) ∷ earlier in
     let m = named old mid lanes earlier (Says (Close n)) n st refl is plan same in
     let lane = has_one lanes mid earlier (Says (Close n)) n place m at in
@@ -269,9 +301,9 @@ close_lane old mid new k n answer place open is plan same at plan' same' was clo
     let new_client : with_closed (client_after earlier n) ≡ client_after later n =
     same_client n (length (requests n earlier)) (length (requests n later)) true (is_closed n later) refl (sym (own_close n earlier)) in
     let due : close_answer (number_after earlier) n true (is_closed n earlier) ≡ line_answer lanes earlier (Close n) = rw lane refl in (
-      view ∙ ap (λ j. close_said j n open) num ∙ said_of_close (number_after earlier) n open (is_closed n earlier) (was (client_after earlier n) there) ∙ due,
+      view ∙ ap (λ j. close_said j n opened) num ∙ said_of_close (number_after earlier) n opened (is_closed n earlier) (was (client_after earlier n) there) ∙ due,
       record {
-        lanes = same' ∙ m.lanes;
+        count = same' ∙ m.counted;
         model = ap (λ p. option_map arc_value p) plan' ∙ m.model;
         clients = changed lanes mid earlier (Says (Close n)) n place (clients_of new) (with_closed (client_after earlier n)) m at (closes (client_after earlier n) there) new_client
             (λ j far. sym (as_before j earlier later refl (other_close j n earlier far)));
@@ -283,13 +315,25 @@ close_lane old mid new k n answer place open is plan same at plan' same' was clo
 pub resize_no_lane : (old new : Register) (k : ℕ) (n : List ℕ) (capacity : ℕ) (answer : Answer) → clients_of new ≡ with_client old.lanes n (clients_of old)
     → new.plan ≡ old.plan → new.lanes ≡ old.lanes → is_among (names_of new) n ≡ false
     → answer_view answer ≡ Of n k (told.Refused word.Clients) → Answers old k (Resize n capacity) answer new
-resize_no_lane old new k n capacity answer is plan same no view = λ lanes earlier st num.
+resize_no_lane old new k n capacity answer is plan same absent view = λ lanes earlier st num.
     let m = named old new lanes earlier (Says (Resize n capacity)) n st refl is plan same in
-    let lane = has_none lanes new earlier (Says (Resize n capacity)) n m no in
+    let lane = has_none lanes new earlier (Says (Resize n capacity)) n m absent in
     let due : Of n (number_after earlier) (told.Refused word.Clients) ≡ line_answer lanes earlier (Resize n capacity) = rw lane refl in (
       view ∙ ap (λ j. Of n j (told.Refused word.Clients)) num ∙ due,
-      record { lanes = m.lanes; model = m.model; clients = m.clients },
+      record { count = m.counted; model = m.model; clients = m.clients },
     )
+
+pub no_capacity : (n : ℕ) → (n ≡ 0) ⊎ ((n ≡ 0 → ⊥) × (4096 < n)) → is_no_capacity n ≡ true
+no_capacity n (inl e) = rw e refl
+no_capacity n (inr e) =
+    let large : nat_lt 4096 n ≡ true = (let h = e.1 in grind (arith, nat_tests)) in
+    ap (λ b. (n == 0) || b) large ∙ or_true (n == 0)
+
+pub has_capacity : (n : ℕ) → (n ≡ 0 → ⊥) → n ≤ 4096 → is_no_capacity n ≡ false
+has_capacity n some h =
+    let first : (n == 0) ≡ false = grind (arith, nat_tests) in
+    let small : nat_lt 4096 n ≡ false = grind (arith, nat_tests) in
+    ap (λ b. b || nat_lt 4096 n) first ∙ small
 
 -- what is told of a resize of a client that is closed, or open
 abbrev pub resize_said : ℕ → List ℕ → ℕ → Bool → Report
@@ -311,5 +355,5 @@ resize_lane old new k n capacity answer place closed is plan same at was view = 
     let due : resize_answer (number_after earlier) n capacity true (is_closed n earlier) ≡ line_answer lanes earlier (Resize n capacity) = rw lane refl in (
       view ∙ ap (λ j. resize_said j n capacity closed) num ∙ ap (resize_said (number_after earlier) n capacity) (was (client_after earlier n) there)
           ∙ said_of_resize (number_after earlier) n capacity (is_closed n earlier) ∙ due,
-      record { lanes = m.lanes; model = m.model; clients = m.clients },
+      record { count = m.counted; model = m.model; clients = m.clients },
     )

@@ -15,8 +15,11 @@ use Rattle.desk_requests.proofs.Names.{name_itself, not_among_at, or_false, same
 
 -- ## Lists of clients
 
-pub same_client : (n : List ℕ) (a b : ℕ) (c d : Bool) → a ≡ b → c ≡ d → record { name = n; accepted = a; closed = c } ≡ (record { name = n; accepted = b; closed = d } : Client)
-same_client n a b c d e f = λ i. record { name = n; accepted = e i; closed = f i }
+abbrev pub client_as : List ℕ → ℕ → Bool → Client
+client_as n a c = record { name = n; accepted = a; closed = c }
+
+pub same_client : (n : List ℕ) (a b : ℕ) (c d : Bool) → a ≡ b → c ≡ d → client_as n a c ≡ client_as n b d
+same_client n a b c d e f = λ i. client_as n (e i) (f i)
 
 -- a name with as many requests, and as closed, by more lines
 pub as_before : (m : List ℕ) (earlier later : List (Reading Line)) → requests m later ≡ requests m earlier → is_closed m later ≡ is_closed m earlier
@@ -30,9 +33,9 @@ same_of_all f g (k ∷ names) h = ap (λ c. c ∷ map f names) (h k) ∙ ap (λ 
 
 -- the same, of names without this one
 pub same_elsewhere : (f g : List ℕ → Client) (n : List ℕ) (names : List (List ℕ)) → is_among names n ≡ false → ((m : List ℕ) → bytes_eq n m ≡ false → f m ≡ g m) → map f names ≡ map g names
-same_elsewhere f g n [] no h = refl
-same_elsewhere f g n (k ∷ names) no h =
-    let both = or_false (bytes_eq n k) (is_among names n) no in
+same_elsewhere f g n [] absent h = refl
+same_elsewhere f g n (k ∷ names) absent h =
+    let both = or_false (bytes_eq n k) (is_among names n) absent in
     ap (λ c. c ∷ map f names) (h k both.0) ∙ ap (λ cs. g k ∷ cs) (same_elsewhere f g n names both.1 h)
 
 -- where one of distinct names is told anew
@@ -41,8 +44,8 @@ pub set_one : (f g : List ℕ → Client) (names : List (List ℕ)) (place : ℕ
 set_one f g [] place n dis at h = cc
 set_one f g (k ∷ names) zero n dis at h =
     let is : k ≡ n = cc in
-    let no : is_among names n ≡ false = subst (λ j. is_among names j ≡ false) is dis.0 in
-    ap (λ j. g j ∷ map f names) (sym is) ∙ ap (λ cs. g k ∷ cs) (same_elsewhere f g n names no h)
+    let absent : is_among names n ≡ false = subst (λ j. is_among names j ≡ false) is dis.0 in
+    ap (λ j. g j ∷ map f names) (sym is) ∙ ap (λ cs. g k ∷ cs) (same_elsewhere f g n names absent h)
 set_one f g (k ∷ names) (suc place) n dis at h =
     let far : bytes_eq n k ≡ false = not_among_at k n names place dis.0 at in
     ap (λ c. c ∷ slice_set (map f names) place (g n)) (h k far) ∙ ap (λ cs. g k ∷ cs) (set_one f g names place n dis.1 at h)
@@ -121,3 +124,10 @@ with_client-told lanes n reading earlier cs =
     ∙ ap (λ k. if is_among names n || nat_le lanes k then map (client_after earlier) names else map (client_after earlier) names ++ fresh n ∷ []) (length-map names (client_after earlier))
     ∙ with_at lanes n earlier (is_among names n) (nat_le lanes (length names)) refl refl in
     first ∙ ap (map (client_after earlier)) same
+
+-- one more where there is a lane
+pub with_more : (lanes : ℕ) (n : List ℕ) (clients : List Client) → is_among (map name_of clients) n ≡ false → length clients < lanes → with_client lanes n clients ≡ clients ++ fresh n ∷ []
+with_more lanes n clients new room = rw (new, no_more lanes (length clients) room) refl
+  where
+    no_more : (a b : ℕ) → b < a → nat_le a b ≡ false
+    no_more a b h = grind (arith, nat_tests)

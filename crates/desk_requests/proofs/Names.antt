@@ -1,5 +1,5 @@
 -- Names: each is itself, and is among names or not.
-use Rattle.std.proofs.Common.{◌≡◌, ℕ, zero, suc, Bool, true, false, List, [], ◌∷◌, ◌++◌, Some, length, map, slice_get, slice_index_or, take, ◌<◌, ◌||◌, refl, sym, ap, ◌∙◌, arith, subst}
+use Rattle.std.proofs.Common.{◌≡◌, ℕ, zero, suc, Bool, true, false, List, [], ◌∷◌, ◌++◌, Some, length, map, slice_get, slice_index_or, slice_set, take, ◌<◌, ◌||◌, refl, sym, ap, ◌∙◌, arith, subst}
 use Rattle.std.specs.Prelude.{bytes_eq}
 use Rattle.std.proofs.lemmas.Slice.Eq.{bytes_eq-Decides}
 use Rattle.feel_value.specs.Distinct.{is_among}
@@ -66,3 +66,14 @@ among_take n (k ∷ names) (suc i) m at far h =
 pub last_at : {X : Type 0} (xs : List X) (x : X) → slice_get (xs ++ x ∷ []) (length xs) ≡ Some x
 last_at [] x = refl
 last_at (y ∷ xs) x = last_at xs x
+
+pub map_set : {A B : Type 0} (f : A → B) (xs : List A) (i : ℕ) (y : A) → map f (slice_set xs i y) ≡ slice_set (map f xs) i (f y)
+map_set f [] i y = refl
+map_set f (x ∷ xs) zero y = refl
+map_set f (x ∷ xs) (suc i) y = ap (λ l. f x ∷ l) (map_set f xs i y)
+
+-- what stands at a place is put there again
+pub map_kept : {A B : Type 0} (f : A → B) (xs : List A) (i : ℕ) (x : A) → x ≡ slice_index_or xs i x → map f (slice_set xs i x) ≡ map f xs
+map_kept f [] i x is = refl
+map_kept f (z ∷ xs) zero x is = ap (λ y. f y ∷ map f xs) is
+map_kept f (z ∷ xs) (suc i) x is = ap (λ l. f z ∷ l) (map_kept f xs i x is)

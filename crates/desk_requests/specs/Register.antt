@@ -43,7 +43,7 @@ client_after earlier name = record { name = name; accepted = length (requests na
 
 -- the register stands as these lines leave it, where there are so many lanes
 pub record StandsAfter (lanes : ℕ) (register : Register) (earlier : List (Reading Line)) : Type 0 where
-  pub lanes : register.lanes ≡ lanes
+  pub count : register.lanes ≡ lanes
   pub model : force_of register ≡ in_force earlier
   pub clients : clients_of register ≡ map (client_after earlier) (names_with_lanes lanes earlier)
 

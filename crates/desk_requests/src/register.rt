@@ -10,7 +10,8 @@ ghost use Rattle.desk_requests.specs.Due.{close_answer, task_answer};
 ghost use Rattle.desk_requests.specs.Line.{Model, Request, Close, Resize};
 ghost use Rattle.desk_requests.specs.LineView.{line_view};
 ghost use Rattle.desk_requests.specs.declared.register.Answer.TheVariants as answer;
-ghost use Rattle.desk_requests.specs.Register.{Answers, AsksBy, AsksFor, Client, StandsAfter, answer_view, clients_of, force_of, names_of, with_accepted, with_client, with_closed};
+ghost use Rattle.desk_requests.specs.Register as specs;
+ghost use Rattle.desk_requests.specs.Register.{Answers, AsksBy, AsksFor, StandsAfter, answer_view, clients_of, force_of, names_of, with_accepted, with_client, with_closed};
 
 use crate::line::Line;
 use desk_wire::{Report, Told, Word};
@@ -62,7 +63,7 @@ pub enum Answer<'a> {
 
 /// The refusal of a client's line.
 fn refused<'a>(name: &'a str, number: u64, why: Word) -> Answer<'a>
-    ensures { result ≡ answer.Told (report.Of name number (told.Refused why)) }
+    ensures { result ≡ answer.Told (report.Of name.entry number (told.Refused why)) }
 {
     Answer::Told(Report::Of(name, number, Told::Refused(why)))
 }
@@ -109,8 +110,8 @@ impl Register {
     fn accept<'a>(&mut self, place: usize, number: u64, name: &'a str, service: &'a str, task: Task) -> Answer<'a>
         requires { slice_get (names_of self.old) place ≡ Some name.now }
         ensures same { (self.new.plan ≡ self.old.plan) × (self.new.lanes ≡ self.old.lanes) }
-        ensures told { (client : Client) → slice_get (clients_of self.old) place ≡ Some client → answer_view result ≡ task_answer number name.now client.closed client.accepted (Ok task) }
-        ensures counts { (client : Client) → slice_get (clients_of self.old) place ≡ Some client → clients_of self.new ≡ (if client.closed then clients_of self.old else slice_set (clients_of self.old) place (with_accepted client)) }
+        ensures told { (client : specs.Client) → slice_get (clients_of self.old) place ≡ Some client → answer_view result ≡ task_answer number name.now client.closed client.accepted (Ok task) }
+        ensures counts { (client : specs.Client) → slice_get (clients_of self.old) place ≡ Some client → clients_of self.new ≡ (if client.closed then clients_of self.old else slice_set (clients_of self.old) place (with_accepted client)) }
         ensures asked { AsksFor name.now service.now task result }
     {
         let client = &mut self.clients[place];
@@ -131,8 +132,8 @@ impl Register {
     fn close_at(&mut self, place: usize) -> bool
         requires { place < length (clients_of self.old) }
         ensures same { (self.new.plan ≡ self.old.plan) × (self.new.lanes ≡ self.old.lanes) }
-        ensures open { (client : Client) → slice_get (clients_of self.old) place ≡ Some client → result ≡ not client.closed }
-        ensures closes { (client : Client) → slice_get (clients_of self.old) place ≡ Some client → clients_of self.new ≡ slice_set (clients_of self.old) place (with_closed client) }
+        ensures was { (client : specs.Client) → slice_get (clients_of self.old) place ≡ Some client → result ≡ not client.closed }
+        ensures closes { (client : specs.Client) → slice_get (clients_of self.old) place ≡ Some client → clients_of self.new ≡ slice_set (clients_of self.old) place (with_closed client) }
     {
         let client = &mut self.clients[place];
         let was_open = !client.is_closed;
@@ -143,7 +144,7 @@ impl Register {
     /// Whether the client at a place is closed.
     fn is_closed_at(&self, place: usize) -> bool
         requires { place < length (clients_of self.now) }
-        ensures { (client : Client) → slice_get (clients_of self.now) place ≡ Some client → result ≡ client.closed }
+        ensures { (client : specs.Client) → slice_get (clients_of self.now) place ≡ Some client → result ≡ client.closed }
     {
         self.clients[place].is_closed
     }
