@@ -44,6 +44,7 @@ use Rattle.desk_requests.proofs.Names.{among_at}
 use Rattle.desk_serving.proofs.Standing.{stands_handed}
 use Rattle.desk_requests.proofs.Callers.{requests-few}
 use Rattle.desk_serving.proofs.Replying.{IsHeard, due_to_closed, heard_blank, heard_close, heard_no_task, heard_none, heard_put, heard_resize, named_close, named_request, named_resize}
+use Rattle.desk_requests.proofs.Readings.{read-length}
 
 -- two facts of a call that went well
 pub on_ok_both : {T E : Type 0} (r : Result T E) {A B C : Type 0} → (A → B → C) → OnOk r A → OnOk r B → OnOk r C

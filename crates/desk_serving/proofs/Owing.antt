@@ -13,6 +13,7 @@ use Rattle.desk_requests.specs.State.{AreDistinct}
 use Rattle.desk_wire.specs.Reports.{Report, Reply, client_on, report_text}
 use Rattle.desk_serving.specs.Script.{same_client, of_client, texts_of}
 use Rattle.feel_value.specs.Distinct.{is_among}
+use Rattle.desk_requests.proofs.Names.{same_name, name_itself, turned_name, or_false, not_among_at}
 
 -- ## Reports
 

@@ -19,6 +19,7 @@ use Rattle.desk_requests.specs.Due.{answer, answers}
 use Rattle.feel_value.specs.Distinct.{is_among}
 use Rattle.desk_serving.proofs.Owing.{of_client-append, due-whole, stripped, length-unhanded}
 use Rattle.desk_requests.proofs.Names.{same_name, name_itself, turned_name, or_true, or_false, not_among_at}
+use Rattle.desk_requests.proofs.Callers.{stranger, with_lane-take, distinct-push, IsStranger}
 
 -- ## The lanes' books
 

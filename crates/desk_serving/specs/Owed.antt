@@ -15,7 +15,7 @@ use Rattle.desk_lines.specs.Lines.{ended}
 use Rattle.desk_wire.specs.Reading.{Reading}
 use Rattle.desk_wire.specs.Reports.{Report, Reply}
 use Rattle.desk_serving.specs.Script.{same_client, of_client, texts_of}
-use Rattle.desk_requests.specs.State.{requests, is_closed, names_with_lanes, in_force}
+use Rattle.desk_requests.specs.State.{requests, is_closed, names_with_lanes, in_force, AreDistinct}
 use Rattle.desk_requests.specs.Due.{answers}
 use Rattle.feel_value.specs.Distinct.{is_among}
 
