@@ -9,6 +9,7 @@ use Rattle.clap.specs.declared.builder.value_parser.ValueParser.TheVariants.{Uns
 use Rattle.std.specs.Str.Parse.{digits_value, without_leading_plus}
 use Rattle.desk_serving.specs.declared.options.Options.{Options}
 use Rattle.desk_checking.specs.declared.options.CheckOptions.{CheckOptions}
+use Rattle.desk_explaining.specs.declared.options.ExplainOptions.{ExplainOptions}
 
 -- an option that is a number from 1 to `most`, and `usual` where it is left out
 abbrev pub number_option : Text → Text → ℕ → Rule
@@ -31,14 +32,18 @@ flag name = record (new_rule name) {
 abbrev pub check_app : App
 check_app = with_rule (with_rule (new_app (codes "check")) (flag (codes "json"))) (flag (codes "requests"))
 
--- `explain [--text]`
-abbrev pub explain_app : App
-explain_app = with_rule (new_app (codes "explain")) (flag (codes "text"))
+-- a command that serves: `[--clients N] [--workers N] [--capacity N]`
+abbrev pub serving : App → App
+serving app = with_rule (with_rule (with_rule app (number_option (codes "clients") (codes "8") 64))
+    (number_option (codes "workers") (codes "4") 8)) (number_option (codes "capacity") (codes "64") 4096)
 
 -- `serve [--clients N] [--workers N] [--capacity N]`
 abbrev pub serve_app : App
-serve_app = with_rule (with_rule (with_rule (new_app (codes "serve")) (number_option (codes "clients") (codes "8") 64))
-    (number_option (codes "workers") (codes "4") 8)) (number_option (codes "capacity") (codes "64") 4096)
+serve_app = serving (new_app (codes "serve"))
+
+-- `explain [--clients N] [--workers N] [--capacity N] [--misses] [--text]`
+abbrev pub explain_app : App
+explain_app = with_rule (with_rule (serving (new_app (codes "explain"))) (flag (codes "misses"))) (flag (codes "text"))
 
 -- `desk replay`, `desk serve`, `desk check` and `desk explain`: one of the subcommands has to be named, and `--version` tells the version
 abbrev pub desk_command : App
@@ -98,3 +103,8 @@ is_true (Some text) = bytes_eq text (codes "true")
 pub record AreCheckOptionsOf (rows : List Row) (options : CheckOptions) : Type 0 where
   pub json : options.json ≡ is_true (first_of (codes "json") rows)
   pub requests : options.requests ≡ is_true (first_of (codes "requests") rows)
+
+-- the options of `explain` as the words give them
+pub record AreExplainOptionsOf (rows : List Row) (options : ExplainOptions) : Type 0 where
+  pub clients : IsNumberOf 64 (first_of (codes "clients") rows) options.clients
+  pub misses : options.misses ≡ is_true (first_of (codes "misses") rows)

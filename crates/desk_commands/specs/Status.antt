@@ -16,10 +16,11 @@ use Rattle.desk_checking.specs.Checked.{Checked}
 use Rattle.desk_checking.specs.declared.options.CheckOptions.{CheckOptions}
 use Rattle.desk_explaining.specs.Printed.{AnyLines}
 use Rattle.desk_explaining.specs.Script as explaining
+use Rattle.desk_explaining.specs.declared.options.ExplainOptions.{ExplainOptions}
 use Rattle.desk_replaying.specs.Script as replaying
 use Rattle.desk_serving.specs.Script.{Served, ServedInPart}
 use Rattle.desk_serving.specs.declared.options.Options.{Options}
-use Rattle.desk_commands.specs.CommandLine.{AreCheckOptionsOf, AreOptionsOf, Named, Replay, Serve, Check, Explain, is_true}
+use Rattle.desk_commands.specs.CommandLine.{AreCheckOptionsOf, AreExplainOptionsOf, AreOptionsOf, Named, Replay, Serve, Check, Explain, is_true}
 
 -- ## The statuses
 
@@ -99,9 +100,9 @@ module _ (reader reader' : Reader) (writer writer' : Writer) where
   ServedWith lanes end = Ran (Served lanes) (ServedInPart lanes) reader reader' writer writer' end
 
   -- in texts for people, of which nothing is said, or in lines
-  abbrev pub Explained : Bool → Result (Unit {0}) FrontFault → Type 0
-  Explained true end = RanAtOnce AnyLines reader reader' writer writer' end
-  Explained false end = RanAtOnce explaining.Script reader reader' writer writer' end
+  abbrev pub Explained : ExplainOptions → Bool → Result (Unit {0}) FrontFault → Type 0
+  Explained options true end = RanAtOnce AnyLines reader reader' writer writer' end
+  Explained options false end = RanAtOnce (explaining.Script options.misses options.clients) reader reader' writer writer' end
 
   module _ (faults faults' : Writer) (status : ℕ) where
     -- what is promised of each command
@@ -110,7 +111,8 @@ module _ (reader reader' : Reader) (writer writer' : Writer) where
     Does (Serve rows) = (options : Options) × AreOptionsOf rows options × EndsBy (ServedWith options.clients) status_of faults faults' status
     Does (Check rows) = (options : CheckOptions) × AreCheckOptionsOf rows options
         × EndsBy (Checked options reader reader' writer writer') status_of_check faults faults' status
-    Does (Explain rows) = EndsBy (Explained (is_true (first_of (codes "text") rows))) status_of faults faults' status
+    Does (Explain rows) = (options : ExplainOptions) × AreExplainOptionsOf rows options
+        × EndsBy (Explained options (is_true (first_of (codes "text") rows))) status_of faults faults' status
 
 -- ## A command line
 

@@ -2,7 +2,7 @@
 ghost use Rattle.std.specs.Prelude.{◌≡◌, IfOk, IfErr, Some, codes, false, map, string_bytes};
 ghost use Rattle.clap.specs.Words.{app_of, kind_of, new_app, rule_of, subcommand_of, subcommand_rows_of, with_rule};
 ghost use Rattle.clap.specs.Kinds.{FailsBy};
-ghost use Rattle.desk_commands.specs.CommandLine.{check_app, explain_app, desk_command, flag, number_option, serve_app, IsCommand, kinds_of};
+ghost use Rattle.desk_commands.specs.CommandLine.{check_app, explain_app, desk_command, flag, number_option, serve_app, serving, IsCommand, kinds_of};
 
 use crate::help;
 use crate::version::VERSION;
@@ -76,14 +76,38 @@ fn check<'a>(alloc: Global) -> Result<Command<'a>, AllocError>
     with_option(check, flag(alloc, "requests", requests))
 }
 
-/// The command `explain`, with its option.
+/// Adds the options of a command that serves.
+fn serving<'a>(alloc: Global, command: Command<'a>) -> Result<Command<'a>, AllocError>
+    ensures { IfOk result (λ more. app_of more ≡ serving (app_of command.entry)) }
+{
+    let clients = "Clients that are served: 1 to 64";
+    let workers = "Workers that evaluate: 1 to 8";
+    let capacity = "Outstanding requests of one client: 1 to 4096";
+    let command = with_option(
+        command,
+        number_option(alloc, "clients", "8", MOST_CLIENTS, clients),
+    )?;
+    let command = with_option(
+        command,
+        number_option(alloc, "workers", "4", MOST_WORKERS, workers),
+    )?;
+    with_option(
+        command,
+        number_option(alloc, "capacity", "64", LARGEST_CAPACITY, capacity),
+    )
+}
+
+/// The command `explain`, with its options.
 fn explain<'a>(alloc: Global) -> Result<Command<'a>, AllocError>
     ensures { IfOk result (λ command. app_of command ≡ explain_app) }
 {
+    let misses = "Each rule that missed is told with the first column that was not met";
     let text = "What is told is text for people to read";
     let explain = Command::new(alloc, "explain")
         .about(help::EXPLAIN_ABOUT)
         .after_help(help::EXPLAIN);
+    let explain = serving(alloc, explain)?;
+    let explain = with_option(explain, flag(alloc, "misses", misses))?;
     with_option(explain, flag(alloc, "text", text))
 }
 
@@ -91,24 +115,10 @@ fn explain<'a>(alloc: Global) -> Result<Command<'a>, AllocError>
 fn serve<'a>(alloc: Global) -> Result<Command<'a>, AllocError>
     ensures { IfOk result (λ command. app_of command ≡ serve_app) }
 {
-    let clients = "Clients that are served: 1 to 64";
-    let workers = "Workers that evaluate: 1 to 8";
-    let capacity = "Outstanding requests of one client: 1 to 4096";
     let serve = Command::new(alloc, "serve")
         .about(help::SERVE_ABOUT)
         .after_help(help::SERVE);
-    let serve = with_option(
-        serve,
-        number_option(alloc, "clients", "8", MOST_CLIENTS, clients),
-    )?;
-    let serve = with_option(
-        serve,
-        number_option(alloc, "workers", "4", MOST_WORKERS, workers),
-    )?;
-    with_option(
-        serve,
-        number_option(alloc, "capacity", "64", LARGEST_CAPACITY, capacity),
-    )
+    serving(alloc, serve)
 }
 
 /// The command `desk` with its subcommands, of which one has to be named.

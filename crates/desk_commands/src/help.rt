@@ -116,18 +116,20 @@ docs/MODEL.md in the repository says what a model is and what each fault means, 
 the lines of --json are."#;
 
 /// The lines of `explain`.
-pub const EXPLAIN: &str = r#"Each line is one JSON object, as those of serve:
+pub const EXPLAIN: &str = r#"Each line is one JSON object, as those of serve, and is answered as serve with these options answers it:
   {"model":M}                                      a model, in force from the next line on
   {"client":"ann","service":"s","inputs":{"a":4}}  a request
+  {"client":"ann","close":true}                    no more requests of ann
+  {"resize":"ann","capacity":9}                    a capacity for ann
 
-A request is answered by its result, behind the input decisions with what was given for them, and what
-each decision on the way came to: its value, and of a table the values of its inputs and the rules that
-hit, of a list its members, of a context its entries.
+A model is answered with its text and the SHA-256 of that. A reply has in front of its result the model by
+that sum, the inputs as they were read, and what each decision on the way came to: its value, and of a
+table the values of its inputs, the rules that hit and those that decided, of a list its members, of a
+context its entries.
 
-  {"client":"ann","line":2,"service":"s","decisions":[{"name":"d","value":5}],"result":5}
+  {"client":"ann","line":2,"model":"5f..","service":"s","inputs":{"a":4},"decisions":[{"name":"d","value":5}],"result":5,"ticket":0}
 
-Lines that close or resize a client are skipped, with a note. Clients have no mailboxes here: there are
-no tickets, and no client has too many requests.
+One thread answers, so --workers and --capacity change nothing here.
 
 Examples:
   desk explain < examples/clients.jsonl

@@ -1,11 +1,11 @@
 //! The options of `serve`, `check` and `explain`, as the words of the command line give them.
 ghost use Rattle.std.specs.Prelude.{◌≡◌, ◌≤◌, codes};
 ghost use Rattle.clap.specs.Words.{first_of, found_of, rows_of};
-ghost use Rattle.desk_commands.specs.CommandLine.{AreCheckOptionsOf, AreOptionsOf, IsNumberOf, is_true};
+ghost use Rattle.desk_commands.specs.CommandLine.{AreCheckOptionsOf, AreExplainOptionsOf, AreOptionsOf, IsNumberOf, is_true};
 
 use box_core::LARGEST_CAPACITY;
 use clap::ArgMatches;
-use desk_front::{CheckOptions, Options};
+use desk_front::{CheckOptions, ExplainOptions, Options};
 use lanes::{MOST_CLIENTS, MOST_WORKERS};
 
 /// The number that an option has. `clap` has refused all texts but those of the numbers from 1 to the most.
@@ -50,6 +50,16 @@ pub fn check_options_of(matches: &ArgMatches<'_>) -> CheckOptions
     CheckOptions {
         json: is_given(matches, "json"),
         requests: is_given(matches, "requests"),
+    }
+}
+
+/// The options of `explain`. How many workers there are, and how many requests may be outstanding, change none of its answers.
+pub fn explain_options_of(matches: &ArgMatches<'_>) -> ExplainOptions
+    ensures { AreExplainOptionsOf (rows_of (found_of matches.now)) result }
+{
+    ExplainOptions {
+        clients: number_of(matches, "clients", MOST_CLIENTS),
+        misses: is_given(matches, "misses"),
     }
 }
 

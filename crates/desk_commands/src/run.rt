@@ -9,11 +9,11 @@ ghost use Rattle.desk_commands.specs.CommandLine.{IsCommand, kinds_of, named_by,
 ghost use Rattle.desk_commands.specs.Status.{Does, EndsBy, Explained, Refuses, Replayed, Runs, Says, ServedWith, end_text, fault_line, no_utf8_line, status_of, status_of_check, status_of_kind, stopped, wrong_words};
 
 use crate::command::read_words;
-use crate::options::{check_options_of, is_text, options_of};
+use crate::options::{check_options_of, explain_options_of, is_text, options_of};
 use clap::error::ErrorKind;
 use clap::{ArgMatches, Error};
 use desk_front::{
-    CheckOptions, FrontFault, Options, Sink, Source, check, explain, explain_in_text, replay,
+    CheckOptions, ExplainOptions, FrontFault, Options, Sink, Source, check, explain, explain_in_text, replay,
     serve, write_all,
 };
 use lanes::OpenGate;
@@ -124,18 +124,19 @@ fn run_check<R: Source, W: Sink, F: Sink>(
 /// Explains the answers to the lines of the reader, in texts for people or in lines.
 fn run_explain<R: Source, W: Sink>(
     alloc: Global,
+    options: &ExplainOptions,
     in_text: bool,
     reader: &mut R,
     writer: &mut W,
 ) -> Result<(), FrontFault>
     requires read_counts { (R.seen reader.old).faults < 2 ^ 64 - 1 }
     requires write_counts { (W.seen writer.old).faults < 2 ^ 64 - 1 }
-    ensures { Explained (R.seen reader.old) (R.seen reader.new) (W.seen writer.old) (W.seen writer.new) in_text result }
+    ensures { Explained (R.seen reader.old) (R.seen reader.new) (W.seen writer.old) (W.seen writer.new) options.now in_text result }
 {
     if in_text {
-        return explain_in_text(alloc, reader, writer);
+        return explain_in_text(alloc, options, reader, writer);
     }
-    explain(alloc, reader, writer)
+    explain(alloc, options, reader, writer)
 }
 
 /// Replays the script of the reader, and tells the fault that ends it, if one does.
@@ -176,7 +177,8 @@ fn run_command<T: Threads + Wait + Sync, R: Source, W: Sink, F: Sink>(
         return run_check(alloc, check_options_of(found), reader, writer, faults);
     }
     if let Some(found) = matches.subcommand_matches("explain") {
-        return tell_end(run_explain(alloc, is_text(found), reader, writer), faults);
+        let options = explain_options_of(found);
+        return tell_end(run_explain(alloc, &options, is_text(found), reader, writer), faults);
     }
     run_replay(alloc, reader, writer, faults)
 }

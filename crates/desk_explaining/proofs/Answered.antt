@@ -1,71 +1,195 @@
 -- What is said to a line, and what stands after it.
-use Rattle.std.proofs.Common.{◌≡◌, ◌+◌, ℕ, suc, List, [], ◌∷◌, ◌++◌, Some, None, Ok, Err, length, reverse, codes, refl, sym, ap, ◌∙◌, subst, arith, append-nil}
+use Rattle.std.proofs.Common.{◌≡◌, ◌≢◌, ◌+◌, ℕ, zero, suc, true, List, [], ◌∷◌, ◌++◌, Option, Some, None, Result, Ok, Err, length, map, reverse, string_bytes, take, refl, sym, ap, ◌∙◌, subst, arith, append-nil}
 use Rattle.std.specs.List.{flat_map}
 use Rattle.std.proofs.lemmas.List.{reverse-append, length-reverse}
 use Rattle.serde_json.specs.Data.{Data}
 use Rattle.serde_json.specs.Written.{compact_text}
 use Rattle.desk_lines.specs.Lines.{ended}
-use Rattle.desk_wire.specs.Reading.{Reading, Blank, Long, Syntax, Shape, Says}
-use Rattle.desk_wire.specs.Reports.{Of, Refused, report_json}
-use Rattle.desk_wire.specs.Words.{task_fault_word}
-use Rattle.desk_wire.specs.declared.report.Told.TheVariants as told
-use Rattle.desk_wire.specs.declared.word.Word.TheVariants as word
 use Rattle.dmn_plan.specs.ReadModel.{read_model}
-use Rattle.dmn_plan.specs.Request as plan
-use Rattle.dmn_plan.specs.Request.{request_of}
-use Rattle.dmn_plan.specs.declared.fault.TaskFault.{TaskFault}
-use Rattle.desk_serving.specs.Line.{Line, Model, Request, Close, Resize, Reads}
-use Rattle.desk_serving.specs.LineView.{line_view}
-use Rattle.desk_serving.specs.LineHeard.{IsLineOf}
+use Rattle.dmn_plan.specs.Request.{request_result}
+use Rattle.dmn_plan.specs.declared.fault.ModelFault.{ModelFault}
 use Rattle.desk_wire.specs.Heard.{IsHeardAs}
 use Rattle.desk_wire.specs.Listening.{refusal_text}
-use Rattle.desk_serving.proofs.Fewness.{no_line}
-use Rattle.desk_serving.specs.Script.{AreRead}
-use Rattle.desk_serving.specs.State.{in_force, model_after, number_after}
-use Rattle.desk_serving.specs.Due.{model_answer}
+use Rattle.desk_wire.specs.Reading.{Reading, Blank, Long, Syntax, Shape, Says}
+use Rattle.desk_wire.specs.ReportView.{report_view}
+use Rattle.desk_wire.specs.Reports.{Report, Loaded, Faulty, Refused, Of, Reply, report_json}
 use Rattle.desk_wire.specs.declared.heard.Heard.{Heard}
 use Rattle.desk_wire.specs.declared.heard.Heard.TheVariants as heard
-use Rattle.desk_serving.specs.declared.line.Line as asking
-use Rattle.desk_explaining.specs.StateView.{Adds, After, Hears, HearsText, Loads, Replies, model_of}
-use Rattle.desk_explaining.specs.Due.{IsAnswer, IsTaskAnswer}
+use Rattle.desk_wire.specs.declared.report.Report as held
+use Rattle.desk_wire.specs.declared.report.Report.TheVariants as report
+use Rattle.desk_wire.specs.declared.word.Word.TheVariants as word
+use Rattle.desk_requests.specs.Due.{line_answer, model_answer}
+use Rattle.desk_requests.specs.Line.{AreRead, Line, Model, Request, Close, Resize, Reads}
+use Rattle.desk_requests.specs.LineHeard.{IsLineOf}
+use Rattle.desk_requests.specs.LineView.{line_view}
+use Rattle.desk_requests.specs.Register.{Answers, AsksBy, StandsAfter, client_after, force_of, is_on_client, is_on_model}
+use Rattle.desk_requests.specs.State.{in_force, newer_model, number_after}
+use Rattle.desk_requests.specs.declared.line.Line as asking
+use Rattle.desk_requests.specs.declared.register.Answer.TheVariants as answer
+use Rattle.desk_requests.specs.declared.register.Asked.{Asked}
+use Rattle.desk_requests.proofs.Fewness.{no_line}
+use Rattle.desk_requests.proofs.Readings.{read-length}
+use Rattle.desk_explaining.specs.Due.{IsAnswer, IsExplained, explanation, loaded, sum_of}
+use Rattle.desk_explaining.specs.Script.{AreAnswered}
+use Rattle.desk_explaining.specs.StateView.{Adds, After, Explains, HasSum, Hears, HearsText, Loads, Stands, model_of}
 use Rattle.desk_explaining.specs.declared.state.State.{State}
 
 -- ---- one line is said
 
-hears_one : (old new : State) (k : ℕ) (reading : Reading Line) (answer : Data) (text text' : List ℕ) → IsAnswer k (model_of old) reading (compact_text answer ∷ [])
-    → Adds text answer text' → model_of new ≡ model_after (model_of old) reading → Hears old k reading text text' new
-hears_one old new k reading answer text text' is adds model =
-    (compact_text answer ∷ [], is, adds ∙ ap (λ l. text ++ l) (sym (append-nil (ended (compact_text answer)))), model)
+-- the line of an answer is added
+one_more : (text text' : List ℕ) (d : Data) → Adds text d text' → text' ≡ text ++ flat_map ended (compact_text d ∷ [])
+one_more text text' d adds = adds ∙ ap (λ l. text ++ l) (sym (append-nil (ended (compact_text d))))
 
-pub hears_model : (old new : State) (k : ℕ) (json : Data) (text text' : List ℕ) → Loads old k json text text' new → Hears old k (Says (Model json)) text text' new
-hears_model old new k json text text' loads = hears_one old new k (Says (Model json)) (report_json (model_answer k (read_model json))) text text' (report_json (model_answer k (read_model json)), refl, refl) loads.says loads.model
+-- what is reported, without reasons
+explained_on_client : (misses : _) (k : ℕ) (model : Option (List ℕ)) (line : Line) (r : Report) → is_on_client r ≡ true → IsExplained misses k model line r (report_json r)
+explained_on_client misses k model line (Loaded j) e = cc
+explained_on_client misses k model line (Faulty j f) e = cc
+explained_on_client misses k model line (Refused j why) e = cc
+explained_on_client misses k model line (Reply n t o) e = cc
+explained_on_client misses k model (Model json) (Of n j what) e = refl
+explained_on_client misses k model (Request n s i) (Of m j what) e = refl
+explained_on_client misses k model (Close n) (Of m j what) e = refl
+explained_on_client misses k model (Resize n c) (Of m j what) e = refl
 
-pub hears_request : (state : State) (k : ℕ) (name service : List ℕ) (inputs : Data) (text text' : List ℕ) → Replies state name k service inputs text text'
-    → Hears state k (Says (Request name service inputs)) text text' state
-hears_request state k name service inputs text text' replies =
-    hears_one state state k (Says (Request name service inputs)) replies.0 text text' (replies.0, replies.1, refl) replies.2 refl
+-- the sum stays where the model does
+same_sum : (old new : State) (lanes : ℕ) (earlier later : List (Reading Line)) → Stands old lanes earlier → StandsAfter lanes new.register later → in_force later ≡ in_force earlier → new.sum ≡ old.sum → HasSum new
+same_sum old new lanes earlier later s r force sum = λ text h.
+    ap string_bytes sum ∙ s.sum text (s.register.model ∙ (sym force ∙ (sym r.model ∙ h)))
 
-pub hears_close : (state : State) (k : ℕ) (name text text' : List ℕ) → Adds text (report_json (Of name k (told.Skipped word.Close))) text' → Hears state k (Says (Close name)) text text' state
-hears_close state k name text text' adds = hears_one state state k (Says (Close name)) (report_json (Of name k (told.Skipped word.Close))) text text' (report_json (Of name k (told.Skipped word.Close)), refl, refl) adds refl
+-- a report to a client's line
+hears_on_client : (old new : State) (k : ℕ) (line : Line) (r : held.Report) (text text' : List ℕ) → Answers old.register k line (answer.Told r) new.register
+    → ((earlier : List (Reading Line)) → in_force (Says line ∷ earlier) ≡ in_force earlier)
+    → is_on_client (report_view r) ≡ true → new.sum ≡ old.sum → Adds text (report_json (report_view r)) text' → Hears old k (Says line) text text' new
+hears_on_client old new k line r text text' answers stays on sum adds = λ lanes earlier s num.
+    let a = answers lanes earlier s.register num in
+    let d = report_json (report_view r) in (
+      compact_text d ∷ [],
+      (d, subst (λ q. IsExplained old.misses (number_after earlier) (in_force earlier) line q d) a.0 (explained_on_client old.misses (number_after earlier) (in_force earlier) line (report_view r) on), refl),
+      one_more text text' d adds,
+      record { register = a.1; sum = same_sum old new lanes earlier (Says line ∷ earlier) s a.1 (stays earlier) sum },
+    )
 
-pub hears_resize : (state : State) (k : ℕ) (name : List ℕ) (capacity : ℕ) (text text' : List ℕ) → Adds text (report_json (Of name k (told.Skipped word.Resize))) text'
-    → Hears state k (Says (Resize name capacity)) text text' state
-hears_resize state k name capacity text text' adds =
-    hears_one state state k (Says (Resize name capacity)) (report_json (Of name k (told.Skipped word.Resize))) text text' (report_json (Of name k (told.Skipped word.Resize)), refl, refl) adds refl
+-- the fault of a model
+not_loaded : {M : Type 0} (json : Data) (r : Result M ModelFault) (k : ℕ) (force : Option (List ℕ)) (q : Report) → q ≡ model_answer k r → ((j : ℕ) → q ≢ Loaded j) → newer_model json r force ≡ force
+not_loaded json (Ok m) k force q e no = absurd (no k e)
+not_loaded json (Err f) k force q e no = refl
+
+explained_faulty : (misses : _) (k : ℕ) (model : Option (List ℕ)) (json : Data) (r : Report) → is_on_model r ≡ true → ((j : ℕ) → r ≢ Loaded j) → IsExplained misses k model (Model json) r (report_json r)
+explained_faulty misses k model json (Loaded j) e no = absurd (no j refl)
+explained_faulty misses k model json (Faulty j f) e no = refl
+explained_faulty misses k model json (Refused j why) e no = cc
+explained_faulty misses k model json (Of n j what) e no = cc
+explained_faulty misses k model json (Reply n t o) e no = cc
+
+hears_faulty : (old new : State) (k : ℕ) (json : Data) (r : held.Report) (text text' : List ℕ) → Answers old.register k (Model json) (answer.Told r) new.register
+    → is_on_model (report_view r) ≡ true → ((j : ℕ) → report_view r ≢ Loaded j) → new.sum ≡ old.sum → Adds text (report_json (report_view r)) text'
+    → Hears old k (Says (Model json)) text text' new
+hears_faulty old new k json r text text' answers on no sum adds = λ lanes earlier s num.
+    let a = answers lanes earlier s.register num in
+    let d = report_json (report_view r) in
+    let stays = not_loaded json (read_model json) (number_after earlier) (in_force earlier) (report_view r) a.0 no in (
+      compact_text d ∷ [],
+      (d, subst (λ q. IsExplained old.misses (number_after earlier) (in_force earlier) (Model json) q d) a.0 (explained_faulty old.misses (number_after earlier) (in_force earlier) json (report_view r) on no), refl),
+      one_more text text' d adds,
+      record { register = a.1; sum = same_sum old new lanes earlier (Says (Model json) ∷ earlier) s a.1 stays sum },
+    )
+
+-- no line but a model's is reported as loaded
+no_loaded : (r : held.Report) → ((j : ℕ) → r ≢ report.Loaded j) → (j : ℕ) → report_view r ≢ Loaded j
+no_loaded (report.Loaded k) no j e = no k refl
+no_loaded (report.Faulty k f) no j e = cc
+no_loaded (report.Refused k why) no j e = cc
+no_loaded (report.Of n k what) no j e = cc
+no_loaded (report.Reply n t o) no j e = cc
+
+-- whatever is reported but a model
+pub hears_told : (old new : State) (k : ℕ) (line : Line) (r : held.Report) (text text' : List ℕ) → Answers old.register k line (answer.Told r) new.register
+    → AsksBy (force_of old.register) line (answer.Told r) → ((j : ℕ) → r ≢ report.Loaded j) → new.sum ≡ old.sum → Adds text (report_json (report_view r)) text'
+    → Hears old k (Says line) text text' new
+hears_told old new k (Model json) r text text' answers asks no sum adds = hears_faulty old new k json r text text' answers asks (no_loaded r no) sum adds
+hears_told old new k (Request n s i) r text text' answers asks no sum adds = hears_on_client old new k (Request n s i) r text text' answers (λ earlier. refl) asks sum adds
+hears_told old new k (Close n) r text text' answers asks no sum adds = hears_on_client old new k (Close n) r text text' answers (λ earlier. refl) asks sum adds
+hears_told old new k (Resize n c) r text text' answers asks no sum adds = hears_on_client old new k (Resize n c) r text text' answers (λ earlier. refl) asks sum adds
+
+-- a model that came in force
+loaded_is : {M : Type 0} (json : Data) (r : Result M ModelFault) (k j : ℕ) (force : Option (List ℕ)) → Loaded j ≡ model_answer k r
+    → (newer_model json r force ≡ Some (compact_text json)) × (Loaded k ≡ model_answer k r)
+loaded_is json (Ok m) k j force e = (refl, refl)
+loaded_is json (Err f) k j force e = cc
+
+pub hears_loaded : (old between new : State) (k j : ℕ) (line : Line) (text text' : List ℕ) → Answers old.register k line (answer.Told (report.Loaded j)) between.register
+    → AsksBy (force_of old.register) line (answer.Told (report.Loaded j)) → new.register ≡ between.register → Loads between k text text' new → Hears old k (Says line) text text' new
+hears_loaded old between new k j (Request n s i) text text' answers asks same loads = cc
+hears_loaded old between new k j (Close n) text text' answers asks same loads = cc
+hears_loaded old between new k j (Resize n c) text text' answers asks same loads = cc
+hears_loaded old between new k j (Model json) text text' answers asks same loads = λ lanes earlier s num.
+    let a = answers lanes earlier s.register num in
+    let is = loaded_is json (read_model json) (number_after earlier) j (in_force earlier) a.0 in
+    let force : model_of between ≡ Some (compact_text json) = a.1.model ∙ is.0 in
+    let d = loaded (number_after earlier) json in (
+      compact_text d ∷ [],
+      (d, subst (λ q. IsExplained old.misses (number_after earlier) (in_force earlier) (Model json) q d) is.1 refl, refl),
+      one_more text text' d (subst (λ i. Adds text (loaded i json) text') num (loads.says json force)),
+      record { register = subst (λ r. StandsAfter lanes r (Says (Model json) ∷ earlier)) (sym same) a.1; sum = loads.sum },
+    )
+
+-- a reply, with its reasons
+pub hears_asked : (old new : State) (k : ℕ) (line : Line) (asked : Asked) (text text' : List ℕ) → Answers old.register k line (answer.Asked asked) new.register
+    → AsksBy (force_of old.register) line (answer.Asked asked) → new.sum ≡ old.sum → Explains k (string_bytes old.sum) asked old.misses text text' → Hears old k (Says line) text text' new
+hears_asked old new k (Model json) asked text text' answers asks sum explains = absurd asks
+hears_asked old new k (Close n) asked text text' answers asks sum explains = absurd asks
+hears_asked old new k (Resize n c) asked text text' answers asks sum explains = absurd asks
+hears_asked old new k (Request n s i) asked text text' answers asks sum explains = λ lanes earlier stands num.
+    let a = answers lanes earlier stands.register num in
+    let task = asks.2 in
+    let e = explains task.0 (stands.sum task.0 task.1) in
+    let d = explanation asked.client.now k task.0 asked.service.now e.0 e.1 (request_result asked.task) asked.ticket in
+    let is : d ≡ explanation asked.client.now (number_after earlier) task.0 s e.0 e.1 (request_result asked.task) asked.ticket =
+    ap (λ j. explanation asked.client.now j task.0 asked.service.now e.0 e.1 (request_result asked.task) asked.ticket) num
+    ∙ ap (λ q. explanation asked.client.now (number_after earlier) task.0 q e.0 e.1 (request_result asked.task) asked.ticket) asks.1 in (
+      compact_text d ∷ [],
+      (d, subst (λ q. IsExplained old.misses (number_after earlier) (in_force earlier) (Request n s i) q d) a.0
+      (task.0, asked.task, sym stands.register.model ∙ task.1, task.2, e.0, e.1, e.2, is), refl),
+      one_more text text' d e.3,
+      record { register = a.1; sum = same_sum old new lanes earlier (Says (Request n s i) ∷ earlier) stands a.1 refl sum },
+    )
 
 -- ---- lines by their bytes
 
+stands_on : (state : State) (lanes : ℕ) (earlier : List (Reading Line)) (reading : Reading Line) → Stands state lanes earlier → StandsAfter lanes state.register (reading ∷ earlier) → Stands state lanes (reading ∷ earlier)
+stands_on state lanes earlier reading s r = record { register = r; sum = s.sum }
+
 pub heard_long : (state : State) (k : ℕ) (it text text' : List ℕ) → Reads it Long → Adds text (report_json (Refused k word.Long)) text' → HearsText state k it text text' state
-heard_long state k it text text' reads adds = (Long, reads, hears_one state state k Long (report_json (Refused k word.Long)) text text' refl adds refl)
+heard_long state k it text text' reads adds = (Long, reads, λ lanes earlier s num. (
+  compact_text (report_json (Refused k word.Long)) ∷ [],
+  ap (λ j. compact_text (report_json (Refused j word.Long)) ∷ []) num,
+  one_more text text' (report_json (Refused k word.Long)) adds,
+  stands_on state lanes earlier Long s (record { count = s.register.count; model = s.register.model; clients = s.register.clients }),
+))
 
 pub heard_blank : (state : State) (k : ℕ) (it text : List ℕ) → Reads it Blank → HearsText state k it text text state
-heard_blank state k it text reads = (Blank, reads, ([], refl, sym (append-nil text), refl))
+heard_blank state k it text reads = (Blank, reads, λ lanes earlier s num. (
+  [],
+  refl,
+  sym (append-nil text),
+  stands_on state lanes earlier Blank s (record { count = s.register.count; model = s.register.model; clients = s.register.clients }),
+))
 
 pub heard_syntax : (state : State) (k : ℕ) (it text text' : List ℕ) → Reads it Syntax → Adds text (report_json (Refused k word.Syntax)) text' → HearsText state k it text text' state
-heard_syntax state k it text text' reads adds = (Syntax, reads, hears_one state state k Syntax (report_json (Refused k word.Syntax)) text text' refl adds refl)
+heard_syntax state k it text text' reads adds = (Syntax, reads, λ lanes earlier s num. (
+  compact_text (report_json (Refused k word.Syntax)) ∷ [],
+  ap (λ j. compact_text (report_json (Refused j word.Syntax)) ∷ []) num,
+  one_more text text' (report_json (Refused k word.Syntax)) adds,
+  stands_on state lanes earlier Syntax s (record { count = s.register.count; model = s.register.model; clients = s.register.clients }),
+))
 
 pub heard_shape : (state : State) (k : ℕ) (it text text' : List ℕ) → Reads it Shape → Adds text (report_json (Refused k word.Shape)) text' → HearsText state k it text text' state
-heard_shape state k it text text' reads adds = (Shape, reads, hears_one state state k Shape (report_json (Refused k word.Shape)) text text' refl adds refl)
+heard_shape state k it text text' reads adds = (Shape, reads, λ lanes earlier s num. (
+  compact_text (report_json (Refused k word.Shape)) ∷ [],
+  ap (λ j. compact_text (report_json (Refused j word.Shape)) ∷ []) num,
+  one_more text text' (report_json (Refused k word.Shape)) adds,
+  stands_on state lanes earlier Shape s (record { count = s.register.count; model = s.register.model; clients = s.register.clients }),
+))
 
 -- a line that asks something
 pub heard_said : (old new : State) (k : ℕ) (heard : Heard) (line : asking.Line) (it text text' : List ℕ) → IsHeardAs it heard → IsLineOf heard (Some line)
@@ -87,49 +211,38 @@ heard_other state k (heard.Object members) it text text' h none is = heard_shape
 
 -- ---- after the lines
 
-read-length : (lines : List (List ℕ)) (readings : List (Reading Line)) → AreRead lines readings → length readings ≡ length lines
-read-length [] [] r = refl
-read-length [] (x ∷ readings) r = absurd r
-read-length (l ∷ lines) [] r = absurd r
-read-length (l ∷ lines) (x ∷ readings) r = ap suc (read-length lines readings r.1)
+no_first : (k : ℕ) → take k ([] : List (List ℕ)) ≡ []
+no_first zero = refl
+no_first (suc k) = refl
 
 -- nothing was said yet
-pub at_start : (state : State) → model_of state ≡ None → After state [] []
-at_start state none = record { script = record { readings = []; read = tt; said = refl }; model = none }
+pub at_start : (state : State) (lanes : ℕ) → Stands state lanes [] → After state [] []
+at_start state lanes s = record {
+  readings = [];
+  read = tt;
+  answered = refl;
+  stands = record {
+    register = record { count = refl; model = s.register.model; clients = s.register.clients ∙ ap (map (client_after [])) (no_first lanes ∙ sym (no_first state.register.lanes)) };
+    sum = s.sum;
+  };
+}
 
-pub after_line : (old new : State) (k : ℕ) (it text text' : List ℕ) (lines said : List (List ℕ)) → After old lines said → k ≡ length lines + 1 → HearsText old k it text text' new
-    → (more : List (List ℕ)) × After new (lines ++ it ∷ []) (said ++ more) × (text' ≡ text ++ flat_map ended more)
-after_line old new k it text text' lines said a num heard =
-    let before = a.script.readings in
-    let h = heard.2 in
-    let all : length before ≡ length lines = read-length (reverse lines) before a.script.read ∙ length-reverse lines in
-    let number : k ≡ number_after before = omega (arith, num, all) in
-    let here : IsAnswer (number_after before) (model_of old) heard.0 h.0 = subst (λ j. IsAnswer j (model_of old) heard.0 h.0) number h.1 in
-    let answer : IsAnswer (number_after before) (in_force before) heard.0 h.0 = subst (λ m. IsAnswer (number_after before) m heard.0 h.0) a.model here in (
+pub after_line : (old new : State) (k : ℕ) (it text text' : List ℕ) (lines said : List (List ℕ)) → new.misses ≡ old.misses → After old lines said → k ≡ length lines + 1
+    → HearsText old k it text text' new → (more : List (List ℕ)) × After new (lines ++ it ∷ []) (said ++ more) × (text' ≡ text ++ flat_map ended more)
+after_line old new k it text text' lines said shows a num heard =
+    let lanes = old.register.lanes in
+    let all : length a.readings ≡ length lines = read-length (reverse lines) a.readings a.read ∙ length-reverse lines in
+    let number : k ≡ number_after a.readings = omega (arith, num, all) in
+    let h = heard.2 lanes a.readings a.stands number in
+    let same : new.register.lanes ≡ lanes = h.3.register.count in
+    let answered : AreAnswered old.misses lanes (heard.0 ∷ a.readings) (said ++ h.0) = (said, h.0, a.answered, h.1, refl) in (
       h.0,
       record {
-        script = record {
-          readings = heard.0 ∷ before;
-          read = rw (reverse-append lines (it ∷ [])) (heard.1, a.script.read);
-          said = (said, h.0, a.script.said, answer, refl);
-        };
-        model = h.3 ∙ ap (λ m. model_after m heard.0) a.model;
+        readings = heard.0 ∷ a.readings;
+        read = rw (reverse-append lines (it ∷ [])) (heard.1, a.read);
+        answered = subst (λ m. AreAnswered m new.register.lanes (heard.0 ∷ a.readings) (said ++ h.0)) (sym shows)
+            (subst (λ n. AreAnswered old.misses n (heard.0 ∷ a.readings) (said ++ h.0)) (sym same) answered);
+        stands = subst (λ n. Stands new n (heard.0 ∷ a.readings)) (sym same) h.3;
       },
       h.2,
     )
-
--- ---- requests
-
-pub replies_no_model : (state : State) (name : List ℕ) (k : ℕ) (service : List ℕ) (inputs : Data) (text text' : List ℕ) → model_of state ≡ None
-    → Adds text (report_json (Of name k (told.Refused word.Model))) text' → Replies state name k service inputs text text'
-replies_no_model state name k service inputs text text' none adds = (report_json (Of name k (told.Refused word.Model)), rw none refl, adds)
-
-pub replies_fault : (state : State) (name : List ℕ) (k : ℕ) (service : List ℕ) (inputs : Data) (text text' : List ℕ) (model : List ℕ) (fault : TaskFault)
-    → model_of state ≡ Some model → request_of model service inputs ≡ Err fault
-    → Adds text (report_json (Of name k (told.Refused (task_fault_word fault)))) text' → Replies state name k service inputs text text'
-replies_fault state name k service inputs text text' model fault some bad adds = (report_json (Of name k (told.Refused (task_fault_word fault))), rw (some, bad) refl, adds)
-
-pub replies_task : (state : State) (name : List ℕ) (k : ℕ) (service : List ℕ) (inputs : Data) (text text' : List ℕ) (model : List ℕ) (q : plan.Request) (answer : Data)
-    → model_of state ≡ Some model → request_of model service inputs ≡ Ok q
-    → IsTaskAnswer name k service (Ok q) answer → Adds text answer text' → Replies state name k service inputs text text'
-replies_task state name k service inputs text text' model q answer some good is adds = (answer, rw (some, good) is, adds)

@@ -3,3 +3,4 @@ pub mod Script
 pub mod StateView
 pub mod ExplainedLine
 pub mod Printed
+pub mod Reasons

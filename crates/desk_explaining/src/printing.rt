@@ -4,9 +4,11 @@ ghost use Rattle.desk_lines.specs.Lines.{ended};
 ghost use Rattle.desk_lines.specs.Ran.{RanAtOnce};
 ghost use Rattle.desk_explaining.specs.Printed.{AnyLines};
 
+use crate::options::ExplainOptions;
+use crate::run::first_state;
 use crate::state::State;
 use desk_lines::{FrontFault, Sink, Source, answer_at_once};
-use desk_serving::{Line, line_heard};
+use desk_requests::{Line, line_heard};
 use desk_wire::{Heard, Listener, Session};
 use dmn_form::{WrittenModel, read_form};
 use explanation_text::text_of;
@@ -22,7 +24,7 @@ struct Printer {
 
 /// The model in force as it is written.
 fn written_model(alloc: Global, state: &State) -> Result<Option<WrittenModel>, AllocError> {
-    let Some(plan) = &state.plan else {
+    let Some(plan) = state.register.model() else {
         return Ok(None);
     };
     match Value::from_slice(alloc, plan.text()) {
@@ -65,7 +67,7 @@ impl Listener for Printer {
 
     const ROOM: usize = 512;
 
-    ghost Script = { AnyLines };
+    ghost Script = { λ _. AnyLines };
 
     ghost After = { λ _. AnyLines };
 
@@ -94,6 +96,7 @@ impl Listener for Printer {
 /// Answers the lines of the reader to its end, as `explain` does, with texts for people. What they say is no clause.
 pub fn explain_in_text<R: Source, W: Sink>(
     alloc: Global,
+    options: &ExplainOptions,
     reader: &mut R,
     writer: &mut W,
 ) -> Result<(), FrontFault>
@@ -102,7 +105,7 @@ pub fn explain_in_text<R: Source, W: Sink>(
     ensures { RanAtOnce AnyLines (R.seen reader.old) (R.seen reader.new) (W.seen writer.old) (W.seen writer.new) result }
 {
     let mut session = Session::new(Printer {
-        state: State { plan: None },
+        state: first_state(alloc, options),
         model: None,
     });
     answer_at_once(alloc, &mut session, reader, writer)

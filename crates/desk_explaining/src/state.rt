@@ -1,9 +1,12 @@
 //! What stands between the lines.
-use dmn_plan::Plan;
-use std::sync::Arc;
+use desk_requests::Register;
 
-/// What stands between the lines: the model in force. A model stays in force until another one is read.
+/// What stands between the lines: the model in force with its sum, and the clients that have lanes.
 #[derive(Drop)]
 pub struct State {
-    pub(crate) plan: Option<Arc<Plan>>,
+    pub(crate) register: Register,
+    /// The sum by which the model in force is named; empty where there is none.
+    pub(crate) sum: String,
+    /// Whether the rules that missed are told.
+    pub(crate) misses: bool,
 }

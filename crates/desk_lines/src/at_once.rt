@@ -13,19 +13,20 @@ use std::alloc::{AllocError, Global};
 
 /// Answers each line at once.
 pub trait Answerer {
-    /// Which lines may be said to which.
-    ghost Script: { List (List ℕ) → List (List ℕ) → Type 0 };
+    /// Which lines may be said to which. An answer widens nothing of it.
+    ghost Script: { Self → List (List ℕ) → List (List ℕ) → Type 0 };
 
     /// The answerer stands as after these lines, to which those were said.
     ghost After: { Self → List (List ℕ) → List (List ℕ) → Type 0 };
 
     /// What is said to the line with this number. Of a line that is too long there is nothing to see.
     fn answer(&mut self, alloc: Global, number: u64, line: &LineText) -> Result<Vec<u8>, AllocError>
-        ensures { IfOk result (λ text.
+        ensures keeps { IsWithin (Script self.new) (Script self.old) }
+        ensures answers { IfOk result (λ text.
             AnswersAtOnce (After self.old) (After self.new) line.now number text.items) };
 
     /// What was said follows the script.
-    ghost follows: { (a : Self) → IsWithin (After a) Script };
+    ghost follows: { (a : Self) → IsWithin (After a) (Script a) };
 }
 
 /// A clerk that answers each line at once, and owes nothing between lines.
@@ -35,7 +36,7 @@ struct AtOnce<'a, T> {
 }
 
 impl<'a, T: Answerer> Clerk for AtOnce<'a, T> {
-    ghost Script = { λ _. T.Script };
+    ghost Script = { λ clerk. T.Script clerk.answerer.now };
 
     ghost Kept = { Unit {0} };
 
@@ -77,7 +78,7 @@ pub fn answer_at_once<R: Source, W: Sink, T: Answerer>(
     requires read_counts { (R.seen reader.old).faults < 2 ^ 64 - 1 }
     requires write_counts { (W.seen writer.old).faults < 2 ^ 64 - 1 }
     requires starts { T.After answerer.old [] [] }
-    ensures { RanAtOnce T.Script
+    ensures { RanAtOnce (T.Script answerer.old)
         (R.seen reader.old) (R.seen reader.new) (W.seen writer.old) (W.seen writer.new) result }
 {
     let mut clerk = AtOnce { answerer };

@@ -206,6 +206,7 @@ pub fn answer_lines<R: Source, W: Sink, C: Clerk>(
     ensures ran { Ran (C.After clerk.new) (C.Script clerk.old)
         (R.seen reader.old) (R.seen reader.new) (W.seen writer.old) (W.seen writer.new) result }
     ensures same { C.kept clerk.new ≡ C.kept clerk.old }
+    ensures keeps { IsWithin (C.Script clerk.new) (C.Script clerk.old) }
     ensures writes { (result ≢ Err FrontFault.Write) → (W.seen writer.new).faults ≡ (W.seen writer.old).faults }
     ensures memory { (result ≡ Err FrontFault.Memory) → (R.seen reader.new).faults ≡ (R.seen reader.old).faults }
 {

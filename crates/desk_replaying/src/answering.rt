@@ -226,7 +226,7 @@ impl Listener for State {
 
     const ROOM: usize = 128;
 
-    ghost Script = { Script };
+    ghost Script = { λ _. Script };
 
     ghost After = { After };
 

@@ -26,12 +26,14 @@ use Rattle.lanes.specs.Settling.{AllKept, AllSettle, Settles}
 use Rattle.lanes.proofs.Accounting.{taken_at}
 use Rattle.lanes.proofs.Mails.{option_case, order, some_is, none_is_not, got, changed_other, status_place, get_drop, drop_suc}
 use Rattle.desk_serving.specs.Ending.{IsReady, IsWhole, ends_lanes}
-use Rattle.desk_serving.specs.Owed.{Lane, lane_in, lane_of, with_handed, due, AreBooked, AreDistinct, AreFirst, AreFirstOwn, AreHanded, AreOwn}
+use Rattle.desk_serving.specs.Owed.{Lane, lane_in, lane_of, with_handed, due, AreBooked, AreFirst, AreFirstOwn, AreHanded, AreOwn}
+use Rattle.desk_requests.specs.State.{AreDistinct}
 use Rattle.desk_wire.specs.Reading.{Reading}
-use Rattle.desk_serving.specs.Line.{Line}
+use Rattle.desk_requests.specs.Line.{Line}
 use Rattle.desk_wire.specs.Reports.{Report, Reply}
 use Rattle.desk_serving.specs.Script.{of_client}
-use Rattle.desk_serving.proofs.Owing.{due-next, name_itself, of_client-append, of_other, of_same, own_first, own_handed, set_at}
+use Rattle.desk_serving.proofs.Owing.{due-next, of_client-append, of_other, of_same, own_first, own_handed, set_at}
+use Rattle.desk_requests.proofs.Names.{name_itself}
 
 -- ## What an answer makes of the open tickets
 

@@ -24,6 +24,7 @@ use Rattle.desk_serving.proofs.Fronting.{in_part_more, served_by, served_more}
 use Rattle.desk_lines.proofs.Talking.{replays_weaker}
 use Rattle.desk_serving.proofs.Running.{ends_of, err_is, failed, goes_without}
 use Rattle.desk_serving.proofs.Saying.{ends_cut_off, ends_more, ends_stop, replays_more}
+use Rattle.desk_requests.proofs.Callers.{quiet}
 
 -- where not all lines heard were answered, nothing is said of those that were
 stopped : (Whole Whole' Part : List (List ℕ) → List (List ℕ) → Type 0) (left left' wrote wrote' : Option (List ℕ)) (fault : FrontFault) → ¬ GoesOn {X = Unit {0}} (Err fault)

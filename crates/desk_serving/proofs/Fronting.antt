@@ -4,15 +4,15 @@ use Rattle.std.specs.Prelude.{bytes_eq}
 use Rattle.std.proofs.lemmas.List.{length-map, map-append}
 use Rattle.dmn_plan.specs.Request.{Request}
 use Rattle.feel_value.specs.declared.feel.Outcome.{Outcome}
-use Rattle.desk_serving.specs.Line.{Line}
+use Rattle.desk_requests.specs.Line.{Line}
 use Rattle.desk_serving.specs.Ending.{IsWhole, ServedBy, ends_lanes}
 use Rattle.desk_serving.specs.LanesView.{lanes_in, names_in}
 use Rattle.desk_serving.specs.Owed.{Lane, lane_in, due_to, due_to_name, AreHanded, AreFirst, AreBooked, Stands}
 use Rattle.desk_wire.specs.Reading.{Reading}
 use Rattle.desk_wire.specs.Reports.{Report, report_text}
 use Rattle.desk_serving.specs.Script.{of_client, texts_of, Served, ServedInPart}
-use Rattle.desk_serving.specs.Due.{answers}
-use Rattle.desk_serving.specs.State.{names_with_lanes}
+use Rattle.desk_requests.specs.Due.{answers}
+use Rattle.desk_requests.specs.State.{names_with_lanes}
 use Rattle.desk_serving.specs.StateView.{After}
 use Rattle.desk_serving.specs.declared.state.State.{State}
 use Rattle.desk_serving.proofs.Owing.{of_client-append, due-whole, length-unhanded}

@@ -13,70 +13,43 @@ use Rattle.dmn_plan.specs.declared.fault.ModelFault.{ModelFault}
 use Rattle.dmn_plan.specs.declared.fault.ModelFault.TheVariants as model
 use Rattle.dmn_plan.specs.declared.fault.TaskFault.{TaskFault}
 use Rattle.dmn_plan.specs.declared.fault.TaskFault.TheVariants as task
-use Rattle.desk_serving.specs.Line.{Line, Request, Close, Resize, Reads}
+use Rattle.desk_requests.specs.Line.{Line, Request, Close, Resize, Reads, AreRead}
 use Rattle.desk_wire.specs.Words.{fault_word, task_fault_word}
 use Rattle.lanes.specs.Clients.{client_links}
 use Rattle.desk_serving.specs.LanesView.{lanes_in, links_in, names_in}
 use Rattle.desk_lines.specs.Lines.{ended}
-use Rattle.desk_serving.specs.Owed.{Lane, AreBooked, Hands, HandsThen, Stands, due_to, lane_of, unhanded, with_closed, with_lane, with_put_if}
+use Rattle.desk_serving.specs.Owed.{Lane, AreBooked, Hands, HandsThen, Stands, due_to, lane_of, unhanded, with_closed, with_put_if}
+use Rattle.desk_requests.specs.State.{with_lane, newer_model, number_after}
 use Rattle.desk_wire.specs.Reading.{Reading, Blank, Long, Syntax, Shape, Says}
 use Rattle.desk_wire.specs.Reports.{Report, Loaded, Faulty, Refused, Of, report_text}
 use Rattle.desk_wire.specs.declared.report.Told.TheVariants as told
 use Rattle.desk_wire.specs.declared.word.Word.TheVariants as word
-use Rattle.desk_serving.specs.Script.{texts_of, AreRead, ServedInPart}
-use Rattle.desk_serving.specs.Due.{close_answer, model_answer, task_answer}
-use Rattle.desk_serving.specs.State.{newer_model, number_after}
+use Rattle.desk_serving.specs.Script.{texts_of, ServedInPart}
+use Rattle.desk_requests.specs.Due.{close_answer, model_answer, task_answer}
 use Rattle.desk_serving.specs.Reports.{close_told, resize_told}
-use Rattle.desk_serving.specs.LineView.{line_view}
-use Rattle.desk_serving.specs.LineHeard.{IsLineOf}
+use Rattle.desk_requests.specs.LineView.{line_view}
+use Rattle.desk_requests.specs.LineHeard.{IsLineOf}
 use Rattle.desk_wire.specs.Heard.{IsHeardAs}
 use Rattle.desk_wire.specs.Listening.{refusal_text}
-use Rattle.desk_serving.proofs.Fewness.{no_line}
+use Rattle.desk_requests.proofs.Fewness.{no_line}
 use Rattle.desk_serving.specs.Tasks.{IsTaskOf}
 use Rattle.desk_serving.specs.StateView.{After, HasRoom, Hears, HearsText, StandsAs, model_of}
 use Rattle.desk_wire.specs.declared.heard.Heard.{Heard}
 use Rattle.desk_wire.specs.declared.heard.Heard.TheVariants as heard
-use Rattle.desk_serving.specs.declared.line.Line as held
+use Rattle.desk_requests.specs.declared.line.Line as held
 use Rattle.desk_serving.specs.declared.named_lanes.Lanes.{Lanes}
 use Rattle.desk_serving.specs.declared.state.State.{State}
-use Rattle.desk_serving.proofs.Owing.{among_at, due_to_own, due-whole, hands_then_report, lines-append, unhanded_at}
-use Rattle.desk_serving.proofs.Standing.{requests-few, stands_handed}
+use Rattle.desk_serving.proofs.Owing.{due_to_own, due-whole, hands_then_report, lines-append, unhanded_at}
+use Rattle.desk_requests.proofs.Names.{among_at}
+use Rattle.desk_serving.proofs.Standing.{stands_handed}
+use Rattle.desk_requests.proofs.Callers.{requests-few}
 use Rattle.desk_serving.proofs.Replying.{IsHeard, due_to_closed, heard_blank, heard_close, heard_no_task, heard_none, heard_put, heard_resize, named_close, named_request, named_resize}
+use Rattle.desk_requests.proofs.Readings.{read-length}
 
 -- two facts of a call that went well
 pub on_ok_both : {T E : Type 0} (r : Result T E) {A B C : Type 0} → (A → B → C) → OnOk r A → OnOk r B → OnOk r C
 on_ok_both (Ok x) f a b = f a b
 on_ok_both (Err e) f a b = tt
-
--- ## Models
-
--- a fault other than out of memory is the one that the reading has
-pub due_model : {Y : Type 0} (r : Result Y ModelFault) (f : ModelFault) → IsDue r f → f ≢ model.Memory → r ≡ Err f
-due_model r model.Syntax h n = h
-due_model r model.Shape h n = h
-due_model r model.Name h n = h
-due_model r model.Twice h n = h
-due_model r model.Expression h n = h
-due_model r model.Table h n = h
-due_model r model.Unknown h n = h
-due_model r model.Cycle h n = h
-due_model r model.Service h n = h
-due_model r model.Large h n = h
-due_model r model.Memory h n = absurd (n refl)
-
-pub due_task : {Y : Type 0} (r : Result Y TaskFault) (f : TaskFault) → IsTaskDue r f → f ≢ task.Memory → r ≡ Err f
-due_task r task.Service h n = h
-due_task r task.Value h n = h
-due_task r task.Memory h n = absurd (n refl)
-
-pub loaded_model : {M : Type 0} (json : Data) (r : Result M ModelFault) (old : Option (List ℕ)) (k : ℕ) → is_ok r ≡ true
-    → (newer_model json r old ≡ Some (compact_text json)) × (model_answer k r ≡ Loaded k)
-loaded_model json (Ok m) old k h = (refl, refl)
-loaded_model json (Err f) old k h = cc
-
-pub faulty_model : {M : Type 0} (json : Data) (r : Result M ModelFault) (old : Option (List ℕ)) (k : ℕ) (f : ModelFault) → r ≡ Err f
-    → (newer_model json r old ≡ old) × (model_answer k r ≡ Faulty k (fault_word f))
-faulty_model json r old k f e = rw e (refl, refl)
 
 -- ## Lanes
 
@@ -98,12 +71,6 @@ put-few [] (l ∷ lanes) earlier (suc c) lane b la = put-few [] lanes earlier c 
 put-few (n ∷ names) (l ∷ lanes) earlier zero lane b la =
     let is : l ≡ lane = cc in subst (λ (x : Lane). length x.put ≤ length earlier) is (rw b.0 (requests-few n earlier))
 put-few (n ∷ names) (l ∷ lanes) earlier (suc c) lane b la = put-few names lanes earlier c lane b.2 la
-
-read-length : (lines : List (List ℕ)) (readings : List (Reading Line)) → AreRead lines readings → length readings ≡ length lines
-read-length [] [] r = refl
-read-length [] (x ∷ readings) r = absurd r
-read-length (l ∷ lines) [] r = absurd r
-read-length (l ∷ lines) (x ∷ readings) r = ap suc (read-length lines readings r.1)
 
 -- ## Closes
 

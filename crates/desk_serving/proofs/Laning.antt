@@ -18,7 +18,8 @@ use Rattle.lanes.proofs.Mails.{changed_length, got}
 use Rattle.desk_lines.specs.Lines.{ended}
 use Rattle.desk_serving.specs.Owed.{Lane, lane_of, due, HandsOwn, with_closed, with_handed}
 use Rattle.desk_wire.specs.Reports as reports
-use Rattle.desk_serving.proofs.Owing.{due-next, name_itself, of_other, of_same}
+use Rattle.desk_serving.proofs.Owing.{due-next, of_other, of_same}
+use Rattle.desk_requests.proofs.Names.{name_itself, get_map}
 
 -- ## Why a capacity is refused
 
@@ -88,11 +89,6 @@ module _ {W R O : Type 0} (request : W → R) (result_of : R → O) where
   polled_none came came' old new p =
       let same = taken_same old p.mid p.answers p.taken_in in
       (ap (λ m. m.handed) p.released.1 ∙ same.handed, ap (λ m. m.closed) p.released.1 ∙ same.closed)
-
-pub get_map : {A B : Type 0} (f : A → B) (xs : List A) (i : ℕ) (x : A) → slice_get xs i ≡ Some x → slice_get (map f xs) i ≡ Some (f x)
-get_map f [] i x e = cc
-get_map f (y ∷ xs) zero x e = let is : y ≡ x = cc in ap (λ z. Some (f z)) is
-get_map f (y ∷ xs) (suc i) x e = get_map f xs i x e
 
 pub lane_is : (x y : Lane) → x.put ≡ y.put → x.handed ≡ y.handed → x.closed ≡ y.closed → x ≡ y
 lane_is x y p h c = λ i. record { put = p i; handed = h i; closed = c i }

@@ -9,8 +9,6 @@ pub mod Outcomes
 pub mod EndingLanes
 pub mod Fronting
 pub mod CatchingUp
-pub mod Fewness
-pub mod Listening
 pub mod Finishing
 pub mod Laning
 pub mod Putting

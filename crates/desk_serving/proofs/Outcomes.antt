@@ -15,6 +15,7 @@ use Rattle.desk_serving.specs.Telling.{HandsOut, Tells, TellsAll, TellsInPart, W
 use Rattle.desk_serving.proofs.Owing.{handed_first}
 use Rattle.desk_serving.proofs.Running.{err_is, failed}
 use Rattle.desk_serving.proofs.Saying.{hands_text, tells_cut, tells_more, tells_quiet, tells_then, tells_weaker}
+use Rattle.desk_requests.proofs.Callers.{quiet}
 
 abbrev pub went : (X : Type 0) → X → Result X FrontFault
 went X x = Ok x

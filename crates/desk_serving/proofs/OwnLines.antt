@@ -12,12 +12,13 @@ use Rattle.dmn_plan.specs.declared.fault.TaskFault.{TaskFault}
 use Rattle.desk_wire.specs.Reading.{Reading, Blank, Long, Syntax, Shape, Says}
 use Rattle.desk_wire.specs.Reports.{Report, Refused, client_on}
 use Rattle.desk_wire.specs.declared.word.Word.TheVariants as word
-use Rattle.desk_serving.specs.Line.{Line, Model, Request, Close, Resize}
+use Rattle.desk_requests.specs.Line.{Line, Model, Request, Close, Resize}
 use Rattle.desk_serving.specs.Script.{of_client, same_client}
-use Rattle.desk_serving.specs.State.{callers, closes, has_lane, in_force, is_closed, number_after, requests, requests_under, with_one, with_caller, with_requester, with_request_of}
-use Rattle.desk_serving.specs.Due.{answer, answers, capacity_answer, close_answer, line_answer, model_answer, request_answer, resize_answer, task_answer}
+use Rattle.desk_requests.specs.State.{callers, closes, has_lane, in_force, is_closed, number_after, requests, requests_under, with_one, with_caller, with_requester, with_request_of}
+use Rattle.desk_requests.specs.Due.{answer, answers, capacity_answer, close_answer, line_answer, model_answer, request_answer, resize_answer, task_answer}
 use Rattle.desk_serving.specs.Own.{OwnLine, OwnLinesDecide, is_of, own_lines_of, told_to, with_own, without_number}
-use Rattle.desk_serving.proofs.Owing.{name_itself, of_client-append, of_other, of_same, or_true, same_name}
+use Rattle.desk_serving.proofs.Owing.{of_client-append, of_other, of_same}
+use Rattle.desk_requests.proofs.Names.{name_itself, or_true, same_name}
 
 -- ## What a client's own lines say
 

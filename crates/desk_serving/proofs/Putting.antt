@@ -10,17 +10,18 @@ use Rattle.lanes.proofs.Making.{map_set}
 use Rattle.desk_serving.specs.LanesView.{ArePolled, IsPolled, lanes_in, names_in}
 use Rattle.desk_serving.specs.declared.named_lanes.Lanes.{Lanes}
 use Rattle.desk_lines.specs.Lines.{ended}
-use Rattle.desk_serving.specs.Owed.{Lane, lane_of, replies, due, due_to, due_to_name, unhanded, AreDistinct, Hands, HandsOwn, HandsThen, with_lane, with_put, with_put_if}
+use Rattle.desk_serving.specs.Owed.{Lane, lane_of, replies, due, due_to, due_to_name, unhanded, Hands, HandsOwn, HandsThen, with_put, with_put_if}
+use Rattle.desk_requests.specs.State.{AreDistinct, with_lane}
 use Rattle.desk_wire.specs.Reports.{Report, Of, Reply, report_text}
 use Rattle.desk_wire.specs.declared.report.Told.{Told}
 use Rattle.desk_wire.specs.declared.report.Told.TheVariants as told
 use Rattle.desk_wire.specs.declared.word.Word.TheVariants as word
 use Rattle.desk_serving.specs.Script.{of_client, texts_of}
-use Rattle.desk_serving.specs.Due.{task_answer}
+use Rattle.desk_requests.specs.Due.{task_answer}
 use Rattle.feel_value.specs.Distinct.{is_among}
-use Rattle.desk_serving.proofs.Laning.{get_map}
-use Rattle.desk_serving.proofs.Standing.{distinct-push}
-use Rattle.desk_serving.proofs.Owing.{same_name, name_itself, turned_name, or_false, of_client-append, of_other, of_same, lines-append, due_to_own, due_to_other, due-whole, set_at, get_at, own_hands, hands_then_report, unhanded_at, unhanded_with}
+use Rattle.desk_requests.proofs.Callers.{distinct-push}
+use Rattle.desk_serving.proofs.Owing.{of_client-append, of_other, of_same, lines-append, due_to_own, due_to_other, due-whole, set_at, own_hands, hands_then_report, unhanded_at, unhanded_with}
+use Rattle.desk_requests.proofs.Names.{same_name, name_itself, turned_name, or_false, get_map, get_at}
 
 -- ## Lists of lanes
 
@@ -93,19 +94,8 @@ same_at old mid c x lane e at la =
 
 -- ## Names
 
-pub among_take : (n : List ℕ) (names : List (List ℕ)) (i : ℕ) (m : List ℕ) → slice_get names i ≡ Some m → bytes_eq m n ≡ false → is_among (take i names) n ≡ false → is_among (take (suc i) names) n ≡ false
-among_take n [] i m at far h = cc
-among_take n (k ∷ names) zero m at far h =
-    let is : k ≡ m = cc in let e : bytes_eq n k ≡ false = turned_name n k ∙ subst (λ x. bytes_eq x n ≡ false) (sym is) far in rw e refl
-among_take n (k ∷ names) (suc i) m at far h =
-    let both = or_false (bytes_eq n k) (is_among (take i names) n) h in rw both.0 (among_take n names i m at far both.1)
-
 pub with_lane-known : (lanes : ℕ) (n : List ℕ) (names : List (List ℕ)) → is_among names n ≡ true → with_lane lanes n names ≡ names
 with_lane-known lanes n names h = rw h refl
-
-pub last_at : {X : Type 0} (xs : List X) (x : X) → slice_get (xs ++ x ∷ []) (length xs) ≡ Some x
-last_at [] x = refl
-last_at (y ∷ xs) x = last_at xs x
 
 pub pushed_names : {A B : Type 0} (f : A → List ℕ) (clients : List B) (names names' : List A) (x : A) (b : Bool) → names' ≡ (if b then names ++ x ∷ [] else names) → AreDistinct (map f names)
     → is_among (map f names) (f x) ≡ false → length names < length clients → (length names' ≤ length clients) × AreDistinct (map f names')

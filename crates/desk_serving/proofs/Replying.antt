@@ -7,10 +7,11 @@ use Rattle.box_core.specs.Mail.{resize_refusal_by, is_no_capacity}
 use Rattle.dmn_plan.specs.ReadModel.{read_model}
 use Rattle.dmn_plan.specs.Request as plan
 use Rattle.dmn_plan.specs.declared.fault.TaskFault.{TaskFault}
-use Rattle.desk_serving.specs.Line.{Line, Model, Request, Close, Resize}
+use Rattle.desk_requests.specs.Line.{Line, Model, Request, Close, Resize}
 use Rattle.desk_wire.specs.Words.{task_fault_word}
 use Rattle.desk_lines.specs.Lines.{ended}
-use Rattle.desk_serving.specs.Owed.{Lane, due_to, due_to_name, unhanded, AreDistinct, AreBooked, HandsThen, Stands, with_lane, with_put, with_put_if, with_closed}
+use Rattle.desk_serving.specs.Owed.{Lane, due_to, due_to_name, unhanded, AreBooked, HandsThen, Stands, with_put, with_put_if, with_closed}
+use Rattle.desk_requests.specs.State.{AreDistinct, with_lane, callers, has_lane, in_force, is_closed, requests_under, requests, number_after}
 use Rattle.desk_wire.specs.Reading.{Reading, Blank, Long, Syntax, Shape, Says}
 use Rattle.desk_wire.specs.Reports.{Report, Refused, Of, client_on, report_text}
 use Rattle.desk_wire.specs.declared.report.Told.TheVariants as told
@@ -18,11 +19,12 @@ use Rattle.desk_wire.specs.declared.word.Word.{Word}
 use Rattle.desk_wire.specs.declared.word.Word.TheVariants as word
 use Rattle.desk_serving.specs.Reports.{resize_told}
 use Rattle.desk_serving.specs.Script.{of_client, texts_of}
-use Rattle.desk_serving.specs.State.{callers, has_lane, in_force, is_closed, requests_under, requests, number_after}
-use Rattle.desk_serving.specs.Due.{answer, request_answer, task_answer, close_answer, resize_answer, model_answer}
+use Rattle.desk_requests.specs.Due.{answer, request_answer, task_answer, close_answer, resize_answer, model_answer}
 use Rattle.feel_value.specs.Distinct.{is_among}
-use Rattle.desk_serving.proofs.Owing.{same_name, name_itself, among_at, due_to_none, hands_none, hands_then_report, length-unhanded}
-use Rattle.desk_serving.proofs.Standing.{requests-other, requests-refused, requests-closed, requests-accepted, quiet, booked_same, booked_at, booked-set, due_to_quiet, stands_answered, stands_named}
+use Rattle.desk_serving.proofs.Owing.{due_to_none, hands_none, hands_then_report, length-unhanded}
+use Rattle.desk_requests.proofs.Names.{same_name, name_itself, among_at}
+use Rattle.desk_serving.proofs.Standing.{booked_same, booked_at, booked-set, due_to_quiet, stands_answered, stands_named}
+use Rattle.desk_requests.proofs.Callers.{requests-other, requests-refused, requests-closed, requests-accepted, quiet}
 
 -- what a line that is heard comes to
 abbrev pub IsHeard : Reading Line → List (Reading Line) → List (List ℕ) → Option (List ℕ) → List Lane → List Report → List ℕ → List ℕ → Type 0

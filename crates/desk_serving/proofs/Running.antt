@@ -15,6 +15,7 @@ use Rattle.desk_lines.specs.Talk.{EndsAs, Ends, IsCut, Replays, Stops}
 use Rattle.desk_lines.specs.declared.fault.FrontFault.{FrontFault}
 use Rattle.desk_lines.specs.declared.fault.FrontFault.TheVariants.{Read, Write, Long, Memory}
 use Rattle.desk_lines.proofs.Coming.{Consumes-none, Appends-none}
+use Rattle.desk_requests.proofs.Callers.{quiet}
 
 module _ (Whole Part : List (List ℕ) → List (List ℕ) → Type 0) (left left' wrote wrote' : Option (List ℕ)) where
   pub ends_of : {X : Type 0} (r : Result X FrontFault) → OnOk r (Replays Whole left left' wrote wrote') → IfErr r (λ e. EndsAs Whole Part left left' wrote wrote' e)

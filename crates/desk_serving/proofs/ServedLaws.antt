@@ -1,10 +1,10 @@
 -- Laws of what is served.
 use Rattle.std.proofs.Common.{◌≡◌, ℕ, if◌then◌else◌, List, [], ◌∷◌, Option, Some, None, refl, ap, ap₂, sym, ◌∙◌, codes, bytes_eq}
 use Rattle.serde_json.specs.Data.{Data, number, string, object, unsigned, Members, no_members, member}
-use Rattle.desk_serving.specs.Line.{Line, Model, Request, Close, Resize, object_of, IsLawful}
+use Rattle.desk_requests.specs.Line.{Line, Model, Request, Close, Resize, object_of, IsLawful, AreRead}
 use Rattle.desk_wire.specs.Reading.{Reading}
-use Rattle.desk_serving.specs.Script.{AreRead, Served, of_client}
-use Rattle.desk_serving.specs.Due.{answers}
+use Rattle.desk_serving.specs.Script.{Served, of_client}
+use Rattle.desk_requests.specs.Due.{answers}
 use Rattle.desk_wire.proofs.ReadOnce.{some_same, read_once}
 
 -- ---- a JSON value is at most one line

@@ -7,7 +7,7 @@ use Rattle.lanes.specs.Ends.{SettledEnd}
 use Rattle.lanes.specs.Rest.{left_in, mail_in}
 use Rattle.desk_serving.specs.Owed.{AreBooked, Lane, lane_in}
 use Rattle.desk_serving.specs.Script.{Served}
-use Rattle.desk_serving.specs.State.{names_with_lanes}
+use Rattle.desk_requests.specs.State.{names_with_lanes}
 
 -- each accepted request was handed its result
 abbrev pub IsWhole : SettledEnd Request Outcome → Type 0

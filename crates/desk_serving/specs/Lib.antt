@@ -1,9 +1,4 @@
-pub mod Line
-pub mod LineView
-pub mod LineHeard
 pub mod Tasks
-pub mod State
-pub mod Due
 pub mod Script
 pub mod Reports
 pub mod Owed

@@ -10,13 +10,13 @@ use Rattle.lanes.specs.Ends.{ClientEnd, SettledEnd}
 use Rattle.lanes.specs.Books.{work_of}
 use Rattle.lanes.specs.Clients.{put_of, mail_of}
 use Rattle.lanes.specs.Rest.{put_in, mail_in}
-use Rattle.desk_serving.specs.Line.{Line}
+use Rattle.desk_requests.specs.Line.{Line}
 use Rattle.desk_lines.specs.Lines.{ended}
 use Rattle.desk_wire.specs.Reading.{Reading}
 use Rattle.desk_wire.specs.Reports.{Report, Reply}
 use Rattle.desk_serving.specs.Script.{same_client, of_client, texts_of}
-use Rattle.desk_serving.specs.State.{requests, is_closed, names_with_lanes, in_force}
-use Rattle.desk_serving.specs.Due.{answers}
+use Rattle.desk_requests.specs.State.{requests, is_closed, names_with_lanes, in_force, AreDistinct}
+use Rattle.desk_requests.specs.Due.{answers}
 use Rattle.feel_value.specs.Distinct.{is_among}
 
 -- a client's lane as the front sees it: the requests that were put, how many results were handed out, and whether it is closed
@@ -55,14 +55,6 @@ due_to (Some m) names lanes = due_to_name m names lanes
 abbrev pub unhanded : List Lane → List Lane
 unhanded [] = []
 unhanded (lane ∷ lanes) = (record { put = lane.put; handed = 0; closed = lane.closed }) ∷ unhanded lanes
-
-abbrev pub AreDistinct : List (List ℕ) → Type 0
-AreDistinct [] = Unit {0}
-AreDistinct (n ∷ names) = (is_among names n ≡ false) × AreDistinct names
-
-pub AreDistinct-prop : (names : List (List ℕ)) → IsProp (AreDistinct names)
-AreDistinct-prop [] = Unit-prop
-AreDistinct-prop (n ∷ names) = ×_prop (Prim.hlevel props) (AreDistinct-prop names)
 
 -- these reports are what was handed out of what was owed
 pub record AreHanded (names : List (List ℕ)) (old new : List Lane) (more : List Report) : Type 0 where
@@ -120,10 +112,6 @@ pub record Stands (named earlier : List (Reading Line)) (known : List (List ℕ)
   pub model : force ≡ in_force earlier
   pub booked : AreBooked known lanes earlier
   pub owed : (who : Option (List ℕ)) → of_client who said ++ due_to who known lanes ≡ of_client who (answers (length lanes) earlier)
-
--- the names with one more, if there is a lane for it
-abbrev pub with_lane : ℕ → List ℕ → List (List ℕ) → List (List ℕ)
-with_lane lanes name names = if is_among names name || nat_le lanes (length names) then names else names ++ name ∷ []
 
 -- the lane with one more request, and one result more handed out
 abbrev pub with_put : Lane → Request → Lane

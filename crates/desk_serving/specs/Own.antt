@@ -4,9 +4,9 @@
 use Rattle.std.specs.Prelude.{◌≡◌, ℕ, Bool, true, false, if◌then◌else◌, List, [], ◌∷◌, Option, Some, map, bytes_eq}
 use Rattle.desk_wire.specs.Reading.{Reading, Says}
 use Rattle.desk_wire.specs.Reports.{Report, Loaded, Faulty, Refused, Of, Reply}
-use Rattle.desk_serving.specs.Line.{Line, Model, Request, Close, Resize}
+use Rattle.desk_requests.specs.Line.{Line, Model, Request, Close, Resize}
 use Rattle.desk_serving.specs.Script.{Served, of_client}
-use Rattle.desk_serving.specs.State.{has_lane, in_force}
+use Rattle.desk_requests.specs.State.{has_lane, in_force}
 
 -- a line of a client, with the text of the model in force on it
 pub record OwnLine : Type 0 where

@@ -2,8 +2,8 @@
 use Rattle.std.specs.Prelude.{◌≡◌, ℕ, Bool, true, false, List, [], ◌∷◌, ◌++◌, Option, Some, None, map, filter, reverse, bytes_eq}
 use Rattle.desk_wire.specs.Reading.{Reading}
 use Rattle.desk_wire.specs.Reports.{Report, client_on, report_text}
-use Rattle.desk_serving.specs.Line.{Line, Reads}
-use Rattle.desk_serving.specs.Due.{answers}
+use Rattle.desk_requests.specs.Line.{Line, Reads, AreRead}
+use Rattle.desk_requests.specs.Due.{answers}
 
 abbrev pub same_client : Option (List ℕ) → Option (List ℕ) → Bool
 same_client None None = true
@@ -17,12 +17,6 @@ of_client who reports = filter (λ report. same_client (client_on report) who) r
 
 abbrev pub texts_of : List Report → List (List ℕ)
 texts_of reports = map (λ report. report_text report) reports
-
--- each line is read so; both lists are the newest first
-abbrev pub AreRead : List (List ℕ) → List (Reading Line) → Type 0
-AreRead [] [] = Unit {0}
-AreRead (line ∷ lines) (reading ∷ readings) = Reads line reading × AreRead lines readings
-AreRead lines readings = ⊥
 
 -- The output has, for each client and for none, just the answers to its lines, in the order of the lines. No order is said
 -- between clients.

@@ -2,14 +2,14 @@
 use Rattle.std.specs.Prelude.{◌≡◌, ◌<◌, ◌^◌, ℕ, List, ◌∷◌, ◌++◌, Option, Some, length, option_map, reverse, slice_get}
 use Rattle.std.specs.List.{flat_map}
 use Rattle.std.specs.Arc.{arc_value}
-use Rattle.desk_serving.specs.Line.{Line, Reads}
+use Rattle.desk_requests.specs.Line.{Line, Reads, AreRead}
 use Rattle.desk_serving.specs.LanesView.{lanes_in, names_in}
 use Rattle.desk_lines.specs.Lines.{ended}
 use Rattle.desk_serving.specs.Owed.{Lane, Stands}
 use Rattle.desk_wire.specs.Reading.{Reading}
-use Rattle.desk_serving.specs.Script.{AreRead, texts_of}
+use Rattle.desk_serving.specs.Script.{texts_of}
 use Rattle.desk_wire.specs.Reports.{Report}
-use Rattle.desk_serving.specs.State.{number_after}
+use Rattle.desk_requests.specs.State.{number_after}
 use Rattle.desk_serving.specs.declared.state.State.{State}
 
 module _ {R : Type 0} where

@@ -6,8 +6,8 @@ use Rattle.serde_json.specs.Data.{Data}
 use Rattle.serde_json.specs.View.{view}
 use Rattle.dmn_plan.specs.Request as plan
 use Rattle.dmn_plan.specs.declared.fault.TaskFault.{TaskFault}
-use Rattle.desk_serving.specs.declared.line.Line.{Line}
-use Rattle.desk_serving.specs.declared.line.Line.TheVariants.{Model, Request, Close, Resize}
+use Rattle.desk_requests.specs.declared.line.Line.{Line}
+use Rattle.desk_requests.specs.declared.line.Line.TheVariants.{Model, Request, Close, Resize}
 
 -- the request to a service with these inputs under the model in force, or why there is none
 abbrev pub IsTaskOf : {Z : Type 0} → Option (List ℕ) → List ℕ → Data → Option (Result (Arc plan.Request Z) TaskFault) → Type 0

@@ -2,16 +2,16 @@
 ghost use Rattle.std.specs.Prelude.{◌≡◌, ◌<◌, ◌^◌, ℕ, List, false, length, IfOk, IfSome, OnOk};
 ghost use Rattle.serde_json.specs.Data.{Data};
 ghost use Rattle.serde_json.specs.View.{view};
-ghost use Rattle.desk_serving.specs.Line.{Model, Request, Close, Resize};
-ghost use Rattle.desk_serving.specs.LineView.{line_view};
+ghost use Rattle.desk_requests.specs.Line.{Model, Request, Close, Resize};
+ghost use Rattle.desk_requests.specs.LineView.{line_view};
 ghost use Rattle.desk_serving.specs.LanesView.{links_in};
 ghost use Rattle.desk_wire.specs.Reading.{Says};
-ghost use Rattle.desk_serving.specs.LineHeard.{IsLineOf};
+ghost use Rattle.desk_requests.specs.LineHeard.{IsLineOf};
 ghost use Rattle.desk_wire.specs.Heard.{IsHeardAs};
 ghost use Rattle.desk_serving.specs.Tasks.{IsTaskFor, IsTaskOf};
 ghost use Rattle.desk_serving.specs.StateView.{HasRoom, Hears, HearsText, model_of};
 
-use crate::line::{Line, line_heard};
+use desk_requests::{Line, line_heard};
 use crate::reports::{close_told, resize_told};
 use crate::state::State;
 use crate::until::Until;

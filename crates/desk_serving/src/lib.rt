@@ -5,7 +5,6 @@
 mod answering;
 mod ending;
 mod laws;
-mod line;
 mod named_lanes;
 mod options;
 mod reports;
@@ -16,6 +15,6 @@ mod until;
 mod waiting;
 
 pub use laws::own_lines_decide;
-pub use line::{Line, line_heard};
+
 pub use options::Options;
 pub use run::serve;

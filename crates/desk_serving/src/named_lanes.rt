@@ -5,8 +5,9 @@ ghost use Rattle.std.specs.Arc.{arc_value};
 ghost use Rattle.box_core.specs.Mail.{resize_refusal_by};
 ghost use Rattle.dmn_plan.specs.Request.{request_result};
 ghost use Rattle.lanes.specs.Clients.{client_links};
-ghost use Rattle.desk_serving.specs.Owed.{AreDistinct, AreDistinct-prop, Hands, HandsOwn, HandsThen, Lane, lane_of, unhanded, with_closed, with_lane, with_put, with_put_if};
-ghost use Rattle.desk_serving.specs.Due.{task_answer};
+ghost use Rattle.desk_serving.specs.Owed.{Hands, HandsOwn, HandsThen, Lane, lane_of, unhanded, with_closed, with_put, with_put_if};
+ghost use Rattle.desk_requests.specs.State.{AreDistinct, AreDistinct-prop, with_lane};
+ghost use Rattle.desk_requests.specs.Due.{task_answer};
 ghost use Rattle.feel_value.specs.Distinct.{is_among};
 ghost use Rattle.desk_wire.specs.Reports.{Of, Reply};
 

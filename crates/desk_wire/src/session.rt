@@ -14,8 +14,8 @@ pub trait Listener {
     /// The bytes of most answers.
     const ROOM: usize;
 
-    /// Which lines may be said to which.
-    ghost Script: { List (List ℕ) → List (List ℕ) → Type 0 };
+    /// Which lines may be said to which. An answer widens nothing of it.
+    ghost Script: { Self → List (List ℕ) → List (List ℕ) → Type 0 };
 
     /// It stands as after these lines, to which those were said.
     ghost After: { Self → List (List ℕ) → List (List ℕ) → Type 0 };
@@ -28,10 +28,11 @@ pub trait Listener {
         heard: &Heard<'_>,
         text: &mut Vec<u8>,
     ) -> Result<(), AllocError>
-        ensures { OnOk result (AnswersHeard (After self.old) (After self.new) number heard.now text.old.items text.new.items) };
+        ensures keeps { IsWithin (Script self.new) (Script self.old) }
+        ensures answers { OnOk result (AnswersHeard (After self.old) (After self.new) number heard.now text.old.items text.new.items) };
 
     /// What was said follows the script.
-    ghost follows: { (a : Self) → IsWithin (After a) Script };
+    ghost follows: { (a : Self) → IsWithin (After a) (Script a) };
 }
 
 /// What answers the lines of a command: what stands between them, and the reader of their texts.
@@ -62,7 +63,8 @@ fn answer_to<S: Listener>(
     number: u64,
     line: &LineText,
 ) -> Result<Vec<u8>, AllocError>
-    ensures { IfOk result (λ said. AnswersAtOnce (S.After state.old) (S.After state.new) line.now number said.items) }
+    ensures keeps { IsWithin (S.Script state.new) (S.Script state.old) }
+    ensures answers { IfOk result (λ said. AnswersAtOnce (S.After state.old) (S.After state.new) line.now number said.items) }
 {
     let heard = hear(alloc, texts, line)?;
     let mut said = Vec::with_capacity(alloc, S::ROOM)?;
@@ -71,7 +73,7 @@ fn answer_to<S: Listener>(
 }
 
 impl<S: Listener> Answerer for Session<S> {
-    ghost Script = { S.Script };
+    ghost Script = { λ session. S.Script session.state };
 
     ghost After = { λ session. S.After session.state };
 

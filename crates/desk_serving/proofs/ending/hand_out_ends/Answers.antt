@@ -4,10 +4,11 @@ use Rattle.std.proofs.lemmas.Result.{err_from_is_err_and}
 use Rattle.desk_serving.specs.Ending.{IsReady, ends_lanes}
 use Rattle.desk_serving.specs.Owed.{AreFirst, AreFirstOwn, AreHanded, AreOwn, lane_in}
 use Rattle.desk_serving.proofs.EndingLanes.{end_first, end_handed, holds_next, map_at, rest_after, whole_after}
-use Rattle.desk_serving.proofs.Owing.{first_after, get_at, handed_then}
+use Rattle.desk_serving.proofs.Owing.{first_after, handed_then}
 use Rattle.desk_serving.proofs.Outcomes.{out_broken, out_said}
 use Rattle.desk_serving.proofs.Saying.{tells_then}
 use Rattle.desk_serving.proofs.ending.hand_out_ends.Goals as goal
+use Rattle.desk_requests.proofs.Names.{get_at}
 
 pub hand_out_end-requires-clause-ready : goal.hand_out_end-requires-clause-ready
 hand_out_end-requires-clause-ready g c =

@@ -6,16 +6,16 @@ use Rattle.desk_replaying.specs.LineView.{line_view}
 use Rattle.desk_replaying.proofs.Hearing.{after_line, heard_line, heard_no_object, heard_strange}
 use Rattle.desk_replaying.proofs.answering.StateListener.answer_heard.Goals as goal
 
-pub returns-in_default : goal.returns-in_default
-returns-in_default c =
+pub returns-in_default-clause-answers : goal.returns-in_default-clause-answers
+returns-in_default-clause-answers c =
     let old = c.args.self.now in
     let text = c.args.text.now.items in
     on_ok_weaker c.add_refusal.result
     (λ is lines said it a h n. after_line old old c.args.number it text _ lines said a n (heard_no_object old c.args.number c.args.heard.now it text _ c.in_default.not-Object h is))
     c.add_refusal.ensures
 
-pub returns-in_default-line_in : goal.returns-in_default-line_in
-returns-in_default-line_in c =
+pub returns-in_default-line_in-clause-answers : goal.returns-in_default-line_in-clause-answers
+returns-in_default-line_in-clause-answers c =
     let old = c.args.self.now in
     let text = c.args.text.now.items in
     let none = rw c.in_default-line_in.is at c.line_in.ensures.other in
@@ -24,8 +24,8 @@ returns-in_default-line_in c =
     (heard_strange old c.args.number c.args.heard.now c.in-Object.members it text _ c.in-Object.is (rw c.deref.ensures.value at none) h is))
     c.add_refusal-in_default-line_in.ensures
 
-pub returns : goal.returns
-returns c =
+pub returns-clause-answers : goal.returns-clause-answers
+returns-clause-answers c =
     let old = c.args.self.now in
     let new = c.hear.new.self in
     let text = c.args.text.now.items in

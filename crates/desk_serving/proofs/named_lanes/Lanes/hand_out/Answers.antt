@@ -3,10 +3,10 @@ use Rattle.std.proofs.lemmas.List.{length-map}
 use Rattle.lanes.proofs.Making.{links_kept}
 use Rattle.lanes.specs.Clients.{client_links}
 use Rattle.desk_serving.specs.LanesView.{lanes_in, names_in}
-use Rattle.desk_serving.proofs.Laning.{get_map}
-use Rattle.desk_serving.proofs.Owing.{get_at, hands_then}
+use Rattle.desk_serving.proofs.Owing.{hands_then}
 use Rattle.desk_serving.proofs.Putting.{client_hands, lanes_inside, polled_next}
 use Rattle.desk_serving.proofs.named_lanes.Lanes.hand_out.Goals as goal
+use Rattle.desk_requests.proofs.Names.{get_map, get_at}
 
 pub returns-in_err-hand_out_next-clause-same : goal.returns-in_err-hand_out_next-clause-same
 returns-in_err-hand_out_next-clause-same c =

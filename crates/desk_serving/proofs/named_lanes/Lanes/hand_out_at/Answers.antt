@@ -4,10 +4,9 @@ use Rattle.std.proofs.lemmas.Result.{on_ok_weaker}
 use Rattle.lanes.proofs.Making.{links_kept}
 use Rattle.lanes.specs.Clients.{client_links}
 use Rattle.desk_serving.specs.LanesView.{names_in}
-use Rattle.desk_serving.proofs.Laning.{get_map}
-use Rattle.desk_serving.proofs.Owing.{get_at}
 use Rattle.desk_serving.proofs.Putting.{client_hands, lanes_inside}
 use Rattle.desk_serving.proofs.named_lanes.Lanes.hand_out_at.Goals as goal
+use Rattle.desk_requests.proofs.Names.{get_map, get_at}
 
 pub returns-clause-same : goal.returns-clause-same
 returns-clause-same c =

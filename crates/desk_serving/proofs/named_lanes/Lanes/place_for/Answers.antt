@@ -2,8 +2,8 @@ use Rattle.std.proofs.Common.{◌≡◌, ◌<◌, ◌++◌, ◌∷◌, [], ℕ, 
 use Rattle.std.proofs.lemmas.List.{map-append, length-map}
 use Rattle.desk_serving.specs.LanesView.{lanes_in, names_in}
 use Rattle.feel_value.specs.Distinct.{is_among}
-use Rattle.desk_serving.proofs.Owing.{among_at}
-use Rattle.desk_serving.proofs.Putting.{with_lane-known, pushed_names, last_at}
+use Rattle.desk_requests.proofs.Names.{among_at, last_at}
+use Rattle.desk_serving.proofs.Putting.{with_lane-known, pushed_names}
 use Rattle.desk_serving.proofs.named_lanes.Lanes.place_for.Goals as goal
 
 pub returns-in-Some-clause-names : goal.returns-in-Some-clause-names

@@ -3,9 +3,7 @@ use Rattle.std.specs.Str.{bytes_eq}
 use Rattle.std.proofs.lemmas.Grind.{common_steps}
 use Rattle.desk_serving.specs.LanesView.{names_in}
 use Rattle.feel_value.specs.Distinct.{is_among}
-use Rattle.desk_serving.proofs.Laning.{get_map}
-use Rattle.desk_serving.proofs.Owing.{get_at, same_name}
-use Rattle.desk_serving.proofs.Putting.{among_take}
+use Rattle.desk_requests.proofs.Names.{same_name, get_map, get_at, among_take}
 use Rattle.desk_serving.proofs.named_lanes.Lanes.place_of.Goals as goal
 
 pub returns-then-eq-clause-found : goal.returns-then-eq-clause-found

@@ -1,9 +1,9 @@
 use Rattle.std.proofs.Common.{◌<◌, ℕ, List, length, subst, sym}
 use Rattle.std.proofs.lemmas.Result.{on_ok_weaker}
 use Rattle.desk_serving.specs.LanesView.{lanes_in, names_in}
-use Rattle.desk_serving.proofs.Owing.{get_inside}
 use Rattle.desk_serving.proofs.Putting.{lanes_inside, whole_then}
 use Rattle.desk_serving.proofs.named_lanes.Lanes.report.Goals as goal
+use Rattle.desk_requests.proofs.Names.{get_inside}
 
 pub drain-requires : goal.drain-requires
 drain-requires g c = record { place = get_inside _ c.args.place _ c.requires.place }

@@ -4,9 +4,9 @@ use Rattle.serde_json.specs.View.{view}
 use Rattle.dmn_plan.specs.ReadModel.{read_model}
 use Rattle.desk_serving.specs.LanesView.{lanes_in, names_in}
 use Rattle.desk_wire.specs.Reports.{Faulty, Loaded}
-use Rattle.desk_serving.specs.State.{in_force}
+use Rattle.desk_requests.specs.State.{in_force}
 use Rattle.desk_serving.specs.StateView.{model_of}
-use Rattle.desk_serving.proofs.Hearing.{due_model, loaded_model, faulty_model}
+use Rattle.desk_requests.proofs.Models.{due_model, loaded_model, faulty_model}
 use Rattle.desk_serving.proofs.Replying.{heard_model}
 use Rattle.desk_serving.proofs.state.State.answer_model.Goals as goal
 

@@ -2,9 +2,9 @@ use Rattle.std.proofs.lemmas.Result.{on_ok_weaker}
 use Rattle.desk_serving.specs.LanesView.{lanes_in, names_in}
 use Rattle.desk_serving.specs.StateView.{model_of}
 use Rattle.desk_serving.proofs.Hearing.{resized_lane, stands_resize}
-use Rattle.desk_serving.proofs.Owing.{get_inside}
 use Rattle.desk_serving.proofs.Replying.{heard_resize_no_lane}
 use Rattle.desk_serving.proofs.state.State.answer_resize.Goals as goal
+use Rattle.desk_requests.proofs.Names.{get_inside}
 
 pub returns-in_default-clause-hears : goal.returns-in_default-clause-hears
 returns-in_default-clause-hears g c =

@@ -3,7 +3,7 @@ use Rattle.std.specs.Arc.{arc_value}
 use Rattle.serde_json.specs.View.{view}
 use Rattle.dmn_plan.specs.Request as plan
 use Rattle.desk_serving.specs.StateView.{model_of}
-use Rattle.desk_serving.proofs.Hearing.{due_task}
+use Rattle.desk_requests.proofs.Models.{due_task}
 use Rattle.desk_serving.proofs.state.State.task_of.Goals as goal
 
 pub returns-in_default : goal.returns-in_default

@@ -1,0 +1,6 @@
+pub mod Line
+pub mod LineView
+pub mod LineHeard
+pub mod State
+pub mod Due
+pub mod Register

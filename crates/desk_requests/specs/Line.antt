@@ -1,0 +1,40 @@
+-- The lines of `serve`.
+use Rattle.std.specs.Prelude.{◌≡◌, ℕ, ◌^◌, ◌<◌, List, [], ◌∷◌, true, codes}
+use Rattle.serde_json.specs.Data.{Data, boolean, object, member, no_members}
+use Rattle.desk_wire.specs.Parts.{IsName, IsObject, with_name, with_number}
+use Rattle.desk_wire.specs.Reading.{Reading, ReadsAs}
+
+pub data Line : Type 0 where
+  Model : (model : Data) → Line
+  Request : (name service : List ℕ) → (inputs : Data) → Line
+  Close : (name : List ℕ) → Line
+  Resize : (name : List ℕ) → (capacity : ℕ) → Line
+
+-- the object that a line is
+abbrev pub object_of : Line → Data
+object_of (Model model) = object (member (codes "model") model no_members)
+object_of (Request name service inputs) =
+    object (with_name (codes "client") name (member (codes "inputs") inputs (with_name (codes "service") service no_members)))
+object_of (Close name) = object (with_name (codes "client") name (member (codes "close") (boolean true) no_members))
+object_of (Resize name capacity) = object (with_number (codes "capacity") capacity (with_name (codes "resize") name no_members))
+
+-- names have 1 to 64 bytes, capacities fit 32 bits, and inputs are objects
+abbrev pub IsLawful : Line → Type 0
+IsLawful (Model model) = Unit {0}
+IsLawful (Request name service inputs) = IsName name × IsObject inputs
+IsLawful (Close name) = IsName name
+IsLawful (Resize name capacity) = IsName name × (capacity < 2 ^ 32)
+
+-- the value is this lawful line
+abbrev pub IsLine : Line → Data → Type 0
+IsLine says value = (object_of says ≡ value) × IsLawful says
+
+-- how a line of an input is read
+abbrev pub Reads : List ℕ → Reading Line → Type 0
+Reads = ReadsAs object_of IsLawful
+
+-- each line is read so; both lists are the newest first
+abbrev pub AreRead : List (List ℕ) → List (Reading Line) → Type 0
+AreRead [] [] = Unit {0}
+AreRead (line ∷ lines) (reading ∷ readings) = Reads line reading × AreRead lines readings
+AreRead lines readings = ⊥

@@ -1,0 +1,10 @@
+//! The lines of `serve`: what they say, and what each is answered with by the lines before it, whichever worker answers.
+//!
+//! `serve` and `explain` stand on it, and `check` reads requests by it, so that all three take the same lines and refuse the same.
+#![tactic(auto)]
+
+mod line;
+mod register;
+
+pub use line::{Line, line_heard};
+pub use register::{Answer, Asked, Register};
