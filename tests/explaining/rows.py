@@ -98,13 +98,13 @@ SESSION = r"""{"client":"ann","service":"total","inputs":{}}
 
 SESSION_ANSWERS = r"""{"client":"ann","line":1,"refused":"model"}
 {"line":2,"model":true,"sha256":"SUM","read":READ}
-{"client":"ann","ticket":0,"line":4,"model":"SUM","service":"total","inputs":{"a":4},"decisions":[{"name":"twice","value":8},{"name":"sum","value":12}],"result":12}
-{"client":"bob","ticket":0,"line":5,"model":"SUM","service":"rest","inputs":{"a":null,"twice":5},"decisions":[{"name":"twice","given":5},{"name":"sum","value":null}],"result":null}
+{"client":"ann","line":4,"model":"SUM","service":"total","inputs":{"a":4},"decisions":[{"name":"twice","value":8},{"name":"sum","value":12}],"result":12,"ticket":0}
+{"client":"bob","line":5,"model":"SUM","service":"rest","inputs":{"a":null,"twice":5},"decisions":[{"name":"twice","given":5},{"name":"sum","value":null}],"result":null,"ticket":0}
 {"client":"ann","closed":true,"line":6}
 {"client":"bob","line":7,"resized":3}
 {"client":"ann","line":8,"refused":"closed"}
 {"client":"cal","line":9,"refused":"clients"}
-{"client":"bob","ticket":1,"line":10,"model":"SUM","service":"total","inputs":{"a":9223372036854775807},"decisions":[{"name":"twice","fault":"limit"},{"name":"sum","fault":"limit"}],"fault":"limit"}
+{"client":"bob","line":10,"model":"SUM","service":"total","inputs":{"a":9223372036854775807},"decisions":[{"name":"twice","fault":"limit"},{"name":"sum","fault":"limit"}],"fault":"limit","ticket":1}
 {"client":"cal","line":11,"refused":"clients"}
 """
 
@@ -124,7 +124,7 @@ REFUSED_ANSWERS = r"""{"line":1,"model":true,"sha256":"SUM","read":READ}
 {"line":4,"refused":"shape"}
 {"client":"ann","line":5,"refused":"service"}
 {"client":"ann","line":6,"refused":"value"}
-{"client":"a \"b\"","ticket":0,"line":7,"model":"SUM","service":"total","inputs":{"a":1},"decisions":[{"name":"twice","value":2},{"name":"sum","value":3}],"result":3}
+{"client":"a \"b\"","line":7,"model":"SUM","service":"total","inputs":{"a":1},"decisions":[{"name":"twice","value":2},{"name":"sum","value":3}],"result":3,"ticket":0}
 """
 
 # A model whose decision is a table, a request, and its explanation for people.

@@ -6,6 +6,7 @@ mod explanation;
 mod printing;
 mod run;
 mod state;
+mod text;
 
 pub use printing::explain_in_text;
 pub use run::explain;
