@@ -111,8 +111,8 @@ fn add_explanation(
     add_result(alloc, told, text)
 }
 
-/// The answer to a line as a text. That to a model's line names the model; that to a request which is explained has several lines;
-/// any other is its line of JSON.
+/// The answer to a line as a text. That to a model's line names the model; that to a request which is explained has several
+/// lines; any other is its line of JSON.
 pub(crate) fn text_of(
     alloc: Global,
     model: &Option<Model>,

@@ -51,7 +51,7 @@ pub(crate) fn add_blanks(count: usize, text: &mut String) -> Result<(), AllocErr
     Ok(())
 }
 
-/// Adds the cells of a row, each in its column, behind so many blanks; and gives how many blanks are left before a further column.
+/// Adds the cells of a row, each in its column, behind so many blanks; and gives how many blanks stand before a further column.
 pub(crate) fn add_row(
     row: &[String],
     widths: &[usize],
