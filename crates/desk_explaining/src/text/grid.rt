@@ -66,7 +66,9 @@ pub(crate) fn add_row(
             Some(full) => *full,
             None => 0,
         };
-        blanks = full.saturating_sub(width(cell.as_str())).saturating_add(GAP);
+        blanks = full
+            .saturating_sub(width(cell.as_str()))
+            .saturating_add(GAP);
     }
     Ok(blanks)
 }

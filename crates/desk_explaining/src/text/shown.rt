@@ -20,11 +20,7 @@ pub(crate) fn add_more(count: usize, most: usize, text: &mut String) -> Result<(
 
 /// Adds a value in JSON with names that have no quotes where they are words. Of one with over 200 parts the first 200 stand
 /// there, and of a text the first 200 letters, each with how many more there are.
-pub(crate) fn add_shown(
-    alloc: Global,
-    value: &Value,
-    text: &mut String,
-) -> Result<(), AllocError> {
+pub(crate) fn add_shown(alloc: Global, value: &Value, text: &mut String) -> Result<(), AllocError> {
     let mut left = MOST_PARTS;
     add_value(alloc, value, &mut left, text)
 }
