@@ -8,7 +8,7 @@
 //	{"client":"ID","inputs":{..},"service":"s"}
 //
 // The client of a request is the request's id. A close is a mark of time: what stands behind it was written then or up to
-// a second later. `desk explain` skips it.
+// a second later. `desk explain` takes it for the end of a client of that name.
 //
 // Lines are on the disk when Append returns: they are written and synced in groups. A file is never changed but at its
 // end; what a fault leaves there in part is cut off, at once or when the journal is opened again.

@@ -8,6 +8,7 @@ mod options;
 mod printing;
 mod run;
 mod state;
+mod text;
 
 pub use laws::reasons_are_added;
 pub use options::ExplainOptions;

@@ -7,49 +7,39 @@ ghost use Rattle.desk_explaining.specs.Printed.{AnyLines};
 use crate::options::ExplainOptions;
 use crate::run::first_state;
 use crate::state::State;
+use crate::text::{Model, text_of, visible};
 use desk_lines::{FrontFault, Sink, Source, answer_at_once};
-use desk_requests::{Line, line_heard};
 use desk_wire::{Heard, Listener, Session};
-use dmn_form::{WrittenModel, read_form};
-use explanation_text::text_of;
 use serde_json::Value;
 use std::alloc::{AllocError, Global};
 
-/// What prints the answers to the lines of `explain`: what stands between them, and the model in force as it is written.
+/// What prints the answers to the lines of `explain`: what stands between them, and the model of the last answer that has one.
 #[derive(Drop)]
 struct Printer {
     state: State,
-    model: Option<WrittenModel>,
+    model: Option<Model>,
 }
 
-/// The model in force as it is written.
-fn written_model(alloc: Global, state: &State) -> Result<Option<WrittenModel>, AllocError> {
-    let Some(plan) = state.register.model() else {
-        return Ok(None);
-    };
-    match Value::from_slice(alloc, plan.text()) {
-        Ok(json) => read_form(alloc, &json),
-        Err(error) if error.is_memory() => Err(AllocError),
-        Err(_) => Ok(None),
-    }
-}
-
-/// An answer as a text for people, without the end of its last line. Where nothing is explained it is the line of JSON.
+/// An answer as a text for people, without the end of its last line. It follows from the answers' lines of JSON alone. One that
+/// nests too deep to be read stays such a line.
 fn printed(
     alloc: Global,
-    model: &Option<WrittenModel>,
+    model: &mut Option<Model>,
     answer: Vec<u8>,
 ) -> Result<String, AllocError> {
-    if let Some(model) = model {
-        match Value::from_slice(alloc, &answer) {
-            Ok(json) => return text_of(alloc, model, &json),
-            Err(error) if error.is_memory() => return Err(AllocError),
-            Err(_) => {}
+    let Ok(answer) = String::from_utf8(answer) else {
+        return Ok(String::new(alloc));
+    };
+    let line = answer.as_str().trim_end();
+    match Value::from_str(alloc, line) {
+        Ok(told) => {
+            if let Some(read) = told.get("read") {
+                *model = Model::of(alloc, read)?;
+            }
+            text_of(alloc, model, &told, line)
         }
-    }
-    match String::from_utf8(answer) {
-        Ok(text) => Ok(String::from_str(alloc, text.trim_end())?),
-        Err(_) => Ok(String::new(alloc)),
+        Err(error) if error.is_memory() => Err(AllocError),
+        Err(_) => visible(alloc, line),
     }
 }
 
@@ -80,13 +70,10 @@ impl Listener for Printer {
     ) -> Result<(), AllocError> {
         let mut answer = Vec::new(alloc);
         self.state.answer_heard(alloc, number, heard, &mut answer)?;
-        if let Some(Line::Model(_)) = line_heard(heard) {
-            self.model = written_model(alloc, &self.state)?;
-        }
         if answer.is_empty() {
             return Ok(());
         }
-        let printed = printed(alloc, &self.model, answer)?;
+        let printed = printed(alloc, &mut self.model, answer)?;
         add_line(printed.as_str(), text)
     }
 

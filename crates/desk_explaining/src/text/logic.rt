@@ -1,40 +1,63 @@
 //! How a boxed expression came to its value.
-use crate::shown::shown;
-use crate::table::add_table;
+use super::grid::add_blanks;
+use super::rules::list_under;
+use super::shown::{add_expression, add_shown};
+use super::table::add_table;
 use dmn_form::WrittenLogic;
 use serde_json::Value;
 use std::alloc::{AllocError, Global};
 
 /// The blanks by which the parts of an expression stand further in.
-const STEP: usize = 2;
+const STEP: usize = 4;
 
-/// Adds a line: what it is of, and its value, or that a limit was broken.
+/// The most members of a list, or entries of a context, that are shown.
+const MOST_PARTS: usize = 200;
+
+/// Adds a line: of what it tells, behind so many blanks, and what that is or was given, or that a limit was broken. Behind it
+/// stands the expression, if it is the value of one.
 pub(crate) fn add_line(
     alloc: Global,
     label: &str,
+    logic: Option<&WrittenLogic>,
     told: &Value,
     indent: usize,
     text: &mut String,
 ) -> Result<(), AllocError> {
-    for _ in 0..indent {
-        text.push(' ')?;
-    }
+    add_blanks(indent, text)?;
     text.push_str(label)?;
     if let Some(value) = told.get("value") {
         text.push_str(" = ")?;
-        text.push_str(shown(alloc, value)?.as_str())?;
+        add_shown(alloc, value, text)?;
     } else if let Some(value) = told.get("given") {
         text.push_str(" is given: ")?;
-        text.push_str(shown(alloc, value)?.as_str())?;
+        add_shown(alloc, value, text)?;
     } else {
         text.push_str(" breaks a limit")?;
+    }
+    if let Some(WrittenLogic::Expression(source)) = logic {
+        text.push_str(", from ")?;
+        add_expression(source.as_str(), text)?;
     }
     text.push('\n')
 }
 
+/// Adds a decision or a part, with its own parts further in.
+#[cycle(logic)]
+pub(crate) fn add_part(
+    alloc: Global,
+    label: &str,
+    logic: &WrittenLogic,
+    told: &Value,
+    indent: usize,
+    text: &mut String,
+) -> Result<(), AllocError> {
+    add_line(alloc, label, Some(logic), told, indent, text)?;
+    add_parts(alloc, logic, told, indent.saturating_add(STEP), text)
+}
+
 /// Adds the parts of a boxed expression. It goes as deep as that is.
 #[cycle(logic)]
-pub(crate) fn add_parts(
+fn add_parts(
     alloc: Global,
     logic: &WrittenLogic,
     told: &Value,
@@ -59,18 +82,14 @@ pub(crate) fn add_parts(
     }
 }
 
-/// Adds a part, with its own parts further in.
-#[cycle(logic)]
-fn add_part(
-    alloc: Global,
-    label: &str,
-    logic: &WrittenLogic,
-    told: &Value,
-    indent: usize,
-    text: &mut String,
-) -> Result<(), AllocError> {
-    add_line(alloc, label, told, indent, text)?;
-    add_parts(alloc, logic, told, indent.saturating_add(STEP), text)
+/// Adds how many parts are left out of so many, where these are too many.
+fn add_left_out(count: usize, indent: usize, text: &mut String) -> Result<(), AllocError> {
+    if count <= MOST_PARTS {
+        return Ok(());
+    }
+    let left_out = count - MOST_PARTS;
+    add_blanks(indent, text)?;
+    write!(text, "parts that are left out: {left_out}\n")
 }
 
 /// Adds the members of a list that are told.
@@ -82,17 +101,23 @@ fn add_members(
     indent: usize,
     text: &mut String,
 ) -> Result<(), AllocError> {
-    let Some(Value::Array(parts)) = told.get("members") else {
-        return Ok(());
-    };
+    let parts = list_under(told, "members");
     for (place, member) in members.iter().enumerate() {
-        let Some(part) = parts.get(place) else {
+        let Some(part) = shown_part(parts, place) else {
             break;
         };
         let label = format!(in alloc; "member {}", place + 1)?;
         add_part(alloc, label.as_str(), member, part, indent, text)?;
     }
-    Ok(())
+    add_left_out(parts.len(), indent, text)
+}
+
+/// The part at a place, if it is shown.
+fn shown_part(parts: &[Value], place: usize) -> Option<&Value> {
+    if place >= MOST_PARTS {
+        return None;
+    }
+    parts.get(place)
 }
 
 /// Adds the entries of a context that are told.
@@ -104,14 +129,12 @@ fn add_entries(
     indent: usize,
     text: &mut String,
 ) -> Result<(), AllocError> {
-    let Some(Value::Array(parts)) = told.get("entries") else {
-        return Ok(());
-    };
+    let parts = list_under(told, "entries");
     for (place, (name, entry)) in entries.iter().enumerate() {
-        let Some(part) = parts.get(place) else {
+        let Some(part) = shown_part(parts, place) else {
             break;
         };
         add_part(alloc, name.as_str(), entry, part, indent, text)?;
     }
-    Ok(())
+    add_left_out(parts.len(), indent, text)
 }

@@ -1,0 +1,17 @@
+//! Answers as texts for people. What they say is no clause.
+//!
+//! A text has all that the JSON has: what is left out of a long value or table is counted. No name and no text from a line can
+//! end a line of it or turn its direction.
+mod explained;
+mod grid;
+mod letters;
+mod logic;
+mod model;
+mod policy;
+mod rules;
+mod shown;
+mod table;
+
+pub(crate) use explained::text_of;
+pub(crate) use letters::visible;
+pub(crate) use model::Model;
