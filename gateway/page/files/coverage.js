@@ -34,9 +34,10 @@ export class Coverage {
         this.stop();
         throw fault;
       }
+    } finally {
+      this.answers = this.pieces.flatMap((piece) => piece?.answers ?? []);
+      this.seconds = (performance.now() - start) / 1000;
     }
-    this.answers = this.pieces.flatMap((piece) => piece?.answers ?? []);
-    this.seconds = (performance.now() - start) / 1000;
   }
 
   stop() {
@@ -78,7 +79,9 @@ export class Coverage {
   add(pointer, counts) {
     const sum = this.tables.get(pointer) ?? { asked: 0, defaults: 0, none: 0, hits: [], decided: counts.decided && [] };
     for (const key of ["asked", "defaults", "none"]) sum[key] += counts[key];
-    for (const key of ["hits", "decided"]) counts[key]?.forEach((count, at) => { sum[key][at] = (sum[key][at] ?? 0) + count; });
+    for (const key of ["hits", "decided"]) {
+      counts[key]?.forEach((count, at) => { sum[key][at] = (sum[key][at] ?? 0) + count; });
+    }
     this.tables.set(pointer, sum);
   }
 
@@ -92,7 +95,8 @@ export class Coverage {
     for (const { pointer, table, decision } of tablesOf(this.model)) {
       const counts = this.of(pointer);
       for (let at = 0; at < listOf(table.rules).length; at += 1) {
-        yield { pointer, decision, rule: at + 1, hits: counts.hits[at] ?? 0, decided: counts.decided ? counts.decided[at] ?? 0 : null };
+        const decided = counts.decided ? counts.decided[at] ?? 0 : null;
+        yield { pointer, decision, rule: at + 1, hits: counts.hits[at] ?? 0, decided };
       }
     }
   }
@@ -106,7 +110,9 @@ export class Coverage {
 
   rulesCSV() {
     const rows = [["decision", "table", "rule", "hit", "decided"]];
-    for (const it of this.rules()) rows.push([this.model.name(it.decision), it.pointer, it.rule, it.hits, it.decided ?? ""]);
+    for (const { decision, pointer, rule, hits, decided } of this.rules()) {
+      rows.push([this.model.name(decision), pointer, rule, hits, decided ?? ""]);
+    }
     return rows.map(csvRow).join("");
   }
 

@@ -26,8 +26,8 @@ export const unseen = (text) => el("span", { class: "unseen" }, text);
 
 export const button = (text, onclick, attributes) => el("button", { type: "button", onclick, ...attributes }, text);
 
-// Numbers go to 2^63, beyond what JavaScript's keep. Where a text has such a long number, it is read into a BigInt by way of
-// a text that begins with MARK; texts that begin with it anyway get one more.
+// Numbers go to 2^63, beyond what JavaScript's keep. Where a text has such a long number, it is read into a BigInt by way
+// of a text that begins with MARK; texts that begin with it anyway get one more.
 const MARK = "\uE000";
 
 /** Reads a JSON text; whole numbers that would lose digits become BigInts. */
@@ -71,3 +71,13 @@ export const grouped = (number) => String(number).replace(/\B(?=(\d{3})+$)/g, ",
 
 /** "1 rule", "2 rules". */
 export const counted = (number, word) => `${grouped(number)} ${word}${number === 1 ? "" : "s"}`;
+
+/** The first of some numbers, on one line. */
+export const first = (numbers) => numbers.slice(0, 12).join(", ") + (numbers.length > 12 ? " .." : "");
+
+/** Something that may be larger than the page, in a frame in which it scrolls. */
+export const framed = (name, ...children) =>
+  el("div", { class: "scroll", role: "region", tabindex: 0, "aria-label": `${name}, which scrolls` }, ...children);
+
+/** The head of a table. */
+export const heads = (...texts) => el("thead", {}, el("tr", {}, texts.map((text) => el("th", { scope: "col" }, text))));

@@ -5,7 +5,9 @@ import { listOf, tablesOf } from "./model.js";
 let count = 0;
 
 /** Sets a member, whatever its name. */
-const put = (object, key, value) => Object.defineProperty(object, key, { value, enumerable: true, configurable: true, writable: true });
+const put = (object, key, value) =>
+  Object.defineProperty(object, key, { value, enumerable: true, configurable: true, writable: true });
+const member = (object, key) => (isObject(object) ? Object.getOwnPropertyDescriptor(object, key)?.value : undefined);
 const isObject = (value) => value !== null && typeof value === "object" && !Array.isArray(value);
 
 export class Form {
@@ -19,15 +21,17 @@ export class Form {
   part(shape, path) {
     const name = this.model.name(path.at(-1));
     if (shape.members) {
-      return el("fieldset", {}, el("legend", {}, name), shape.members.map(([word, inner]) => this.part(inner, [...path, word])));
+      const parts = shape.members.map(([word, inner]) => this.part(inner, [...path, word]));
+      return el("fieldset", {}, el("legend", {}, name), parts);
     }
     const id = `field-${count += 1}`;
     const error = el("span", { id: `${id}-error`, class: "error" });
+    const suggested = shape.suggested?.map((value) => el("option", { value }));
+    const list = suggested ? el("datalist", { id: `${id}-list` }, suggested) : null;
     const input = shape.choices ? choice(shape.choices, id) : el("input", { id, type: "text", autocomplete: "off",
-      inputmode: shape.kind === "number" ? "numeric" : null, spellcheck: "false", list: shape.suggested ? `${id}-list` : null });
+      inputmode: shape.kind === "number" ? "numeric" : null, spellcheck: "false", list: list?.id });
     input.setAttribute("aria-describedby", error.id);
     this.fields.push({ path, shape, input, error });
-    const list = shape.suggested ? el("datalist", { id: `${id}-list` }, shape.suggested.map((value) => el("option", { value }))) : null;
     return el("p", { class: "field" }, el("label", { for: id }, name), input, list, error);
   }
 
@@ -49,15 +53,14 @@ export class Form {
     this.base = structuredClone(inputs);
     for (const field of this.fields) {
       mark(field, "");
-      let value = inputs;
-      for (const key of field.path) value = isObject(value) ? Object.getOwnPropertyDescriptor(value, key)?.value : undefined;
-      writeField(field, value);
+      writeField(field, field.path.reduce(member, inputs));
     }
   }
 
   /** Marks the field of a value that is not taken, by its JSON Pointer. */
   refuse(pointer, text) {
-    const path = pointer.split("/").slice(1).map((token) => this.model.word(token.replaceAll("~1", "/").replaceAll("~0", "~")));
+    const tokens = pointer.split("/").slice(1).map((token) => token.replaceAll("~1", "/").replaceAll("~0", "~"));
+    const path = tokens.map((token) => this.model.word(token));
     const field = this.fields.find((it) => it.path.every((key, at) => path[at] === key));
     if (!field) return;
     mark(field, text);
@@ -68,12 +71,11 @@ export class Form {
 function set(inputs, path, value) {
   let at = inputs;
   for (const key of path.slice(0, -1)) {
-    const inner = Object.getOwnPropertyDescriptor(at, key)?.value;
-    if (!isObject(inner)) {
+    if (!isObject(member(at, key))) {
       if (value === undefined) return;
       put(at, key, {});
     }
-    at = Object.getOwnPropertyDescriptor(at, key).value;
+    at = member(at, key);
   }
   if (value === undefined) delete at[path.at(-1)];
   else put(at, path.at(-1), value);
@@ -86,9 +88,9 @@ function mark({ input, error }, text) {
 }
 
 function choice(values, id) {
-  const input = el("select", { id }, el("option", { value: "" }, "nothing"));
-  input.append(...values.map((value) => el("option", { value: writeJSON(value) }, typeof value === "string" ? value : writeJSON(value))));
-  return input;
+  const text = (value) => (typeof value === "string" ? value : writeJSON(value));
+  const options = values.map((value) => el("option", { value: writeJSON(value) }, text(value)));
+  return el("select", { id }, el("option", { value: "" }, "nothing"), options);
 }
 
 /** The value of a field: undefined where it is empty. */
@@ -109,7 +111,7 @@ function readField({ shape, input }) {
 }
 
 function writeField({ shape, input }, value) {
-  if (value === undefined) {
+  if (value === undefined || value === null) {
     input.value = "";
   } else if (shape.choices) {
     const text = writeJSON(value);
@@ -138,7 +140,7 @@ function shapeOf(model, word) {
 
 /** The shape of a JSON Schema: `members`, `choices`, or a `kind`: number, text or any. */
 function shapeOfType(type) {
-  const kinds = listOf(type.type ?? []).concat(typeof type.type === "string" ? type.type : []).filter((kind) => kind !== "null");
+  const kinds = [type.type ?? []].flat().filter((kind) => kind !== "null");
   if (Array.isArray(type.enum)) return { choices: type.enum.filter((value) => value !== null) };
   if (kinds.length === 1 && kinds[0] === "boolean") return { choices: [true, false] };
   if (kinds.length === 1 && kinds[0] === "object" && type.properties) {
@@ -148,22 +150,24 @@ function shapeOfType(type) {
   return { kind: kind ?? "any" };
 }
 
-/** The shape of an input without a type, from the paths that texts of the model have into it and the columns that test it. */
+/** The shape of an input without a type, from the paths that the model has into it and the columns that test it. */
 function shapeOfUse(model, word) {
   const texts = [];
   const walk = (part) => {
     if (typeof part === "string") texts.push(part);
     else if (part !== null && typeof part === "object") Object.values(part).forEach(walk);
   };
-  model.decisions.filter((decision) => listOf(decision.needs).includes(word)).forEach((decision) => walk(decision.expr));
+  for (const decision of model.decisions) {
+    if (listOf(decision.needs).includes(word)) walk(decision.expr);
+  }
   const all = texts.join("\n").replace(/"(?:[^"\\]|\\.)*"/g, '""');
   if (new RegExp(`\\b(sum|min|max|count)\\(\\s*${word}\\b`).test(all)) return { kind: "any" };
-  const paths = new Set([...all.matchAll(new RegExp(`(?<![\\w.])${word}((?:\\.\\w+)+)`, "g"))].map((match) => match[1].slice(1)));
-  const build = (path, inner) => {
-    const firsts = [...new Set([...inner].map((rest) => rest.split(".")[0]))];
+  const paths = [...all.matchAll(new RegExp(`(?<![\\w.])${word}((?:\\.\\w+)+)`, "g"))].map((match) => match[1].slice(1));
+  const build = (path, rests) => {
+    const firsts = [...new Set(rests.map((rest) => rest.split(".")[0]))];
     if (firsts.length === 0) return shapeOfColumns(model, path);
-    return { members: firsts.map((first) => [first, build(`${path}.${first}`,
-      new Set([...inner].filter((rest) => rest.startsWith(`${first}.`)).map((rest) => rest.slice(first.length + 1))))]) };
+    const below = (first) => rests.filter((rest) => rest.startsWith(`${first}.`)).map((rest) => rest.slice(first.length + 1));
+    return { members: firsts.map((first) => [first, build(`${path}.${first}`, below(first))]) };
   };
   return build(word, paths);
 }
@@ -177,7 +181,6 @@ function shapeOfColumns(model, path) {
   }
   const tests = [...new Set(cells)].filter((text) => typeof text === "string" && text !== "-");
   if (tests.length > 0 && tests.every((text) => text === "true" || text === "false")) return { choices: [true, false] };
-  const suggested = [...new Set(tests.slice(0, 2000).flatMap((text) => text.match(/"(?:[^"\\]|\\.)*"/g) ?? []))].slice(0, 100)
-    .map((text) => text.slice(1, -1)).filter((text) => !text.includes("\\"));
-  return { kind: "any", suggested: suggested.length > 0 ? suggested : undefined };
+  const texts = tests.slice(0, 2000).flatMap((text) => text.match(/"[^"\\]*"/g) ?? []).map((text) => text.slice(1, -1));
+  return { kind: "any", suggested: texts.length > 0 ? [...new Set(texts)].slice(0, 100) : undefined };
 }

@@ -34,15 +34,15 @@ export class GraphView {
     const pick = () => onpick(word);
     const needs = decision ? this.model.needs(decision).map((need) => this.model.name(need)).join(", ") : "";
     const said = decision ? `decision ${name}${needs ? `, needs ${needs}` : ""}` : `input ${name}`;
-    const group = svg("g", { class: decision ? "node decision" : "node input", role: "button", tabindex: 0, "aria-label": said,
-      onclick: pick, onkeydown: (event) => {
-        if (event.key !== "Enter" && event.key !== " ") return;
-        event.preventDefault();
-        pick();
-      } },
-    svg("title", {}, name),
-    svg("rect", { x: box.x, y: box.y, width: box.width, height: box.height, rx: decision ? 2 : Math.min(box.height / 2, 22) }),
-    ...rows.map((row, at) => svg("text", { x: box.x + box.width / 2, y: first + at * 15 }, row)), value);
+    const onkeydown = (event) => {
+      if (event.key !== "Enter" && event.key !== " ") return;
+      event.preventDefault();
+      pick();
+    };
+    const group = svg("g", { class: "node", role: "button", tabindex: 0, "aria-label": said, onclick: pick, onkeydown },
+      svg("title", {}, name),
+      svg("rect", { ...box, rx: decision ? 2 : Math.min(box.height / 2, 22) }),
+      ...rows.map((row, at) => svg("text", { x: box.x + box.width / 2, y: first + at * 15 }, row)), value);
     this.nodes.set(word, { group, value, letters, said });
     return group;
   }
@@ -92,7 +92,8 @@ function laidOut(model) {
   const sort = (layer, near) => {
     const middles = new Map(layer.map((word) => {
       const others = near(word).filter((other) => places.has(other));
-      return [word, others.length ? others.reduce((sum, other) => sum + places.get(other), 0) / others.length : places.get(word) ?? 0];
+      const sum = others.reduce((all, other) => all + places.get(other), 0);
+      return [word, others.length > 0 ? sum / others.length : places.get(word) ?? 0];
     }));
     layer.sort((one, other) => middles.get(one) - middles.get(other));
     put(layer);
@@ -150,6 +151,6 @@ const middle = (box) => ({ x: box.x + box.width / 2, y: box.y + box.height / 2 }
 
 function border(box, from, to) {
   const [across, down] = [to.x - from.x, to.y - from.y];
-  const part = Math.min(across ? box.width / 2 / Math.abs(across) : Infinity, down ? box.height / 2 / Math.abs(down) : Infinity, 1);
+  const part = Math.min(box.width / 2 / Math.abs(across), box.height / 2 / Math.abs(down), 1);
   return { x: from.x + across * part, y: from.y + down * part };
 }

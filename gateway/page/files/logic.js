@@ -20,9 +20,11 @@ export class LogicView {
       this.element = el("div", {}, found, this.table.element);
     } else if (Array.isArray(expr?.list)) {
       this.parts = expr.list.map((member, at) => part(member, `/list/${at}`, `member ${at + 1} of ${name}`));
-      this.element = el("div", {}, found, el("ol", { class: "list" }, this.parts.map((view) => el("li", {}, view.element))));
+      const members = this.parts.map((view) => el("li", {}, view.element));
+      this.element = el("div", {}, found, el("ol", { class: "list" }, members));
     } else if (Array.isArray(expr?.context)) {
-      this.parts = expr.context.map((entry, at) => part(entry?.expr, `/context/${at}/expr`, `${entry?.name} of ${name}`));
+      this.parts = expr.context.map((entry, at) =>
+        part(entry?.expr, `/context/${at}/expr`, `${model.name(entry?.name)} of ${name}`));
       const rows = this.parts.map((view, at) => el("div", { class: "entry" },
         el("dt", {}, model.name(listOf(expr.context)[at]?.name)), el("dd", {}, view.element)));
       if (expr.result !== undefined) {
@@ -36,10 +38,10 @@ export class LogicView {
   }
 
   /** Shows what an explanation tells of it; nothing where it tells none. */
-  tell(told) {
-    this.table?.tell(told?.table);
-    this.parts.forEach((view, at) => view.tell((told?.entries ?? told?.members)?.[at]));
-    this.result?.tell(told?.result);
+  tell(told, isMore) {
+    this.table?.tell(told?.table, isMore);
+    this.parts.forEach((view, at) => view.tell((told?.entries ?? told?.members)?.[at], isMore));
+    this.result?.tell(told?.result, isMore);
     this.value.replaceChildren(...outcome(told));
   }
 }

@@ -15,7 +15,8 @@ const POLICIES = {
 };
 
 /** What the hit policy of a table is called, and which rules decide under it. */
-export const policyOf = (table) => (Object.hasOwn(POLICIES, table.hit) ? POLICIES[table.hit] : ["Unknown", "it is no hit policy"]);
+export const policyOf = (table) =>
+  (Object.hasOwn(POLICIES, table.hit) ? POLICIES[table.hit] : ["Unknown", "it is no hit policy"]);
 
 export class Model {
   /** Of what `GET /v1/model?whole=true` and `POST /v1/check` give. */
@@ -109,9 +110,9 @@ export function tablesOf(model) {
 }
 
 /**
- * What differs from one model to another: of each decision that was added, removed or changed its name, how, and of those
- * changed the pointers of the rules that differ in the other model. Rules that stand the same before and behind a part that
- * differs are taken as the same.
+ * What differs from one model to another: of each decision that was added, removed or changed its name, how, and of
+ * those changed the pointers of the rules that differ in the other model. Rules that stand the same before and behind a
+ * part that differs are taken as the same.
  */
 export function differences(before, after) {
   const found = [];
@@ -134,7 +135,8 @@ function changedRules(before, after, pointer) {
   if (typeof after !== "object" || typeof before !== "object" || after === null || before === null) return [];
   const places = [];
   if (after.table && before.table) places.push(...differingRules(before.table, after.table, `${pointer}/table`));
-  listOf(after.list).forEach((member, at) => places.push(...changedRules(before.list?.[at], member, `${pointer}/list/${at}`)));
+  listOf(after.list).forEach((member, at) => places.push(
+    ...changedRules(before.list?.[at], member, `${pointer}/list/${at}`)));
   listOf(after.context).forEach((entry, at) => places.push(
     ...changedRules(before.context?.[at]?.expr, entry?.expr, `${pointer}/context/${at}/expr`)));
   if (after.result !== undefined) places.push(...changedRules(before.result, after.result, `${pointer}/result`));

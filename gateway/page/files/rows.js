@@ -7,7 +7,7 @@ export const ALL_AT_ONCE = 60;
 const AROUND = 12;
 
 export class Rows {
-  /** `make` makes the row with a number; a row has an element with its number under `data-at`, which may have the focus. */
+  /** `make` makes the row with a number, which has an element with its number under `data-at` that may have the focus. */
   constructor(scroller, body, make) {
     Object.assign(this, { scroller, body, make, count: 0, first: -1 });
     scroller.addEventListener("scroll", () => this.draw(), { passive: true });

@@ -20,10 +20,10 @@ export class TableView {
     this.head = el("thead", { role: "rowgroup" });
     this.foot = el("tfoot", { role: "rowgroup" });
     this.why = el("p", { class: "why", role: "status" });
-    this.grid = el("table", { role: "table", "aria-label": `Table of ${name}`, class: this.isVirtual ? "rules virtual" : "rules" },
-      this.columns(), this.head, this.body, this.foot);
-    this.scroller = el("div", { class: "scroll", role: "region", tabindex: 0, "aria-label": `Table of ${name}, which scrolls` },
-      this.grid);
+    this.grid = el("table", { role: "table", "aria-label": `Table of ${name}`,
+      class: this.isVirtual ? "rules virtual" : "rules" }, this.head, this.body, this.foot);
+    this.scroller = el("div", { class: "scroll", role: "region", tabindex: 0,
+      "aria-label": `Table of ${name}, which scrolls` }, this.grid);
     this.element = el("div", { class: "table" }, this.policy(), this.scroller, this.why);
     this.body.addEventListener("keydown", (event) => this.key(event));
     this.rows = new Rows(this.scroller, this.body, (at) => this.row(at));
@@ -38,15 +38,18 @@ export class TableView {
 
   /** Of a table whose rows come and go, columns have the width of their longest text, within reason. */
   columns() {
-    if (!this.isVirtual) return null;
-    const longest = (head, texts) => Math.min(36, texts.reduce((most, text) => Math.max(most, String(text).length), head.length)) + 4;
+    if (!this.isVirtual) return [];
+    const longest = (head, texts) =>
+      Math.min(36, texts.reduce((most, text) => Math.max(most, String(text).length), String(head).length)) + 4;
     const widths = [9, ...this.inputs.map((head, at) => longest(head, this.rules.map((rule) => rule.when?.[at]))),
-      ...this.outputs.map((output, at) => longest(String(output.name), this.rules.map((rule) => rule.then?.[at]))), 9, 11];
-    return el("colgroup", {}, ...widths.map((characters) => {
+      ...this.outputs.map((output, at) => longest(output.name, this.rules.map((rule) => rule.then?.[at]))),
+      ...(this.counts ? [9, 11] : [])];
+    this.grid.style.width = `${widths.reduce((sum, width) => sum + width)}ch`;
+    return [el("colgroup", {}, widths.map((characters) => {
       const column = el("col");
       column.style.width = `${characters}ch`;
       return column;
-    }));
+    }))];
   }
 
   findingsByRule() {
@@ -67,7 +70,8 @@ export class TableView {
     if (findings.length === 0) return null;
     const text = findings.map(sentence).join("; ");
     const word = findings.some((finding) => finding.fault) ? "fault" : "warning";
-    return button("!", () => this.say(`${word}: ${text}`), { class: `mark ${word}`, title: text, "aria-label": `${word}: ${text}` });
+    const said = `${word}: ${text}`;
+    return button("!", () => this.say(said), { class: `mark ${word}`, title: text, "aria-label": said });
   }
 
   say(...parts) {
@@ -75,6 +79,8 @@ export class TableView {
   }
 
   draw() {
+    this.grid.querySelector("colgroup")?.remove();
+    this.grid.prepend(...this.columns());
     this.head.replaceChildren(...this.headRows());
     this.foot.replaceChildren(...this.footRows());
     this.grid.setAttribute("aria-rowcount", this.rules.length + this.head.children.length + this.foot.children.length);
@@ -85,7 +91,8 @@ export class TableView {
     const values = this.values;
     const cell = (text, kind, at, more) => el("th", { role: "columnheader", scope: "col", class: kind },
       el("code", {}, text), more, this.marks(this.model.foundAt(`${this.pointer}/${kind}s/${at}`, true)));
-    const value = (at) => (values && at < values.length ? el("span", { class: "value" }, unseen("is "), show(values[at])) : null);
+    const value = (at) =>
+      (values && at < values.length ? el("span", { class: "value" }, unseen("is "), show(values[at])) : null);
     const label = (at) => {
       const name = this.model.places[`${this.pointer}/inputs/${at}`]?.name;
       return name && name !== this.model.text(this.inputs[at]) ? el("span", { class: "label" }, name) : null;
@@ -101,35 +108,39 @@ export class TableView {
 
   footRows() {
     if (!this.outputs.some((output) => output.default !== undefined)) return [];
+    const cell = (text, kind) => el("td", { role: "cell", class: kind }, text);
     return [el("tr", { role: "row", class: this.defaults ? "decided" : "" },
       el("th", { role: "rowheader", scope: "row", colspan: this.inputs.length + 1 },
         this.defaults ? "▶ no rule hit: " : "", "otherwise"),
-      this.outputs.map((output) => el("td", { role: "cell" }, el("code", {}, this.model.text(output.default ?? "null")))),
-      this.counts ? [el("td", { role: "cell" }), el("td", { role: "cell", class: "count" }, String(this.counts.defaults))] : null)];
+      this.outputs.map((output) => cell(el("code", {}, this.model.text(output.default ?? "null")))),
+      this.counts ? [cell(""), cell(String(this.counts.defaults), "count")] : null)];
   }
 
   row(at) {
     const rule = this.rules[at];
     const found = this.found.get(at) ?? [];
-    const marks = (kind, column) => this.marks(found.filter((it) => it.kind === kind && (column === undefined || it.column === column))
-      .map((it) => it.finding));
+    const isAt = (it, kind, column) => it.kind === kind && (column === undefined || it.column === column);
+    const marks = (kind, column) => this.marks(found.filter((it) => isAt(it, kind, column)).map((it) => it.finding));
     const miss = this.misses?.get(at + 1);
     const cells = (texts, kind) => listOf(texts).map((text, column) => {
       const missed = kind === "when" && miss === column + 1;
-      return el("td", { role: "cell", class: missed ? `${kind} missed` : kind, title: this.isVirtual ? this.model.text(text) : null },
+      const title = this.isVirtual ? this.model.text(text) : null;
+      return el("td", { role: "cell", class: missed ? `${kind} missed` : kind, title },
         el("code", {}, this.model.text(text)), missed ? unseen(" is not met") : null, marks(kind, column));
     });
     const [state, sign, said] = this.stateOf(at + 1);
     const hits = this.counts?.hits[at] ?? 0;
     const decided = this.counts?.decided ? this.counts.decided[at] ?? 0 : null;
-    return el("tr", { role: "row", "aria-rowindex": at + 2, class: [state, this.differing?.has(`${this.pointer}/rules/${at}`) ?
-      "differs" : "", this.counts && (decided ?? hits) === 0 ? "never" : ""].filter(Boolean).join(" ") },
-    el("th", { role: "rowheader", scope: "row" },
-      button(`${sign}${at + 1}`, () => this.select(at), { class: "rule", "data-at": at, tabindex: at === this.current ? 0 : -1,
-        "aria-label": `Rule ${at + 1}${said}` }), marks(undefined)),
-    cells(rule.when, "when"), cells(rule.then, "then"),
-    this.counts ? [el("td", { role: "cell", class: "count" }, String(hits)),
-      el("td", { role: "cell", class: "count" }, decided === null ? "" : decided || "never")] : null);
+    const differs = this.differing?.has(`${this.pointer}/rules/${at}`) ? "differs" : "";
+    const never = this.counts && (decided ?? hits) === 0 ? "never" : "";
+    const tabindex = at === this.current ? 0 : -1;
+    const number = button(`${sign}${at + 1}`, () => this.select(at),
+      { class: "rule", "data-at": at, tabindex, "aria-label": `Rule ${at + 1}${said}` });
+    const count = (text) => el("td", { role: "cell", class: "count" }, String(text));
+    return el("tr", { role: "row", "aria-rowindex": at + 2, class: [state, differs, never].filter(Boolean).join(" ") },
+      el("th", { role: "rowheader", scope: "row" }, number, marks(undefined)),
+      cells(rule.when, "when"), cells(rule.then, "then"),
+      this.counts ? [count(hits), count(decided === null ? "" : decided || "never")] : null);
   }
 
   stateOf(number) {
@@ -173,8 +184,9 @@ export class TableView {
     if (!column) return this.say(`Rule ${number} missed. Which of its tests was not met is not told.`);
     const test = this.model.text(this.rules[at].when?.[column - 1]);
     this.rows.at(at)?.focus();
-    return this.say(`Rule ${number} missed: its test `, el("code", {}, test), ` on `, el("code", {}, this.model.text(this.inputs[column - 1])),
-      ` (column ${column}) is not met by `, el("code", {}, show(this.values[column - 1])), ".");
+    const code = (text) => el("code", {}, text);
+    return this.say(`Rule ${number} missed: its test `, code(test), " on ", code(this.model.text(this.inputs[column - 1])),
+      ` (column ${column}) is not met by `, code(show(this.values[column - 1])), ".");
   }
 
   hitSaid(number) {
@@ -186,16 +198,17 @@ export class TableView {
     return parts;
   }
 
-  /** Shows what an explanation tells of the table; nothing where it tells none. */
-  tell(told) {
+  /** Shows what is told of the table, nothing where that is none. `isMore` says that it is of the same case. */
+  tell(told, isMore) {
     this.values = told?.inputs ?? null;
     this.hits = new Map(listOf(told?.hits).map((hit) => [hit.rule, hit.value]));
     this.decided = told?.decided ? new Set(told.decided) : null;
     this.misses = told?.misses ? new Map(told.misses.map((miss) => [miss.rule, miss.column])) : null;
     this.defaults = told?.defaults === true;
-    this.say();
+    if (!isMore) this.say();
     this.draw();
-    if (this.hits.size > 0) this.comeTo(Math.min(...(this.decided?.size ? this.decided : this.hits.keys())) - 1);
+    const [rule] = this.decided?.size ? this.decided : this.hits.keys();
+    if (!isMore && rule) this.comeTo(rule - 1);
   }
 
   /** Shows how often each rule hit and decided; nothing where that was not counted. */
