@@ -106,7 +106,10 @@ func (m *served) namePart(part any) {
 		}
 		return
 	}
-	members, _ := part.(map[string]any)
+	members, is := part.(map[string]any)
+	if !is {
+		return
+	}
 	if name, is := members["name"].(string); is {
 		members["name"] = m.nameOf(name)
 	}

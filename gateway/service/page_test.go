@@ -92,10 +92,25 @@ func TestCheckedModels(t *testing.T) {
 		if err != nil {
 			t.Fatal(err)
 		}
-		lines += strings.Count(string(text), `"service"`) - strings.Count(string(text), `"services"`)
+		lines += strings.Count(string(text), `"service":`)
 	}
 	if lines != 1 {
 		t.Errorf("%d requests stand in the journal, and 1 is due", lines)
+	}
+}
+
+// The parts of an explanation have the names of the file.
+func TestNamedExplanations(t *testing.T) {
+	model := `{"model":{"inputs":["a_b"],"decisions":[{"name":"d_e","needs":["a_b"],"expr":{"context":[{"name":"f_g","expr":"a_b"}]}}],` +
+		`"services":[{"name":"s_t","outputs":["d_e"],"encapsulated":[],"inputDecisions":[],"inputData":["a_b"]}]},` +
+		`"names":{"a_b":"a b","d_e":"d e","f_g":"f g","s_t":"s t"}}`
+	r := serve(t, model, Options{})
+	defer r.stop(t)
+	due := `{"result":{"f g":4},"decisions":[{"entries":[{"name":"f g","value":4}],"name":"d e","value":{"f g":4}}]}`
+	for _, path := range []string{"/v1/services/s%20t?explain=true", "/v1/explain/s%20t"} {
+		if status, text, _ := send(t, "POST", r.url+path, `{"a b":4}`); status != 200 || text != due {
+			t.Errorf("%s: %d %s", path, status, text)
+		}
 	}
 }
 
