@@ -243,9 +243,7 @@ class Rows:
         self.browser.wait(lambda: self.browser.js("return document.getElementById('progress').value") > 0, "progress")
         self.browser.js("document.getElementById('stop').click()")
         self.browser.wait(lambda: "Stopped before the end" in self.browser.text("counted"), "that it was stopped")
-        # On a machine that is busy with other things it may take longer.
-        bound = 3 if os.getloadavg()[0] < (os.cpu_count() or 1) else 20
-        assert min(seconds) < bound, f"it takes {min(seconds)} s"
+        assert min(seconds) < (20 if busy() else 3), f"it takes {seconds} s"
         return f"100,000 in {min(seconds)} s"
 
     def markup(self) -> str:
@@ -338,10 +336,11 @@ class Rows:
         assert inside, "the rule is not in view"
         self.browser.js("document.querySelector('.table .scroll').scrollTop = 1e9")
         self.browser.wait(lambda: self.browser.js("return !!document.querySelector('[data-at=\"1999\"]')"), "the last rule")
-        frames = self.browser.driver.execute_async_script(SCROLL)
-        assert max(frames) < 200, f"a frame takes {max(frames)} ms"
-        assert min(seconds) < 1000, f"it is shown after {min(seconds)} ms"
-        return f"{min(seconds):.0f} ms, a frame of scrolling at most {max(frames):.0f} ms"
+        steps = sorted(self.browser.js(SCROLL))
+        middle = steps[len(steps) // 2]
+        assert middle < (1000 if busy() else 50), f"a step of scrolling takes {steps} ms"
+        assert min(seconds) < (10_000 if busy() else 1000), f"it is shown after {seconds} ms"
+        return f"{min(seconds):.0f} ms, a step of scrolling {middle:.1f} ms"
 
     def contrast(self) -> str:
         """Each text stands out by 4.5 or more, in the light and in the dark."""
@@ -511,6 +510,11 @@ class Rows:
         return ", ".join(f"{name} {size // 1000} kB" for name, size in sizes.items())
 
 
+def busy() -> bool:
+    """Whether the machine has more to do than it has processors, so that times say little."""
+    return os.getloadavg()[0] > (os.cpu_count() or 1)
+
+
 def worded(value: object) -> object:
     if isinstance(value, dict):
         return {key.replace(" ", "_"): worded(part) for key, part in value.items()}
@@ -551,19 +555,15 @@ MARKUP = """<definitions xmlns="https://www.omg.org/spec/DMN/20191111/MODEL/" na
 <rule><inputEntry><text>-</text></inputEntry><outputEntry><text>a</text></outputEntry></rule></decisionTable></decision>
 </definitions>"""
 
-# How many milliseconds each of forty frames takes, in which the table is scrolled.
-SCROLL = """const done = arguments[0];
-const frame = document.querySelector(".table .scroll");
-const times = [];
-let last = 0;
-const step = (now) => {
-  if (last) times.push(now - last);
-  last = now;
-  if (times.length === 40) return done(times);
-  frame.scrollTop = frame.scrollHeight * times.length / 40;
-  requestAnimationFrame(step);
-};
-requestAnimationFrame(step);"""
+# How many milliseconds each of forty steps takes in which the table is scrolled and laid out.
+SCROLL = """const frame = document.querySelector(".table .scroll");
+return Array.from({length: 40}, (_, at) => {
+  const start = performance.now();
+  frame.scrollTop = frame.scrollHeight * at / 40;
+  frame.dispatchEvent(new Event("scroll"));
+  frame.querySelector("tbody").offsetHeight;
+  return performance.now() - start;
+});"""
 
 # The contrast of each text that is seen with what stands behind it, as WCAG 2 has it.
 CONTRAST = """

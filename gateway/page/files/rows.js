@@ -9,7 +9,7 @@ const AROUND = 12;
 export class Rows {
   /** `make` makes the row with a number, which has an element with its number under `data-at` that may have the focus. */
   constructor(scroller, body, make) {
-    Object.assign(this, { scroller, body, make, count: 0, first: -1 });
+    Object.assign(this, { scroller, body, make, count: 0, first: -1, last: -1 });
     scroller.addEventListener("scroll", () => this.draw(), { passive: true });
   }
 
@@ -31,9 +31,11 @@ export class Rows {
       return;
     }
     const height = this.height;
-    const first = Math.max(0, Math.min(Math.floor(this.scroller.scrollTop / height), this.count - 1) - AROUND);
-    if (first === this.first) return;
-    const last = Math.min(this.count, first + Math.ceil((this.scroller.clientHeight || 640) / height) + 2 * AROUND);
+    const top = Math.max(0, Math.min(Math.floor(this.scroller.scrollTop / height), this.count - 1));
+    const bottom = Math.min(this.count, top + Math.ceil((this.scroller.clientHeight || 640) / height) + 1);
+    if (this.first >= 0 && top >= this.first && bottom <= this.last) return;
+    const first = Math.max(0, top - AROUND);
+    const last = Math.min(this.count, bottom + AROUND);
     this.put(first, last, [first * height, (this.count - last) * height]);
   }
 
@@ -41,6 +43,7 @@ export class Rows {
   put(first, last, spaces) {
     const focused = this.body.contains(document.activeElement) ? document.activeElement.dataset.at : undefined;
     this.first = first;
+    this.last = last;
     const rows = Array.from({ length: last - first }, (_, at) => this.make(first + at));
     const [above, below] = spaces.map((height) => {
       const cell = el("td", { class: "space" });
