@@ -152,6 +152,8 @@ func wholeImport(result *profile.Result) ([]byte, error) {
 		Names  map[string]string          `json:"names"`
 		Types  map[string]json.RawMessage `json:"types"`
 		Places map[string]profile.Place   `json:"places"`
-	}{&result.Model, result.Names, result.Types, result.Places})
+		// Diagram stands where the file draws each input and decision.
+		Diagram map[string]dmn.Box `json:"diagram,omitempty"`
+	}{&result.Model, result.Names, result.Types, result.Places, result.Diagram})
 	return bytes.TrimRight(text.Bytes(), "\n"), err
 }

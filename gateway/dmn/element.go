@@ -196,9 +196,8 @@ func (r *treeReader) characters(data xml.CharData) *Fault {
 	return nil
 }
 
-// isOfTools tells whether an element is for other tools, so that what stands in it is not kept: the diagram, and
-// extensions.
-func isOfTools(e *Element) bool { return e.Tag == "extensionElements" || e.Tag == "DMNDI" }
+// isOfTools tells whether an element is for other tools, so that what stands in it is not kept.
+func isOfTools(e *Element) bool { return e.Tag == "extensionElements" }
 
 func (r *treeReader) word(text string) string {
 	if kept, found := r.words[text]; found {

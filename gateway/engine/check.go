@@ -99,6 +99,7 @@ func ask(ctx context.Context, path string, memory uint64, input []byte, take fun
 	if err != nil {
 		return err
 	}
+	p.widen()
 	go func() {
 		_, _ = p.in.Write(input)
 		_ = p.in.Close()

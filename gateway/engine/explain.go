@@ -13,54 +13,91 @@ type Explanation struct {
 	Decisions json.RawMessage
 	// IsLong says that the decisions take more bytes than `desk explain` tells, or than are kept.
 	IsLong bool
+	// Outcome is what became of the request.
+	Outcome Outcome
 }
 
 // errShort says that `desk explain` told of fewer requests than it was asked.
 var errShort = errors.New("the engine did not tell of each request")
 
-// Explain asks `desk explain`, in a process of its own, how the answers of requests under one model come about, and gives
-// what it tells of each. Room is asked whether so many bytes of decisions may be kept; those of a line over MaxAnswer bytes
-// never are. When the context ends, so does the process.
-func Explain(ctx context.Context, path string, memory uint64, model *Model, jobs []*Job, room func(size int) bool) ([]Explanation, error) {
-	text := model.AppendLine(nil)
+// An Explainer asks `desk explain`, each time in a process of its own.
+type Explainer struct {
+	// Path is the file of the engine, and Memory the limit of its address space in bytes; 0 is none.
+	Path   string
+	Memory uint64
+	// Misses says that each rule that missed is to be told too.
+	Misses bool
+}
+
+// Explain asks how the answers of requests under one model come about, and gives what is told of each. Room is asked whether
+// so many bytes of decisions may be kept; those of a line over MaxAnswer bytes never are. When the context ends, so does the
+// process.
+func (e *Explainer) Explain(ctx context.Context, model *Model, jobs []*Job, room func(size int) bool) ([]Explanation, error) {
+	told := make([]Explanation, 0, len(jobs))
+	err := e.Each(ctx, model, jobs, func(line []byte, cut bool) error {
+		it, err := readExplanation(line, cut, room)
+		told = append(told, it)
+		return err
+	})
+	return told, err
+}
+
+// Each asks the same, and hands the line of each request to take, in their order: of one over MaxAnswer bytes the first, and
+// that it was cut. The bytes are good until take returns.
+func (e *Explainer) Each(ctx context.Context, model *Model, jobs []*Job, take func(line []byte, cut bool) error) error {
+	size := len(model.Text) + len(`{"model":}`) + 1
+	for _, job := range jobs {
+		size += len(job.Rest) + len(`{"client":"x",`) + 1
+	}
+	text := model.AppendLine(make([]byte, 0, size))
 	for _, job := range jobs {
 		text = append(text, `{"client":"x",`...)
 		text = append(text, job.Rest...)
 		text = append(text, '\n')
 	}
-	var told []Explanation
-	isModel := true
-	err := ask(ctx, path, memory, text, func(line []byte, cut bool) error {
-		if isModel {
-			isModel = false
+	words := []string{"explain"}
+	if e.Misses {
+		words = append(words, "--misses")
+	}
+	// The first line is that of the model.
+	count := -1
+	err := ask(ctx, e.Path, e.Memory, text, func(line []byte, cut bool) error {
+		count++
+		if count == 0 {
 			return nil
 		}
-		it, err := readExplanation(line, cut, room)
-		told = append(told, it)
-		return err
-	}, "explain")
-	if err == nil && len(told) != len(jobs) {
+		return take(line, cut)
+	}, words...)
+	if err == nil && count != len(jobs) {
 		err = errShort
 	}
 	if err != nil {
-		return nil, fmt.Errorf("explaining: %w", err)
+		return fmt.Errorf("explaining: %w", err)
 	}
-	return told, nil
+	return nil
 }
 
 func readExplanation(text []byte, cut bool, room func(size int) bool) (Explanation, error) {
 	if cut {
-		return Explanation{IsLong: true}, nil
+		return Explanation{IsLong: true, Outcome: Outcome{Kind: Huge}}, nil
 	}
 	var line struct {
-		Decisions json.RawMessage
-		Explained string
+		Decisions                 json.RawMessage
+		Result                    json.RawMessage
+		Explained, Fault, Refused string
 	}
 	if err := json.Unmarshal(text, &line); err != nil {
 		return Explanation{}, fmt.Errorf("reading an explanation: %w", err)
 	}
-	if line.Explained != "" || !room(len(line.Decisions)) {
-		return Explanation{IsLong: true}, nil
+	it := Explanation{Decisions: line.Decisions, Outcome: Outcome{Value: line.Result}}
+	switch {
+	case line.Refused != "":
+		it.Outcome.Kind, it.Outcome.Word = Refused, line.Refused
+	case line.Fault != "":
+		it.Outcome.Kind = Limit
 	}
-	return Explanation{Decisions: line.Decisions}, nil
+	if line.Explained != "" || !room(len(line.Decisions)) {
+		it.Decisions, it.IsLong = nil, true
+	}
+	return it, nil
 }

@@ -63,6 +63,24 @@ func Bound(pid int, memory uint64) error {
 	return nil
 }
 
+// pipeSize is how many bytes may wait between an engine and this program where much is said at once.
+const pipeSize = 1 << 20
+
+// widen lets more bytes wait, so that the two wake each other less often. Where the kernel allows it not, less is as good.
+func (p *process) widen() {
+	for _, end := range []any{p.in, p.out} {
+		file, is := end.(syscall.Conn)
+		if !is {
+			continue
+		}
+		if raw, err := file.SyscallConn(); err == nil {
+			_ = raw.Control(func(descriptor uintptr) {
+				_, _ = unix.FcntlInt(descriptor, unix.F_SETPIPE_SZ, pipeSize)
+			})
+		}
+	}
+}
+
 func (p *process) kill() {
 	_ = p.command.Process.Kill()
 }

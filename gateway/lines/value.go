@@ -91,14 +91,20 @@ func Keys(object map[string]any) []string {
 	return keys
 }
 
+// What turns keys into parts of a JSON Pointer, and back.
+var (
+	toToken   = strings.NewReplacer("~", "~0", "/", "~1")
+	fromToken = strings.NewReplacer("~1", "/", "~0", "~")
+)
+
 // Token is a key as a part of a JSON Pointer.
 func Token(key string) string {
-	return strings.NewReplacer("~", "~0", "/", "~1").Replace(key)
+	return toToken.Replace(key)
 }
 
 // Untoken is the key that a part of a JSON Pointer stands for.
 func Untoken(token string) string {
-	return strings.NewReplacer("~1", "/", "~0", "~").Replace(token)
+	return fromToken.Replace(token)
 }
 
 func measure(value any) (nodes, depth int) {

@@ -21,7 +21,7 @@ type assembler struct {
 // assembled is the result of a graph that was translated without a refusal.
 func assembled(g *graph, services []service) *Result {
 	a := &assembler{places: map[string]Place{}}
-	result := &Result{Names: g.words.names, Types: map[string]json.RawMessage{}, Places: a.places}
+	result := &Result{Names: g.words.names, Types: map[string]json.RawMessage{}, Places: a.places, Diagram: drawn(g)}
 	result.Model = model.Model{Inputs: []string{}, Decisions: []model.Decision{}, Services: []model.Service{}}
 	for i, n := range g.inputs {
 		result.Model.Inputs = append(result.Model.Inputs, n.word)
@@ -45,6 +45,22 @@ func assembled(g *graph, services []service) *Result {
 		a.place(fmt.Sprintf("/services/%d", i), s.origin)
 	}
 	return result
+}
+
+// drawn has where the diagram of a single file draws each input and decision; nil where it draws not all of them.
+func drawn(g *graph) map[string]dmn.Box {
+	if len(g.sources) != 1 {
+		return nil
+	}
+	boxes, found := g.sources[0].file.Boxes(), map[string]dmn.Box{}
+	for _, n := range append(append([]*node(nil), g.inputs...), g.decisions...) {
+		box, is := boxes[n.element().ID()]
+		if !is {
+			return nil
+		}
+		found[n.word] = box
+	}
+	return found
 }
 
 // place notes the element of a part, where it has an id or a name.

@@ -27,6 +27,9 @@ type Result struct {
 	Types map[string]json.RawMessage
 	// Places has the element that a part of the model came from, by the part's JSON Pointer (RFC 6901).
 	Places map[string]Place
+	// Diagram has the box of each input and decision in the diagram of the file, by its word: its corner, width and height.
+	// It is nil where there are several files, or one draws not all of them.
+	Diagram map[string]dmn.Box
 	// LeftOut are the names of the decisions that got no service, for the model would be too long with them.
 	LeftOut []string
 	// Notes are places that are taken, where tools differ: what the model does there.

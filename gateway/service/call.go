@@ -20,6 +20,8 @@ type call struct {
 	model   *served
 	client  *client
 	isList  bool
+	// isUnasked says that no engine of the pool is asked: the answers come with their explanations.
+	isUnasked bool
 	// problems has those of the requests that no engine is asked, outcomes what became of the others.
 	problems []*problem
 	outcomes []engine.Outcome

@@ -51,7 +51,7 @@ func (s *Service) servicesPath(w http.ResponseWriter, r *http.Request, id string
 	}
 	p = c.keep(id)
 	if p == nil && asked.explain {
-		p = c.explain(r.Context())
+		p = c.explain(r.Context(), false)
 	}
 	s.metrics.asked(c)
 	w.Header()["Desk-Model"] = c.model.sum
@@ -82,7 +82,7 @@ func (s *Service) readAsking(w http.ResponseWriter, r *http.Request) (it asking,
 	if it.who, p = s.caller(r); p != nil {
 		return it, p
 	}
-	if it.name, p = serviceName(r.URL); p != nil {
+	if it.name, p = nameBelow(r.URL, servicesPath); p != nil {
 		return it, p
 	}
 	if it.explain, p = wantsExplanation(r.URL.RawQuery); p != nil {
@@ -98,13 +98,13 @@ func (s *Service) readAsking(w http.ResponseWriter, r *http.Request) (it asking,
 	return it, nil
 }
 
-// serviceName is the service that a path names.
-func serviceName(path *url.URL) (string, *problem) {
+// nameBelow is the service that a path names below its start.
+func nameBelow(path *url.URL, start string) (string, *problem) {
 	if path.RawPath == "" {
 		// The path was written as it is written by default, so nothing is lost in the text that stands for it.
-		return strings.TrimPrefix(path.Path, servicesPath), nil
+		return strings.TrimPrefix(path.Path, start), nil
 	}
-	name, err := url.PathUnescape(strings.TrimPrefix(path.EscapedPath(), servicesPath))
+	name, err := url.PathUnescape(strings.TrimPrefix(path.EscapedPath(), start))
 	if err != nil {
 		return "", problemPath.with(path.Path)
 	}

@@ -20,7 +20,7 @@ func TestServiceName(t *testing.T) {
 		if err != nil {
 			t.Fatal(err)
 		}
-		if name, p := serviceName(path); p != nil || name != it.due {
+		if name, p := nameBelow(path, servicesPath); p != nil || name != it.due {
 			t.Errorf("%s names %q, and %q is due (%v)", it.path, name, it.due, p)
 		}
 	}

@@ -17,8 +17,9 @@ const (
 	explainPatience = 20 * time.Second
 )
 
-// explain asks how the answers of a call came about: its results, and those that broke a limit.
-func (c *call) explain(ctx context.Context) *problem {
+// explain asks how the answers of a call came about: its results, and those that broke a limit. Where no engine was asked
+// before, the answers are those that are told with it.
+func (c *call) explain(ctx context.Context, misses bool) *problem {
 	var asked []*engine.Job
 	for _, job := range c.jobs {
 		if kind := c.outcomes[job.Place].Kind; kind == engine.Result || kind == engine.Limit {
@@ -28,7 +29,33 @@ func (c *call) explain(ctx context.Context) *problem {
 	if len(asked) == 0 {
 		return nil
 	}
-	s := c.service
+	explainer := c.service.explainer(misses)
+	room := func(size int) bool { return c.hold(size) == nil }
+	var told []engine.Explanation
+	p := c.service.explained(ctx, func(ctx context.Context) (err error) {
+		told, err = explainer.Explain(ctx, c.model.engine, asked, room)
+		return err
+	})
+	if p != nil {
+		return p
+	}
+	c.explained = make([]engine.Explanation, len(c.outcomes))
+	for at, job := range asked {
+		told[at].Decisions = c.model.named(told[at].Decisions)
+		c.explained[job.Place] = told[at]
+		if c.isUnasked {
+			c.outcomes[job.Place] = told[at].Outcome
+		}
+	}
+	return nil
+}
+
+func (s *Service) explainer(misses bool) *engine.Explainer {
+	return &engine.Explainer{Path: s.options.Engine, Memory: s.options.Memory, Misses: misses}
+}
+
+// explained has a place in which explanations are made, and bounds how long they take.
+func (s *Service) explained(ctx context.Context, explain func(ctx context.Context) error) *problem {
 	select {
 	case s.explaining <- struct{}{}:
 		defer func() { <-s.explaining }()
@@ -37,23 +64,17 @@ func (c *call) explain(ctx context.Context) *problem {
 	}
 	ctx, stop := context.WithTimeout(ctx, s.options.Deadline+explainPatience)
 	defer stop()
-	room := func(size int) bool { return c.hold(size) == nil }
-	told, err := engine.Explain(ctx, s.options.Engine, s.options.Memory, c.model.engine, asked, room)
+	err := explain(ctx)
 	switch {
+	case err == nil:
+		return nil
 	case errors.Is(err, context.DeadlineExceeded):
 		return problemLate.with("the explanation takes longer than it may")
 	case errors.Is(err, context.Canceled):
 		return problemLeft.with("")
-	case err != nil:
-		s.options.Log("%v", err)
-		return problemDied.with("the explanation failed")
 	}
-	c.explained = make([]engine.Explanation, len(c.outcomes))
-	for at, job := range asked {
-		told[at].Decisions = c.model.named(told[at].Decisions)
-		c.explained[job.Place] = told[at]
-	}
-	return nil
+	s.options.Log("%v", err)
+	return problemDied.with("the explanation failed")
 }
 
 // explanation is what is told of a request: nothing where that was not asked for.
@@ -85,7 +106,10 @@ func (m *served) namePart(part any) {
 		}
 		return
 	}
-	members, _ := part.(map[string]any)
+	members, is := part.(map[string]any)
+	if !is {
+		return
+	}
 	if name, is := members["name"].(string); is {
 		members["name"] = m.nameOf(name)
 	}

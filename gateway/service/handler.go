@@ -17,6 +17,7 @@ import (
 	"time"
 
 	"gateway/openapi"
+	"gateway/page"
 )
 
 const servicesPath = "/v1/services/"
@@ -34,7 +35,11 @@ func (s *Service) handler() http.Handler {
 		"/readyz":       s.readyPath,
 		"/metrics":      s.metrics.handler().ServeHTTP,
 		"/problems/":    s.problemsPath,
+		"/v1/check":     s.checkPath,
+		"/v1/coverage":  s.coveragePath,
+		"/":             page.Handle,
 	}
+	below := map[string]http.HandlerFunc{"/problems/": s.problemsPath, explainStart: s.explainPath, page.Files: page.Handle}
 	return http.HandlerFunc(func(w http.ResponseWriter, r *http.Request) {
 		start := time.Now()
 		header := w.Header()
@@ -48,19 +53,21 @@ func (s *Service) handler() http.Handler {
 			s.metrics.called(s.servicesPath(w, r, id), time.Since(start))
 			return
 		}
-		page := pages[r.URL.Path]
-		if page == nil && strings.HasPrefix(r.URL.Path, "/problems/") {
-			page = s.problemsPath
+		path := pages[r.URL.Path]
+		for start, of := range below {
+			if path == nil && strings.HasPrefix(r.URL.Path, start) {
+				path = of
+			}
 		}
-		if page == nil {
+		if path == nil {
 			problemPath.with(r.URL.Path).write(w, id)
 			return
 		}
-		// A model that is put may take long; all else is at hand.
-		if r.Method != http.MethodPut {
+		// A model that is put or checked may take long, and so may explanations; all else is at hand.
+		if r.Method != http.MethodPut && r.Method != http.MethodPost {
 			limitWrite(r, longAnswer+1)
 		}
-		page(w, r)
+		path(w, r)
 	})
 }
 

@@ -27,9 +27,11 @@ var (
 		"A model is put with a token that has the right put. Without tokens it is put from the machine itself alone, " +
 			"and not through a proxy."}
 	problemPath = &problemKind{"path", http.StatusNotFound, "There is nothing here",
-		"The paths are /v1/services/SERVICE, /v1/model, /openapi.json, /healthz, /readyz and /metrics."}
+		"The paths are /v1/services/SERVICE, /v1/model, /openapi.json, /healthz, /readyz and /metrics; / is a page for people."}
 	problemService = &problemKind{"service", http.StatusNotFound, "The model has no such service",
 		"services lists those that there are."}
+	problemUnkept = &problemKind{"unkept", http.StatusNotFound, "The model is not kept",
+		"Of the models that were checked and not put, the last eight are kept. Have it checked again."}
 	problemLeft = &problemKind{"left", http.StatusBadRequest, "The caller closed its side of the connection",
 		"An answer is given on a connection that the caller keeps open in both directions."}
 	problemMethod = &problemKind{"method", http.StatusMethodNotAllowed, "The path does not take this method",
@@ -76,7 +78,7 @@ var (
 var problemKinds = func() map[string]*problemKind {
 	kinds := map[string]*problemKind{}
 	for _, kind := range []*problemKind{
-		problemSyntax, problemHeader, problemLeft, problemToken, problemRight, problemPath, problemService, problemMethod,
+		problemSyntax, problemHeader, problemLeft, problemToken, problemRight, problemPath, problemService, problemUnkept, problemMethod,
 		problemLong, problemShape, problemValue, problemLimit, problemModel, problemMatch, problemBusy, problemFull,
 		problemStopping, problemJournal, problemState, problemWaited, problemLate, problemDied, problemHuge, problemInside,
 	} {

@@ -36,6 +36,10 @@ func (s *Service) modelPath(w http.ResponseWriter, r *http.Request) {
 		writeJSON(w, http.StatusOK, model.engine.Text)
 		return
 	}
+	if r.URL.Query().Get("whole") == "true" {
+		writePage(w, http.StatusOK, model.whole())
+		return
+	}
 	writePage(w, http.StatusOK, model.page(s.version))
 }
 

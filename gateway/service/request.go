@@ -1,6 +1,7 @@
 package service
 
 import (
+	"bytes"
 	"fmt"
 	"strings"
 
@@ -24,7 +25,7 @@ func (m *served) request(service *decisionService, text []byte, job *engine.Job,
 	if fault != nil {
 		return room, syntaxProblem(fault)
 	}
-	if len(m.words) > 0 {
+	if m.hasName(text) {
 		renamed, err := lines.Rename(text, m.words)
 		if err != nil {
 			return room, problemInside.with(err.Error())
@@ -49,6 +50,19 @@ func (m *served) request(service *decisionService, text []byte, job *engine.Job,
 	room = append(room, service.tail...)
 	job.Model, job.Rest = m.engine, room[start:len(room):len(room)]
 	return room, nil
+}
+
+// hasName says whether a text may have a name of the file that is another word in the model.
+func (m *served) hasName(text []byte) bool {
+	if len(m.quoted) > 0 && bytes.IndexByte(text, '\\') >= 0 {
+		return true
+	}
+	for _, name := range m.quoted {
+		if bytes.Contains(text, name) {
+			return true
+		}
+	}
+	return false
 }
 
 func (m *served) noObject(text []byte) *problem {

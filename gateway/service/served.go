@@ -21,6 +21,8 @@ type served struct {
 	services map[string]*decisionService
 	// words has the model's word for each name in the file that is another.
 	words map[string]string
+	// quoted has these names as they are written in JSON.
+	quoted [][]byte
 	// types has the type of each input of which the file says one, by its word.
 	types map[string]*types.Type
 	// origin says where the model came from, and since when it is in force.
@@ -70,6 +72,7 @@ func (m *served) index() (err error) {
 	for word, name := range m.source.Names {
 		if word != name {
 			m.words[name] = word
+			m.quoted = append(m.quoted, lines.AppendQuoted(nil, name))
 		}
 	}
 	for word, text := range m.source.Types {

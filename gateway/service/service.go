@@ -36,6 +36,7 @@ type Service struct {
 	metrics      *metrics
 	model        atomic.Pointer[served]
 	tokens       atomic.Pointer[tokens]
+	shelf        shelf
 	// explaining bounds how many explanations are made at once.
 	explaining chan struct{}
 	// putting lets one model be put at a time.

@@ -20,6 +20,8 @@ type Source struct {
 	Types map[string]json.RawMessage
 	// Places has what stands in the file at each JSON Pointer into the model.
 	Places json.RawMessage
+	// Diagram has where the diagram of the file draws each input and decision, by its word; nil where it draws not all.
+	Diagram json.RawMessage
 }
 
 // ErrNoModel says that a text is no model in JSON. What is wrong inside of a model is not found here.
@@ -27,10 +29,11 @@ var ErrNoModel = errors.New("it is no model: neither a model in JSON, nor {\"mod
 
 // imported is what desk import writes; with the model alone it is a line of the engine.
 type imported struct {
-	Model  json.RawMessage            `json:"model"`
-	Names  map[string]string          `json:"names,omitempty"`
-	Types  map[string]json.RawMessage `json:"types,omitempty"`
-	Places json.RawMessage            `json:"places,omitempty"`
+	Model   json.RawMessage            `json:"model"`
+	Names   map[string]string          `json:"names,omitempty"`
+	Types   map[string]json.RawMessage `json:"types,omitempty"`
+	Places  json.RawMessage            `json:"places,omitempty"`
+	Diagram json.RawMessage            `json:"diagram,omitempty"`
 }
 
 // ReadSource reads a model in JSON: the model itself, {"model":M}, or what desk import writes.
@@ -42,7 +45,7 @@ func ReadSource(text []byte) (*Source, error) {
 	if err := json.Unmarshal(text, &it); err != nil {
 		return nil, fmt.Errorf("%w: %v", ErrNoModel, err)
 	}
-	source := &Source{Names: it.Names, Types: it.Types, Places: it.Places}
+	source := &Source{Names: it.Names, Types: it.Types, Places: it.Places, Diagram: it.Diagram}
 	model := []byte(it.Model)
 	if model == nil {
 		model = text
@@ -59,9 +62,13 @@ func ReadSource(text []byte) (*Source, error) {
 	return source, nil
 }
 
+func (s *Source) imported() imported {
+	return imported{Model: s.Text, Names: s.Names, Types: s.Types, Places: s.Places, Diagram: s.Diagram}
+}
+
 // text is the source as desk import writes it.
 func (s *Source) text() ([]byte, error) {
-	text, err := plainJSON(imported{Model: s.Text, Names: s.Names, Types: s.Types, Places: s.Places})
+	text, err := plainJSON(s.imported())
 	if err != nil {
 		return nil, fmt.Errorf("writing the model: %w", err)
 	}

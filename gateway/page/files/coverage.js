@@ -1,0 +1,133 @@
+// Counts over a file of requests: it is read in pieces of whole lines, a few of which are asked at once.
+import { cover, Problem } from "./api.js";
+import { writeJSON } from "./dom.js";
+import { listOf, tablesOf } from "./model.js";
+
+const PIECE = 512 * 1024;
+const LONGEST = 16 * 1024 * 1024;
+const AT_ONCE = 4;
+const NEWLINE = 10;
+
+export class Coverage {
+  /** `onprogress` is called with how much of the file was counted, from 0 to 1. */
+  constructor(file, model, service, onprogress) {
+    Object.assign(this, { file, model, service, onprogress });
+    this.tables = new Map();
+    this.pieces = [];
+    this.done = 0;
+    this.isWhole = false;
+    this.abort = new AbortController();
+  }
+
+  /** Counts to the end of the file, or until it is stopped: then over what was counted by then. */
+  async run() {
+    const start = performance.now();
+    const pieces = this.parts();
+    const worker = async () => {
+      for (let next = await pieces.next(); !next.done; next = await pieces.next()) await this.ask(next.value);
+    };
+    try {
+      await Promise.all(Array.from({ length: AT_ONCE }, worker));
+      this.isWhole = true;
+    } catch (fault) {
+      if (fault.name !== "AbortError") {
+        this.stop();
+        throw fault;
+      }
+    } finally {
+      this.answers = this.pieces.flatMap((piece) => piece?.answers ?? []);
+      this.seconds = (performance.now() - start) / 1000;
+    }
+  }
+
+  stop() {
+    this.abort.abort();
+  }
+
+  /** The file in pieces of whole lines. */
+  async* parts() {
+    let line = 1;
+    for (let start = 0, number = 0; start < this.file.size; number += 1) {
+      const bytes = await this.wholeLines(start);
+      const lines = bytes.reduce((sum, byte) => sum + (byte === NEWLINE ? 1 : 0), 0);
+      const hasMark = start === 0 && bytes[0] === 0xef && bytes[1] === 0xbb && bytes[2] === 0xbf;
+      yield { number, start, line, size: bytes.length, body: hasMark ? bytes.subarray(3) : bytes };
+      start += bytes.length;
+      line += lines;
+    }
+  }
+
+  async wholeLines(start) {
+    for (let size = PIECE; size <= LONGEST; size *= 2) {
+      this.abort.signal.throwIfAborted();
+      const bytes = new Uint8Array(await this.file.slice(start, start + size).arrayBuffer());
+      const end = start + size >= this.file.size ? bytes.length : bytes.lastIndexOf(NEWLINE) + 1;
+      if (end > 0) return bytes.subarray(0, end);
+    }
+    throw new Problem({ title: "A line of the file is too long" });
+  }
+
+  async ask({ number, start, line, size, body }) {
+    const told = await cover(this.model, this.service, body, this.abort.signal);
+    for (const answer of told.answers) answer.line += line - 1;
+    this.pieces[number] = { start, line, size, answers: told.answers };
+    for (const [pointer, counts] of Object.entries(told.tables)) this.add(pointer, counts);
+    this.done += size;
+    this.onprogress(this.done / this.file.size);
+  }
+
+  add(pointer, counts) {
+    const sum = this.tables.get(pointer) ?? { asked: 0, defaults: 0, none: 0, hits: [], decided: counts.decided && [] };
+    for (const key of ["asked", "defaults", "none"]) sum[key] += counts[key];
+    for (const key of ["hits", "decided"]) {
+      counts[key]?.forEach((count, at) => { sum[key][at] = (sum[key][at] ?? 0) + count; });
+    }
+    this.tables.set(pointer, sum);
+  }
+
+  /** The counts of a table, also of one that was never asked. */
+  of(pointer) {
+    return this.tables.get(pointer) ?? { asked: 0, defaults: 0, none: 0, hits: [], decided: [] };
+  }
+
+  /** Each rule with its counts. Whether a rule decided is null where that was not told. */
+  * rules() {
+    for (const { pointer, table, decision } of tablesOf(this.model)) {
+      const counts = this.of(pointer);
+      for (let at = 0; at < listOf(table.rules).length; at += 1) {
+        const decided = counts.decided ? counts.decided[at] ?? 0 : null;
+        yield { pointer, decision, rule: at + 1, hits: counts.hits[at] ?? 0, decided };
+      }
+    }
+  }
+
+  /** The service and the inputs of a line. */
+  async request(line) {
+    const piece = this.pieces.findLast((it) => it && it.line <= line);
+    const text = await this.file.slice(piece.start, piece.start + piece.size).text();
+    return text.replace(/^\uFEFF/, "").split("\n")[line - piece.line];
+  }
+
+  rulesCSV() {
+    const rows = [["decision", "table", "rule", "hit", "decided"]];
+    for (const { decision, pointer, rule, hits, decided } of this.rules()) {
+      rows.push([this.model.name(decision), pointer, rule, hits, decided ?? ""]);
+    }
+    return rows.map(csvRow).join("");
+  }
+
+  answersCSV() {
+    const rows = this.answers.map((it) => csvRow([it.line, it.client ?? "", it.service ?? this.model.name(this.service),
+      it.problem === undefined ? writeJSON(it.result) : "", it.problem ?? "", it.detail ?? ""]));
+    return csvRow(["line", "client", "service", "result", "problem", "detail"]) + rows.join("");
+  }
+}
+
+/** A row of CSV (RFC 4180). A text that a spreadsheet would take for a formula begins with a quote. */
+function csvRow(cells) {
+  return cells.map((cell) => {
+    let text = typeof cell === "string" ? cell : writeJSON(cell);
+    if (typeof cell === "string" && /^[=+@\t\r]|^-(?!\d+$)/.test(text)) text = `'${text}`;
+    return /[",\r\n]/.test(text) ? `"${text.replaceAll('"', '""')}"` : text;
+  }).join(",") + "\r\n";
+}

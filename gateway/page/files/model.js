@@ -1,0 +1,154 @@
+// A model as the page knows it: its parts under the names of the file, and what was found at each place.
+
+const POLICIES = {
+  U: ["Unique", "one rule alone may hit; where several do, the result is null"],
+  A: ["Any", "all rules that hit have to give the same; where they do not, the result is null"],
+  P: ["Priority", "of the rules that hit, one decides whose output stands first in the list of output values"],
+  F: ["First", "the first rule that hits decides"],
+  R: ["Rule order", "the result is the list of all that hit, in the order of the rules"],
+  O: ["Output order", "the result is the list of all that hit, in the order of the output values"],
+  C: ["Collect", "the result is the list of all that hit"],
+  "C+": ["Collect, sum", "the result is the sum of all that hit"],
+  "C<": ["Collect, least", "the result is the least of all that hit"],
+  "C>": ["Collect, greatest", "the result is the greatest of all that hit"],
+  "C#": ["Collect, count", "the result is how many hit"],
+};
+
+/** What the hit policy of a table is called, and which rules decide under it. */
+export const policyOf = (table) =>
+  (Object.hasOwn(POLICIES, table.hit) ? POLICIES[table.hit] : ["Unknown", "it is no hit policy"]);
+
+export class Model {
+  /** Of what `GET /v1/model?whole=true` and `POST /v1/check` give. */
+  constructor(whole) {
+    this.sha256 = whole.sha256;
+    this.isLawful = whole.lawful;
+    this.fault = whole.fault;
+    const written = whole.model ?? {};
+    this.names = new Map(Object.entries(whole.names ?? {}));
+    this.words = new Map([...this.names].map(([word, name]) => [name, word]));
+    this.types = whole.types ?? {};
+    this.places = whole.places ?? {};
+    this.diagram = whole.diagram;
+    this.findings = whole.findings;
+    // A model with a fault may have any form.
+    this.inputs = listOf(written.inputs).filter((name) => typeof name === "string");
+    this.decisions = listOf(written.decisions).filter((part) => typeof part?.name === "string");
+    this.services = listOf(written.services).filter((part) => typeof part?.name === "string");
+  }
+
+  /** The name in the file of a word. */
+  name(word) {
+    return this.names.get(word) ?? word;
+  }
+
+  /** The word of a name; of a word the word itself. */
+  word(name) {
+    return this.words.get(name) ?? name;
+  }
+
+  /** A text of the model with the names of the file. */
+  text(text) {
+    if (typeof text !== "string") return JSON.stringify(text) ?? "";
+    if (this.names.size === 0) return text;
+    return text.replace(/"(?:[^"\\]|\\.)*"|[A-Za-z_][A-Za-z0-9_]*/g,
+      (token) => (token.startsWith('"') ? token : this.name(token)));
+  }
+
+  service(word) {
+    return this.services.find((service) => service.name === word);
+  }
+
+  /** The words of a service's parameters, in its order. */
+  parameters(word) {
+    const service = this.service(word);
+    return service ? [...listOf(service.inputDecisions), ...listOf(service.inputData)] : [];
+  }
+
+  /** The needs of a decision that are inputs or decisions of the model. */
+  needs(decision) {
+    const known = new Set([...this.inputs, ...this.decisions.map((other) => other.name)]);
+    return listOf(decision.needs).filter((name) => known.has(name));
+  }
+
+  /** What was found just at a place, or in parts of it too. */
+  foundAt(pointer, inside) {
+    return this.findings.filter(({ pointer: at }) => at !== undefined &&
+      (at === pointer || (inside && at.startsWith(pointer + "/"))));
+  }
+
+  /** Values with the words of the model as their keys. */
+  worded(value) {
+    if (Array.isArray(value)) return value.map((part) => this.worded(part));
+    if (value === null || typeof value !== "object") return value;
+    return Object.fromEntries(Object.entries(value).map(([name, part]) => [this.word(name), this.worded(part)]));
+  }
+}
+
+export const listOf = (value) => (Array.isArray(value) ? value : []);
+
+/** What a finding says, on one line. */
+export function sentence(finding) {
+  if (finding.more) return `and ${finding.more} more`;
+  const place = finding.place ?? (finding.line ? `line ${finding.line}, column ${finding.column}` : "");
+  const text = finding.text === undefined || String(place).includes(finding.text) ? "" : ` (${finding.text})`;
+  const hint = finding.hint ? `: ${finding.hint}` : "";
+  return `${place ? place + ": " : ""}${finding.said ?? finding.fault ?? ""}${text}${hint}`;
+}
+
+/** Each table of a model with its JSON Pointer and the decision that it stands in. */
+export function tablesOf(model) {
+  const found = [];
+  const walk = (expr, pointer, decision) => {
+    if (expr?.table) found.push({ pointer: `${pointer}/table`, table: expr.table, decision });
+    listOf(expr?.list).forEach((member, at) => walk(member, `${pointer}/list/${at}`, decision));
+    listOf(expr?.context).forEach((entry, at) => walk(entry?.expr, `${pointer}/context/${at}/expr`, decision));
+    if (expr?.result !== undefined) walk(expr.result, `${pointer}/result`, decision);
+  };
+  model.decisions.forEach((decision, at) => walk(decision.expr, `/decisions/${at}/expr`, decision.name));
+  return found;
+}
+
+/**
+ * What differs from one model to another: of each decision that was added, removed or changed its name, how, and of
+ * those changed the pointers of the rules that differ in the other model. Rules that stand the same before and behind a
+ * part that differs are taken as the same.
+ */
+export function differences(before, after) {
+  const found = [];
+  const olds = new Map(before.decisions.map((decision) => [before.name(decision.name), decision]));
+  after.decisions.forEach((decision, at) => {
+    const name = after.name(decision.name);
+    const old = olds.get(name);
+    olds.delete(name);
+    if (!old) found.push({ name, how: "added", places: [] });
+    else if (JSON.stringify(old.expr) !== JSON.stringify(decision.expr) ||
+        JSON.stringify(old.needs) !== JSON.stringify(decision.needs)) {
+      found.push({ name, how: "changed", places: changedRules(old.expr, decision.expr, `/decisions/${at}/expr`) });
+    }
+  });
+  for (const name of olds.keys()) found.push({ name, how: "removed", places: [] });
+  return found;
+}
+
+function changedRules(before, after, pointer) {
+  if (typeof after !== "object" || typeof before !== "object" || after === null || before === null) return [];
+  const places = [];
+  if (after.table && before.table) places.push(...differingRules(before.table, after.table, `${pointer}/table`));
+  listOf(after.list).forEach((member, at) => places.push(
+    ...changedRules(before.list?.[at], member, `${pointer}/list/${at}`)));
+  listOf(after.context).forEach((entry, at) => places.push(
+    ...changedRules(before.context?.[at]?.expr, entry?.expr, `${pointer}/context/${at}/expr`)));
+  if (after.result !== undefined) places.push(...changedRules(before.result, after.result, `${pointer}/result`));
+  return places;
+}
+
+function differingRules(before, after, pointer) {
+  const olds = listOf(before.rules).map((rule) => JSON.stringify(rule));
+  const news = listOf(after.rules).map((rule) => JSON.stringify(rule));
+  let start = 0;
+  while (start < news.length && start < olds.length && news[start] === olds[start]) start += 1;
+  let end = 0;
+  while (end < news.length - start && end < olds.length - start && news.at(-1 - end) === olds.at(-1 - end)) end += 1;
+  return news.slice(start, news.length - end).map((_, at) => `${pointer}/rules/${start + at}`);
+}

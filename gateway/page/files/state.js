@@ -1,0 +1,33 @@
+// What the page knows at the moment, and how it says that something went wrong.
+import { Problem } from "./api.js";
+import { byID } from "./dom.js";
+
+/** The models, what was told of the inputs under each, and what is drawn. */
+export const state = {
+  models: {},
+  told: {},
+  shown: "inForce",
+  service: "",
+  inputs: {},
+  asked: 0,
+  form: null,
+  graph: null,
+  views: new Map(),
+  coverage: null,
+};
+
+export const model = () => state.models[state.shown];
+export const alarm = (text) => { byID("alert").textContent = text; };
+
+/** Runs something that may be refused, and says where it is. */
+export async function tried(work) {
+  try {
+    alarm("");
+    return await work();
+  } catch (fault) {
+    if (fault.status === 401) byID("guard").hidden = false;
+    alarm(fault.message);
+    if (!(fault instanceof Problem) && !(fault instanceof SyntaxError)) console.error(fault);
+    return undefined;
+  }
+}

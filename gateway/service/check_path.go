@@ -1,0 +1,184 @@
+package service
+
+import (
+	"context"
+	"encoding/json"
+	"errors"
+	"net/http"
+	"sync"
+
+	"gateway/engine"
+)
+
+// A wholePage is a model with all that is known of it, for who draws it.
+type wholePage struct {
+	Sum      string `json:"sha256"`
+	IsLawful bool   `json:"lawful"`
+	Fault    string `json:"fault,omitempty"`
+	// Findings are lines of `desk check --json` behind the first: faults or warnings, each at its place.
+	Findings []json.RawMessage `json:"findings"`
+	imported
+}
+
+func newWhole(source *Source, sum string, findings []json.RawMessage) *wholePage {
+	if findings == nil {
+		findings = []json.RawMessage{}
+	}
+	return &wholePage{Sum: sum, IsLawful: true, Findings: findings, imported: source.imported()}
+}
+
+func (m *served) whole() *wholePage {
+	return newWhole(m.source, m.engine.Sum, m.warnings)
+}
+
+// mostKept is how many models are kept that were checked and not put.
+const mostKept = 8
+
+// A shelf keeps models that were checked and not put, so that they can be tried: the last ones.
+type shelf struct {
+	mu     sync.Mutex
+	models []*served
+}
+
+func (s *shelf) add(model *served) {
+	s.mu.Lock()
+	defer s.mu.Unlock()
+	for _, other := range s.models {
+		if other.engine.Sum == model.engine.Sum && string(other.source.Places) == string(model.source.Places) {
+			return
+		}
+	}
+	if s.models = append(s.models, model); len(s.models) > mostKept {
+		s.models = append([]*served(nil), s.models[1:]...)
+	}
+}
+
+// find gives the model with a SHA-256 that was checked last, or nil.
+func (s *shelf) find(sum string) *served {
+	s.mu.Lock()
+	defer s.mu.Unlock()
+	for at := len(s.models) - 1; at >= 0; at-- {
+		if s.models[at].engine.Sum == sum {
+			return s.models[at]
+		}
+	}
+	return nil
+}
+
+// asked is the model that a request names by its SHA-256: the one in force, also where it names none, or one that is kept.
+func (s *Service) asked(r *http.Request) (*served, *problem) {
+	inForce := s.model.Load()
+	sum := r.URL.Query().Get("model")
+	if sum == "" || sum == inForce.engine.Sum {
+		return inForce, nil
+	}
+	if model := s.shelf.find(sum); model != nil {
+		return model, nil
+	}
+	return nil, problemUnkept.with("no model with the SHA-256 " + sum + " is kept")
+}
+
+// checkPath answers POST /v1/check: a model is checked, and kept so that it can be tried. It is not put in force.
+func (s *Service) checkPath(w http.ResponseWriter, r *http.Request) {
+	page, p := s.checked(w, r)
+	limitWrite(r, longAnswer+1)
+	if p != nil {
+		p.write(w, w.Header().Get("X-Request-Id"))
+		return
+	}
+	writePage(w, http.StatusOK, page)
+}
+
+func (s *Service) checked(w http.ResponseWriter, r *http.Request) (*wholePage, *problem) {
+	body, p := s.askedBody(w, r)
+	if p != nil {
+		return nil, p
+	}
+	defer s.bodies.give(int64(len(body)))
+	source, p := s.source(body)
+	if p != nil {
+		return nil, p
+	}
+	select {
+	case s.explaining <- struct{}{}:
+		defer func() { <-s.explaining }()
+	case <-r.Context().Done():
+		return nil, problemLeft.with("")
+	}
+	ctx, stop := context.WithTimeout(r.Context(), putPatience)
+	defer stop()
+	model, err := s.read(ctx, source, "checked")
+	var faulty *engine.FaultyModel
+	switch {
+	case errors.As(err, &faulty):
+		page := newWhole(source, engine.NewModel(source.Text).Sum, faulty.Places)
+		page.IsLawful, page.Fault = false, faulty.Fault
+		return page, nil
+	case err != nil:
+		return nil, faultProblem(err)
+	}
+	s.shelf.add(model)
+	return model.whole(), nil
+}
+
+// askedBody reads the body of a POST of someone who may call.
+func (s *Service) askedBody(w http.ResponseWriter, r *http.Request) ([]byte, *problem) {
+	if r.Method != http.MethodPost {
+		p := problemMethod.with("it takes POST")
+		p.allow = http.MethodPost
+		return nil, p
+	}
+	if _, p := s.caller(r); p != nil {
+		return nil, p
+	}
+	return s.readBody(w, r)
+}
+
+// explainStart is where POST asks how answers come about. What is asked there stands in no journal.
+const explainStart = "/v1/explain/"
+
+// explainPath answers POST /v1/explain/SERVICE.
+func (s *Service) explainPath(w http.ResponseWriter, r *http.Request) {
+	id := w.Header().Get("X-Request-Id")
+	body, p := s.askedBody(w, r)
+	if p != nil {
+		p.write(w, id)
+		return
+	}
+	c, p := s.askedCall(r, body)
+	if p != nil {
+		s.bodies.give(int64(len(body)))
+		p.write(w, id)
+		return
+	}
+	defer c.release()
+	if p = c.explain(r.Context(), r.URL.Query().Get("misses") == "true"); p != nil {
+		p.write(w, id)
+		return
+	}
+	w.Header()["Desk-Model"] = c.model.sum
+	c.write(w, r, id)
+}
+
+// askedCall makes the call of an explanation, of which no engine is asked before.
+func (s *Service) askedCall(r *http.Request, body []byte) (*call, *problem) {
+	model, p := s.asked(r)
+	if p != nil {
+		return nil, p
+	}
+	name, p := nameBelow(r.URL, explainStart)
+	if p != nil {
+		return nil, p
+	}
+	c, p := s.newCall(model, name, body)
+	if p != nil {
+		return nil, p
+	}
+	if len(c.jobs) > maxExplained {
+		return nil, problemLong.with("at most 100 requests of a list are explained")
+	}
+	c.isUnasked = true
+	c.users.Store(1)
+	c.bytes.Store(int64(len(body)))
+	return c, nil
+}

@@ -1,0 +1,184 @@
+package service
+
+import (
+	"encoding/json"
+	"fmt"
+	"os"
+	"path/filepath"
+	"strings"
+	"testing"
+
+	"gateway/engine"
+)
+
+// The page is given with a policy that lets nothing else be loaded or run.
+func TestPage(t *testing.T) {
+	r := serve(t, adding(1), Options{})
+	defer r.stop(t)
+	for _, it := range []struct {
+		method, path, kind string
+		status             int
+	}{
+		{"GET", "/", "text/html; charset=utf-8", 200},
+		{"HEAD", "/", "text/html; charset=utf-8", 200},
+		{"GET", "/page/app.js", "text/javascript; charset=utf-8", 200},
+		{"GET", "/page/style.css", "text/css; charset=utf-8", 200},
+		{"POST", "/", "text/plain; charset=utf-8", 405},
+		{"GET", "/page/", "text/plain; charset=utf-8", 404},
+		{"GET", "/page/other.js", "text/plain; charset=utf-8", 404},
+		{"GET", "/page/files/app.js", "text/plain; charset=utf-8", 404},
+		{"GET", "/other", "application/problem+json", 404},
+	} {
+		status, _, header := send(t, it.method, r.url+it.path, "")
+		if status != it.status || header.Get("Content-Type") != it.kind {
+			t.Errorf("%s %s: %d %s", it.method, it.path, status, header.Get("Content-Type"))
+		}
+		policy := header.Get("Content-Security-Policy")
+		if it.status == 200 && (!strings.HasPrefix(policy, "default-src 'none'; ") || strings.Contains(policy, "unsafe")) {
+			t.Errorf("%s: the policy is %q", it.path, policy)
+		}
+	}
+}
+
+// A model that is checked can be tried, and is not put in force; what is asked of it stands in no journal.
+func TestCheckedModels(t *testing.T) {
+	folder := t.TempDir()
+	r := serve(t, adding(1), Options{Journal: folder})
+	status, text, _ := send(t, "POST", r.url+"/v1/check", adding(2))
+	var whole struct {
+		SHA256   string
+		Lawful   bool
+		Findings []json.RawMessage
+		Model    struct{ Inputs []string }
+	}
+	if err := json.Unmarshal([]byte(text), &whole); err != nil || status != 200 || !whole.Lawful || len(whole.Model.Inputs) != 2 {
+		t.Fatalf("%d %s", status, text)
+	}
+	// The input b is needed nowhere.
+	if len(whole.Findings) != 1 || !strings.Contains(string(whole.Findings[0]), `"unneeded"`) {
+		t.Errorf("the findings are %s", whole.Findings)
+	}
+	for _, it := range []struct {
+		query, body, due string
+		status           int
+	}{
+		{"s?model=" + whole.SHA256, `{"a":1}`, `{"result":3,"decisions":[{"name":"d","value":3}]}`, 200},
+		{"s", `{"a":1}`, `{"result":2,"decisions":[{"name":"d","value":2}]}`, 200},
+		{"s", `[{"a":1},{"a":2.5}]`, `[{"result":2,"decisions":[{"name":"d","value":2}]},{"type":"/problems/value"`, 200},
+		{"s", `{"a":9223372036854775807}`, `{"type":"/problems/limit"`, 422},
+		{"s", `{"a":1.5}`, `{"type":"/problems/value"`, 422},
+		{"other", `{}`, `{"type":"/problems/service"`, 404},
+		{"s?model=abc", `{}`, `{"type":"/problems/unkept"`, 404},
+	} {
+		if status, text, _ := send(t, "POST", r.url+"/v1/explain/"+it.query, it.body); status != it.status || !strings.HasPrefix(text, it.due) {
+			t.Errorf("%s %s: %d %s", it.query, it.body, status, text)
+		}
+	}
+	if _, text, _ := send(t, "POST", r.url+"/v1/services/s", `{"a":1}`, "X-Request-Id", "asked"); text != `{"result":2}` {
+		t.Errorf("in force is another model: %s", text)
+	}
+	status, text, _ = send(t, "POST", r.url+"/v1/check", strings.Replace(adding(2), "a + 2", "a +", 1))
+	if status != 200 || !strings.Contains(text, `"lawful":false,"fault":"expression","findings":[{"fault":"expression","pointer":"/decisions/0/expr"`) {
+		t.Errorf("a model with a fault: %d %s", status, text)
+	}
+	if status, text, _ = send(t, "POST", r.url+"/v1/check", `{`); status != 400 {
+		t.Errorf("half a model: %d %s", status, text)
+	}
+	r.stop(t)
+	names, _ := filepath.Glob(filepath.Join(folder, "*.jsonl"))
+	lines := 0
+	for _, name := range names {
+		text, err := os.ReadFile(name)
+		if err != nil {
+			t.Fatal(err)
+		}
+		lines += strings.Count(string(text), `"service":`)
+	}
+	if lines != 1 {
+		t.Errorf("%d requests stand in the journal, and 1 is due", lines)
+	}
+}
+
+// The parts of an explanation have the names of the file.
+func TestNamedExplanations(t *testing.T) {
+	model := `{"model":{"inputs":["a_b"],"decisions":[{"name":"d_e","needs":["a_b"],"expr":{"context":[{"name":"f_g","expr":"a_b"}]}}],` +
+		`"services":[{"name":"s_t","outputs":["d_e"],"encapsulated":[],"inputDecisions":[],"inputData":["a_b"]}]},` +
+		`"names":{"a_b":"a b","d_e":"d e","f_g":"f g","s_t":"s t"}}`
+	r := serve(t, model, Options{})
+	defer r.stop(t)
+	due := `{"result":{"f g":4},"decisions":[{"entries":[{"name":"f g","value":4}],"name":"d e","value":{"f g":4}}]}`
+	for _, path := range []string{"/v1/services/s%20t?explain=true", "/v1/explain/s%20t"} {
+		if status, text, _ := send(t, "POST", r.url+path, `{"a b":4}`); status != 200 || text != due {
+			t.Errorf("%s: %d %s", path, status, text)
+		}
+	}
+}
+
+// first is a model of the service s, whose table has three rules of which the first that hits decides.
+const first = `{"inputs":["a"],"decisions":[{"name":"d","needs":["a"],"expr":{"table":{"hit":"F","inputs":["a"],"outputs":` +
+	`[{"name":"o"}],"rules":[{"when":["> 5"],"then":["\"many\""]},{"when":["> 3"],"then":["\"some\""]},{"when":["9"],"then":["a"]}]}}}],` +
+	`"services":[{"name":"s","outputs":["d"],"encapsulated":[],"inputDecisions":[],"inputData":["a"]}]}`
+
+func TestCoverage(t *testing.T) {
+	r := serve(t, first, Options{})
+	defer r.stop(t)
+	body := `{"client":"x","service":"s","inputs":{"a":9}}
+{"client":"x","close":true}
+
+{"service":"s","inputs":{"a":4}}
+{"a":1}
+{"client":"y","service":"t","inputs":{"a":4}}
+{"model":{}}
+{"client":"y","service":"s","inputs":{"a":1.5}}
+[1]
+{"a":`
+	status, text, _ := send(t, "POST", r.url+"/v1/coverage?service=s", body)
+	var told struct {
+		Tables map[string]struct {
+			Asked, None int
+			Hits        []int
+		}
+		Answers []struct {
+			Line            int
+			Client, Problem string
+			Result          any
+		}
+	}
+	if err := json.Unmarshal([]byte(text), &told); err != nil || status != 200 {
+		t.Fatalf("%d %s", status, text)
+	}
+	table := told.Tables["/decisions/0/expr/table"]
+	if len(told.Tables) != 1 || table.Asked != 3 || table.None != 1 || fmt.Sprint(table.Hits) != "[1 2 1]" {
+		t.Errorf("the tables are %+v", told.Tables)
+	}
+	var said []string
+	for _, it := range told.Answers {
+		said = append(said, fmt.Sprint(it.Line, it.Client, it.Problem, it.Result))
+	}
+	due := "1x many|4 some|5 <nil>|6yservice<nil>|8yvalue<nil>|9shape<nil>|10syntax<nil>"
+	if got := strings.ReplaceAll(strings.Join(said, "|"), " ", " "); strings.ReplaceAll(got, " ", "") != strings.ReplaceAll(due, " ", "") {
+		t.Errorf("the answers are %s, and due is %s", got, due)
+	}
+	status, text, _ = send(t, "POST", r.url+"/v1/coverage", `{"a":9}`)
+	if status != 200 || !strings.Contains(text, `{"tables":{},"answers":[{"line":1,"problem":"shape"`) {
+		t.Errorf("inputs without a service: %d %s", status, text)
+	}
+	if status, text, _ = send(t, "POST", r.url+"/v1/coverage", ""); status != 200 || text != `{"tables":{},"answers":[]}` {
+		t.Errorf("nothing: %d %s", status, text)
+	}
+}
+
+// Of the models that were checked, the last ones are kept, each once.
+func TestShelf(t *testing.T) {
+	var s shelf
+	of := func(n int) *served {
+		return &served{source: &Source{}, engine: engine.NewModel([]byte(adding(n)))}
+	}
+	for n := 0; n < mostKept+2; n++ {
+		s.add(of(n))
+		s.add(of(n))
+	}
+	if len(s.models) != mostKept || s.find(of(1).engine.Sum) != nil || s.find(of(2).engine.Sum) == nil {
+		t.Errorf("%d models are kept", len(s.models))
+	}
+}
