@@ -1,0 +1,4 @@
+pub mod OnClasses
+pub mod Places
+pub mod Sweeping
+pub mod HitRules

@@ -1,0 +1,21 @@
+//! What holds of a decision table whatever its input columns' values are: that some rule hits, that no two do, that a rule never
+//! does; or values for which it is otherwise.
+#![tactic(auto)]
+
+mod answers;
+mod asked;
+mod asking;
+mod class;
+mod columns;
+mod covering;
+mod cutting;
+mod on_class;
+mod pairs;
+mod placing;
+mod single;
+mod sweep;
+mod witness;
+
+pub use answers::{Coverage, Uniqueness, coverage, uniqueness};
+pub use asked::{Asked, Texts};
+pub use single::{masked, never_met};
