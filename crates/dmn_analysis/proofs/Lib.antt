@@ -1,4 +1,6 @@
 pub mod OnClasses
 pub mod Places
+pub mod Turning
 pub mod Sweeping
 pub mod HitRules
+pub mod Results

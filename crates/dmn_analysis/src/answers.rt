@@ -81,7 +81,7 @@ fn gap(
     count: usize,
     steps: &mut u64,
 ) -> Result<Option<Vec<Feel>>, AllocError>
-    ensures length { IfOk result (λ found. IfSome found (λ values. length values.items ≡ count)) }
+    ensures one_each { IfOk result (λ found. IfSome found (λ values. length values.items ≡ count)) }
     ensures misses { IfOk result (λ found. IfSome found (λ values. All (λ r. does_hit_of [] values.items (rule_view r) ≡ Some false) rules.now)) }
 {
     let left = places(alloc, rules.len())?;
@@ -160,7 +160,7 @@ fn overlap(
     i: usize,
     j: usize,
 ) -> Result<Option<Vec<Feel>>, AllocError>
-    ensures length { IfOk result (λ found. IfSome found (λ values. length values.items ≡ count)) }
+    ensures one_each { IfOk result (λ found. IfSome found (λ values. length values.items ≡ count)) }
     ensures first { IfOk result (λ found. IfSome found (λ values. Hits (map rule_view rules.now) i values.items)) }
     ensures second { IfOk result (λ found. IfSome found (λ values. Hits (map rule_view rules.now) j values.items)) }
 {

@@ -12,7 +12,7 @@ use feel_value::Truth;
 use std::alloc::{AllocError, Global};
 
 /// Whether the values of a class meet unary tests.
-#[derive(Clone, Copy, Debug, PartialEq, Eq)]
+#[derive(Clone, Copy)]
 pub(crate) enum Met {
     /// Each does, whatever the names stand for.
     Always,

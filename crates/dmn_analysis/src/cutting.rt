@@ -132,10 +132,11 @@ pub(crate) fn classes_of(
     let cuts = Cuts::of(alloc, rules, place)?;
     let mut classes = Vec::new(alloc);
     cuts.add_numbers(&mut classes)?;
-    for text in &cuts.texts {
+    let Cuts { starts: _, texts } = cuts;
+    for text in &texts {
         classes.push(Class::One(Value::Text(text.clone()?)))?;
     }
-    classes.push(Class::OtherTexts(cuts.texts))?;
+    classes.push(Class::OtherTexts(texts))?;
     classes.push(Class::One(Value::Null))?;
     classes.push(Class::One(Value::Bool(false)))?;
     classes.push(Class::One(Value::Bool(true)))?;

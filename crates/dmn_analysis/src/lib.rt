@@ -9,6 +9,8 @@ mod class;
 mod columns;
 mod covering;
 mod cutting;
+mod kinds;
+mod laws;
 mod on_class;
 mod pairs;
 mod placing;
@@ -18,4 +20,6 @@ mod witness;
 
 pub use answers::{Coverage, Uniqueness, coverage, uniqueness};
 pub use asked::{Asked, Texts};
+pub use kinds::kinds_asked;
+pub use laws::{complete_gives_no_default, unique_gives_one_hit};
 pub use single::{masked, never_met};
