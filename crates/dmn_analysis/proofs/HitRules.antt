@@ -28,7 +28,7 @@ use Rattle.dmn_analysis.specs.declared.asked.Asked.{Asked}
 use Rattle.dmn_analysis.specs.declared.columns.Column.{Column}
 use Rattle.dmn_analysis.specs.declared.columns.Met.TheVariants.{Never}
 use Rattle.dmn_analysis.specs.declared.columns.Row.{Row}
-use Rattle.dmn_analysis.proofs.Places.{All-at, All-from_places}
+use Rattle.dmn_analysis.proofs.Places.{All-at, All-from_places, element}
 
 -- the answers of tests, each asked of its value
 abbrev answers : Bindings → List (Tests × Datum) → Option (List Bool)
@@ -77,11 +77,6 @@ hits_met m (s ∷ ss) (w ∷ ws) zero t v h here has =
 hits_met m (s ∷ ss) (w ∷ ws) (suc k) t v h here has = hits_met m ss ws k t v (both_met (is_satisfied (satisfied s w m)) (answers m (zip ss ws)) h).1 here has
 
 -- ---- elements by their places
-
-pub element : {X : Type 0} (xs : List X) (i : ℕ) → i < length xs → (x : X) × (slice_get xs i ≡ Some x)
-element [] i h = absurd (omega (arith, h))
-element (x ∷ xs) zero h = (x, refl)
-element (x ∷ xs) (suc i) h = element xs i (omega (arith, h))
 
 -- the element that a mapped one comes from
 pub mapped : {X Y : Type 0} (f : X → Y) (xs : List X) (i : ℕ) (y : Y) → slice_get (map f xs) i ≡ Some y → (x : X) × (slice_get xs i ≡ Some x) × (f x ≡ y)

@@ -8,11 +8,13 @@ use Rattle.std.specs.declared.alloc.Global.{Global}
 use Rattle.std.specs.declared.sync.ArcStr.{ArcStr}
 use Rattle.std.proofs.lemmas.Int.{ints}
 use Rattle.std.proofs.lemmas.Slice.Eq.{bytes_eq-Decides}
+use Rattle.feel_text.specs.Satisfied.{is_in}
+use Rattle.feel_value.proofs.Booleans.{or_false}
 use Rattle.feel_value.specs.Comparison.{equal, less, bool_eq}
 use Rattle.feel_value.specs.Datum.{Datum, null, boolean, number, text, list, context}
 use Rattle.feel_value.specs.Logic.{is_yes, decided}
 use Rattle.feel_value.specs.declared.logic.Truth.TheVariants.{Yes, No, Unknown}
-use Rattle.dmn_analysis.specs.Classes.{is_number_in, is_other_text, is_parted, is_same}
+use Rattle.dmn_analysis.specs.Classes.{is_list, is_number_in, is_other_text, is_parted, is_same}
 
 -- ---- one value
 
@@ -168,11 +170,7 @@ parted_above (text t) (boolean b) h = cc
 parted_above (text t) (number y) h = cc
 parted_above (text t) (text s) h = cc
 
--- whether a value has parts
-abbrev pub has_no_parts : Datum → Bool
-has_no_parts d = not (is_parted d)
-
-pub parted_unequal : (d v : Datum) → has_no_parts d ≡ true → is_parted v ≡ true → is_yes (equal v d) ≡ false
+pub parted_unequal : (d v : Datum) → is_parted d ≡ false → is_parted v ≡ true → is_yes (equal v d) ≡ false
 parted_unequal null (list ds) k h = refl
 parted_unequal null (context es) k h = refl
 parted_unequal (boolean b) (list ds) k h = refl
@@ -187,3 +185,11 @@ parted_unequal d null k h = cc
 parted_unequal d (boolean b) k h = cc
 parted_unequal d (number z) k h = cc
 parted_unequal d (text s) k h = cc
+
+pub not_listed : (v d : Datum) → is_list d ≡ false → is_in v d ≡ is_yes (equal v d)
+not_listed v null h = or_false (is_yes (equal v null))
+not_listed v (boolean b) h = or_false (is_yes (equal v (boolean b)))
+not_listed v (number z) h = or_false (is_yes (equal v (number z)))
+not_listed v (text s) h = or_false (is_yes (equal v (text s)))
+not_listed v (list ds) h = cc
+not_listed v (context es) h = or_false (is_yes (equal v (context es)))

@@ -1,5 +1,5 @@
 -- What is told of the elements of a list, each by its place.
-use Rattle.std.proofs.Common.{◌≡◌, ◌∙◌, sym, ap, refl, subst, ℕ, zero, suc, ◌⊎◌, ◌<◌, List, [], ◌∷◌, ◌++◌, length, get_or, Some, inl, inr}
+use Rattle.std.proofs.Common.{◌≡◌, ◌∙◌, sym, ap, refl, subst, ℕ, zero, suc, ◌⊎◌, ◌<◌, List, [], ◌∷◌, ◌++◌, length, get_or, Some, inl, inr, arith}
 use Rattle.std.specs.List.{slice_get, All}
 use Rattle.std.proofs.lemmas.Option.{get_or_from_slice_get, same_Some, slice_get-get_or, slice_get_within}
 use Rattle.std.proofs.lemmas.List.Elements.{All-get_or}
@@ -30,3 +30,9 @@ at_place xs i x within here = slice_get-get_or xs i x within ∙ ap Some (sym he
 -- what holds of each by its place holds of all
 pub All-from_places : {X : Type 0} (P : X → Type 0) (xs : List X) → ((i : ℕ) (x : X) → slice_get xs i ≡ Some x → P x) → All P xs
 All-from_places P xs h = λ k d within. h k (get_or xs k d) (slice_get-get_or xs k d within)
+
+-- there is one at each place
+pub element : {X : Type 0} (xs : List X) (i : ℕ) → i < length xs → (x : X) × (slice_get xs i ≡ Some x)
+element [] i h = absurd (omega (arith, h))
+element (x ∷ xs) zero h = (x, refl)
+element (x ∷ xs) (suc i) h = element xs i (omega (arith, h))

@@ -1,8 +1,9 @@
 -- One step of the sweep over the columns.
-use Rattle.std.proofs.Common.{◌≡◌, ◌∙◌, sym, ap, ap₂, ⊥, ℕ, List, [], ◌∷◌, Some, true, inl, inr}
+use Rattle.std.proofs.Common.{◌≡◌, ◌∙◌, sym, ap, ap₂, subst, ⊥, ℕ, ◌+◌, ◌<◌, ◌≤◌, List, [], ◌∷◌, length, drop, get_or, Some, true, inl, inr}
 use Rattle.std.specs.List.{slice_get, All}
 use Rattle.std.proofs.lemmas.Option.{same_Some}
-use Rattle.std.proofs.lemmas.List.Elements.{All-cons, All-head, All-nil, All-tail}
+use Rattle.std.proofs.lemmas.List.{at_drop_more, drop_all}
+use Rattle.std.proofs.lemmas.List.Elements.{All-cons, All-drop, All-head, All-nil, All-tail}
 use Rattle.feel_value.specs.Datum.{Datum}
 use Rattle.feel_text.specs.Meaning.{Bindings}
 use Rattle.feel_text.specs.Satisfied.{satisfied}
@@ -13,7 +14,7 @@ use Rattle.dmn_analysis.specs.Sweep.{AreMet, AreTold, IsClassed, IsKept, MeetsAt
 use Rattle.dmn_analysis.specs.declared.columns.Column.{Column}
 use Rattle.dmn_analysis.specs.declared.columns.Met.TheVariants.{Always, Never}
 use Rattle.dmn_analysis.specs.declared.columns.Row.{Row}
-use Rattle.dmn_analysis.proofs.Places.{All-at}
+use Rattle.dmn_analysis.proofs.Places.{All-at, element}
 
 -- no column is left, and some rule
 pub none_left : (rules : List (List Tests)) (left : List ℕ) (chosen first : ℕ) → slice_get left 0 ≡ Some first → AreMet rules [] left chosen
@@ -66,3 +67,19 @@ row_met rules row others left kept chosen all met = inr (λ m values classed mee
       kept = All-at (IsKept row left) kept found.among.place found.rule all found.among.there;
       met = found.met;
     })
+
+-- ---- at a place
+
+-- behind the last column
+pub met_at_end : (rules : List (List Tests)) (columns : List Column) (place : ℕ) (left : List ℕ) (chosen : ℕ) → length columns ≤ place → 0 < length left → AreMet rules (drop place columns) left chosen
+met_at_end rules columns place left chosen past some =
+    let first = element left 0 some in
+    subst (λ cs. AreMet rules cs left chosen) (sym (drop_all place columns past)) (none_left rules left chosen first.0 first.1)
+
+-- the columns from a place on
+pub met_at : (rules : List (List Tests)) (columns : List Column) (place : ℕ) (column : Column) (left : List ℕ) (chosen : ℕ) → place < length columns → column ≡ get_or columns place column → AreTold rules columns
+    → All (RowIsMet rules (drop (place + 1) columns) left chosen) column.rows.items → AreMet rules (drop place columns) left chosen
+met_at rules columns place column left chosen within here told met =
+    let split : drop place columns ≡ column ∷ drop (place + 1) columns = at_drop_more (λ cs. cs) columns place column within ∙ ap (λ c. c ∷ drop (place + 1) columns) (sym here) in
+    subst (λ cs. AreMet rules cs left chosen) (sym split)
+    (rows_met rules column (drop (place + 1) columns) left chosen (subst (AreTold rules) split (All-drop (λ c. All (TellsRow rules c.place) c.rows.items) place columns told)) met)

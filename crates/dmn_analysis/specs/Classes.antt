@@ -37,6 +37,10 @@ is_parted (list ds) = true
 is_parted (context es) = true
 is_parted d = false
 
+abbrev pub is_list : Datum → Bool
+is_list (list ds) = true
+is_list d = false
+
 -- one and the same null, truth value or text
 abbrev pub is_same : Datum → Datum → Bool
 is_same null v = is_null v

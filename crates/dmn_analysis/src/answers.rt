@@ -14,6 +14,7 @@ ghost use Rattle.feel_value.specs.Datum.{Datum};
 use crate::asked::Asked;
 use crate::asking::{all_miss, hits};
 use crate::columns::Column;
+use crate::memo::Memo;
 use crate::pairs::near;
 use crate::placing::{are_placed, columns_of};
 use crate::sweep::are_met;
@@ -69,7 +70,8 @@ fn is_complete(
         return Ok(false);
     }
     let left = places(alloc, rules.len())?;
-    let met = are_met(alloc, columns, &left, rules.len(), steps)?;
+    let mut memo = Memo::new(alloc)?;
+    let met = are_met(alloc, columns, 0, &left, rules.len(), &mut memo, steps)?;
     Ok(met)
 }
 

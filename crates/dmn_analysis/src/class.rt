@@ -147,8 +147,17 @@ pub(crate) fn is_among(text: &str, texts: &[ArcStr]) -> bool
 fn parted_equal(value: &Value) -> Option<bool>
     ensures { IfSome result (λ b. (v : Datum) → is_parted v ≡ true → is_yes (equal v (datum_of value.now)) ≡ b) }
 {
+    if has_parts(value) {
+        return None;
+    }
+    Some(false)
+}
+
+fn has_parts(value: &Value) -> bool
+    ensures { result ≡ is_parted (datum_of value.now) }
+{
     match value {
-        Value::List(_) | Value::Context(_) => None,
-        _ => Some(false),
+        Value::List(_) | Value::Context(_) => true,
+        Value::Null | Value::Bool(_) | Value::Number(_) | Value::Text(_) => false,
     }
 }

@@ -102,8 +102,18 @@ impl Seen {
         Ok(seen)
     }
 
-    // Which texts are asked for: all of them, or where `words_only` says so those that are seen, unless some are compared by order.
+    // Whether there is no constant.
+    fn is_nothing(&self) -> bool {
+        let others = self.null || self.truths || self.numbers || self.parted;
+        !others && self.texts.is_empty()
+    }
+
+    // What is asked for: of texts all, or where `words_only` says so those that are seen, unless some are compared by order. Where
+    // there is no constant, every value.
     fn into_asked(self, words_only: bool) -> Asked {
+        if self.is_nothing() {
+            return Asked::every();
+        }
         let Seen {
             null,
             truths,
@@ -130,7 +140,8 @@ impl Seen {
 }
 
 /// Of each column of the table the values of the kinds (number, text, truth value, null, list or context) of the constants in its
-/// tests; with `words_only`, of texts only those that stand in its tests, where no test compares texts by order.
+/// tests, or every value where there is no constant; with `words_only`, of texts only those that stand in its tests, where no test
+/// compares texts by order.
 pub fn kinds_asked(
     alloc: Global,
     table: &Table,

@@ -11,6 +11,7 @@ mod covering;
 mod cutting;
 mod kinds;
 mod laws;
+mod memo;
 mod on_class;
 mod pairs;
 mod placing;

@@ -11,7 +11,7 @@ ghost use Rattle.feel_text.specs.Meaning.{Bindings, den};
 ghost use Rattle.feel_text.specs.Satisfied.{Told, answer, is_in, satisfied, stands_to, tested, tested_any};
 ghost use Rattle.feel_text.specs.TestsView.{bound_view, test_view, test_views, tests_view};
 ghost use Rattle.feel_text.specs.View.{view};
-ghost use Rattle.dmn_analysis.specs.Classes.{is_of};
+ghost use Rattle.dmn_analysis.specs.Classes.{is_list as is_list_of, is_of};
 
 use crate::class::Class;
 use feel_text::{Bound, Constant, Test, Tests, TestsTree, Tree, high_end, low_end};
@@ -97,11 +97,20 @@ fn compared(class: &Class, bound: Bound, expr: &Tree) -> Option<Truth>
     Some(truth)
 }
 
+fn is_list(value: &Value) -> bool
+    ensures { result ≡ is_list_of (datum_of value.now) }
+{
+    match value {
+        Value::List(_) => true,
+        Value::Null | Value::Bool(_) | Value::Number(_) | Value::Text(_) | Value::Context(_) => false,
+    }
+}
+
 // Whether each value of the class is this one, which is no list.
 fn is_value(class: &Class, value: &Value) -> Option<bool>
     ensures { IfSome result (λ b. (v : Datum) → is_of class.now v ≡ true → is_in v (datum_of value.now) ≡ b) }
 {
-    if let Value::List(_) = value {
+    if is_list(value) {
         return None;
     }
     let same = class.equals(value)?;

@@ -11,6 +11,7 @@ ghost use Rattle.dmn_analysis.specs.declared.asked.Asked.{Asked as AskedData};
 
 use crate::answers::{every, places};
 use crate::columns::Column;
+use crate::memo::Memo;
 use crate::pairs::is_out;
 use crate::placing::{are_placed, columns_of};
 use crate::sweep::are_met;
@@ -66,7 +67,8 @@ fn is_behind(
         return Ok(false);
     }
     let left = places(alloc, i)?;
-    let met = are_met(alloc, columns, &left, i, steps)?;
+    let mut memo = Memo::new(alloc)?;
+    let met = are_met(alloc, columns, 0, &left, i, &mut memo, steps)?;
     Ok(met)
 }
 

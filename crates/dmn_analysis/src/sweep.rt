@@ -1,10 +1,12 @@
 //! Whether some rule is met whatever the values of the columns: a sweep over the classes of one column after another.
-ghost use Rattle.std.specs.Prelude.{◌≡◌, IsTrue, IfOk, List};
+ghost use Rattle.std.specs.Prelude.{◌<◌, IsTrue, IfOk, List, drop, length};
 ghost use Rattle.std.specs.List.{All};
 ghost use Rattle.feel_text.specs.Tests.{Tests as TestsData};
+ghost use Rattle.dmn_analysis.specs.Memo.{AreKnown};
 ghost use Rattle.dmn_analysis.specs.Sweep.{AreMet, AreTold, IsKept, RowIsMet};
 
 use crate::columns::{Column, Row};
+use crate::memo::Memo;
 use std::alloc::{AllocError, Global};
 
 // Of the rules that are left, those whose entries are always met by the class of the row.
@@ -22,39 +24,53 @@ fn kept(alloc: Global, left: &[usize], row: &Row) -> Result<Vec<usize>, AllocErr
 }
 
 /// Whether, wherever the values of these columns are of their classes and meet the chosen rule, one of the rules that are left is
-/// met by them; of a number that is no rule's, wherever they are of their classes. False says nothing: it is also said where the
-/// steps ran out.
+/// met by those from a place on; of a number that is no rule's, wherever they are of their classes. False says nothing: it is also
+/// said where the steps ran out. The memo is of the same columns and the same chosen rule.
 #[cycle(sweep)]
 pub(crate) fn are_met(
     alloc: Global,
     columns: &[Column],
+    place: usize,
     left: &[usize],
     chosen: usize,
+    memo: &mut Memo,
     steps: &mut u64,
 ) -> Result<bool, AllocError>
-    ensures { IfOk result (λ met. IsTrue met → (rules : List (List TestsData)) → AreTold rules columns.now → AreMet rules columns.now left.now chosen) }
+    ensures known { IfOk result (λ met. (rules : List (List TestsData)) → AreTold rules columns.now → AreKnown rules columns.now chosen memo.old → AreKnown rules columns.now chosen memo.new) }
+    ensures met { IfOk result (λ met. IsTrue met → (rules : List (List TestsData)) → AreTold rules columns.now → AreKnown rules columns.now chosen memo.old → AreMet rules (drop place columns.now) left.now chosen) }
 {
-    let Some((column, others)) = columns.split_first() else {
+    if place >= columns.len() {
         return Ok(!left.is_empty());
-    };
-    let met = rows_are_met(alloc, &column.rows, others, left, chosen, steps)?;
-    Ok(met)
+    }
+    if memo.has(place, left) {
+        return Ok(true);
+    }
+    let met = rows_are_met(alloc, columns, place, left, chosen, memo, steps)?;
+    if !met {
+        return Ok(false);
+    }
+    memo.add(alloc, place, left)?;
+    Ok(true)
 }
 
-// The same of the classes of one column and the columns behind it.
+// The same, of the classes of the column at this place.
 #[cycle(sweep)]
 fn rows_are_met(
     alloc: Global,
-    rows: &[Row],
-    others: &[Column],
+    columns: &[Column],
+    place: usize,
     left: &[usize],
     chosen: usize,
+    memo: &mut Memo,
     steps: &mut u64,
 ) -> Result<bool, AllocError>
-    ensures { IfOk result (λ met. IsTrue met → (rules : List (List TestsData)) → AreTold rules others.now → All (RowIsMet rules others.now left.now chosen) rows.now) }
+    requires { place < length columns.now }
+    ensures known { IfOk result (λ met. (rules : List (List TestsData)) → AreTold rules columns.now → AreKnown rules columns.now chosen memo.old → AreKnown rules columns.now chosen memo.new) }
+    ensures met { IfOk result (λ met. IsTrue met → (rules : List (List TestsData)) → AreTold rules columns.now → AreKnown rules columns.now chosen memo.old → AreMet rules (drop place columns.now) left.now chosen) }
 {
-    for row in rows {
-        let met = row_is_met(alloc, row, others, left, chosen, steps)?;
+    let column = &columns[place];
+    for row in &column.rows {
+        let met = row_is_met(alloc, columns, place + 1, row, left, chosen, memo, steps)?;
         if !met {
             return Ok(false);
         }
@@ -62,16 +78,20 @@ fn rows_are_met(
     Ok(true)
 }
 
+// The same, of one class and the columns from a place on.
 #[cycle(sweep)]
 fn row_is_met(
     alloc: Global,
+    columns: &[Column],
+    place: usize,
     row: &Row,
-    others: &[Column],
     left: &[usize],
     chosen: usize,
+    memo: &mut Memo,
     steps: &mut u64,
 ) -> Result<bool, AllocError>
-    ensures { IfOk result (λ met. IsTrue met → (rules : List (List TestsData)) → AreTold rules others.now → RowIsMet rules others.now left.now chosen row.now) }
+    ensures known { IfOk result (λ met. (rules : List (List TestsData)) → AreTold rules columns.now → AreKnown rules columns.now chosen memo.old → AreKnown rules columns.now chosen memo.new) }
+    ensures met { IfOk result (λ met. IsTrue met → (rules : List (List TestsData)) → AreTold rules columns.now → AreKnown rules columns.now chosen memo.old → RowIsMet rules (drop place columns.now) left.now chosen row.now) }
 {
     if *steps == 0 {
         return Ok(false);
@@ -84,6 +104,6 @@ fn row_is_met(
     if kept.is_empty() {
         return Ok(false);
     }
-    let met = are_met(alloc, others, &kept, chosen, steps)?;
+    let met = are_met(alloc, columns, place, &kept, chosen, memo, steps)?;
     Ok(met)
 }
