@@ -131,16 +131,12 @@ is_a_text ts (context es) h = cc
 
 -- another text isn't equal to one of these
 pub not_equal_text : (ts : List (ArcStr Global)) (t : List ℕ) (v : Datum) → list_any (λ u. bytes_eq t (arc_str_bytes u)) ts ≡ true → is_other_text ts v ≡ true → is_yes (equal v (text t)) ≡ false
-not_equal_text ts t v among other =
-    let found = is_a_text ts v other in
-    let s = found.0 in
-    ap (λ d. is_yes (equal d (text t))) found.1.0 ∙ go (bytes_eq s t) refl
+not_equal_text ts t v among other = let found = is_a_text ts v other in ap (λ d. is_yes (equal d (text t))) found.1 ∙ go found.0 found.2 (bytes_eq found.0 t) refl
   where
-    go : (b : Bool) → bytes_eq (is_a_text ts v other).0 t ≡ b → is_yes (decided b) ≡ false
-    go false e = refl
-    go true e =
-        let same : (is_a_text ts v other).0 ≡ t = (bytes_eq-Decides (is_a_text ts v other).0 t).0 e in
-        let there : true ≡ false = sym among ∙ ap (λ x. list_any (λ u. bytes_eq x (arc_str_bytes u)) ts) (sym same) ∙ (is_a_text ts v other).1.1 in cc
+    go : (s : List ℕ) → list_any (λ u. bytes_eq s (arc_str_bytes u)) ts ≡ false → (b : Bool) → bytes_eq s t ≡ b → is_yes (decided (bytes_eq s t)) ≡ false
+    go s none false e = ap (λ b. is_yes (decided b)) e
+    go s none true e =
+        let there : true ≡ false = sym among ∙ ap (λ x. list_any (λ u. bytes_eq x (arc_str_bytes u)) ts) (sym ((bytes_eq-Decides s t).0 e)) ∙ none in cc
 
 -- ---- lists and contexts
 

@@ -106,7 +106,7 @@ fn gap(
 /// Whether some rule of the table hits, whatever the values of its input columns that are asked about and whatever the names stand
 /// for. `asked` has an entry for each input column; where it has fewer, nothing is decided. The search takes at most twice so many
 /// steps.
-pub fn coverage(
+pub fn find_gap(
     alloc: Global,
     table: &Table,
     asked: &[Asked],
@@ -185,7 +185,7 @@ fn overlap(
 }
 
 /// Whether no two rules of the table hit, whatever the values of its input columns and whatever the names stand for.
-pub fn uniqueness(alloc: Global, table: &Table) -> Result<Uniqueness, AllocError>
+pub fn find_overlap(alloc: Global, table: &Table) -> Result<Uniqueness, AllocError>
     ensures { IfOk result (TellsUniqueness table.now) }
 {
     let rules = table.rules();

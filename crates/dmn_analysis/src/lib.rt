@@ -19,7 +19,7 @@ mod single;
 mod sweep;
 mod witness;
 
-pub use answers::{Coverage, Uniqueness, coverage, uniqueness};
+pub use answers::{Coverage, Uniqueness, find_gap, find_overlap};
 pub use asked::{Asked, Texts};
 pub use kinds::kinds_asked;
 pub use laws::{complete_gives_no_default, unique_gives_one_hit};
