@@ -1,5 +1,5 @@
 -- Rules hit where all of their entries are met, and only there.
-use Rattle.std.proofs.Common.{◌≡◌, ◌≢◌, ◌∙◌, sym, ap, ap₂, refl, subst, ⊥, ℕ, zero, suc, ◌<◌, ◌⊎◌, inl, inr, List, [], ◌∷◌, length, map, get_or, Bool, true, false, ◌&&◌, Option, None, Some, option_map, arith}
+use Rattle.std.proofs.Common.{◌≡◌, ◌≢◌, ◌∙◌, sym, ap, ap₂, refl, subst, ℕ, zero, suc, ◌<◌, ◌⊎◌, inl, inr, List, [], ◌∷◌, length, map, get_or, Bool, true, false, ◌&&◌, Option, None, Some, option_map, arith}
 use Rattle.std.specs.List.{zip, list_all, slice_get, All}
 use Rattle.std.proofs.lemmas.List.{length-map}
 use Rattle.std.proofs.lemmas.List.Elements.{All-get_or, All-weaker}
@@ -28,7 +28,7 @@ use Rattle.dmn_analysis.specs.declared.asked.Asked.{Asked}
 use Rattle.dmn_analysis.specs.declared.columns.Column.{Column}
 use Rattle.dmn_analysis.specs.declared.columns.Met.TheVariants.{Never}
 use Rattle.dmn_analysis.specs.declared.columns.Row.{Row}
-use Rattle.dmn_analysis.proofs.Places.{All-at, All-from_places, element}
+use Rattle.dmn_analysis.proofs.Places.{All-at, All-from_places, element, map_at}
 
 -- the answers of tests, each asked of its value
 abbrev answers : Bindings → List (Tests × Datum) → Option (List Bool)
@@ -83,9 +83,6 @@ pub mapped : {X Y : Type 0} (f : X → Y) (xs : List X) (i : ℕ) (y : Y) → sl
 mapped f [] i y h = cc
 mapped f (x ∷ xs) zero y h = (x, refl, same_Some (f x) y h)
 mapped f (x ∷ xs) (suc i) y h = mapped f xs i y h
-
-pub map_at : {X Y : Type 0} (f : X → Y) (xs : List X) (i : ℕ) (x : X) → slice_get xs i ≡ Some x → slice_get (map f xs) i ≡ Some (f x)
-map_at f xs i x h = slice_get-map f xs i ∙ ap (option_map f) h
 
 -- ---- the columns' values are of their classes
 
@@ -173,18 +170,18 @@ pub never_hits : (rules : List rule.Rule) (count : ℕ) (columns : List Column) 
 never_hits rules count columns asked i out every of = λ m values inputs r there hits.
     let from = mapped rule_view rules i r there in
     let at = out_at rules count columns asked m values of inputs (everything asked values every) out.column out.place out.there (λ row. IsNever row i) out.never in
-    misses_at rules out.column at.0 i from.0 m values at.1.1.0 from.1.0 at.1.0 at.1.1.1.1.1 at.1.1.1.0 at.1.1.1.1.0 (ap (does_hit m values) from.1.1 ∙ hits)
+    misses_at rules out.column at.0 i from.0 m values at.2 from.1 at.1 at.5 at.3 at.4 (ap (does_hit m values) from.2 ∙ hits)
 
 pub never_two : (rules : List rule.Rule) (count : ℕ) (columns : List Column) (asked : List Asked) → ((i j : ℕ) → i < j → j < length rules → AreApart columns i j) → All (λ a. (v : Datum) → is_asked a v ≡ true) asked
     → All (IsColumnOf (input_entries rules) count asked) columns → NeverTwo count (map rule_view rules)
 never_two rules count columns asked apart every of = λ m values inputs i j r s less there other first second.
     let one = mapped rule_view rules i r there in
     let two = mapped rule_view rules j s other in
-    let pair = apart i j less (slice_get_within rules j two.0 two.1.0) in
+    let pair = apart i j less (slice_get_within rules j two.0 two.1) in
     let at = out_at rules count columns asked m values of inputs (everything asked values every) pair.column pair.place pair.there (IsApartAt i j) pair.apart in
-    elim at.1.0 [
-      | inl never ↦ misses_at rules pair.column at.0 i one.0 m values at.1.1.0 one.1.0 never at.1.1.1.1.1 at.1.1.1.0 at.1.1.1.1.0 (ap (does_hit m values) one.1.1 ∙ first)
-      | inr never ↦ misses_at rules pair.column at.0 j two.0 m values at.1.1.0 two.1.0 never at.1.1.1.1.1 at.1.1.1.0 at.1.1.1.1.0 (ap (does_hit m values) two.1.1 ∙ second)
+    elim at.1 [
+      | inl never ↦ misses_at rules pair.column at.0 i one.0 m values at.2 one.1 never at.5 at.3 at.4 (ap (does_hit m values) one.2 ∙ first)
+      | inr never ↦ misses_at rules pair.column at.0 j two.0 m values at.2 two.1 never at.5 at.3 at.4 (ap (does_hit m values) two.2 ∙ second)
     ]
 
 -- ---- masked
@@ -196,11 +193,11 @@ hits_behind rules count columns left asked i placed before met every of = λ m v
     let entries = input_entries rules in
     let from = mapped rule_view rules i r there in
     let chosen = All-from_places (MeetsAt entries m values i) columns (λ k column at rule tests value here entry has.
-    let same = same_Some rule from.0.tests.items (sym here ∙ map_at (λ (r : rule.Rule). r.tests.items) rules i from.0 from.1.0) in
-    hits_met m from.0.tests.items values column.place tests value (ap (does_hit m values) from.1.1 ∙ hits) (ap (λ r. slice_get r column.place) (sym same) ∙ entry) has) in
+    let same = same_Some rule from.0.tests.items (sym here ∙ map_at (λ (r : rule.Rule). r.tests.items) rules i from.0 from.1) in
+    hits_met m from.0.tests.items values column.place tests value (ap (does_hit m values) from.2 ∙ hits) (ap (λ r. slice_get r column.place) (sym same) ∙ entry) has) in
     let found = met (told entries count asked columns of) m values (classed entries count asked values inputs (everything asked values every) columns of) chosen in
     let earlier : found.rule < i = All-at (λ r. r < i) left found.among.place found.rule before found.among.there in
-    let one = element rules found.rule (omega (arith, earlier, slice_get_within rules i from.0 from.1.0)) in
+    let one = element rules found.rule (omega (arith, earlier, slice_get_within rules i from.0 from.1)) in
     record {
       place = found.rule;
       before = earlier;

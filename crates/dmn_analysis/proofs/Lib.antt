@@ -1,3 +1,4 @@
+pub mod Covered
 pub mod OnClasses
 pub mod Places
 pub mod Turning

@@ -1,5 +1,5 @@
 -- One step of the sweep over the columns.
-use Rattle.std.proofs.Common.{◌≡◌, ◌∙◌, sym, ap, ap₂, subst, ⊥, ℕ, ◌+◌, ◌<◌, ◌≤◌, List, [], ◌∷◌, length, drop, get_or, Some, true, inl, inr}
+use Rattle.std.proofs.Common.{◌≡◌, ◌∙◌, sym, ap, ap₂, subst, refl, nat_eq, false, ℕ, ◌+◌, ◌<◌, ◌≤◌, List, [], ◌∷◌, length, drop, get_or, Some, true, inl, inr}
 use Rattle.std.specs.List.{slice_get, All}
 use Rattle.std.proofs.lemmas.Option.{same_Some}
 use Rattle.std.proofs.lemmas.List.{at_drop_more, drop_all}
@@ -14,7 +14,7 @@ use Rattle.dmn_analysis.specs.Sweep.{AreMet, AreTold, IsClassed, IsKept, MeetsAt
 use Rattle.dmn_analysis.specs.declared.columns.Column.{Column}
 use Rattle.dmn_analysis.specs.declared.columns.Met.TheVariants.{Always, Never}
 use Rattle.dmn_analysis.specs.declared.columns.Row.{Row}
-use Rattle.dmn_analysis.proofs.Places.{All-at, element}
+use Rattle.dmn_analysis.proofs.Places.{All-at}
 
 -- no column is left, and some rule
 pub none_left : (rules : List (List Tests)) (left : List ℕ) (chosen first : ℕ) → slice_get left 0 ≡ Some first → AreMet rules [] left chosen
@@ -71,10 +71,10 @@ row_met rules row others left kept chosen all met = inr (λ m values classed mee
 -- ---- at a place
 
 -- behind the last column
-pub met_at_end : (rules : List (List Tests)) (columns : List Column) (place : ℕ) (left : List ℕ) (chosen : ℕ) → length columns ≤ place → 0 < length left → AreMet rules (drop place columns) left chosen
-met_at_end rules columns place left chosen past some =
-    let first = element left 0 some in
-    subst (λ cs. AreMet rules cs left chosen) (sym (drop_all place columns past)) (none_left rules left chosen first.0 first.1)
+pub met_at_end : (rules : List (List Tests)) (columns : List Column) (place : ℕ) (left : List ℕ) (chosen : ℕ) → length columns ≤ place → nat_eq (length left) 0 ≡ false → AreMet rules (drop place columns) left chosen
+met_at_end rules columns place [] chosen past some = cc
+met_at_end rules columns place (first ∷ others) chosen past some =
+    subst (λ cs. AreMet rules cs (first ∷ others) chosen) (sym (drop_all place columns past)) (none_left rules (first ∷ others) chosen first refl)
 
 -- the columns from a place on
 pub met_at : (rules : List (List Tests)) (columns : List Column) (place : ℕ) (column : Column) (left : List ℕ) (chosen : ℕ) → place < length columns → column ≡ get_or columns place column → AreTold rules columns

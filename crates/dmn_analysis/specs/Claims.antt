@@ -1,5 +1,5 @@
 -- What is claimed of a decision table.
-use Rattle.std.specs.Prelude.{◌≡◌, ◌≢◌, ◌<◌, ⊤, ⊥, ℕ, List, [], length, true, false, Some}
+use Rattle.std.specs.Prelude.{◌≡◌, ◌≢◌, ◌<◌, ⊤, ℕ, List, [], length, true, false, Some}
 use Rattle.std.specs.List.{slice_get, All}
 use Rattle.feel_value.specs.Datum.{Datum}
 use Rattle.feel_value.specs.Limits.{is_value}

@@ -135,7 +135,7 @@ pub(crate) fn every(alloc: Global, count: usize) -> Result<Vec<Asked>, AllocErro
     ensures { IfOk result (λ all. All (λ a. (v : Datum) → is_asked a v ≡ true) all.items) }
 {
     let mut all = Vec::with_capacity(alloc, count)?;
-    for _ in 0..count {
+    for _place in 0..count {
         all.push(Asked::every())?;
     }
     Ok(all)

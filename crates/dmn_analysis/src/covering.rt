@@ -41,14 +41,23 @@ fn has_one(rows: &[Row], value: &Value) -> bool
     false
 }
 
+fn is_text(one: &Value, text: &str) -> bool
+    ensures { result ≡ is_same_of (datum_of one.now) (text_datum text.now) }
+{
+    match one {
+        Value::Text(other) => other.as_str() == text,
+        _ => false,
+    }
+}
+
 fn has_text(rows: &[Row], text: &str) -> bool
     ensures { IsTrue result → HasClass rows.now (text_datum text.now) }
 {
     for row in rows {
-        let Class::One(Value::Text(other)) = &row.class else {
+        let Class::One(one) = &row.class else {
             continue;
         };
-        if other.as_str() == text {
+        if is_text(one, text) {
             return true;
         }
     }

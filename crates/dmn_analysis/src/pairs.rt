@@ -43,6 +43,9 @@ pub(crate) fn are_apart(columns: &[Column], i: usize, j: usize) -> bool
 pub(crate) fn near(columns: &[Column], i: usize, count: usize) -> Option<usize>
     ensures { result ≡ None → (j : ℕ) → i < j → j < count → AreApart columns.now i j }
 {
+    if i >= count {
+        return None;
+    }
     for j in i + 1..count {
         if !are_apart(columns, i, j) {
             return Some(j);

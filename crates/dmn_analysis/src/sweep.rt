@@ -39,8 +39,11 @@ pub(crate) fn are_met(
     ensures known { IfOk result (λ met. (rules : List (List TestsData)) → AreTold rules columns.now → AreKnown rules columns.now chosen memo.old → AreKnown rules columns.now chosen memo.new) }
     ensures met { IfOk result (λ met. IsTrue met → (rules : List (List TestsData)) → AreTold rules columns.now → AreKnown rules columns.now chosen memo.old → AreMet rules (drop place columns.now) left.now chosen) }
 {
+    if left.is_empty() {
+        return Ok(false);
+    }
     if place >= columns.len() {
-        return Ok(!left.is_empty());
+        return Ok(true);
     }
     if memo.has(place, left) {
         return Ok(true);
@@ -101,9 +104,6 @@ fn row_is_met(
         return Ok(true);
     }
     let kept = kept(alloc, left, row)?;
-    if kept.is_empty() {
-        return Ok(false);
-    }
     let met = are_met(alloc, columns, place, &kept, chosen, memo, steps)?;
     Ok(met)
 }

@@ -88,7 +88,7 @@ fn other_text(alloc: Global, texts: &[ArcStr]) -> Result<Value, AllocError> {
         longest = text.as_str().len().max(longest);
     }
     let mut other = String::from_str(alloc, "other")?;
-    while other.len() <= longest {
+    for _place in 0..longest {
         other.push('x')?;
     }
     Ok(Value::Text(ArcStr::from_str(alloc, other.as_str())?))

@@ -15,4 +15,4 @@ pub returns-in_ok-above-in-Above : goal.returns-in_ok-above-in-Above
 returns-in_ok-above-in-Above c v h = ap (λ b. stands_to (bound_view b) v (datum_of c.args.value.now)) c.in-Above.is ∙ c.in_ok-above-in-Above.ensures v h
 
 pub returns-in_ok-below-in-AtLeast : goal.returns-in_ok-below-in-AtLeast
-returns-in_ok-below-in-AtLeast c v h = ap (λ b. stands_to (bound_view b) v (datum_of c.args.value.now)) c.in-AtLeast.is ∙ ap not_of (c.in_ok-below-in-AtLeast.ensures v h) ∙ sym c.not3.ensures
+returns-in_ok-below-in-AtLeast c v h = ap (λ b. stands_to (bound_view b) v (datum_of c.args.value.now)) c.in-AtLeast.is ∙ ap not_of (c.in_ok-below-in-AtLeast.ensures v h) ∙ sym c.not3-in-AtLeast.ensures

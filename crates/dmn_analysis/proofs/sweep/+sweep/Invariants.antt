@@ -18,5 +18,5 @@ decreases-row_is_met l = 3 * (length l.columns.now - l.place) + 1
 abbrev pub invariant-rows_are_met-loop-row : goal.invariant-rows_are_met-loop-row
 invariant-rows_are_met-loop-row l = record {
   known : (rules : List (List Tests)) → AreTold rules l.columns → AreKnown rules l.columns l.chosen l.initial.memo → AreKnown rules l.columns l.chosen l.memo;
-  met : (rules : List (List Tests)) → AreTold rules l.columns → AreKnown rules l.columns l.chosen l.initial.memo → All (RowIsMet rules (drop (l.place + 1) l.columns) l.left l.chosen) (take l.row-index l.column.rows.items);
+  met : (rules : List (List Tests)) → AreTold rules l.columns → AreKnown rules l.columns l.chosen l.initial.memo → All (RowIsMet rules (drop (l.place + 1) l.columns) l.left l.chosen) (take l.row-index l.row-items);
 }
