@@ -117,9 +117,9 @@ rule_hits rules count columns m values r one there size placed met =
 -- behind the last rule none is chosen
 none_chosen : (rules : List rule.Rule) (columns : List Column) (m : Bindings) (values : List Datum) → All (MeetsAt (input_entries rules) m values (length rules)) columns
 none_chosen rules columns m values =
-    All-from_places (MeetsAt (input_entries rules) m values (length rules)) columns (λ i column there rule tests value here entry has.
+    All-from_places (MeetsAt (input_entries rules) m values (length rules)) columns (λ i column there entries tests value here entry has.
     let past = slice_get_past (input_entries rules) (length rules) (omega (arith, length-map rules (λ (r : rule.Rule). r.tests.items))) in
-    let none : Some rule ≡ None = sym here ∙ past in cc)
+    let none : Some entries ≡ None = sym here ∙ past in cc)
 
 pub always_hit : (rules : List rule.Rule) (count : ℕ) (columns : List Column) (left : List ℕ) (asked : List Asked) → ArePlaced columns count → All (λ r. r < length rules) left
     → (AreTold (input_entries rules) columns → AreMet (input_entries rules) columns left (length rules)) → All (IsColumnOf (input_entries rules) count asked) columns → AlwaysHit count (map rule_view rules) asked
@@ -192,8 +192,8 @@ pub hits_behind : (rules : List rule.Rule) (count : ℕ) (columns : List Column)
 hits_behind rules count columns left asked i placed before met every of = λ m values inputs r there hits.
     let entries = input_entries rules in
     let from = mapped rule_view rules i r there in
-    let chosen = All-from_places (MeetsAt entries m values i) columns (λ k column at rule tests value here entry has.
-    let same = same_Some rule from.0.tests.items (sym here ∙ map_at (λ (r : rule.Rule). r.tests.items) rules i from.0 from.1) in
+    let chosen = All-from_places (MeetsAt entries m values i) columns (λ k column at one tests value here entry has.
+    let same = same_Some one from.0.tests.items (sym here ∙ map_at (λ (r : rule.Rule). r.tests.items) rules i from.0 from.1) in
     hits_met m from.0.tests.items values column.place tests value (ap (does_hit m values) from.2 ∙ hits) (ap (λ r. slice_get r column.place) (sym same) ∙ entry) has) in
     let found = met (told entries count asked columns of) m values (classed entries count asked values inputs (everything asked values every) columns of) chosen in
     let earlier : found.rule < i = All-at (λ r. r < i) left found.among.place found.rule before found.among.there in
