@@ -11,11 +11,7 @@ use feel_value::Feel;
 use std::alloc::{AllocError, Global};
 
 /// Whether none of the rules hits for these values, where no name stands for anything.
-pub(crate) fn all_miss(
-    alloc: Global,
-    rules: &[Rule],
-    values: &[Feel],
-) -> Result<bool, AllocError>
+pub(crate) fn all_miss(alloc: Global, rules: &[Rule], values: &[Feel]) -> Result<bool, AllocError>
     ensures { IfOk result (λ all. IsTrue all → All (λ r. does_hit_of [] values.now (rule_view r) ≡ Some false) rules.now) }
 {
     let env = Env::new(alloc);

@@ -84,9 +84,14 @@ impl Memo {
     {
         let mut buckets = Vec::with_capacity(alloc, BUCKETS)?;
         for _place in 0..BUCKETS {
-            buckets.push(Bucket { all: Vec::new(alloc) })?;
+            buckets.push(Bucket {
+                all: Vec::new(alloc),
+            })?;
         }
-        Ok(Memo { buckets, room: ROOM })
+        Ok(Memo {
+            buckets,
+            room: ROOM,
+        })
     }
 
     /// Whether it is known that one of these rules is met by the columns from this place on.
@@ -101,14 +106,22 @@ impl Memo {
     }
 
     /// Keeps that one of these rules is met by the columns from this place on, while there is room.
-    pub(crate) fn add(&mut self, alloc: Global, place: usize, left: &[usize]) -> Result<(), AllocError>
+    pub(crate) fn add(
+        &mut self,
+        alloc: Global,
+        place: usize,
+        left: &[usize],
+    ) -> Result<(), AllocError>
         ensures { OnOk result ((rules : List (List TestsData)) (columns : List ColumnData) (chosen : ℕ) → AreKnown rules columns chosen self.old → AreMet rules (drop place columns) left.now chosen → AreKnown rules columns chosen self.new) }
     {
         let at = number_of(place, left, self.buckets.len());
         if left.len() >= self.room || at >= self.buckets.len() {
             return Ok(());
         }
-        let known = Known { place, left: Vec::from_slice(alloc, left)? };
+        let known = Known {
+            place,
+            left: Vec::from_slice(alloc, left)?,
+        };
         self.room -= left.len();
         self.buckets[at].all.push(known)?;
         Ok(())

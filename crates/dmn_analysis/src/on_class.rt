@@ -102,7 +102,8 @@ fn is_list(value: &Value) -> bool
 {
     match value {
         Value::List(_) => true,
-        Value::Null | Value::Bool(_) | Value::Number(_) | Value::Text(_) | Value::Context(_) => false,
+        Value::Null | Value::Bool(_) | Value::Number(_) | Value::Text(_) | Value::Context(_) =>
+            false,
     }
 }
 
