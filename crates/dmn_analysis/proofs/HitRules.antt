@@ -1,14 +1,12 @@
 -- Rules hit where all of their entries are met, and only there.
-use Rattle.std.proofs.Common.{◌≡◌, ◌≢◌, ◌∙◌, sym, ap, ap₂, refl, subst, ℕ, zero, suc, ◌<◌, ◌⊎◌, inl, inr, List, [], ◌∷◌, length, map, get_or, Bool, true, false, ◌&&◌, Option, None, Some, option_map, arith}
+use Rattle.std.proofs.Common.{◌≡◌, ◌∙◌, sym, ap, ap₂, refl, subst, ℕ, zero, suc, ◌<◌, inl, inr, List, [], ◌∷◌, length, map, Bool, true, false, Option, None, Some, arith}
 use Rattle.std.specs.List.{zip, list_all, slice_get, All}
 use Rattle.std.proofs.lemmas.List.{length-map}
-use Rattle.std.proofs.lemmas.List.Elements.{All-get_or, All-weaker}
-use Rattle.std.proofs.lemmas.Option.{same_Some, slice_get-get_or, slice_get-map, slice_get_past, slice_get_within}
-use Rattle.feel_value.specs.Datum.{Datum, null}
+use Rattle.std.proofs.lemmas.List.Elements.{All-weaker}
+use Rattle.std.proofs.lemmas.Option.{same_Some, slice_get_past, slice_get_within}
+use Rattle.feel_value.specs.Datum.{Datum}
 use Rattle.feel_value.specs.Found.{each, ◌>>=◌}
 use Rattle.feel_value.specs.Limits.{is_value}
-use Rattle.feel_value.specs.Logic.{is_yes}
-use Rattle.feel_value.specs.declared.logic.Truth.{Truth}
 use Rattle.feel_value.specs.declared.logic.Truth.TheVariants.{Yes, No, Unknown}
 use Rattle.feel_text.specs.Meaning.{Bindings}
 use Rattle.feel_text.specs.Satisfied.{Answer, Told, Broken, satisfied}
@@ -16,14 +14,13 @@ use Rattle.feel_text.specs.Tests.{Tests}
 use Rattle.dmn_table.specs.Classes.{input_entries}
 use Rattle.dmn_table.specs.Hits.{does_hit, is_satisfied}
 use Rattle.dmn_table.specs.Parts.{rule_view}
-use Rattle.dmn_table.specs.Table.{Rule}
 use Rattle.dmn_table.specs.declared.table.Rule as rule
 use Rattle.dmn_analysis.specs.Asked.{is_asked}
-use Rattle.dmn_analysis.specs.Claims.{AlwaysHit, AreAsked, AreInputs, HasHit, HitsBehind, NeverHits, NeverTwo}
+use Rattle.dmn_analysis.specs.Claims.{AlwaysHit, AreAsked, AreInputs, HitsBehind, NeverHits, NeverTwo}
 use Rattle.dmn_analysis.specs.Classes.{is_of}
 use Rattle.dmn_analysis.specs.Columns.{ArePlaced, IsColumnOf, IsNever, TellsRow}
 use Rattle.dmn_analysis.specs.Pairs.{AreApart, IsApartAt, IsOut}
-use Rattle.dmn_analysis.specs.Sweep.{AreMet, AreTold, IsClassed, Meets, MeetsAt}
+use Rattle.dmn_analysis.specs.Sweep.{AreMet, AreTold, IsClassed, MeetsAt}
 use Rattle.dmn_analysis.specs.declared.asked.Asked.{Asked}
 use Rattle.dmn_analysis.specs.declared.columns.Column.{Column}
 use Rattle.dmn_analysis.specs.declared.columns.Met.TheVariants.{Never}

@@ -1,5 +1,5 @@
 -- Comparisons with the values of a class.
-use Rattle.std.proofs.Common.{◌≡◌, ◌∙◌, sym, ap, refl, subst, ℤ, ℕ, List, [], ◌∷◌, Bool, true, false, not, arith}
+use Rattle.std.proofs.Common.{◌≡◌, ◌∙◌, sym, ap, refl, ℤ, ℕ, List, Bool, true, false, not, arith}
 use Rattle.std.specs.Prelude.{int_le, int_lt, ◌<ℤ◌, ◌≤ℤ◌, bytes_eq}
 use Rattle.std.specs.Arc.{arc_str_bytes}
 use Rattle.std.specs.List.{list_any}

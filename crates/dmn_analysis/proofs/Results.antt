@@ -1,16 +1,15 @@
 -- What the hits of a table's rules say of its result.
-use Rattle.std.proofs.Common.{◌≡◌, ◌∙◌, sym, ap, refl, ℕ, zero, suc, ◌<◌, ◌≤◌, ◌⊎◌, inl, inr, List, [], ◌∷◌, length, Bool, true, false, Option, None, Some, arith}
+use Rattle.std.proofs.Common.{◌≡◌, ◌∙◌, sym, ap, refl, ℕ, zero, suc, ◌<◌, ◌≤◌, List, [], ◌∷◌, length, Bool, true, false, Option, None, Some, arith}
 use Rattle.std.specs.List.{slice_get, All}
 use Rattle.std.proofs.lemmas.Option.{same_Some}
 use Rattle.feel_value.specs.Datum.{Datum}
 use Rattle.feel_value.specs.Found.{each, ◌>>=◌, outcome_from}
 use Rattle.feel_value.specs.Limits.{is_value}
-use Rattle.feel_value.specs.declared.feel.Outcome.{Outcome}
 use Rattle.feel_text.specs.Meaning.{Bindings}
 use Rattle.dmn_table.specs.Hits.{does_hit, hit_of, kept, values_of}
 use Rattle.dmn_table.specs.Priority.{Hit}
 use Rattle.dmn_table.specs.Result.{found_hits, policy_result, result_from, table_result}
-use Rattle.dmn_table.specs.Table.{Rule, Table}
+use Rattle.dmn_table.specs.Table.{Table}
 use Rattle.dmn_analysis.specs.Claims.{AreAsked, AreInputs, IsComplete, IsUnique}
 use Rattle.dmn_analysis.specs.declared.asked.Asked.{Asked}
 

@@ -5,7 +5,6 @@ use Rattle.feel_text.specs.Tests.{Tests}
 use Rattle.dmn_analysis.specs.Sweep.{AreMet}
 use Rattle.dmn_analysis.specs.declared.columns.Column.{Column}
 use Rattle.dmn_analysis.specs.declared.memo.Known.{Known}
-use Rattle.dmn_analysis.specs.declared.memo.Bucket.{Bucket}
 use Rattle.dmn_analysis.specs.declared.memo.Memo.{Memo}
 
 -- from its place on, the columns are met by one of the rules that it has

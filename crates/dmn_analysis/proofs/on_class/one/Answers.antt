@@ -1,10 +1,8 @@
 use Rattle.std.proofs.Common.{◌≡◌, ◌∙◌, sym, ap}
-use Rattle.feel_value.specs.Datum.{Datum}
 use Rattle.feel_value.specs.Logic.{and_of}
-use Rattle.feel_value.specs.declared.logic.Truth.{Truth}
 use Rattle.feel_text.specs.Meaning.{den}
 use Rattle.feel_text.specs.Satisfied.{Told, answer, high_bound, joined, low_bound, stands_to, tested}
-use Rattle.feel_text.specs.TestsView.{bound_view, test_view}
+use Rattle.feel_text.specs.TestsView.{test_view}
 use Rattle.feel_text.specs.View.{view}
 use Rattle.dmn_analysis.proofs.on_class.one.Goals as goal
 
