@@ -1,0 +1,22 @@
+-- The values of a column that are asked about.
+use Rattle.std.specs.Prelude.{List, ℕ, Bool, true, false, bytes_eq}
+use Rattle.std.specs.Arc.{arc_str_bytes}
+use Rattle.std.specs.List.{list_any}
+use Rattle.feel_value.specs.Datum.{Datum, null, boolean, number, text, list, context}
+use Rattle.dmn_analysis.specs.declared.asked.Texts.{Texts}
+use Rattle.dmn_analysis.specs.declared.asked.Texts.TheVariants as texts
+use Rattle.dmn_analysis.specs.declared.asked.Asked.{Asked}
+
+abbrev pub is_asked_text : Texts → List ℕ → Bool
+is_asked_text texts.None s = false
+is_asked_text (texts.These ts) s = list_any (λ t. bytes_eq s (arc_str_bytes t)) ts.items
+is_asked_text texts.All s = true
+
+-- whether this value of the column is asked about
+abbrev pub is_asked : Asked → Datum → Bool
+is_asked a null = a.null
+is_asked a (boolean b) = a.truths
+is_asked a (number z) = a.numbers
+is_asked a (text s) = is_asked_text a.texts s
+is_asked a (list ds) = a.parted
+is_asked a (context es) = a.parted

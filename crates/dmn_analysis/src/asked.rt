@@ -1,0 +1,44 @@
+//! What is asked about: of each column the values that it may have.
+ghost use Rattle.std.specs.Prelude.{◌≡◌, true};
+ghost use Rattle.feel_value.specs.Datum.{Datum};
+ghost use Rattle.dmn_analysis.specs.Asked.{is_asked};
+
+use std::sync::ArcStr;
+
+/// Which texts a column may have.
+#[derive(Drop)]
+pub enum Texts {
+    None,
+    These(Vec<ArcStr>),
+    All,
+}
+
+/// The values that a column may have.
+#[derive(Drop)]
+pub struct Asked {
+    /// Whether null is one of them.
+    pub null: bool,
+    /// Whether true and false are.
+    pub truths: bool,
+    /// Whether the numbers are.
+    pub numbers: bool,
+    /// Which texts are.
+    pub texts: Texts,
+    /// Whether lists and contexts are.
+    pub parted: bool,
+}
+
+impl Asked {
+    /// Every value.
+    pub fn every() -> Asked
+        ensures { (v : Datum) → is_asked result v ≡ true }
+    {
+        Asked {
+            null: true,
+            truths: true,
+            numbers: true,
+            texts: Texts::All,
+            parted: true,
+        }
+    }
+}
