@@ -3,7 +3,7 @@
 /// What `desk --version` says behind the program's name: its version, its licence, the toolchain that it was proved with, and
 /// the hash of the sources that it was built from.
 pub const VERSION: &str = concat!(
-    "0.13.0\n",
+    "0.14.0\n",
     "licence MIT OR Apache-2.0\n",
     "proved with rattle-kit-13f logic dac8208d650f15bf\n",
     "sources 68e7ceaab7234139e68dcc6f4ba8663e97218abcb664e1e02f3164644066fc71",
