@@ -34,6 +34,9 @@ use Rattle.desk_explaining.specs.Script.{AreAnswered}
 use Rattle.desk_explaining.specs.StateView.{Adds, After, Explains, HasSum, Hears, HearsText, Loads, Stands, model_of}
 use Rattle.desk_explaining.specs.declared.state.State.{State}
 
+pub same_some : (a b : List ℕ) → Some a ≡ Some b → a ≡ b
+same_some a b e = cc
+
 -- ---- one line is said
 
 -- the line of an answer is added
@@ -71,45 +74,45 @@ hears_on_client old new k line r text text' answers stays on sum adds = λ lanes
 
 -- the fault of a model
 not_loaded : {M : Type 0} (json : Data) (r : Result M ModelFault) (k : ℕ) (force : Option (List ℕ)) (q : Report) → q ≡ model_answer k r → ((j : ℕ) → q ≢ Loaded j) → newer_model json r force ≡ force
-not_loaded json (Ok m) k force q e no = absurd (no k e)
-not_loaded json (Err f) k force q e no = refl
+not_loaded json (Ok m) k force q e never = absurd (never k e)
+not_loaded json (Err f) k force q e never = refl
 
 explained_faulty : (misses : _) (k : ℕ) (model : Option (List ℕ)) (json : Data) (r : Report) → is_on_model r ≡ true → ((j : ℕ) → r ≢ Loaded j) → IsExplained misses k model (Model json) r (report_json r)
-explained_faulty misses k model json (Loaded j) e no = absurd (no j refl)
-explained_faulty misses k model json (Faulty j f) e no = refl
-explained_faulty misses k model json (Refused j why) e no = cc
-explained_faulty misses k model json (Of n j what) e no = cc
-explained_faulty misses k model json (Reply n t o) e no = cc
+explained_faulty misses k model json (Loaded j) e never = absurd (never j refl)
+explained_faulty misses k model json (Faulty j f) e never = refl
+explained_faulty misses k model json (Refused j why) e never = cc
+explained_faulty misses k model json (Of n j what) e never = cc
+explained_faulty misses k model json (Reply n t o) e never = cc
 
 hears_faulty : (old new : State) (k : ℕ) (json : Data) (r : held.Report) (text text' : List ℕ) → Answers old.register k (Model json) (answer.Told r) new.register
     → is_on_model (report_view r) ≡ true → ((j : ℕ) → report_view r ≢ Loaded j) → new.sum ≡ old.sum → Adds text (report_json (report_view r)) text'
     → Hears old k (Says (Model json)) text text' new
-hears_faulty old new k json r text text' answers on no sum adds = λ lanes earlier s num.
+hears_faulty old new k json r text text' answers on never sum adds = λ lanes earlier s num.
     let a = answers lanes earlier s.register num in
     let d = report_json (report_view r) in
-    let stays = not_loaded json (read_model json) (number_after earlier) (in_force earlier) (report_view r) a.0 no in (
+    let stays = not_loaded json (read_model json) (number_after earlier) (in_force earlier) (report_view r) a.0 never in (
       compact_text d ∷ [],
-      (d, subst (λ q. IsExplained old.misses (number_after earlier) (in_force earlier) (Model json) q d) a.0 (explained_faulty old.misses (number_after earlier) (in_force earlier) json (report_view r) on no), refl),
+      (d, subst (λ q. IsExplained old.misses (number_after earlier) (in_force earlier) (Model json) q d) a.0 (explained_faulty old.misses (number_after earlier) (in_force earlier) json (report_view r) on never), refl),
       one_more text text' d adds,
       record { register = a.1; sum = same_sum old new lanes earlier (Says (Model json) ∷ earlier) s a.1 stays sum },
     )
 
 -- no line but a model's is reported as loaded
 no_loaded : (r : held.Report) → ((j : ℕ) → r ≢ report.Loaded j) → (j : ℕ) → report_view r ≢ Loaded j
-no_loaded (report.Loaded k) no j e = no k refl
-no_loaded (report.Faulty k f) no j e = cc
-no_loaded (report.Refused k why) no j e = cc
-no_loaded (report.Of n k what) no j e = cc
-no_loaded (report.Reply n t o) no j e = cc
+no_loaded (report.Loaded k) never j e = never k refl
+no_loaded (report.Faulty k f) never j e = cc
+no_loaded (report.Refused k why) never j e = cc
+no_loaded (report.Of n k what) never j e = cc
+no_loaded (report.Reply n t o) never j e = cc
 
 -- whatever is reported but a model
 pub hears_told : (old new : State) (k : ℕ) (line : Line) (r : held.Report) (text text' : List ℕ) → Answers old.register k line (answer.Told r) new.register
     → AsksBy (force_of old.register) line (answer.Told r) → ((j : ℕ) → r ≢ report.Loaded j) → new.sum ≡ old.sum → Adds text (report_json (report_view r)) text'
     → Hears old k (Says line) text text' new
-hears_told old new k (Model json) r text text' answers asks no sum adds = hears_faulty old new k json r text text' answers asks (no_loaded r no) sum adds
-hears_told old new k (Request n s i) r text text' answers asks no sum adds = hears_on_client old new k (Request n s i) r text text' answers (λ earlier. refl) asks sum adds
-hears_told old new k (Close n) r text text' answers asks no sum adds = hears_on_client old new k (Close n) r text text' answers (λ earlier. refl) asks sum adds
-hears_told old new k (Resize n c) r text text' answers asks no sum adds = hears_on_client old new k (Resize n c) r text text' answers (λ earlier. refl) asks sum adds
+hears_told old new k (Model json) r text text' answers asks never sum adds = hears_faulty old new k json r text text' answers asks (no_loaded r never) sum adds
+hears_told old new k (Request n s i) r text text' answers asks never sum adds = hears_on_client old new k (Request n s i) r text text' answers (λ earlier. refl) asks sum adds
+hears_told old new k (Close n) r text text' answers asks never sum adds = hears_on_client old new k (Close n) r text text' answers (λ earlier. refl) asks sum adds
+hears_told old new k (Resize n c) r text text' answers asks never sum adds = hears_on_client old new k (Resize n c) r text text' answers (λ earlier. refl) asks sum adds
 
 -- a model that came in force
 loaded_is : {M : Type 0} (json : Data) (r : Result M ModelFault) (k j : ℕ) (force : Option (List ℕ)) → Loaded j ≡ model_answer k r
@@ -211,9 +214,10 @@ heard_other state k (heard.Object members) it text text' h none is = heard_shape
 
 -- ---- after the lines
 
-no_first : (k : ℕ) → take k ([] : List (List ℕ)) ≡ []
-no_first zero = refl
-no_first (suc k) = refl
+no_first : {X : Type 0} (k : ℕ) (xs : List X) → xs ≡ [] → take k xs ≡ []
+no_first zero xs e = refl
+no_first (suc k) [] e = refl
+no_first (suc k) (x ∷ xs) e = cc
 
 -- nothing was said yet
 pub at_start : (state : State) (lanes : ℕ) → Stands state lanes [] → After state [] []
@@ -222,7 +226,7 @@ at_start state lanes s = record {
   read = tt;
   answered = refl;
   stands = record {
-    register = record { count = refl; model = s.register.model; clients = s.register.clients ∙ ap (map (client_after [])) (no_first lanes ∙ sym (no_first state.register.lanes)) };
+    register = record { count = refl; model = s.register.model; clients = s.register.clients ∙ ap (map (client_after [])) (no_first lanes [] refl ∙ sym (no_first state.register.lanes [] refl)) };
     sum = s.sum;
   };
 }

@@ -18,7 +18,7 @@ use Rattle.desk_wire.specs.Parts.{with_name, with_number, with_word}
 use Rattle.desk_wire.specs.declared.word.Word.TheVariants as word
 use Rattle.desk_explaining.specs.StateView.{Explains}
 use Rattle.desk_explaining.specs.Due.{explanation, loaded, result_told, sum_of}
-use Rattle.desk_explaining.specs.ExplainedLine.{begin_of, asked_of, middle_of, outcome_of, ticket_of, loaded_line}
+use Rattle.desk_explaining.specs.ExplainedLine.{begin_of, asked_of, middle_of, outcome_of, ticket_of, loaded_line, read_of}
 
 pub pieces_3 : (l a b c : List ℕ) → ((l ++ a) ++ b) ++ c ≡ l ++ (a ++ (b ++ c))
 pieces_3 l a b c = simp append_assoc
@@ -28,9 +28,6 @@ pieces_4 l a b c d = simp append_assoc
 
 pub pieces_5 : (l a b c d e : List ℕ) → ((((l ++ a) ++ b) ++ c) ++ d) ++ e ≡ l ++ (a ++ (b ++ (c ++ (d ++ e))))
 pieces_5 l a b c d e = simp append_assoc
-
-pub pieces_7 : (l a b c d e f g : List ℕ) → ((((((l ++ a) ++ b) ++ c) ++ d) ++ e) ++ f) ++ g ≡ l ++ (a ++ (b ++ (c ++ (d ++ (e ++ (f ++ g))))))
-pieces_7 l a b c d e f g = simp append_assoc
 
 -- ---- a model
 
@@ -135,7 +132,7 @@ explains k sum asked misses course text begun asks inputs middle told text' list
     let decisions = decisions_told misses found course.items.now course.service.now in (
       given,
       decisions,
-      record { course = course; is = c; inputs = refl; told = refl },
+      record { course = course; is = c; read = refl; told = refl },
       t ∙ ap (λ l. l ++ ticket_of asked.ticket)
           (o ∙ ap (λ r. middle ++ outcome_of r) c.result ∙ ap (λ l. l ++ outcome_of (request_result asked.task))
           (m ∙ ap (λ l. inputs ++ middle_of l) list ∙ ap (λ l. l ++ middle_of (kept_text (compact_text (array decisions))))

@@ -6,10 +6,13 @@ use Rattle.feel_value.specs.Json.{json_of}
 use Rattle.feel_value.specs.declared.feel.Outcome.{Outcome}
 use Rattle.feel_value.specs.declared.feel.Outcome.TheVariants.{Is, Limit}
 
+-- `{"line":k,"model":true,"read":{..}`
+abbrev pub read_of : ℕ → List ℕ → List ℕ
+read_of k text = codes "{\"line\":" ++ (decimal k ++ (codes ",\"model\":true,\"read\":" ++ text))
+
 -- `{"line":k,"model":true,"read":{..},"sha256":".."}`, with the newline
 abbrev pub loaded_line : ℕ → List ℕ → List ℕ → List ℕ
-loaded_line k text sum =
-    codes "{\"line\":" ++ (decimal k ++ (codes ",\"model\":true,\"read\":" ++ (text ++ (codes ",\"sha256\":" ++ (quoted sum ++ codes "}\n")))))
+loaded_line k text sum = read_of k text ++ (codes ",\"sha256\":" ++ (quoted sum ++ codes "}\n"))
 
 -- `{"client":name,"line":k`
 abbrev pub begin_of : List ℕ → ℕ → List ℕ

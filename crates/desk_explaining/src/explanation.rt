@@ -12,7 +12,7 @@ ghost use Rattle.dmn_explain.specs.Explanation.{decisions_told};
 ghost use Rattle.desk_lines.specs.Lines.{ended};
 ghost use Rattle.desk_explaining.specs.Due as due;
 ghost use Rattle.desk_explaining.specs.Due.{AreReasonsOf};
-ghost use Rattle.desk_explaining.specs.ExplainedLine.{begin_of, asked_of, middle_of, outcome_of, ticket_of, loaded_line};
+ghost use Rattle.desk_explaining.specs.ExplainedLine.{begin_of, asked_of, middle_of, outcome_of, ticket_of, loaded_line, read_of};
 ghost use Rattle.desk_explaining.specs.StateView.{Explains};
 
 use desk_requests::Asked;
@@ -30,8 +30,20 @@ pub fn sum_of(alloc: Global, text: &[u8]) -> Result<String, AllocError>
     hex::encode(alloc, Sha256::digest(text))
 }
 
+/// Adds `{"line":k,"model":true,"read":{..}`, of a model's text.
+#[tactic(auto, using(crate::proofs::Telling::pieces_4))]
+fn add_read(number: u64, model: &[u8], line: &mut Vec<u8>) -> Result<(), AllocError>
+    ensures { OnOk result (line.new.items ≡ line.old.items ++ read_of number model.now) }
+{
+    line.extend_from_slice(b"{\"line\":")?;
+    add_number(number, line)?;
+    line.extend_from_slice(b",\"model\":true,\"read\":")?;
+    line.extend_from_slice(model)?;
+    Ok(())
+}
+
 /// Adds `{"line":k,"model":true,"read":{..},"sha256":".."}` with the newline, of a model's text and its sum.
-#[tactic(auto, using(crate::proofs::Telling::pieces_7))]
+#[tactic(auto, using(crate::proofs::Telling::pieces_4))]
 pub fn add_loaded(
     alloc: Global,
     number: u64,
@@ -41,10 +53,7 @@ pub fn add_loaded(
 ) -> Result<(), AllocError>
     ensures { OnOk result (line.new.items ≡ line.old.items ++ loaded_line number model.now sum.now) }
 {
-    line.extend_from_slice(b"{\"line\":")?;
-    add_number(number, line)?;
-    line.extend_from_slice(b",\"model\":true,\"read\":")?;
-    line.extend_from_slice(model)?;
+    add_read(number, model, line)?;
     line.extend_from_slice(b",\"sha256\":")?;
     add_quoted(alloc, sum, line)?;
     line.extend_from_slice(b"}\n")
