@@ -29,6 +29,7 @@ use Rattle.desk_requests.specs.declared.register.Answer.TheVariants as answer
 use Rattle.desk_requests.specs.declared.register.Asked.{Asked}
 use Rattle.desk_requests.proofs.Fewness.{no_line}
 use Rattle.desk_requests.proofs.Readings.{read-length}
+use Rattle.desk_explaining.proofs.Counting.{takes_own}
 use Rattle.desk_explaining.specs.Due.{IsAnswer, IsExplained, explanation, loaded, sum_of}
 use Rattle.desk_explaining.specs.Script.{AreAnswered}
 use Rattle.desk_explaining.specs.StateView.{Adds, After, Explains, HasSum, Hears, HearsText, Loads, Stands, model_of}
@@ -145,7 +146,7 @@ hears_asked old new k (Resize n c) asked text text' answers asks sum explains = 
 hears_asked old new k (Request n s i) asked text text' answers asks sum explains = λ lanes earlier stands num.
     let a = answers lanes earlier stands.register num in
     let task = asks.2 in
-    let e = explains task.0 (stands.sum task.0 task.1) in
+    let e = explains task.0 (stands.sum task.0 task.1) (takes_own task.0 s i asked.task task.2) in
     let d = explanation asked.client.now k task.0 asked.service.now e.0 e.1 (request_result asked.task) asked.ticket in
     let is : d ≡ explanation asked.client.now (number_after earlier) task.0 s e.0 e.1 (request_result asked.task) asked.ticket =
     ap (λ j. explanation asked.client.now j task.0 asked.service.now e.0 e.1 (request_result asked.task) asked.ticket) num

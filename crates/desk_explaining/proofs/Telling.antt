@@ -18,6 +18,7 @@ use Rattle.desk_wire.specs.Parts.{with_name, with_number, with_word}
 use Rattle.desk_wire.specs.declared.word.Word.TheVariants as word
 use Rattle.desk_explaining.specs.StateView.{Explains}
 use Rattle.desk_explaining.specs.Due.{explanation, loaded, result_told, sum_of}
+use Rattle.desk_explaining.proofs.Counting.{one_each}
 use Rattle.desk_explaining.specs.ExplainedLine.{begin_of, asked_of, middle_of, outcome_of, ticket_of, loaded_line, read_of}
 
 pub pieces_3 : (l a b c : List ℕ) → ((l ++ a) ++ b) ++ c ≡ l ++ (a ++ (b ++ c))
@@ -121,14 +122,15 @@ pub explains : (k : ℕ) (sum : List ℕ) (asked : Asked) (misses : Bool) (cours
     → listed ≡ kept_text (compact_text (array (decisions_told misses (found_for c.model (zip (parameters_of c.service) asked.task.values)) course.items.now course.service.now)))
     → begun ≡ text ++ begin_of asked.client.now k
     → asks ≡ begun ++ asked_of sum asked.service.now
-    → inputs ≡ asks ++ compact_text (object (inputs_told (found_for c.model (zip (parameters_of c.service) asked.task.values)) course.items.now course.service.now))
+    → (length asked.task.values ≡ length (parameters_of c.service) → inputs ≡ asks ++ compact_text (object (inputs_told (zip (parameters_of c.service) asked.task.values))))
     → middle ≡ inputs ++ middle_of listed
     → told ≡ middle ++ outcome_of course.result
     → text' ≡ told ++ ticket_of asked.ticket
     → Explains k sum asked misses text text'
-explains k sum asked misses course text begun asks inputs middle told text' listed c list b a i m o t = λ model is.
+explains k sum asked misses course text begun asks inputs middle told text' listed c list b a given_for m o t = λ model is takes.
     let found = found_for c.model (zip (parameters_of c.service) asked.task.values) in
-    let given = inputs_told found course.items.now course.service.now in
+    let given = inputs_told (zip (parameters_of c.service) asked.task.values) in
+    let i = given_for (one_each asked.task course c takes) in
     let decisions = decisions_told misses found course.items.now course.service.now in (
       given,
       decisions,

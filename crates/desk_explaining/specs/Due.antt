@@ -64,7 +64,7 @@ explanation name k text service inputs decisions outcome t =
 pub record AreReasonsOf (misses : Bool) (q : plan.Request) (inputs : Members) (decisions : Items) : Type 0 where
   pub course : Course
   pub is : IsCourseOf q course
-  pub read : inputs ≡ inputs_told (outcome_of is.model (zip (parameters_of is.service) q.values)) course.items.now course.service.now
+  pub read : inputs ≡ inputs_told (zip (parameters_of is.service) q.values)
   pub told : decisions ≡ decisions_told misses (outcome_of is.model (zip (parameters_of is.service) q.values)) course.items.now course.service.now
 
 -- ## The answer to a line

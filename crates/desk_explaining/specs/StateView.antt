@@ -1,5 +1,5 @@
 -- Internal: no public contract cites these words. The state as it stands between lines, and what a line makes of it.
-use Rattle.std.specs.Prelude.{◌≡◌, ℕ, Bool, List, ◌∷◌, ◌++◌, Option, Some, reverse, string_bytes}
+use Rattle.std.specs.Prelude.{◌≡◌, ℕ, Bool, List, ◌∷◌, ◌++◌, Option, Some, length, reverse, string_bytes}
 use Rattle.std.specs.List.{flat_map}
 use Rattle.serde_json.specs.Data.{Data, Items, Members}
 use Rattle.serde_json.specs.Written.{compact_text}
@@ -8,7 +8,7 @@ use Rattle.desk_wire.specs.Reading.{Reading}
 use Rattle.desk_requests.specs.Line.{AreRead, Line, Reads}
 use Rattle.desk_requests.specs.Register.{StandsAfter, force_of}
 use Rattle.desk_requests.specs.State.{number_after}
-use Rattle.dmn_plan.specs.Request.{request_result}
+use Rattle.dmn_plan.specs.Request.{TakesValues, request_result}
 use Rattle.desk_requests.specs.declared.register.Asked.{Asked}
 use Rattle.desk_explaining.specs.Due.{AreReasonsOf, IsAnswer, explanation, loaded, sum_of}
 use Rattle.desk_explaining.specs.Script.{AreAnswered}
@@ -31,9 +31,9 @@ pub record Loads (old : State) (k : ℕ) (text text' : List ℕ) (new : State) :
   pub says : (json : Data) → model_of old ≡ Some (compact_text json) → Adds text (loaded k json) text'
   pub sum : HasSum new
 
--- A reply with its reasons is added, where the task is that of a request under the model of this sum.
+-- A reply with its reasons is added, where the task has a value for each parameter of its service, and its model has this sum.
 abbrev pub Explains : ℕ → List ℕ → Asked → Bool → List ℕ → List ℕ → Type 0
-Explains k sum asked misses text text' = (model : List ℕ) → sum ≡ sum_of model →
+Explains k sum asked misses text text' = (model : List ℕ) → sum ≡ sum_of model → TakesValues asked.task.text asked.task.service (length asked.task.values) →
     (given : Members) × (decisions : Items) × AreReasonsOf misses asked.task given decisions
     × Adds text (explanation asked.client.now k model asked.service.now given decisions (request_result asked.task) asked.ticket) text'
 

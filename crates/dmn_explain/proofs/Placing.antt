@@ -1,8 +1,8 @@
 -- What is told from the outcomes at the places of a plan is what is told from those that its names stand for.
-use Rattle.std.proofs.Common.{◌≡◌, ◌≢◌, ◌∙◌, sym, ap, ap₂, refl, subst, ℕ, suc, ◌+◌, ◌<◌, ◌⊎◌, inl, inr, List, [], ◌∷◌, map, length, get_or, drop, true, false, ◌||◌, Option, None, Some, option_map, arith}
+use Rattle.std.proofs.Common.{◌≡◌, ◌≢◌, ◌∙◌, sym, ap, ap₂, refl, subst, ℕ, suc, ◌+◌, ◌<◌, ◌⊎◌, inl, inr, List, [], ◌∷◌, map, length, get_or, drop, Bool, true, false, cond, ◌||◌, Option, None, Some, option_map, arith}
 use Rattle.std.specs.Arc.{arc_str_bytes}
 use Rattle.std.specs.Prelude.{nat_eq, codes}
-use Rattle.std.specs.List.{list_any, All, slice_get}
+use Rattle.std.specs.List.{list_any, All, filter, flat_map, slice_get}
 use Rattle.std.proofs.lemmas.Bool.Decides.{eqb_tells}
 use Rattle.std.proofs.lemmas.List.{get_or-map, at_drop_more}
 use Rattle.std.proofs.lemmas.Option.{get_or_from_slice_get, slice_get_read}
@@ -14,7 +14,7 @@ use Rattle.feel_text.specs.Expr.{Expr}
 use Rattle.feel_text.specs.Meaning.{Bindings}
 use Rattle.feel_text.specs.Needed.{bindings_from, found_at}
 use Rattle.dmn_table.specs.Table.{Table}
-use Rattle.dmn_graph.specs.Reach.{Each, IsInOrder}
+use Rattle.dmn_graph.specs.Reach.{Each, IsInOrder, has_same}
 use Rattle.dmn_form.specs.Model.{Name, Boxed, Service, Model}
 use Rattle.dmn_logic.specs.LogicView.{logic_view}
 use Rattle.dmn_logic.specs.declared.logic.Logic.{Logic}
@@ -26,8 +26,12 @@ use Rattle.dmn_service.specs.declared.plan.Item.{Item}
 use Rattle.dmn_service.specs.declared.plan.ServicePlan.{ServicePlan}
 use Rattle.dmn_service.proofs.Kept.{name_here}
 use Rattle.dmn_explain.specs.How.{named_as, valued}
-use Rattle.dmn_explain.specs.Explanation.{decision_told, given_told, decision_at, item_if, places_told, decisions_told, how_under}
+use Rattle.dmn_explain.specs.Explanation.{decision_told, given_told, decision_at, item_if, places_told, decisions_told, how_under, needed_parameters}
 use Rattle.dmn_explain.specs.Placed.{decided_here, given_here, item_told, told_by_place, given_by_place, decided_by_place}
+
+-- whether some decision of the plan's order needs the place
+abbrev pub is_needed : List Item → ServicePlan → ℕ → Bool
+is_needed items plan = has_same nat_eq (flat_map (needs_at items) plan.order.items)
 
 -- what holds of each of a list holds of what is among it
 each_at : (P : ℕ → Type 0) (qs : List ℕ) (q : ℕ) → Each P qs → IsAmong qs q → P q
@@ -56,7 +60,15 @@ told_from tell items qs i x rest o more inside here e =
     ∙ ap (λ (s : Option Item). item_if (s >>= item_told tell q) (told_by_place tell items (drop (i + 1) qs) rest)) (slice_get_read items (length items) q x refl inside here)
     ∙ ap (λ (l : Option Logic). item_if (option_map (λ l. tell x q (logic_view l)) l) (told_by_place tell items (drop (i + 1) qs) rest)) e
 
-module _ (outcome : Name → Outcome) (items : List Item) (found : List Outcome) where
+each_filter : (P : ℕ → Type 0) (test : ℕ → Bool) (qs : List ℕ) → Each P qs → Each P (filter test qs)
+each_filter P test [] h = tt
+each_filter P test (q ∷ qs) h = go (test q) (each_filter P test qs h.1)
+  where
+    go : (b : Bool) → Each P (filter test qs) → Each P (cond b (q ∷ filter test qs) (filter test qs))
+    go true rest = (h.0, rest)
+    go false rest = rest
+
+module _ (w : Bool) (outcome : Name → Outcome) (items : List Item) (found : List Outcome) where
   -- the outcome at a place is that of its name
   abbrev Stands : ℕ → Type 0
   Stands q = found_at found q ≡ value_of (outcome (name_at items q))
@@ -77,16 +89,16 @@ module _ (outcome : Name → Outcome) (items : List Item) (found : List Outcome)
       ap (λ n. value_of (outcome n)) (sym named) ∙ sym stands
 
   decided_item : (q : ℕ) (x : Item) → Inside q → slice_get items q ≡ Some x → Stands q → Each Stands x.needs.items → x.named ≡ named_places (name_at items) x.needs.items
-      → option_map (decision_told outcome) (decision_of items x) ≡ item_told (decided_here found) q x
+      → option_map (decision_told w outcome) (decision_of items x) ≡ item_told (decided_here w found) q x
   decided_item q x inside there stands needs named = by_logic x.logic
     where
       by_logic : (o : Option Logic)
-          → option_map (decision_told outcome) (option_map (λ l. record { name = arc_str_bytes x.name; needs = map (name_at items) x.needs.items; logic = logic_view l }) o)
-          ≡ option_map (λ l. decided_here found x q (logic_view l)) o
+          → option_map (decision_told w outcome) (option_map (λ l. record { name = arc_str_bytes x.name; needs = map (name_at items) x.needs.items; logic = logic_view l }) o)
+          ≡ option_map (λ l. decided_here w found x q (logic_view l)) o
       by_logic None = refl
       by_logic (Some l) =
-          ap (λ (v : Option Datum). Some (named_as (arc_str_bytes x.name) v (how_under (bindings_to outcome (map (name_at items) x.needs.items)) (logic_view l)))) (value_here q x inside there stands)
-          ∙ ap (λ (bs : Option Bindings). Some (named_as (arc_str_bytes x.name) (found_at found q) (how_under bs (logic_view l))))
+          ap (λ (v : Option Datum). Some (named_as (arc_str_bytes x.name) v (how_under w (bindings_to outcome (map (name_at items) x.needs.items)) (logic_view l)))) (value_here q x inside there stands)
+          ∙ ap (λ (bs : Option Bindings). Some (named_as (arc_str_bytes x.name) (found_at found q) (how_under w bs (logic_view l))))
           (bindings_same x.needs.items needs ∙ ap (bindings_from found) (sym named))
 
   given_item : (q : ℕ) (x : Item) → Inside q → slice_get items q ≡ Some x → Stands q
@@ -114,10 +126,10 @@ module _ (outcome : Name → Outcome) (items : List Item) (found : List Outcome)
   abbrev AreNamed : Type 0
   AreNamed = All (λ x. x.named ≡ named_places (name_at items) x.needs.items) items
 
-  decided_at_place : (q : ℕ) → AreNamed → Inside q → Stands q → Each Stands (needs_at items q) → option_map (decision_told outcome) (decision_at items q) ≡ (slice_get items q >>= item_told (decided_here found) q)
+  decided_at_place : (q : ℕ) → AreNamed → Inside q → Stands q → Each Stands (needs_at items q) → option_map (decision_told w outcome) (decision_at items q) ≡ (slice_get items q >>= item_told (decided_here w found) q)
   decided_at_place q named inside stands needs = go (slice_get items q) refl
     where
-      go : (o : Option Item) → slice_get items q ≡ o → option_map (decision_told outcome) (o >>= decision_of items) ≡ (o >>= item_told (decided_here found) q)
+      go : (o : Option Item) → slice_get items q ≡ o → option_map (decision_told w outcome) (o >>= decision_of items) ≡ (o >>= item_told (decided_here w found) q)
       go None e = refl
       go (Some x) e =
           let here : get_or items q x ≡ x = get_or_from_slice_get items q x x e in
@@ -126,7 +138,7 @@ module _ (outcome : Name → Outcome) (items : List Item) (found : List Outcome)
           (subst (λ (y : Item). y.named ≡ named_places (name_at items) y.needs.items) here (named q x inside))
 
   decided_same : (seen qs : List ℕ) → AreNamed → Each Inside qs → Each Stands seen → Each Stands qs → IsInOrder nat_eq (needs_at items) seen qs
-      → places_told (decision_told outcome) items qs no_items ≡ decided_by_place found items qs
+      → places_told (decision_told w outcome) items qs no_items ≡ decided_by_place w found items qs
   decided_same seen [] named inside before stands order = refl
   decided_same seen (q ∷ qs) named inside before stands order =
       ap₂ item_if
@@ -135,8 +147,8 @@ module _ (outcome : Name → Outcome) (items : List Item) (found : List Outcome)
 
   pub told_same : (m : Model Expr Table) (s : Service) (plan : ServicePlan) → HasPlacesWithin items plan → IsPlanOf m s items plan
       → HaveOutcomes outcome items found plan.parameters.items → HaveOutcomes outcome items found plan.order.items
-      → decisions_told outcome items plan ≡ given_by_place found items plan.parameters.items (decided_by_place found items plan.order.items)
+      → decisions_told w outcome items plan ≡ given_by_place found items (needed_parameters items plan) (decided_by_place w found items plan.order.items)
   told_same m s plan within h given decided =
-      given_same plan.parameters.items (places_told (decision_told outcome) items plan.order.items no_items) (decided_by_place found items plan.order.items)
-      (each_from_all Inside plan.parameters.items within.parameters) given
+      given_same (needed_parameters items plan) (places_told (decision_told w outcome) items plan.order.items no_items) (decided_by_place w found items plan.order.items)
+      (each_filter Inside (is_needed items plan) plan.parameters.items (each_from_all Inside plan.parameters.items within.parameters)) (each_filter Stands (is_needed items plan) plan.parameters.items given)
       (decided_same plan.parameters.items plan.order.items within.named (each_from_all Inside plan.order.items within.order) given decided h.behind)

@@ -33,10 +33,11 @@ use std::sync::ArcStr;
 pub(crate) fn add_how<'a>(
     alloc: Global,
     logic: &'a Logic,
+    with_misses: bool,
     env: &mut Env<'a>,
     text: &mut BoundedText,
 ) -> Result<(), AllocError>
-    ensures text { OnOk result (text.new ≡ longer text.old (members_text true (how (logic_view logic.now) env.old))) }
+    ensures text { OnOk result (text.new ≡ longer text.old (members_text true (how with_misses (logic_view logic.now) env.old))) }
     ensures same { env.new ≡ env.old }
 {
     match logic {
@@ -46,16 +47,16 @@ pub(crate) fn add_how<'a>(
         }
         Logic::Table(table) => {
             add_key(true, Key::Table, text)?;
-            add_table(alloc, table, env, text)?;
+            add_table(alloc, table, with_misses, env, text)?;
             text.push(b'}')?;
             Ok(())
         }
-        Logic::List(members) => add_list(alloc, members, env, text),
-        Logic::Context(entries) => add_context(alloc, entries, env, text),
+        Logic::List(members) => add_list(alloc, members, with_misses, env, text),
+        Logic::Context(entries) => add_context(alloc, entries, with_misses, env, text),
         Logic::ContextWith(entries, last) => {
             let outer = env.len();
-            let added = match add_entries(alloc, entries, env, text) {
-                Ok(all) => add_result(alloc, all, last, env, text),
+            let added = match add_entries(alloc, entries, with_misses, env, text) {
+                Ok(all) => add_result(alloc, all, last, with_misses, env, text),
                 Err(error) => Err(error),
             };
             env.cut(outer);
@@ -69,17 +70,18 @@ pub(crate) fn add_how<'a>(
 fn add_told<'a>(
     alloc: Global,
     logic: &'a Logic,
+    with_misses: bool,
     env: &mut Env<'a>,
     text: &mut BoundedText,
 ) -> Result<Outcome, AllocError>
-    ensures text { OnOk result (text.new ≡ longer text.old (compact_text (told_as (value_of (boxed (logic_view logic.now) env.old)) (how (logic_view logic.now) env.old)))) }
+    ensures text { OnOk result (text.new ≡ longer text.old (compact_text (told_as (value_of (boxed (logic_view logic.now) env.old)) (how with_misses (logic_view logic.now) env.old)))) }
     ensures value { IfOk result (λ o. o ≡ boxed (logic_view logic.now) env.old) }
     ensures same { env.new ≡ env.old }
 {
     let outcome = evaluate(alloc, logic, env)?;
     text.push(b'{')?;
     add_valued(alloc, false, Key::Value, outcome.value(), text)?;
-    add_how(alloc, logic, env, text)?;
+    add_how(alloc, logic, with_misses, env, text)?;
     Ok(outcome)
 }
 
@@ -88,14 +90,15 @@ fn add_told<'a>(
 fn add_list<'a>(
     alloc: Global,
     members: &'a [Logic],
+    with_misses: bool,
     env: &mut Env<'a>,
     text: &mut BoundedText,
 ) -> Result<(), AllocError>
-    ensures text { OnOk result (text.new ≡ longer text.old (members_text true (how (list (members_view members.now)) env.old))) }
+    ensures text { OnOk result (text.new ≡ longer text.old (members_text true (how with_misses (list (members_view members.now)) env.old))) }
     ensures same { env.new ≡ env.old }
 {
     add_key(true, Key::Members, text)?;
-    add_members(alloc, members, env, text)?;
+    add_members(alloc, members, with_misses, env, text)?;
     text.push(b'}')?;
     Ok(())
 }
@@ -105,10 +108,11 @@ fn add_list<'a>(
 fn add_members<'a>(
     alloc: Global,
     members: &'a [Logic],
+    with_misses: bool,
     env: &mut Env<'a>,
     text: &mut BoundedText,
 ) -> Result<(), AllocError>
-    ensures text { OnOk result (text.new ≡ longer text.old (compact_text (array (members_told (members_view members.now) env.old)))) }
+    ensures text { OnOk result (text.new ≡ longer text.old (compact_text (array (members_told with_misses (members_view members.now) env.old)))) }
     ensures same { env.new ≡ env.old }
 {
     let mut later = false;
@@ -118,7 +122,7 @@ fn add_members<'a>(
             return Ok(());
         }
         add_comma(later, text)?;
-        let Outcome::Is(_) = add_told(alloc, member, env, text)? else {
+        let Outcome::Is(_) = add_told(alloc, member, with_misses, env, text)? else {
             text.push(b']')?;
             return Ok(());
         };
@@ -133,14 +137,15 @@ fn add_members<'a>(
 fn add_context<'a>(
     alloc: Global,
     entries: &'a [(ArcStr, Logic)],
+    with_misses: bool,
     env: &mut Env<'a>,
     text: &mut BoundedText,
 ) -> Result<(), AllocError>
-    ensures text { OnOk result (text.new ≡ longer text.old (members_text true (how (context (entries_view entries.now)) env.old))) }
+    ensures text { OnOk result (text.new ≡ longer text.old (members_text true (how with_misses (context (entries_view entries.now)) env.old))) }
     ensures same { env.new ≡ env.old }
 {
     let outer = env.len();
-    let all = add_entries(alloc, entries, env, text);
+    let all = add_entries(alloc, entries, with_misses, env, text);
     env.cut(outer);
     let _ = all?;
     text.push(b'}')?;
@@ -153,10 +158,11 @@ fn add_result<'a>(
     alloc: Global,
     all: bool,
     last: &'a Logic,
+    with_misses: bool,
     env: &mut Env<'a>,
     text: &mut BoundedText,
 ) -> Result<(), AllocError>
-    ensures text { OnOk result (text.new ≡ longer text.old (result_text all (logic_view last.now) env.old)) }
+    ensures text { OnOk result (text.new ≡ longer text.old (result_text with_misses all (logic_view last.now) env.old)) }
     ensures same { env.new ≡ env.old }
 {
     if !all {
@@ -164,7 +170,7 @@ fn add_result<'a>(
         return Ok(());
     }
     add_key(true, Key::Result, text)?;
-    add_told(alloc, last, env, text)?;
+    add_told(alloc, last, with_misses, env, text)?;
     text.push(b'}')?;
     Ok(())
 }
@@ -175,10 +181,11 @@ fn add_result<'a>(
 fn add_entries<'a>(
     alloc: Global,
     entries: &'a [(ArcStr, Logic)],
+    with_misses: bool,
     env: &mut Env<'a>,
     text: &mut BoundedText,
 ) -> Result<bool, AllocError>
-    ensures text { OnOk result (text.new ≡ longer text.old (entries_text (entries_told (entries_view entries.now) env.old))) }
+    ensures text { OnOk result (text.new ≡ longer text.old (entries_text (entries_told with_misses (entries_view entries.now) env.old))) }
     ensures bound { IfOk result (λ all. is_none text.new ≡ false → bound_behind env.old (entry_values_of (entries_view entries.now) env.old) ≡ (if all then Some env.new else None)) }
     ensures outer { take (length env.old) env.new ≡ env.old }
 {
@@ -190,7 +197,7 @@ fn add_entries<'a>(
             return Ok(false);
         }
         add_comma(later, text)?;
-        let Outcome::Is(value) = add_entry(alloc, name.as_str(), logic, env, text)? else {
+        let Outcome::Is(value) = add_entry(alloc, name.as_str(), logic, with_misses, env, text)? else {
             text.push(b']')?;
             return Ok(false);
         };
@@ -207,16 +214,17 @@ fn add_entry<'a>(
     alloc: Global,
     name: &str,
     logic: &'a Logic,
+    with_misses: bool,
     env: &mut Env<'a>,
     text: &mut BoundedText,
 ) -> Result<Outcome, AllocError>
-    ensures text { OnOk result (text.new ≡ longer text.old (compact_text (named_as name.now (value_of (boxed (logic_view logic.now) env.old)) (how (logic_view logic.now) env.old)))) }
+    ensures text { OnOk result (text.new ≡ longer text.old (compact_text (named_as name.now (value_of (boxed (logic_view logic.now) env.old)) (how with_misses (logic_view logic.now) env.old)))) }
     ensures value { IfOk result (λ o. o ≡ boxed (logic_view logic.now) env.old) }
     ensures same { env.new ≡ env.old }
 {
     let outcome = evaluate(alloc, logic, env)?;
     add_name(alloc, name, text)?;
     add_valued(alloc, true, Key::Value, outcome.value(), text)?;
-    add_how(alloc, logic, env, text)?;
+    add_how(alloc, logic, with_misses, env, text)?;
     Ok(outcome)
 }

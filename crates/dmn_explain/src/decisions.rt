@@ -16,6 +16,7 @@ ghost use Rattle.dmn_explain.specs.Placed.{decided_here, given_here, decided_by_
 use crate::boxed::add_how;
 use crate::key::{Key, add_comma};
 use crate::named::add_name;
+use crate::needed::needed_places;
 use crate::value::add_valued;
 use dmn_logic::Logic;
 use dmn_plan::Course;
@@ -55,9 +56,10 @@ fn add_decided(
     logic: &Logic,
     place: usize,
     found: &[Outcome],
+    with_misses: bool,
     text: &mut BoundedText,
 ) -> Result<(), AllocError>
-    ensures { OnOk result (text.new ≡ longer text.old (compact_text (decided_here found.now item.now place (logic_view logic.now)))) }
+    ensures { OnOk result (text.new ≡ longer text.old (compact_text (decided_here with_misses found.now item.now place (logic_view logic.now)))) }
 {
     add_name(alloc, item.name.as_str(), text)?;
     add_valued(alloc, true, Key::Value, value_at(found, place), text)?;
@@ -65,7 +67,7 @@ fn add_decided(
         text.push(b'}')?;
         return Ok(());
     };
-    add_how(alloc, logic, &mut env, text)?;
+    add_how(alloc, logic, with_misses, &mut env, text)?;
     Ok(())
 }
 
@@ -103,11 +105,12 @@ fn add_all_decided(
     items: &[Item],
     places: &[usize],
     found: &[Outcome],
+    with_misses: bool,
     some_before: bool,
     text: &mut BoundedText,
 ) -> Result<(), AllocError>
     requires { All (λ q. q < length items.now) places.now }
-    ensures { OnOk result (text.new ≡ longer text.old (items_text some_before (decided_by_place found.now items.now places.now))) }
+    ensures { OnOk result (text.new ≡ longer text.old (items_text some_before (decided_by_place with_misses found.now items.now places.now))) }
 {
     let mut later = some_before;
     for place in places {
@@ -119,7 +122,7 @@ fn add_all_decided(
             continue;
         };
         add_comma(later, text)?;
-        add_decided(alloc, item, logic, *place, found, text)?;
+        add_decided(alloc, item, logic, *place, found, with_misses, text)?;
         later = true;
     }
     text.push(b']')?;
@@ -128,24 +131,28 @@ fn add_all_decided(
 
 /// Adds the list of the decisions on the way to an answer, in compact JSON.
 ///
-/// First stand the input decisions, with the values that were given for them, and then each decision that was evaluated, behind
-/// those that it needs: with its outcome as it was found, and how its logic comes to that. The parts of the logic are evaluated
-/// again, each as often as it lies in others.
+/// First stand the input decisions that some of the others need, with the values that were given for them, and then each decision
+/// that was evaluated, behind those that it needs: with its outcome as it was found, and how its logic comes to that. The parts of
+/// the logic are evaluated again, each as often as it lies in others. The rules of tables that missed are told where `with_misses`
+/// says so.
 pub fn add_decisions(
     alloc: Global,
     course: &Course<'_>,
+    with_misses: bool,
     text: &mut BoundedText,
 ) -> Result<(), AllocError>
     requires { HasPlacesWithin course.now.items.now course.now.service.now }
-    ensures { OnOk result ((q : Request) (c : IsCourseOf q course.now) → text.new ≡ longer text.old (compact_text (array (decisions_told (outcome_of c.model (zip (parameters_of c.service) q.values)) course.now.items.now course.now.service.now)))) }
+    ensures { OnOk result ((q : Request) (c : IsCourseOf q course.now) → text.new ≡ longer text.old (compact_text (array (decisions_told with_misses (outcome_of c.model (zip (parameters_of c.service) q.values)) course.now.items.now course.now.service.now)))) }
 {
     let found = &course.outcomes;
-    let later = add_all_given(alloc, course.items, &course.service.parameters, found, text)?;
+    let needed = needed_places(alloc, course.items, course.service)?;
+    let later = add_all_given(alloc, course.items, &needed, found, text)?;
     add_all_decided(
         alloc,
         course.items,
         &course.service.order,
         found,
+        with_misses,
         later,
         text,
     )?;

@@ -11,6 +11,8 @@ use std::alloc::AllocError;
 /// A key of an explanation.
 #[derive(Clone, Copy)]
 pub(crate) enum Key {
+    Column,
+    Decided,
     Defaults,
     Entries,
     Fault,
@@ -18,7 +20,10 @@ pub(crate) enum Key {
     Hits,
     Inputs,
     Members,
+    Misses,
     Name,
+    Places,
+    Policy,
     Result,
     Rule,
     Table,
@@ -32,6 +37,8 @@ impl Key {
         ensures { result.now ≡ quoted (name_of self) ++ 58 ∷ [] }
     {
         match self {
+            Key::Column => b"\"column\":",
+            Key::Decided => b"\"decided\":",
             Key::Defaults => b"\"defaults\":",
             Key::Entries => b"\"entries\":",
             Key::Fault => b"\"fault\":",
@@ -39,7 +46,10 @@ impl Key {
             Key::Hits => b"\"hits\":",
             Key::Inputs => b"\"inputs\":",
             Key::Members => b"\"members\":",
+            Key::Misses => b"\"misses\":",
             Key::Name => b"\"name\":",
+            Key::Places => b"\"places\":",
+            Key::Policy => b"\"policy\":",
             Key::Result => b"\"result\":",
             Key::Rule => b"\"rule\":",
             Key::Table => b"\"table\":",

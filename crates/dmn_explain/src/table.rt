@@ -1,53 +1,24 @@
 //! What a decision table found.
-ghost use Rattle.std.specs.Prelude.{◌≡◌, ◌++◌, OnOk, IfOk, map, option_map, true};
+ghost use Rattle.std.specs.Prelude.{◌≡◌, OnOk, IfOk, Some, length, map, option_map, true};
 ghost use Rattle.serde_json.specs.Data.{array, boolean, object};
 ghost use Rattle.serde_json.specs.Written.{compact_text, members_text};
 ghost use Rattle.feel_value.specs.Datum.{list, items_of};
-ghost use Rattle.feel_value.specs.Found.{outcome_from};
 ghost use Rattle.feel_value.specs.Json.{json_of};
-ghost use Rattle.dmn_table.specs.Hits.{output_of as output_from, values_of};
-ghost use Rattle.dmn_table.specs.Parts.{rule_view};
+ghost use Rattle.dmn_table.specs.Parts.{have_entries};
 ghost use Rattle.json_writer.specs.Bounded.{longer};
-ghost use Rattle.dmn_explain.specs.How.{hit_told, hits_told, hits_and_defaults, table_told, takes_defaults};
-ghost use Rattle.dmn_explain.specs.Numbered.{hit_view, hits_from};
+ghost use Rattle.dmn_explain.specs.How.{decided_by as decided_by_of, hits_then, hits_told, misses_if, numbers_told, table_told, takes_defaults};
+ghost use Rattle.dmn_explain.specs.Numbered.{hit_view, asked_view};
+ghost use Rattle.dmn_explain.specs.Text.{decided_text};
 
+use crate::asking::{Asked, Hit, ask_rules, numbers_of, rules_of};
+use crate::hit::{add_hit, lists_for};
 use crate::key::{Key, add_comma, add_key};
-use crate::value::add_valued;
-use dmn_table::{Rule, Table, does_hit, evaluated, has_no_default};
+use crate::misses::add_misses;
+use dmn_table::{Table, deciding, evaluated, has_no_default};
 use feel_lang::Env;
-use feel_value::{Feel, Outcome};
+use feel_value::Feel;
 use json_writer::BoundedText;
 use std::alloc::{AllocError, Global};
-
-/// A rule that hits, with its number, which counts from 1 on.
-#[derive(Clone, Copy)]
-pub(crate) struct Hit<'a> {
-    number: usize,
-    rule: &'a Rule,
-}
-
-/// The rules that hit, in their order and with their numbers; None where an entry breaks a limit. Each rule is asked.
-fn hits_of<'a>(
-    alloc: Global,
-    rules: &'a [Rule],
-    values: &[Feel],
-    env: &Env,
-) -> Result<Option<Vec<Hit<'a>>>, AllocError>
-    ensures { IfOk result (λ found. option_map (λ v. map hit_view v.items) found ≡ hits_from 1 env.now values.now (map rule_view rules.now)) }
-{
-    let mut hits = Vec::new(alloc);
-    for (i, rule) in rules.iter().enumerate() {
-        let Some(is_hit) = does_hit(alloc, rule, values, env)? else {
-            return Ok(None);
-        };
-        if !is_hit {
-            continue;
-        }
-        let number = i + 1;
-        hits.push(Hit { number, rule })?;
-    }
-    Ok(Some(hits))
-}
 
 /// Adds the list of these values.
 fn add_values(alloc: Global, values: &[Feel], text: &mut BoundedText) -> Result<(), AllocError>
@@ -67,35 +38,6 @@ fn add_values(alloc: Global, values: &[Feel], text: &mut BoundedText) -> Result<
     Ok(())
 }
 
-/// The output of a rule of the table.
-fn output_of(alloc: Global, rule: &Rule, table: &Table, env: &Env) -> Result<Outcome, AllocError>
-    ensures { IfOk result (λ o. o ≡ outcome_from (output_from table.now.outputs) (values_of env.now (rule_view rule.now).gives)) }
-{
-    match evaluated(alloc, &rule.gives, env)? {
-        Some(values) => table.one_or_context(alloc, values),
-        None => Ok(Outcome::Limit),
-    }
-}
-
-/// Adds a rule that hit, with its output.
-fn add_hit(
-    alloc: Global,
-    hit: &Hit<'_>,
-    table: &Table,
-    env: &Env,
-    text: &mut BoundedText,
-) -> Result<(), AllocError>
-    ensures { OnOk result (text.new ≡ longer text.old (compact_text (hit_told table.now.outputs env.now (hit_view hit.now)))) }
-{
-    let output = output_of(alloc, hit.rule, table, env)?;
-    text.push(b'{')?;
-    add_key(false, Key::Rule, text)?;
-    text.add_number(hit.number as u64)?;
-    add_valued(alloc, true, Key::Value, output.value(), text)?;
-    text.push(b'}')?;
-    Ok(())
-}
-
 /// Adds the list of these rules that hit.
 fn add_hits(
     alloc: Global,
@@ -104,8 +46,9 @@ fn add_hits(
     env: &Env,
     text: &mut BoundedText,
 ) -> Result<(), AllocError>
-    ensures { OnOk result (text.new ≡ longer text.old (compact_text (array (hits_told table.now.outputs env.now (map hit_view hits.now))))) }
+    ensures { OnOk result (text.new ≡ longer text.old (compact_text (array (hits_told table.now env.now (map hit_view hits.now))))) }
 {
+    let lists = lists_for(alloc, table, hits.len())?;
     let mut later = false;
     text.push(b'[')?;
     for hit in hits {
@@ -113,7 +56,7 @@ fn add_hits(
             return Ok(());
         }
         add_comma(later, text)?;
-        add_hit(alloc, hit, table, env, text)?;
+        add_hit(alloc, hit, table, &lists, env, text)?;
         later = true;
     }
     text.push(b']')?;
@@ -138,44 +81,105 @@ fn add_bool(truth: bool, text: &mut BoundedText) -> Result<(), AllocError>
     }
 }
 
-/// Adds the rules that hit, and whether the defaults stand in for them, as the last members of an object, with its end.
-fn add_hits_and_defaults(
+/// The numbers of those of these rules that make the result; None where the output of one breaks a limit.
+fn decided_by(
+    alloc: Global,
+    hits: &[Hit<'_>],
+    table: &Table,
+    env: &Env,
+) -> Result<Option<Vec<usize>>, AllocError>
+    requires { have_entries (length table.now.outputs) (map (λ h. h.1) (map hit_view hits.now)) ≡ true }
+    ensures { IfOk result (λ found. option_map (λ v. v.items) found ≡ decided_by_of table.now env.now (map hit_view hits.now)) }
+{
+    let numbers = numbers_of(alloc, hits)?;
+    let rules = rules_of(alloc, hits)?;
+    let found = deciding(alloc, table, &rules, &numbers, env)?;
+    Ok(found)
+}
+
+/// Adds the list of these numbers.
+fn add_numbers(numbers: &[usize], text: &mut BoundedText) -> Result<(), AllocError>
+    ensures { OnOk result (text.new ≡ longer text.old (compact_text (array (numbers_told numbers.now)))) }
+{
+    let mut later = false;
+    text.push(b'[')?;
+    for number in numbers {
+        if text.is_long() {
+            return Ok(());
+        }
+        add_comma(later, text)?;
+        text.add_number(*number as u64)?;
+        later = true;
+    }
+    text.push(b']')?;
+    Ok(())
+}
+
+/// Adds the member of the rules that make the result, behind another one; nothing where the output of a hit breaks a limit.
+fn add_decided(
     alloc: Global,
     hits: &[Hit<'_>],
     table: &Table,
     env: &Env,
     text: &mut BoundedText,
 ) -> Result<(), AllocError>
-    ensures { OnOk result (text.new ≡ longer text.old (members_text true (hits_and_defaults table.now.outputs env.now (map hit_view hits.now)))) }
+    requires { have_entries (length table.now.outputs) (map (λ h. h.1) (map hit_view hits.now)) ≡ true }
+    ensures { OnOk result (text.new ≡ longer text.old (decided_text (decided_by_of table.now env.now (map hit_view hits.now)))) }
 {
-    add_key(true, Key::Hits, text)?;
-    add_hits(alloc, hits, table, env, text)?;
-    add_key(true, Key::Defaults, text)?;
-    add_bool(are_default(table, hits), text)?;
-    text.push(b'}')?;
-    Ok(())
+    let Some(numbers) = decided_by(alloc, hits, table, env)? else {
+        return text.add(b"");
+    };
+    add_key(true, Key::Decided, text)?;
+    add_numbers(&numbers, text)
 }
 
-/// Adds what a table found: its input values, the rules that hit with their outputs, and whether the defaults stand in for them.
-/// It ends before the first of these that breaks a limit.
-pub(crate) fn add_table(
+/// Adds what asking the rules found, as the last members of an object, with its end: the rules that hit, whether the defaults
+/// stand in for them, which of them make the result, and the misses where these are asked for.
+fn add_found(
     alloc: Global,
+    asked: &Asked<'_>,
+    with_misses: bool,
     table: &Table,
     env: &Env,
     text: &mut BoundedText,
 ) -> Result<(), AllocError>
-    ensures { OnOk result (text.new ≡ longer text.old (compact_text (object (table_told table.now env.now)))) }
+    requires { have_entries (length table.now.outputs) (map (λ h. h.1) (asked_view asked.now).0) ≡ true }
+    ensures { OnOk result (text.new ≡ longer text.old (members_text true (hits_then table.now env.now (misses_if with_misses (Some (asked_view asked.now).1)) (asked_view asked.now).0))) }
+{
+    add_key(true, Key::Hits, text)?;
+    add_hits(alloc, &asked.hits, table, env, text)?;
+    add_key(true, Key::Defaults, text)?;
+    add_bool(are_default(table, &asked.hits), text)?;
+    add_decided(alloc, &asked.hits, table, env, text)?;
+    add_misses(with_misses, &asked.misses, text)?;
+    text.push(b'}')?;
+    Ok(())
+}
+
+/// Adds what a table found: its hit policy, its input values, the rules that hit with their outputs, whether the defaults stand in
+/// for them, and which of them make the result; and the rules that missed, where these are asked for. It ends before the first of
+/// these that breaks a limit.
+pub(crate) fn add_table(
+    alloc: Global,
+    table: &Table,
+    with_misses: bool,
+    env: &Env,
+    text: &mut BoundedText,
+) -> Result<(), AllocError>
+    ensures { OnOk result (text.new ≡ longer text.old (compact_text (object (table_told with_misses table.now env.now)))) }
 {
     text.push(b'{')?;
+    add_key(false, Key::Policy, text)?;
+    text.add_quoted(alloc, table.policy().text())?;
     let Some(values) = evaluated(alloc, table.inputs(), env)? else {
         text.push(b'}')?;
         return Ok(());
     };
-    add_key(false, Key::Inputs, text)?;
+    add_key(true, Key::Inputs, text)?;
     add_values(alloc, &values, text)?;
-    let Some(hits) = hits_of(alloc, table.rules(), &values, env)? else {
+    let Some(asked) = ask_rules(alloc, table.rules(), &values, with_misses, env)? else {
         text.push(b'}')?;
         return Ok(());
     };
-    add_hits_and_defaults(alloc, &hits, table, env, text)
+    add_found(alloc, &asked, with_misses, table, env, text)
 }

@@ -30,9 +30,9 @@ add_told-returns-clause-text t c =
     let t2 = c.add_valued.new.text in
     let t3 = c.add_how.new.text in
     let o : Option Datum = value_of (boxed b m) in
-    told_added_by c.args.text.now t1 t2 t3 o (how b m) c.in_ok-push.ensures
+    told_added_by c.args.text.now t1 t2 t3 o (how c.args.with_misses b m) c.in_ok-push.ensures
     (c.in_ok-add_valued.ensures ∙ ap (λ (p : Option Datum). longer t1 (valued_text false (codes "value") p)) (c.value.ensures ∙ ap value_of c.in_ok-outcome.ensures.value))
-    (c.in_ok-add_how.ensures.text ∙ ap (λ (e : Bindings). longer t2 (members_text true (how b e))) c.in_ok-outcome.ensures.same)
+    (c.in_ok-add_how.ensures.text ∙ ap (λ (e : Bindings). longer t2 (members_text true (how c.args.with_misses b e))) c.in_ok-outcome.ensures.same)
 
 pub add_entry-returns-clause-text : goal.add_entry-returns-clause-text
 add_entry-returns-clause-text t c =
@@ -42,14 +42,14 @@ add_entry-returns-clause-text t c =
     let t2 = c.add_valued.new.text in
     let t3 = c.add_how.new.text in
     let o : Option Datum = value_of (boxed b m) in
-    named_added_by c.args.text.now t1 t2 t3 c.args.name.now (codes "value") o (how b m) c.in_ok-add_name.ensures
+    named_added_by c.args.text.now t1 t2 t3 c.args.name.now (codes "value") o (how c.args.with_misses b m) c.in_ok-add_name.ensures
     (c.in_ok-add_valued.ensures ∙ ap (λ (p : Option Datum). longer t1 (valued_text true (codes "value") p)) (c.value.ensures ∙ ap value_of c.in_ok-outcome.ensures.value))
-    (c.in_ok-add_how.ensures.text ∙ ap (λ (e : Bindings). longer t2 (members_text true (how b e))) c.in_ok-outcome.ensures.same)
+    (c.in_ok-add_how.ensures.text ∙ ap (λ (e : Bindings). longer t2 (members_text true (how c.args.with_misses b e))) c.in_ok-outcome.ensures.same)
 
 pub add_list-returns-clause-text : goal.add_list-returns-clause-text
 add_list-returns-clause-text t c =
     member_ended_by c.args.text.now c.add_key.new.text c.add_members.new.text c.push.new.self true (codes "members")
-    (array (members_told (members_view c.args.members.now) c.args.env.now)) c.in_ok-add_key.ensures c.in_ok-add_members.ensures.text c.in_ok-push.ensures
+    (array (members_told c.args.with_misses (members_view c.args.members.now) c.args.env.now)) c.in_ok-add_key.ensures c.in_ok-add_members.ensures.text c.in_ok-push.ensures
 
 pub add_members-loop-member-preserved : goal.add_members-loop-member-preserved
 add_members-loop-member-preserved t c =
@@ -59,9 +59,9 @@ add_members-loop-member-preserved t c =
     let t2 = c.add_told.new.text in
     let same = c.loop-member.invariant.same in record {
       same = c.in_ok-add_told.ensures.same ∙ same;
-      text = member_more (longer c.args.text.now (compact_text (array (members_told (members_view c.args.members.now) m)))) c.loop-member.text t1 t2 c.loop-member.later m c.loop-member.member-index
+      text = member_more c.args.with_misses (longer c.args.text.now (compact_text (array (members_told c.args.with_misses (members_view c.args.members.now) m)))) c.loop-member.text t1 t2 c.loop-member.later m c.loop-member.member-index
           c.in_ok-add_comma.ensures c.args.members.now x c.loop-member.invariant.text c.member-item.is c.loop-member-test.true
-          (c.in_ok-add_told.ensures.text ∙ ap (λ (e : Bindings). longer t1 (compact_text (member_told x e))) same)
+          (c.in_ok-add_told.ensures.text ∙ ap (λ (e : Bindings). longer t1 (compact_text (member_told c.args.with_misses x e))) same)
           c.in-Is.field-0 (sym c.in-Is.is ∙ c.in_ok-add_told.ensures.value ∙ ap (boxed (logic_view x)) same);
     }
 
@@ -72,14 +72,14 @@ add_members-returns-in_default-clause-text t c =
     let t1 = c.add_comma.new.text in
     let t2 = c.add_told.new.text in
     let same = c.loop-member.invariant.same in
-    member_last (longer c.args.text.now (compact_text (array (members_told (members_view c.args.members.now) m)))) c.loop-member.text t1 t2 c.loop-member.later m c.loop-member.member-index
+    member_last c.args.with_misses (longer c.args.text.now (compact_text (array (members_told c.args.with_misses (members_view c.args.members.now) m)))) c.loop-member.text t1 t2 c.loop-member.later m c.loop-member.member-index
     c.in_ok-add_comma.ensures c.args.members.now x c.loop-member.invariant.text c.member-item.is c.loop-member-test.true
-    (c.in_ok-add_told.ensures.text ∙ ap (λ (e : Bindings). longer t1 (compact_text (member_told x e))) same)
+    (c.in_ok-add_told.ensures.text ∙ ap (λ (e : Bindings). longer t1 (compact_text (member_told c.args.with_misses x e))) same)
     c.push-in_default.new.self (sym c.in_default.is ∙ c.in_ok-add_told.ensures.value ∙ ap (boxed (logic_view x)) same) c.in_ok-push-2.ensures
 
 pub add_members-returns-clause-text : goal.add_members-returns-clause-text
 add_members-returns-clause-text t c =
-    members_ended (longer c.args.text.now (compact_text (array (members_told (members_view c.args.members.now) c.args.env.now)))) c.loop-member.text c.push-2.new.self c.loop-member.later
+    members_ended c.args.with_misses (longer c.args.text.now (compact_text (array (members_told c.args.with_misses (members_view c.args.members.now) c.args.env.now)))) c.loop-member.text c.push-2.new.self c.loop-member.later
     c.args.env.now c.args.members.now c.loop-member.member-index c.loop-member.invariant.text c.loop-member-test.false c.in_ok-push-3.ensures
 
 pub add_entries-loop-name-preserved : goal.add_entries-loop-name-preserved
@@ -97,31 +97,31 @@ add_entries-loop-name-preserved t c =
     c.in_ok-bind_lent.ensures ∙ ap (λ (e : Bindings). e ++ (c.as_str-in-loop-name.result.now, d) ∷ []) c.in_ok-value.ensures.same ∙ ap (λ (n : List ℕ). m ++ (n, d) ∷ []) named in record {
       bound = bind_turn _ c.args.env.now m c.add_entry.new.env c.bind_lent.new.self entries i x c.as_str-in-loop-name.result.now d
           c.loop-name.invariant.bound c.loop-name-item.is c.loop-name-test.true outcome c.in_ok-value.ensures.same c.in_ok-bind_lent.ensures named;
-      text = ap (λ (e : Bindings). longer t2 (items_text true (entries_told (entries_view (drop (i + 1) entries)) e))) next
-          ∙ entry_more (longer c.args.text.now (entries_text (entries_told (entries_view entries) c.args.env.now))) c.loop-name.text t1 t2 c.loop-name.later m i
+      text = ap (λ (e : Bindings). longer t2 (items_text true (entries_told c.args.with_misses (entries_view (drop (i + 1) entries)) e))) next
+          ∙ entry_more c.args.with_misses (longer c.args.text.now (entries_text (entries_told c.args.with_misses (entries_view entries) c.args.env.now))) c.loop-name.text t1 t2 c.loop-name.later m i
           c.in_ok-add_comma.ensures entries x c.loop-name.invariant.text c.loop-name-item.is c.loop-name-test.true
-          (c.in_ok-value.ensures.text ∙ ap (λ (n : List ℕ). longer t1 (compact_text (named_as n (value_of (boxed (logic_view x.1) m)) (how (logic_view x.1) m)))) c.as_str.ensures.value)
+          (c.in_ok-value.ensures.text ∙ ap (λ (n : List ℕ). longer t1 (compact_text (named_as n (value_of (boxed (logic_view x.1) m)) (how c.args.with_misses (logic_view x.1) m)))) c.as_str.ensures.value)
           d outcome;
     }
 
 pub add_how-returns-in-Context-clause-text : goal.add_how-returns-in-Context-clause-text
 add_how-returns-in-Context-clause-text t c =
     let same = ap (λ (es : List Named). context (entries_view es)) c.deref-in-Context.ensures.value ∙ sym (ap logic_view c.in-Context.is ∙ logic_view-Context c.in-Context.entries) in
-    subst (λ l. OnOk c.add_context.result (c.add_context.new.text ≡ longer c.args.text.now (members_text true (how l c.args.env.now)))) same c.add_context.ensures.text
+    subst (λ l. OnOk c.add_context.result (c.add_context.new.text ≡ longer c.args.text.now (members_text true (how c.args.with_misses l c.args.env.now)))) same c.add_context.ensures.text
 
 pub add_how-returns-after-add_entries-clause-text : goal.add_how-returns-after-add_entries-clause-text
 add_how-returns-after-add_entries-clause-text t c =
     let m = c.args.env.now in
     let t0 = c.args.text.now in
     let t1 = c.add_entries.new.text in
-    let whole = longer t0 (members_text true (how (logic_view c.args.logic.now) m)) in
+    let whole = longer t0 (members_text true (how c.args.with_misses (logic_view c.args.logic.now) m)) in
     let after = c.add_entries.new.env in
     elim c.match-add_entries.branch [
       | add_how-in-Ok w ↦
-          let rest = longer t1 (result_text w.in-Ok.all (logic_view c.in-ContextWith.last.value) after) in
-          let same : longer t1 (result_text w.in-Ok.all (logic_view w.deref-in-Ok.result.now) after) ≡ whole =
-          ap (λ l. longer t1 (result_text w.in-Ok.all (logic_view l) after)) w.deref-in-Ok.ensures
-          ∙ context_with_added t0 t1 rest w.in-Ok.all c.args.logic.now c.in-ContextWith.entries c.deref-in-ContextWith.result.now c.in-ContextWith.last m after
+          let rest = longer t1 (result_text c.args.with_misses w.in-Ok.all (logic_view c.in-ContextWith.last.value) after) in
+          let same : longer t1 (result_text c.args.with_misses w.in-Ok.all (logic_view w.deref-in-Ok.result.now) after) ≡ whole =
+          ap (λ l. longer t1 (result_text c.args.with_misses w.in-Ok.all (logic_view l) after)) w.deref-in-Ok.ensures
+          ∙ context_with_added c.args.with_misses t0 t1 rest w.in-Ok.all c.args.logic.now c.in-ContextWith.entries c.deref-in-ContextWith.result.now c.in-ContextWith.last m after
           c.in-ContextWith.is c.deref-in-ContextWith.ensures.value w.in-Ok.ensures.text w.in-Ok.ensures.bound refl in
           subst (λ r. OnOk r (c.match-add_entries.text ≡ whole)) (sym w.added-is)
           (subst (λ (s : Text). OnOk w.add_result-added.result (s ≡ whole)) (sym w.text-is)
@@ -137,12 +137,12 @@ add_entries-returns-then-is_long-clause-text t c = stopped c.loop-name.text _ _ 
 
 pub add_context-returns-clause-text : goal.add_context-returns-clause-text
 add_context-returns-clause-text t c =
-    entries_added_by c.args.text.now c.add_entries-all.new.text c.push.new.self (entries_told (entries_view c.args.entries.now) c.args.env.now) no_members c.in_ok-all.ensures.text c.in_ok-push.ensures
+    entries_added_by c.args.text.now c.add_entries-all.new.text c.push.new.self (entries_told c.args.with_misses (entries_view c.args.entries.now) c.args.env.now) no_members c.in_ok-all.ensures.text c.in_ok-push.ensures
 
 pub add_entries-loop-name-init : goal.add_entries-loop-name-init
 add_entries-loop-name-init t c = record {
   bound = (take_all (length c.args.env.now) c.args.env.now (omega arith), refl);
-  text = entries_begun c.args.text.now c.add_key.new.text c.push.new.self (entries_told (entries_view c.args.entries.now) c.args.env.now) c.in_ok-add_key.ensures c.in_ok-push.ensures;
+  text = entries_begun c.args.text.now c.add_key.new.text c.push.new.self (entries_told c.args.with_misses (entries_view c.args.entries.now) c.args.env.now) c.in_ok-add_key.ensures c.in_ok-push.ensures;
 }
 
 pub add_entries-returns-in_default-clause-text : goal.add_entries-returns-in_default-clause-text
@@ -151,9 +151,9 @@ add_entries-returns-in_default-clause-text t c =
     let x = c.loop-name-item.result in
     let entries = c.args.entries.now in
     let t1 = c.add_comma.new.text in
-    entry_last (longer c.args.text.now (entries_text (entries_told (entries_view entries) c.args.env.now))) c.loop-name.text t1 c.add_entry.new.text c.loop-name.later m c.loop-name.name-index
+    entry_last c.args.with_misses (longer c.args.text.now (entries_text (entries_told c.args.with_misses (entries_view entries) c.args.env.now))) c.loop-name.text t1 c.add_entry.new.text c.loop-name.later m c.loop-name.name-index
     c.in_ok-add_comma.ensures entries x c.loop-name.invariant.text c.loop-name-item.is c.loop-name-test.true
-    (c.in_ok-value.ensures.text ∙ ap (λ (n : List ℕ). longer t1 (compact_text (named_as n (value_of (boxed (logic_view x.1) m)) (how (logic_view x.1) m)))) c.as_str.ensures.value)
+    (c.in_ok-value.ensures.text ∙ ap (λ (n : List ℕ). longer t1 (compact_text (named_as n (value_of (boxed (logic_view x.1) m)) (how c.args.with_misses (logic_view x.1) m)))) c.as_str.ensures.value)
     c.push-in_default.new.self (sym c.in_default.is ∙ c.in_ok-value.ensures.value) c.in_ok-push-2.ensures
 
 seen_table : (x : Table) → logic_view (TableOf x) ≡ table x
@@ -163,12 +163,12 @@ pub add_how-returns-in_ok-push-in-Table-clause-text : goal.add_how-returns-in_ok
 add_how-returns-in_ok-push-in-Table-clause-text t c =
     let m = c.args.env.now in
     let x = c.in-Table.table in
-    member_ended_by c.args.text.now c.add_key.new.text c.add_table.new.text c.push-in-Table.new.self true (codes "table") (object (table_told x m)) c.in_ok-add_key-in-Table.ensures c.in_ok-add_table-in-Table.ensures
-    c.in_ok-push-in-Table.ensures ∙ ap (λ l. longer c.args.text.now (members_text true (how l m))) (sym (ap logic_view c.in-Table.is ∙ seen_table x))
+    member_ended_by c.args.text.now c.add_key.new.text c.add_table.new.text c.push-in-Table.new.self true (codes "table") (object (table_told c.args.with_misses x m)) c.in_ok-add_key-in-Table.ensures c.in_ok-add_table-in-Table.ensures
+    c.in_ok-push-in-Table.ensures ∙ ap (λ l. longer c.args.text.now (members_text true (how c.args.with_misses l m))) (sym (ap logic_view c.in-Table.is ∙ seen_table x))
 
 pub add_result-returns-clause-text : goal.add_result-returns-clause-text
 add_result-returns-clause-text t c =
     let b = logic_view c.args.last.now in
     let m = c.args.env.now in
-    member_ended_by c.args.text.now c.add_key.new.text c.add_told.new.text c.push-2.new.self true (codes "result") (told_as (value_of (boxed b m)) (how b m)) c.in_ok-add_key.ensures
-    c.in_ok-add_told.ensures.text c.in_ok-push-2.ensures ∙ ap (λ all. longer c.args.text.now (result_text all b m)) (sym c.if-not-all.false)
+    member_ended_by c.args.text.now c.add_key.new.text c.add_told.new.text c.push-2.new.self true (codes "result") (told_as (value_of (boxed b m)) (how c.args.with_misses b m)) c.in_ok-add_key.ensures
+    c.in_ok-add_told.ensures.text c.in_ok-push-2.ensures ∙ ap (λ all. longer c.args.text.now (result_text c.args.with_misses all b m)) (sym c.if-not-all.false)

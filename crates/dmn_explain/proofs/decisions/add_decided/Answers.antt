@@ -18,10 +18,10 @@ returns-in_default c =
     let t2 = c.add_valued.new.text in
     let none : None ≡ bindings_from c.args.found.now c.args.item.now.named = sym c.in_default.is ∙ c.over.ensures in
     named_added_by c.args.text.now t1 t2 c.push.new.self (arc_str_bytes c.args.item.now.name) (codes "value") (found_at c.args.found.now c.args.place)
-    (how_under (bindings_from c.args.found.now c.args.item.now.named) (logic_view c.args.logic.now))
+    (how_under c.args.with_misses (bindings_from c.args.found.now c.args.item.now.named) (logic_view c.args.logic.now))
     (c.in_ok-add_name.ensures ∙ ap (λ (n : List ℕ). longer c.args.text.now (name_text n)) c.as_str.ensures.value)
     (c.in_ok-add_valued.ensures ∙ ap (λ (o : Option Datum). longer t1 (valued_text true (codes "value") o)) c.value_at.ensures)
-    (c.in_ok-push.ensures ∙ ap (λ (o : Option Bindings). longer t2 (members_text true (how_under o (logic_view c.args.logic.now)))) none)
+    (c.in_ok-push.ensures ∙ ap (λ (o : Option Bindings). longer t2 (members_text true (how_under c.args.with_misses o (logic_view c.args.logic.now)))) none)
 
 pub returns : goal.returns
 returns c =
@@ -29,7 +29,7 @@ returns c =
     let t2 = c.add_valued.new.text in
     let some : Some c.in-Some.env ≡ bindings_from c.args.found.now c.args.item.now.named = sym c.in-Some.is ∙ c.over.ensures in
     named_added_by c.args.text.now t1 t2 c.add_how.new.text (arc_str_bytes c.args.item.now.name) (codes "value") (found_at c.args.found.now c.args.place)
-    (how_under (bindings_from c.args.found.now c.args.item.now.named) (logic_view c.args.logic.now))
+    (how_under c.args.with_misses (bindings_from c.args.found.now c.args.item.now.named) (logic_view c.args.logic.now))
     (c.in_ok-add_name.ensures ∙ ap (λ (n : List ℕ). longer c.args.text.now (name_text n)) c.as_str.ensures.value)
     (c.in_ok-add_valued.ensures ∙ ap (λ (o : Option Datum). longer t1 (valued_text true (codes "value") o)) c.value_at.ensures)
-    (c.in_ok-add_how.ensures.text ∙ ap (λ (o : Option Bindings). longer t2 (members_text true (how_under o (logic_view c.args.logic.now)))) some)
+    (c.in_ok-add_how.ensures.text ∙ ap (λ (o : Option Bindings). longer t2 (members_text true (how_under c.args.with_misses o (logic_view c.args.logic.now)))) some)

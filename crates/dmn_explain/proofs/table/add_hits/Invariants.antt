@@ -7,6 +7,4 @@ use Rattle.dmn_explain.specs.Numbered.{hit_view}
 use Rattle.dmn_explain.proofs.table.add_hits.Given as goal
 
 abbrev pub invariant-loop-hit : goal.invariant-loop-hit
-invariant-loop-hit l =
-    longer l.text (items_text l.later (hits_told l.table.outputs l.env (map hit_view (drop l.hit-index l.hits))))
-    ≡ longer l.fn.text (compact_text (array (hits_told l.table.outputs l.env (map hit_view l.hits))))
+invariant-loop-hit l = longer l.text (items_text l.later (hits_told l.table l.env (map hit_view (drop l.hit-index l.hits)))) ≡ longer l.fn.text (compact_text (array (hits_told l.table l.env (map hit_view l.hits))))

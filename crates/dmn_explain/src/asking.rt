@@ -1,0 +1,99 @@
+//! Which rules of a table hit, and by which column the others miss.
+ghost use Rattle.std.specs.Prelude.{◌≡◌, OnOk, IfOk, map, option_map};
+ghost use Rattle.dmn_table.specs.Parts.{rule_view, rules_view};
+ghost use Rattle.dmn_explain.specs.Numbered.{asked_view, found_from, hit_view, one_more};
+
+use dmn_table::{Rule, first_miss};
+use feel_lang::Env;
+use feel_value::Feel;
+use std::alloc::{AllocError, Global};
+
+/// A rule that hits, with its number, which counts from 1 on.
+#[derive(Clone, Copy)]
+pub(crate) struct Hit<'a> {
+    pub(crate) number: usize,
+    pub(crate) rule: &'a Rule,
+}
+
+/// A rule that misses: its number, and that of the first input column whose entry is not met. Both count from 1 on.
+#[derive(Clone, Copy)]
+pub(crate) struct Miss {
+    pub(crate) number: usize,
+    pub(crate) column: usize,
+}
+
+/// The rules that hit, and those that miss where they are asked for.
+#[derive(Drop)]
+pub(crate) struct Asked<'a> {
+    pub(crate) hits: Vec<Hit<'a>>,
+    pub(crate) misses: Vec<Miss>,
+}
+
+impl<'a> Asked<'a> {
+    /// Adds a rule that misses by this column, where misses are asked for, or that hits.
+    fn add(
+        &mut self,
+        number: usize,
+        rule: &'a Rule,
+        miss: Option<usize>,
+        with_misses: bool,
+    ) -> Result<(), AllocError>
+        ensures { OnOk result (asked_view self.new ≡ one_more with_misses number (rule_view rule.now) miss (asked_view self.old)) }
+    {
+        let Some(column) = miss else {
+            self.hits.push(Hit { number, rule })?;
+            return Ok(());
+        };
+        if !with_misses {
+            return Ok(());
+        }
+        self.misses.push(Miss { number, column })?;
+        Ok(())
+    }
+}
+
+/// The rules that hit, in their order and with their numbers, and those that miss, where these are asked for; None where an entry
+/// breaks a limit. Each rule is asked once.
+pub(crate) fn ask_rules<'a>(
+    alloc: Global,
+    rules: &'a [Rule],
+    values: &[Feel],
+    with_misses: bool,
+    env: &Env,
+) -> Result<Option<Asked<'a>>, AllocError>
+    ensures { IfOk result (λ found. option_map asked_view found ≡ found_from with_misses 1 env.now values.now (map rule_view rules.now)) }
+{
+    let mut asked = Asked {
+        hits: Vec::new(alloc),
+        misses: Vec::new(alloc),
+    };
+    for (i, rule) in rules.iter().enumerate() {
+        let Some(miss) = first_miss(alloc, rule, values, env)? else {
+            return Ok(None);
+        };
+        asked.add(i + 1, rule, miss, with_misses)?;
+    }
+    Ok(Some(asked))
+}
+
+/// The numbers of the rules that hit.
+pub(crate) fn numbers_of(alloc: Global, hits: &[Hit<'_>]) -> Result<Vec<usize>, AllocError>
+    ensures { IfOk result (λ numbers. numbers.items ≡ map (λ h. h.0) (map hit_view hits.now)) }
+{
+    let mut numbers = Vec::with_capacity(alloc, hits.len())?;
+    for hit in hits {
+        numbers.push(hit.number)?;
+    }
+    Ok(numbers)
+}
+
+/// The rules that hit themselves.
+pub(crate) fn rules_of<'a>(alloc: Global, hits: &[Hit<'a>]) -> Result<Vec<&'a Rule>, AllocError>
+    ensures { IfOk result (λ rules. rules_view rules.items ≡ map (λ h. h.1) (map hit_view hits.now)) }
+{
+    let mut rules = Vec::with_capacity(alloc, hits.len())?;
+    for hit in hits {
+        rules.push(hit.rule)?;
+    }
+    Ok(rules)
+}
