@@ -97,7 +97,7 @@ SESSION = r"""{"client":"ann","service":"total","inputs":{}}
 """
 
 SESSION_ANSWERS = r"""{"client":"ann","line":1,"refused":"model"}
-{"line":2,"model":true,"sha256":"SUM","read":READ}
+{"line":2,"model":true,"read":READ,"sha256":"SUM"}
 {"client":"ann","line":4,"model":"SUM","service":"total","inputs":{"a":4},"decisions":[{"name":"twice","value":8},{"name":"sum","value":12}],"result":12,"ticket":0}
 {"client":"bob","line":5,"model":"SUM","service":"rest","inputs":{"a":null,"twice":5},"decisions":[{"name":"twice","given":5},{"name":"sum","value":null}],"result":null,"ticket":0}
 {"client":"ann","closed":true,"line":6}
@@ -118,7 +118,7 @@ REFUSED = r"""{"model":MODEL}
 {"client":"a \"b\"","service":"total","inputs":{"a":1}}
 """
 
-REFUSED_ANSWERS = r"""{"line":1,"model":true,"sha256":"SUM","read":READ}
+REFUSED_ANSWERS = r"""{"line":1,"model":true,"read":READ,"sha256":"SUM"}
 {"fault":"shape","line":2,"refused":"model"}
 {"line":3,"refused":"syntax"}
 {"line":4,"refused":"shape"}
