@@ -499,8 +499,8 @@ class Rows:
         where = self.suite.pictures
         self.browser.js("scrollTo(0, 0)")
         self.browser.picture(where / "page.png", 1080, 640)
-        self.browser.drop("month.jsonl", lines(applicants(2000)))
-        self.browser.wait(lambda: "2,000 requests" in self.browser.text("counted"), "the counts")
+        self.browser.drop("month.jsonl", lines(applicants(400)))
+        self.browser.wait(lambda: "400 requests" in self.browser.text("counted"), "the counts")
         if self.tells_decided:
             self.browser.js("""[...document.querySelectorAll("table.rules")].at(-2).querySelector("[data-at='0']").click()""")
             self.browser.wait(lambda: "missed" in self.browser.js("return [...document.querySelectorAll('.why')].at(-2).textContent"), "why")

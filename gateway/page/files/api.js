@@ -44,10 +44,10 @@ export const inForce = () => ask("v1/model?whole=true");
 export const check = (blob) => ask("v1/check", blob);
 
 /** How the answer to inputs comes about under a model: `result` or `problem`, and `decisions`. */
-export async function explain(model, service, inputs, misses) {
+export async function explain(model, service, inputs, { misses, signal }) {
   const query = `?model=${model.sha256}${misses ? "&misses=true" : ""}`;
   try {
-    return await ask(`v1/explain/${encodeURIComponent(service)}${query}`, writeJSON(inputs));
+    return await ask(`v1/explain/${encodeURIComponent(service)}${query}`, writeJSON(inputs), signal);
   } catch (problem) {
     if (problem.kind !== "limit") throw problem;
     return { problem, decisions: problem.body.decisions };

@@ -18,6 +18,8 @@ export async function decide() {
     return;
   }
   state.inputs = inputs;
+  state.asking?.abort();
+  state.asking = new AbortController();
   writeAddress();
   byID("json").value = writeJSON(inputs, 2);
   await tried(async () => {
@@ -42,7 +44,7 @@ async function answerOf(it, which, misses) {
   const service = it.services.find((other) => it.name(other.name) === name);
   if (!it.isLawful || !service) return undefined;
   try {
-    return await api.explain(it, name, state.inputs, misses);
+    return await api.explain(it, name, state.inputs, { misses, signal: state.asking.signal });
   } catch (fault) {
     if (which === state.shown) throw fault;
     return { problem: fault };

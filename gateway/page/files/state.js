@@ -2,7 +2,7 @@
 import { Problem } from "./api.js";
 import { byID } from "./dom.js";
 
-/** The models, what was told of the inputs under each, and what is drawn. */
+/** The models, what is shown, what was told of the inputs under each, the number and the abort of what is asked. */
 export const state = {
   models: {},
   told: {},
@@ -10,6 +10,7 @@ export const state = {
   service: "",
   inputs: {},
   asked: 0,
+  asking: null,
   form: null,
   graph: null,
   views: new Map(),
@@ -25,6 +26,7 @@ export async function tried(work) {
     alarm("");
     return await work();
   } catch (fault) {
+    if (fault.name === "AbortError") return undefined;
     if (fault.status === 401) byID("guard").hidden = false;
     alarm(fault.message);
     if (!(fault instanceof Problem) && !(fault instanceof SyntaxError)) console.error(fault);
