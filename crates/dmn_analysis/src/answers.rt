@@ -28,7 +28,7 @@ use std::alloc::{AllocError, Global};
 pub enum Coverage {
     /// One does, whatever the names stand for.
     Complete,
-    /// For these values, of each column one, none does. They may be others than those asked about.
+    /// For these values, of each column one, none does. That they are among those asked about is meant, and not promised.
     Gap(Vec<Feel>),
     /// It was not decided.
     Open,

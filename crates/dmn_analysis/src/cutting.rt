@@ -1,5 +1,6 @@
 //! The classes into which the tests of a column cut its values. Nothing is promised of them here: whether they cover what is
 //! asked about is found afterwards.
+use crate::asked::{Asked, Texts};
 use crate::class::{Class, is_among};
 use crate::on_class::{literal, negative};
 use dmn_table::Rule;
@@ -123,23 +124,60 @@ pub(crate) fn count_of(alloc: Global, rules: &[Rule], place: usize) -> Result<us
     Ok(cuts.starts.len().saturating_add(cuts.texts.len()))
 }
 
-/// The classes of a column.
+// Adds a class for each of these texts.
+fn add_each(texts: &[ArcStr], classes: &mut Vec<Class>) -> Result<(), AllocError> {
+    for text in texts {
+        classes.push(Class::One(Value::Text(text.clone()?)))?;
+    }
+    Ok(())
+}
+
+// Adds the classes of the texts that are asked about, where these are named.
+fn add_texts(
+    asked: &Texts,
+    named: Vec<ArcStr>,
+    classes: &mut Vec<Class>,
+) -> Result<(), AllocError> {
+    match asked {
+        Texts::None => Ok(()),
+        Texts::These(texts) => add_each(texts, classes),
+        Texts::All => {
+            add_each(&named, classes)?;
+            classes.push(Class::OtherTexts(named))?;
+            Ok(())
+        }
+    }
+}
+
+// Adds the other classes that are asked about.
+fn add_others(asked: &Asked, classes: &mut Vec<Class>) -> Result<(), AllocError> {
+    if asked.null {
+        classes.push(Class::One(Value::Null))?;
+    }
+    if asked.truths {
+        classes.push(Class::One(Value::Bool(false)))?;
+        classes.push(Class::One(Value::Bool(true)))?;
+    }
+    if asked.parted {
+        classes.push(Class::Parted)?;
+    }
+    Ok(())
+}
+
+/// The classes of a column, of the values that are asked about.
 pub(crate) fn classes_of(
     alloc: Global,
     rules: &[Rule],
     place: usize,
+    asked: &Asked,
 ) -> Result<Vec<Class>, AllocError> {
     let cuts = Cuts::of(alloc, rules, place)?;
     let mut classes = Vec::new(alloc);
-    cuts.add_numbers(&mut classes)?;
-    let Cuts { starts: _, texts } = cuts;
-    for text in &texts {
-        classes.push(Class::One(Value::Text(text.clone()?)))?;
+    if asked.numbers {
+        cuts.add_numbers(&mut classes)?;
     }
-    classes.push(Class::OtherTexts(texts))?;
-    classes.push(Class::One(Value::Null))?;
-    classes.push(Class::One(Value::Bool(false)))?;
-    classes.push(Class::One(Value::Bool(true)))?;
-    classes.push(Class::Parted)?;
+    let Cuts { starts: _, texts } = cuts;
+    add_texts(&asked.texts, texts, &mut classes)?;
+    add_others(asked, &mut classes)?;
     Ok(classes)
 }

@@ -44,7 +44,7 @@ fn column_of(
     let Some(one) = asked.get(place) else {
         return Ok(None);
     };
-    let classes = classes_of(alloc, rules, place)?;
+    let classes = classes_of(alloc, rules, place, one)?;
     if classes.len().saturating_mul(rules.len()) > MOST_ANSWERS {
         return Ok(None);
     }
