@@ -116,7 +116,8 @@ docs/MODEL.md in the repository says what a model is and what each fault means, 
 the lines of --json are."#;
 
 /// The lines of `explain`.
-pub const EXPLAIN: &str = r#"Each line is one JSON object, as those of serve, and is answered as serve with these options answers it:
+pub const EXPLAIN: &str =
+    r#"Each line is one JSON object, as those of serve, and is answered as serve with these options answers it:
   {"model":M}                                      a model, in force from the next line on
   {"client":"ann","service":"s","inputs":{"a":4}}  a request
   {"client":"ann","close":true}                    no more requests of ann

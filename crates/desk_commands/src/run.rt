@@ -13,8 +13,8 @@ use crate::options::{check_options_of, explain_options_of, is_text, options_of};
 use clap::error::ErrorKind;
 use clap::{ArgMatches, Error};
 use desk_front::{
-    CheckOptions, ExplainOptions, FrontFault, Options, Sink, Source, check, explain, explain_in_text, replay,
-    serve, write_all,
+    CheckOptions, ExplainOptions, FrontFault, Options, Sink, Source, check, explain,
+    explain_in_text, replay, serve, write_all,
 };
 use lanes::OpenGate;
 use std::alloc::{AllocError, Global};
@@ -178,7 +178,10 @@ fn run_command<T: Threads + Wait + Sync, R: Source, W: Sink, F: Sink>(
     }
     if let Some(found) = matches.subcommand_matches("explain") {
         let options = explain_options_of(found);
-        return tell_end(run_explain(alloc, &options, is_text(found), reader, writer), faults);
+        return tell_end(
+            run_explain(alloc, &options, is_text(found), reader, writer),
+            faults,
+        );
     }
     run_replay(alloc, reader, writer, faults)
 }

@@ -152,8 +152,12 @@ hears_asked old new k (Request n s i) asked text text' answers asks sum explains
     ap (λ j. explanation asked.client.now j task.0 asked.service.now e.0 e.1 (request_result asked.task) asked.ticket) num
     ∙ ap (λ q. explanation asked.client.now (number_after earlier) task.0 q e.0 e.1 (request_result asked.task) asked.ticket) asks.1 in (
       compact_text d ∷ [],
-      (d, subst (λ q. IsExplained old.misses (number_after earlier) (in_force earlier) (Request n s i) q d) a.0
-      (task.0, asked.task, sym stands.register.model ∙ task.1, task.2, e.0, e.1, e.2, is), refl),
+      (
+        d,
+        subst (λ q. IsExplained old.misses (number_after earlier) (in_force earlier) (Request n s i) q d) a.0
+            (task.0, asked.task, sym stands.register.model ∙ task.1, task.2, e.0, e.1, e.2, is),
+        refl,
+      ),
       one_more text text' d e.3,
       record { register = a.1; sum = same_sum old new lanes earlier (Says (Request n s i) ∷ earlier) stands a.1 refl sum },
     )
@@ -164,36 +168,52 @@ stands_on : (state : State) (lanes : ℕ) (earlier : List (Reading Line)) (readi
 stands_on state lanes earlier reading s r = record { register = r; sum = s.sum }
 
 pub heard_long : (state : State) (k : ℕ) (it text text' : List ℕ) → Reads it Long → Adds text (report_json (Refused k word.Long)) text' → HearsText state k it text text' state
-heard_long state k it text text' reads adds = (Long, reads, λ lanes earlier s num. (
-  compact_text (report_json (Refused k word.Long)) ∷ [],
-  ap (λ j. compact_text (report_json (Refused j word.Long)) ∷ []) num,
-  one_more text text' (report_json (Refused k word.Long)) adds,
-  stands_on state lanes earlier Long s (record { count = s.register.count; model = s.register.model; clients = s.register.clients }),
-))
+heard_long state k it text text' reads adds = (
+  Long,
+  reads,
+  λ lanes earlier s num. (
+    compact_text (report_json (Refused k word.Long)) ∷ [],
+    ap (λ j. compact_text (report_json (Refused j word.Long)) ∷ []) num,
+    one_more text text' (report_json (Refused k word.Long)) adds,
+    stands_on state lanes earlier Long s (record { count = s.register.count; model = s.register.model; clients = s.register.clients }),
+  ),
+)
 
 pub heard_blank : (state : State) (k : ℕ) (it text : List ℕ) → Reads it Blank → HearsText state k it text text state
-heard_blank state k it text reads = (Blank, reads, λ lanes earlier s num. (
-  [],
-  refl,
-  sym (append-nil text),
-  stands_on state lanes earlier Blank s (record { count = s.register.count; model = s.register.model; clients = s.register.clients }),
-))
+heard_blank state k it text reads = (
+  Blank,
+  reads,
+  λ lanes earlier s num. (
+    [],
+    refl,
+    sym (append-nil text),
+    stands_on state lanes earlier Blank s (record { count = s.register.count; model = s.register.model; clients = s.register.clients }),
+  ),
+)
 
 pub heard_syntax : (state : State) (k : ℕ) (it text text' : List ℕ) → Reads it Syntax → Adds text (report_json (Refused k word.Syntax)) text' → HearsText state k it text text' state
-heard_syntax state k it text text' reads adds = (Syntax, reads, λ lanes earlier s num. (
-  compact_text (report_json (Refused k word.Syntax)) ∷ [],
-  ap (λ j. compact_text (report_json (Refused j word.Syntax)) ∷ []) num,
-  one_more text text' (report_json (Refused k word.Syntax)) adds,
-  stands_on state lanes earlier Syntax s (record { count = s.register.count; model = s.register.model; clients = s.register.clients }),
-))
+heard_syntax state k it text text' reads adds = (
+  Syntax,
+  reads,
+  λ lanes earlier s num. (
+    compact_text (report_json (Refused k word.Syntax)) ∷ [],
+    ap (λ j. compact_text (report_json (Refused j word.Syntax)) ∷ []) num,
+    one_more text text' (report_json (Refused k word.Syntax)) adds,
+    stands_on state lanes earlier Syntax s (record { count = s.register.count; model = s.register.model; clients = s.register.clients }),
+  ),
+)
 
 pub heard_shape : (state : State) (k : ℕ) (it text text' : List ℕ) → Reads it Shape → Adds text (report_json (Refused k word.Shape)) text' → HearsText state k it text text' state
-heard_shape state k it text text' reads adds = (Shape, reads, λ lanes earlier s num. (
-  compact_text (report_json (Refused k word.Shape)) ∷ [],
-  ap (λ j. compact_text (report_json (Refused j word.Shape)) ∷ []) num,
-  one_more text text' (report_json (Refused k word.Shape)) adds,
-  stands_on state lanes earlier Shape s (record { count = s.register.count; model = s.register.model; clients = s.register.clients }),
-))
+heard_shape state k it text text' reads adds = (
+  Shape,
+  reads,
+  λ lanes earlier s num. (
+    compact_text (report_json (Refused k word.Shape)) ∷ [],
+    ap (λ j. compact_text (report_json (Refused j word.Shape)) ∷ []) num,
+    one_more text text' (report_json (Refused k word.Shape)) adds,
+    stands_on state lanes earlier Shape s (record { count = s.register.count; model = s.register.model; clients = s.register.clients }),
+  ),
+)
 
 -- a line that asks something
 pub heard_said : (old new : State) (k : ℕ) (heard : Heard) (line : asking.Line) (it text text' : List ℕ) → IsHeardAs it heard → IsLineOf heard (Some line)

@@ -13,7 +13,12 @@ use std::alloc::{AllocError, Global};
 
 impl State {
     /// A model came in force: its sum is kept, and told with its text.
-    fn tell_loaded(&mut self, alloc: Global, number: u64, text: &mut Vec<u8>) -> Result<(), AllocError>
+    fn tell_loaded(
+        &mut self,
+        alloc: Global,
+        number: u64,
+        text: &mut Vec<u8>,
+    ) -> Result<(), AllocError>
         ensures same { (self.new.register ≡ self.old.register) × (self.new.misses ≡ self.old.misses) }
         ensures loads { OnOk result (Loads self.old number text.old.items text.new.items self.new) }
     {

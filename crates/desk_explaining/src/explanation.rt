@@ -72,12 +72,7 @@ fn add_begin(alloc: Global, name: &str, number: u64, line: &mut Vec<u8>) -> Resu
 
 /// Adds `,"model":"..","service":s,"inputs":`.
 #[tactic(auto, using(crate::proofs::Telling::pieces_5))]
-fn add_asked(
-    alloc: Global,
-    sum: &str,
-    service: &str,
-    line: &mut Vec<u8>,
-) -> Result<(), AllocError>
+fn add_asked(alloc: Global, sum: &str, service: &str, line: &mut Vec<u8>) -> Result<(), AllocError>
     ensures { OnOk result (line.new.items ≡ line.old.items ++ asked_of sum.now service.now) }
 {
     line.extend_from_slice(b",\"model\":")?;
@@ -101,7 +96,11 @@ fn add_middle(decisions: &BoundedText, line: &mut Vec<u8>) -> Result<(), AllocEr
 }
 
 /// The list of the decisions on the way to an answer in JSON, as far as it is kept.
-fn decisions_text(alloc: Global, course: &Course<'_>, misses: bool) -> Result<BoundedText, AllocError>
+fn decisions_text(
+    alloc: Global,
+    course: &Course<'_>,
+    misses: bool,
+) -> Result<BoundedText, AllocError>
     requires { HasPlacesWithin course.now.items.now course.now.service.now }
     ensures { IfOk result (λ text. (q : Request) (c : IsCourseOf q course.now) → text ≡ kept_text (compact_text (array (decisions_told misses (found_for c.model (zip (parameters_of c.service) q.values)) course.now.items.now course.now.service.now)))) }
 {

@@ -107,7 +107,14 @@ impl Register {
     }
 
     /// A task of the client at a place is accepted under its next ticket, or refused where the client is closed.
-    fn accept<'a>(&mut self, place: usize, number: u64, name: &'a str, service: &'a str, task: Task) -> Answer<'a>
+    fn accept<'a>(
+        &mut self,
+        place: usize,
+        number: u64,
+        name: &'a str,
+        service: &'a str,
+        task: Task,
+    ) -> Answer<'a>
         requires { slice_get (names_of self.old) place ≡ Some name.now }
         ensures same { (self.new.plan ≡ self.old.plan) × (self.new.lanes ≡ self.old.lanes) }
         ensures told { (client : specs.Client) → slice_get (clients_of self.old) place ≡ Some client → answer_view result ≡ task_answer number name.now client.closed client.accepted (Ok task) }
@@ -171,7 +178,12 @@ impl Register {
     }
 
     /// The model on a line is in force from the next line on, or its fault is told.
-    fn load<'a>(&mut self, alloc: Global, number: u64, model: &Value) -> Result<Answer<'a>, AllocError>
+    fn load<'a>(
+        &mut self,
+        alloc: Global,
+        number: u64,
+        model: &Value,
+    ) -> Result<Answer<'a>, AllocError>
         ensures lanes { self.new.lanes ≡ self.old.lanes }
         ensures answers { IfOk result (λ answer. Answers self.old number (Model (view model.now)) answer self.new) }
         ensures asks { IfOk result (λ answer. AsksBy (force_of self.old) (Model (view model.now)) answer) }
@@ -218,7 +230,12 @@ impl Register {
     }
 
     /// A client is closed, or the first refusal that applies is told.
-    fn close<'a>(&mut self, alloc: Global, number: u64, name: &'a str) -> Result<Answer<'a>, AllocError>
+    fn close<'a>(
+        &mut self,
+        alloc: Global,
+        number: u64,
+        name: &'a str,
+    ) -> Result<Answer<'a>, AllocError>
         ensures lanes { self.new.lanes ≡ self.old.lanes }
         ensures answers { IfOk result (λ answer. Answers self.old number (Close name.now) answer self.new) }
         ensures asks { IfOk result (λ answer. AsksBy (force_of self.old) (Close name.now) answer) }

@@ -11,12 +11,12 @@ ghost use Rattle.desk_wire.specs.Heard.{IsHeardAs};
 ghost use Rattle.desk_serving.specs.Tasks.{IsTaskFor, IsTaskOf};
 ghost use Rattle.desk_serving.specs.StateView.{HasRoom, Hears, HearsText, model_of};
 
-use desk_requests::{Line, line_heard};
 use crate::reports::{close_told, resize_told};
 use crate::state::State;
 use crate::until::Until;
 use crate::waiting::hand_out_until;
 use desk_lines::{Clerk, FrontFault, LineText, Sink, Unwritten};
+use desk_requests::{Line, line_heard};
 use desk_wire::{Heard, Report, Told, Word, add_refusal, hear};
 use dmn_plan::{ModelFault, Plan, Task, TaskFault};
 use json_reader::JsonReader;

@@ -15,6 +15,5 @@ mod until;
 mod waiting;
 
 pub use laws::own_lines_decide;
-
 pub use options::Options;
 pub use run::serve;

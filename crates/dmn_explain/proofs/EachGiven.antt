@@ -1,5 +1,5 @@
 -- A request that is made from JSON has a value for each parameter of its service.
-use Rattle.std.proofs.Common.{◌≡◌, ◌∙◌, sym, ap, refl, ℕ, List, length, Option, None, Some, Result, Ok, Err}
+use Rattle.std.proofs.Common.{◌≡◌, ◌∙◌, sym, ap, refl, ℕ, List, length, Option, None, Some, Result, Ok}
 use Rattle.std.proofs.lemmas.Option.{same_Some}
 use Rattle.serde_json.specs.Data as json
 use Rattle.feel_value.specs.Datum.{Datum}

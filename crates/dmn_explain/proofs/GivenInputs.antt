@@ -3,11 +3,10 @@ use Rattle.std.proofs.Common.{◌≡◌, ◌∙◌, sym, ap, ap₂, refl, subst,
 use Rattle.std.specs.List.{zip}
 use Rattle.std.proofs.lemmas.List.{at_drop_more, drop_all, length-map}
 use Rattle.json.specs.Print.{quoted}
-use Rattle.serde_json.specs.Data.{Data, Members, member, no_members, object}
+use Rattle.serde_json.specs.Data.{Data, Members, member, object}
 use Rattle.serde_json.specs.Written.{comma_if, compact_text, members_text}
 use Rattle.feel_value.specs.Datum.{Datum}
 use Rattle.feel_value.specs.Found.{value_of}
-use Rattle.feel_value.specs.Json.{json_of}
 use Rattle.feel_value.specs.declared.feel.Outcome.{Outcome}
 use Rattle.feel_value.specs.declared.feel.Outcome.TheVariants.{Is}
 use Rattle.feel_text.specs.Expr.{Expr}

@@ -2,7 +2,7 @@
 use Rattle.std.proofs.Common.{◌≡◌, ℕ, Bool, true, false, List, [], ◌∷◌, ◌++◌, refl, ap, sym, ◌∙◌, Option, None, Some}
 use Rattle.std.specs.Prelude.{codes}
 use Rattle.json.specs.Print.{quoted}
-use Rattle.serde_json.specs.Data.{Data, boolean, string, object, array, Items, Members, no_members, member}
+use Rattle.serde_json.specs.Data.{Data, string, object, array, Items, Members, no_members, member}
 use Rattle.serde_json.specs.Written.{comma_if, compact_text, items_text, members_text}
 use Rattle.feel_value.specs.Datum.{Datum, list, items_of}
 use Rattle.feel_value.specs.Json.{json_of}

@@ -2,7 +2,6 @@
 use Rattle.std.specs.Prelude.{ℕ, List, [], ◌∷◌, Bool, nat_eq, codes, Option, None, Some, option_map}
 use Rattle.std.specs.List.{slice_get, filter, flat_map}
 use Rattle.serde_json.specs.Data.{Data, string, object, Items, no_items, item, Members, no_members, member}
-use Rattle.feel_value.specs.Datum.{Datum}
 use Rattle.feel_value.specs.Json.{json_of}
 use Rattle.feel_value.specs.Found.{value_of, ◌>>=◌}
 use Rattle.feel_value.specs.declared.feel.Outcome.{Outcome}

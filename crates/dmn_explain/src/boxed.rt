@@ -197,7 +197,8 @@ fn add_entries<'a>(
             return Ok(false);
         }
         add_comma(later, text)?;
-        let Outcome::Is(value) = add_entry(alloc, name.as_str(), logic, with_misses, env, text)? else {
+        let Outcome::Is(value) = add_entry(alloc, name.as_str(), logic, with_misses, env, text)?
+        else {
             text.push(b']')?;
             return Ok(false);
         };

@@ -90,11 +90,7 @@ fn add_all_inputs(
 /// then the input data, in the service's order. One that is missing in the request is null.
 ///
 /// The contract speaks of requests that give a value for each parameter, as those do that are made from JSON.
-pub fn add_inputs(
-    alloc: Global,
-    course: &Course<'_>,
-    text: &mut Vec<u8>,
-) -> Result<(), AllocError>
+pub fn add_inputs(alloc: Global, course: &Course<'_>, text: &mut Vec<u8>) -> Result<(), AllocError>
     requires { HasPlacesWithin course.now.items.now course.now.service.now }
     ensures { OnOk result ((q : Request) (c : IsCourseOf q course.now) → length q.values ≡ length (parameters_of c.service) → text.new.items ≡ text.old.items ++ compact_text (object (inputs_told (zip (parameters_of c.service) q.values)))) }
 {

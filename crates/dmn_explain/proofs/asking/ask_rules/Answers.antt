@@ -1,7 +1,6 @@
-use Rattle.std.proofs.Common.{◌≡◌, refl, sym, ap, ◌∙◌, map}
-use Rattle.dmn_table.specs.Parts.{rule_view}
-use Rattle.dmn_explain.specs.Numbered.{asked_view, found_from}
-use Rattle.dmn_explain.proofs.Rows.{found_begun, found_broken, found_done, found_more}
+use Rattle.std.proofs.Common.{sym, ◌∙◌}
+use Rattle.dmn_explain.specs.Numbered.{asked_view}
+use Rattle.dmn_explain.proofs.Rows.{found_broken, found_done, found_more}
 use Rattle.dmn_explain.proofs.asking.ask_rules.Goals as goal
 
 pub loop-i-preserved : goal.loop-i-preserved

@@ -1,4 +1,4 @@
-use Rattle.std.proofs.Common.{◌≡◌, length, arith, rules, ap, sym, ◌∙◌, subst, ◌++◌, ◌+◌, [], ◌∷◌, List, ℕ, true, false, drop, Option, OnOk, refl, Vec, Global}
+use Rattle.std.proofs.Common.{◌≡◌, length, arith, rules, ap, sym, ◌∙◌, subst, ◌++◌, ◌+◌, [], ◌∷◌, List, ℕ, true, false, drop, Option, OnOk, refl}
 use Rattle.std.specs.Arc.{arc_str_bytes}
 use Rattle.std.specs.Prelude.{codes}
 use Rattle.std.proofs.lemmas.List.{take_all}

@@ -1,5 +1,6 @@
-use Rattle.std.proofs.Common.{◌≡◌, ap, sym, ◌∙◌, List, ℕ}
-use Rattle.std.specs.List.{zip}
+use Rattle.std.proofs.Common.{◌≡◌, ◌<◌, ap, sym, subst, ◌∙◌, length, List, ℕ}
+use Rattle.std.specs.List.{All, zip}
+use Rattle.std.proofs.lemmas.List.Elements.{All-filter}
 use Rattle.serde_json.specs.Data.{array, Items}
 use Rattle.serde_json.specs.Written.{compact_text, items_text}
 use Rattle.feel_value.specs.declared.feel.Outcome.{Outcome}
@@ -7,8 +8,15 @@ use Rattle.dmn_service.specs.Decision.{parameters_of, outcome_of}
 use Rattle.json_writer.specs.Bounded.{longer}
 use Rattle.dmn_explain.specs.Explanation.{needed_parameters}
 use Rattle.dmn_explain.specs.Placed.{given_by_place, decided_by_place}
-use Rattle.dmn_explain.proofs.Placing.{told_same}
+use Rattle.dmn_explain.proofs.Placing.{is_needed, told_same}
 use Rattle.dmn_explain.proofs.decisions.add_decisions.Goals as goal
+
+pub add_all_given-requires : goal.add_all_given-requires
+add_all_given-requires c =
+    let items = c.args.course.now.items.now in
+    let plan = c.args.course.now.service.now in
+    subst (λ (qs : List ℕ). All (λ q. q < length items) qs) (sym (c.deref.ensures.value ∙ c.in_ok-needed.ensures))
+    (All-filter (is_needed items plan) (λ q. q < length items) plan.parameters.items c.requires.parameters)
 
 pub returns : goal.returns
 returns c =

@@ -2,9 +2,8 @@ use Rattle.std.proofs.Common.{◌≡◌, ap, sym, ◌∙◌, true, Bool, List, �
 use Rattle.std.specs.Prelude.{codes}
 use Rattle.feel_value.specs.Datum.{Datum}
 use Rattle.feel_value.specs.Found.{value_of}
-use Rattle.feel_value.specs.declared.feel.Outcome.{Outcome}
 use Rattle.dmn_table.specs.Faults.{goes_by_priority}
-use Rattle.dmn_table.specs.Hits.{output_of, values_of}
+use Rattle.dmn_table.specs.Hits.{values_of}
 use Rattle.dmn_table.specs.Parts.{rule_view}
 use Rattle.dmn_table.specs.Priority.{listed_places, listed_values}
 use Rattle.json_writer.specs.Bounded.{longer}

@@ -1,4 +1,4 @@
-use Rattle.std.proofs.Common.{◌≡◌, ◌<◌, ◌∙◌, get_or, length, refl, subst, sym, true}
+use Rattle.std.proofs.Common.{◌<◌, ◌∙◌, get_or, length, refl, subst, sym, true}
 use Rattle.std.proofs.lemmas.List.{length-set}
 use Rattle.dmn_explain.proofs.Marking.{mark_more}
 use Rattle.dmn_explain.proofs.needed.mark.Goals as goal

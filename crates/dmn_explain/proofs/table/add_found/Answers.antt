@@ -1,4 +1,4 @@
-use Rattle.std.proofs.Common.{◌≡◌, ap, ◌∙◌, map, true, Bool, List, ℕ, Option, Some}
+use Rattle.std.proofs.Common.{ap, ◌∙◌, map, true, Bool, List, ℕ, Option, Some}
 use Rattle.std.specs.Prelude.{codes}
 use Rattle.serde_json.specs.Data.{array, boolean, member, Members}
 use Rattle.serde_json.specs.Written.{compact_text}

@@ -1,4 +1,4 @@
-use Rattle.std.proofs.Common.{◌≡◌, List, ℕ, map, length, Option, Some, None, option_map, Vec, Global, sym, ap, ◌∙◌, true}
+use Rattle.std.proofs.Common.{◌≡◌, List, ℕ, map, length, Some, None, option_map, Vec, Global, sym, ap, ◌∙◌}
 use Rattle.std.proofs.lemmas.Result.{on_ok_weaker}
 use Rattle.json.specs.Print.{quoted}
 use Rattle.serde_json.specs.Written.{compact_text}
@@ -10,7 +10,6 @@ use Rattle.dmn_table.specs.Parts.{rule_view}
 use Rattle.dmn_table.specs.Table.{Rule}
 use Rattle.json_writer.specs.Bounded.{longer}
 use Rattle.dmn_explain.specs.Numbered.{asked_view, found_from}
-use Rattle.dmn_explain.specs.declared.asking.Asked.{Asked}
 use Rattle.dmn_explain.proofs.Pieces.{inputs_added, table_added}
 use Rattle.dmn_explain.proofs.Rows.{found_entries}
 use Rattle.dmn_explain.proofs.table.add_table.Goals as goal

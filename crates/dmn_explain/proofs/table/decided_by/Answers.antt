@@ -1,4 +1,4 @@
-use Rattle.std.proofs.Common.{◌≡◌, ◌∙◌, List, ℕ, map, length, option_map, sym, ap}
+use Rattle.std.proofs.Common.{◌∙◌, List, ℕ, map, length, option_map, sym, ap}
 use Rattle.std.proofs.lemmas.List.{length-map}
 use Rattle.feel_value.specs.Found.{each}
 use Rattle.dmn_table.specs.Deciding.{deciding}
