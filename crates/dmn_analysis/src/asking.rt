@@ -5,10 +5,26 @@ ghost use Rattle.dmn_table.specs.Hits.{does_hit as does_hit_of};
 ghost use Rattle.dmn_table.specs.Parts.{rule_view};
 ghost use Rattle.dmn_analysis.specs.Claims.{Hits};
 
-use dmn_table::{Rule, does_hit};
+use dmn_table::{Rule, first_miss};
 use feel_lang::Env;
 use feel_value::Feel;
 use std::alloc::{AllocError, Global};
+
+/// Whether the rule hits for these values; None where an entry breaks a limit.
+#[tactic(auto, using(dmn_table::proofs::FirstMiss::hits_without_miss))]
+fn does_hit(
+    alloc: Global,
+    rule: &Rule,
+    values: &[Feel],
+    env: &Env,
+) -> Result<Option<bool>, AllocError>
+    ensures { IfOk result (λ hit. hit ≡ does_hit_of env.now values.now (rule_view rule.now)) }
+{
+    let Some(miss) = first_miss(alloc, rule, values, env)? else {
+        return Ok(None);
+    };
+    Ok(Some(miss.is_none()))
+}
 
 /// Whether none of the rules hits for these values, where no name stands for anything.
 pub(crate) fn all_miss(alloc: Global, rules: &[Rule], values: &[Feel]) -> Result<bool, AllocError>
