@@ -6,5 +6,5 @@ pub const VERSION: &str = concat!(
     "0.14.0\n",
     "licence MIT OR Apache-2.0\n",
     "proved with rattle-kit-13f logic dac8208d650f15bf\n",
-    "sources 68e7ceaab7234139e68dcc6f4ba8663e97218abcb664e1e02f3164644066fc71",
+    "sources 354d95351e80074f22b626fca3e40ce28c49fecfb6c1e20ffeba0ec416dae929",
 );
