@@ -11,7 +11,6 @@ use feel_value::Feel;
 use std::alloc::{AllocError, Global};
 
 /// Whether the rule hits for these values; None where an entry breaks a limit.
-#[tactic(auto, using(dmn_table::proofs::FirstMiss::hits_without_miss))]
 fn does_hit(
     alloc: Global,
     rule: &Rule,
