@@ -6,5 +6,5 @@ pub const VERSION: &str = concat!(
     "0.14.0\n",
     "licence MIT OR Apache-2.0\n",
     "proved with rattle-kit-13f logic dac8208d650f15bf\n",
-    "sources 354d95351e80074f22b626fca3e40ce28c49fecfb6c1e20ffeba0ec416dae929",
+    "sources 23dd5e797368b8ee3e2a9e55b398477dc8bd01143aa3fff8b1e8cb949475433b",
 );
