@@ -6,5 +6,5 @@ pub const VERSION: &str = concat!(
     "0.14.0\n",
     "licence MIT OR Apache-2.0\n",
     "proved with rattle-kit-13f logic dac8208d650f15bf\n",
-    "sources 23dd5e797368b8ee3e2a9e55b398477dc8bd01143aa3fff8b1e8cb949475433b",
+    "sources 46674c528c6ea15eb4830850b37eba9a9e0d2177a4b57332274733645bb25e59",
 );

@@ -22,7 +22,10 @@ fn does_hit(
     let Some(miss) = first_miss(alloc, rule, values, env)? else {
         return Ok(None);
     };
-    Ok(Some(miss.is_none()))
+    match miss {
+        None => Ok(Some(true)),
+        Some(_) => Ok(Some(false)),
+    }
 }
 
 /// Whether none of the rules hits for these values, where no name stands for anything.

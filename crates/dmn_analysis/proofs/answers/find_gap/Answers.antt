@@ -19,7 +19,7 @@ returns-then-branch c =
     let found : All P c.in-Some.columns.items = rw c.in-Some.is at c.in_ok-columns.ensures in
     let of = subst (All P) (sym c.deref.ensures.value) found in
     subst (λ is. AlwaysHit (length is) table.rules asked) c.inputs-count.ensures
-    (subst (λ rs. AlwaysHit (length inputs) rs asked) c.rules-rules.ensures (c.in_ok-is_complete.ensures c.if-branch.true asked of))
+    (subst (λ rs. AlwaysHit (length inputs) rs asked) c.rules-rules.ensures.rules (c.in_ok-is_complete.ensures c.if-branch.true asked of))
 
 pub returns : goal.returns
 returns c =
@@ -30,5 +30,5 @@ returns c =
     let misses : All (λ r. P (rule_view r)) rules = rw c.in-Some-2.is at c.in_ok-values.ensures.misses in
     record {
       one_each = one_each ∙ ap length c.inputs-count.ensures;
-      misses = subst (All P) c.rules-rules.ensures (All-map P rule_view rules misses);
+      misses = subst (All P) c.rules-rules.ensures.rules (All-map P rule_view rules misses);
     }

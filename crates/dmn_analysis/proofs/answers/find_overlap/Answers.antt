@@ -17,5 +17,5 @@ returns-in_default-first_near c =
     let found : All (P c.deref.result.now) columns = rw c.in-Some.is at c.in_ok-columns.ensures in
     let of = subst (λ cs. All (P asked) cs) (sym c.deref-2.ensures.value) (subst (λ as_asked. All (P as_asked) columns) c.deref.ensures.value found) in
     subst (λ is. NeverTwo (length is) table.rules) c.inputs-count.ensures
-    (subst (λ rs. NeverTwo (length inputs) rs) c.rules-rules.ensures
+    (subst (λ rs. NeverTwo (length inputs) rs) c.rules-rules.ensures.rules
     (never_two rules (length inputs) c.deref-2.result.now asked (c.first_near.ensures c.in_default-first_near.is) c.in_ok-asked.ensures of))

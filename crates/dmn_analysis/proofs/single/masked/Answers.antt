@@ -17,4 +17,4 @@ returns c =
     let of = subst (λ cs. All (P asked) cs) (sym c.deref-2.ensures.value) (subst (λ as_asked. All (P as_asked) columns) c.deref.ensures.value found) in
     let behind = c.in_ok-behind.behind.items in
     subst (λ is. All (HitsBehind (length is) table.rules) behind) c.inputs-count.ensures
-    (subst (λ rs. All (HitsBehind (length inputs) rs) behind) c.rules-rules.ensures (c.in_ok-behind.ensures asked c.in_ok-asked.ensures of))
+    (subst (λ rs. All (HitsBehind (length inputs) rs) behind) c.rules-rules.ensures.rules (c.in_ok-behind.ensures asked c.in_ok-asked.ensures of))

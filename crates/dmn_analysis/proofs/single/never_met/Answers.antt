@@ -17,4 +17,4 @@ returns c =
     let of = subst (λ cs. All (P asked) cs) (sym c.deref-2.ensures.value) (subst (λ as_asked. All (P as_asked) columns) c.deref.ensures.value found) in
     let out = c.in_ok-out.out.items in
     subst (λ is. All (NeverHits (length is) table.rules) out) c.inputs-count.ensures
-    (subst (λ rs. All (NeverHits (length inputs) rs) out) c.rules-rules.ensures (c.in_ok-out.ensures asked c.in_ok-asked.ensures of))
+    (subst (λ rs. All (NeverHits (length inputs) rs) out) c.rules-rules.ensures.rules (c.in_ok-out.ensures asked c.in_ok-asked.ensures of))
