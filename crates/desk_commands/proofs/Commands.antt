@@ -1,8 +1,13 @@
 -- The program's command is one whose parses are known.
 use Rattle.std.proofs.Common.{◌≡◌, ◌&&◌, not, Bool, true, false, true≢false, refl, sym}
 use Rattle.clap.specs.Faults.{is_simple_and_free}
+use Rattle.clap.specs.Words.{is_simple}
 use Rattle.clap.proofs.OnLiterals.{clap_on_literals}
 use Rattle.desk_commands.specs.CommandLine.{desk_command}
+
+pub simple : is_simple desk_command ≡ true
+unfolding clap_on_literals
+simple = refl
 
 pub simple_and_free : is_simple_and_free desk_command ≡ true
 unfolding clap_on_literals

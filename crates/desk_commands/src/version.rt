@@ -6,5 +6,5 @@ pub const VERSION: &str = concat!(
     "0.14.0\n",
     "licence MIT OR Apache-2.0\n",
     "proved with rattle-kit-13f logic dac8208d650f15bf\n",
-    "sources 46674c528c6ea15eb4830850b37eba9a9e0d2177a4b57332274733645bb25e59",
+    "sources 2d855cf9d6a7746087be1397e5895a193526c5df701caa1cd02b34c5410ba0d9",
 );
