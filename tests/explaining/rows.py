@@ -23,11 +23,11 @@ FORMS_INPUTS = {"G": "\n", "a": 3, "other": 1}
 FORMS_TOLD = [
     ("t", r"""{"a":3}""",
      r"""[{"name":"T","value":[3,6],"table":{"policy":"R","inputs":[3],"hits":[{"rule":1,"value":3},{"rule":3,"value":6}],"defaults":false,"decided":[1,3]}}]"""),
-    ("d", r"""{"a":3,"G":"\n"}""",
+    ("d", r"""{"G":"\n","a":3}""",
      r"""[{"name":"D","value":{"x":7,"y":null},"table":{"policy":"U","inputs":[3],"hits":[],"defaults":true,"decided":[]}}]"""),
     ("c", r"""{"a":3}""",
      r"""[{"name":"C","value":12,"entries":[{"name":"p","value":4},{"name":"q","value":[4],"members":[{"value":4}]}],"result":{"value":12}}]"""),
-    ("n", r"""{"a":3,"G":"\n"}""",
+    ("n", r"""{"G":"\n","a":3}""",
      r"""[{"name":"G","given":"\n"},{"name":"M","fault":"limit","members":[{"value":"\n"},{"fault":"limit"}]},{"name":"N","fault":"limit"}]"""),
 ]  # fmt: skip
 
@@ -99,7 +99,7 @@ SESSION = r"""{"client":"ann","service":"total","inputs":{}}
 SESSION_ANSWERS = r"""{"client":"ann","line":1,"refused":"model"}
 {"line":2,"model":true,"read":READ,"sha256":"SUM"}
 {"client":"ann","line":4,"model":"SUM","service":"total","inputs":{"a":4},"decisions":[{"name":"twice","value":8},{"name":"sum","value":12}],"result":12,"ticket":0}
-{"client":"bob","line":5,"model":"SUM","service":"rest","inputs":{"a":null,"twice":5},"decisions":[{"name":"twice","given":5},{"name":"sum","value":null}],"result":null,"ticket":0}
+{"client":"bob","line":5,"model":"SUM","service":"rest","inputs":{"twice":5,"a":null},"decisions":[{"name":"twice","given":5},{"name":"sum","value":null}],"result":null,"ticket":0}
 {"client":"ann","closed":true,"line":6}
 {"client":"bob","line":7,"resized":3}
 {"client":"ann","line":8,"refused":"closed"}
