@@ -10,7 +10,7 @@ from .sources import Item, Key, Sources
 from .specs import SpecFile
 
 # The fixed form of a mark: a first line, or one further down that marks what stands below it.
-MARK = re.compile(r"\s*-- Internal( but for [^:]*| behind [^:]*| from here on| to this crate)?[:,]")
+MARK = re.compile(r"\s*-- Internal( but for [^:]*| behind [^:]*| from here on| to this crate)?[:,.]")
 QUOTED = re.compile(r"`([\w']+)`")
 
 

@@ -27,6 +27,8 @@ def read_sources(root: Path) -> Sources:
                 specs[str(path.relative_to(root))] = path.read_text("utf-8")
     for file, text in code.items():
         sources.declare(file, text)
+    for file, text in specs.items():
+        sources.pass_on(file, text)
     spec_files = [SpecFile(sources, file, text) for file, text in specs.items()]
     code_files = [CodeFile(sources, file, text) for file, text in code.items()]
     for reader in [*spec_files, *code_files]:

@@ -13,7 +13,7 @@ from typing import Tuple
 Key = Tuple[str, str]
 
 TOKEN = re.compile(r"\[\]|[^\s(){}\[\];,]+")
-GHOST_USE = re.compile(r"use ([\w.]+?)(?:\.\{(.*)\}| as (\w+))?;?$")
+GHOST_USE = re.compile(r"use ([\w.]+?)(?:\.\{(.*)\}| as (\w+))?;?$", re.M)
 DECLARATION = re.compile(r"(?:pub |pub\(\w+\) )?(?:struct|enum|trait|const|type) (\w+)", re.M)
 PUBLIC_USE = re.compile(r"^pub use ([\w:]+)::(\{[^}]*\}|\w+);", re.M)
 PUBLIC_MODULE = re.compile(r"^pub mod (\w+);", re.M)
@@ -62,6 +62,8 @@ class Sources:
         # The contracts of functions, and the items that are public, with their contracts.
         self.contracts: dict[Key, Item] = {}
         self.public: list[Item] = []
+        # Names that a file of specs/ passes on from another one.
+        self.passed_on: dict[Key, Key] = {}
         # What a trait's ghost members are at a type, with the trait and the type.
         self.instances: list[tuple[set[Key], Item]] = []
 
@@ -74,6 +76,12 @@ class Sources:
             self.public_modules[crate] |= {"lib", *PUBLIC_MODULE.findall(text)}
             for path, names in PUBLIC_USE.findall(text):
                 self.exports[crate].update((name, path) for name in re.findall(r"\w+", names))
+
+    def pass_on(self, file: str, text: str) -> None:
+        """Notes which names a file of specs/ passes on."""
+        for module, names, _ in GHOST_USE.findall("\n".join(line[len("pub ") :] for line in text.splitlines() if line.startswith("pub use "))):
+            for name in filter(None, (it.strip() for it in names.split(","))):
+                self.passed_on[(file, name)] = self.key_of(module, name)
 
     def find_type(self, crate: str, name: str, module: str = "") -> Key | None:
         """A type by its crate and name; `module` tells which, where there are several of the name."""
@@ -92,7 +100,8 @@ class Sources:
         if path[0] != "Rattle" or len(path) < 3 or path[1] not in self.types:
             return (module, name)
         if path[3:4] != ["declared"]:
-            return (f"crates/{path[1]}/{path[2]}/{'/'.join(path[3:])}.antt", name)
+            key = (f"crates/{path[1]}/{path[2]}/{'/'.join(path[3:])}.antt", name)
+            return self.passed_on.get(key, key)
         names = [part for part in [*path[4:], name] if part[:1].isupper() and not part.startswith("The")]
         return self.find_type(path[1], [*names, name][0], path[4]) or (module, name)
 
