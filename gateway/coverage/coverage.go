@@ -50,10 +50,10 @@ var errLine = errors.New("a line of an explanation cannot be read")
 // Add counts what a line tells of a request, and gives its answer.
 func (c *Counts) Add(line []byte) (answer Answer, err error) {
 	at := &cursor{text: line}
-	at.object(func(key []byte) {
-		switch string(key) {
+	for is := at.open('{', '}'); is; is = at.more('}') {
+		switch string(at.key()) {
 		case "decisions":
-			at.list(func() { c.decision(at) })
+			c.readDecisions(at)
 		case "result":
 			answer.Result = at.value()
 		case "fault":
@@ -63,27 +63,39 @@ func (c *Counts) Add(line []byte) (answer Answer, err error) {
 		default:
 			at.value()
 		}
-	})
+	}
 	if at.isBad || at.at != len(line) {
 		return Answer{}, errLine
 	}
 	return answer, nil
 }
 
+func (c *Counts) readDecisions(at *cursor) {
+	for is := at.open('[', ']'); is; is = at.more(']') {
+		c.decision(at)
+	}
+}
+
 // decision counts a decision. Its name stands first.
 func (c *Counts) decision(at *cursor) {
 	var it *part
-	at.object(func(key []byte) {
-		if string(key) != "name" {
+	for is := at.open('{', '}'); is; is = at.more('}') {
+		if key := at.key(); string(key) == "name" {
+			it = c.named(at.quoted())
+		} else {
 			it.member(at, key)
-			return
 		}
-		name := at.quoted()
-		if it = c.decisions[string(name)]; it == nil {
-			it = &part{}
-			c.decisions[string(name)] = it
-		}
-	})
+	}
+}
+
+// named is the decision with a name.
+func (c *Counts) named(name []byte) *part {
+	it := c.decisions[string(name)]
+	if it == nil {
+		it = &part{}
+		c.decisions[string(name)] = it
+	}
+	return it
 }
 
 // member counts what stands under a key of a part.
@@ -113,65 +125,78 @@ func (p *part) member(at *cursor, key []byte) {
 }
 
 func (p *part) read(at *cursor) {
-	at.object(func(key []byte) { p.member(at, key) })
+	for is := at.open('{', '}'); is; is = at.more('}') {
+		p.member(at, at.key())
+	}
 }
 
 func readParts(at *cursor, parts []*part) []*part {
 	n := 0
-	at.list(func() {
+	for is := at.open('[', ']'); is; is = at.more(']') {
 		if n == len(parts) {
 			parts = append(parts, &part{})
 		}
 		parts[n].read(at)
 		n++
-	})
+	}
 	return parts
 }
 
 // read counts what a line says of the table.
 func (t *Table) read(at *cursor) {
 	hits, isAsked, defaults := 0, false, false
-	at.object(func(key []byte) {
-		switch string(key) {
+	for is := at.open('{', '}'); is; is = at.more('}') {
+		switch string(at.key()) {
 		case "hits":
 			isAsked = true
-			at.list(func() {
-				t.Hits = counted(t.Hits, hitRule(at))
-				hits++
-			})
+			hits = t.readHits(at)
 		case "defaults":
 			defaults = string(at.value()) == "true"
 		case "decided":
-			if t.Decided == nil {
-				t.Decided = []int{}
-			}
-			at.list(func() { t.Decided = counted(t.Decided, at.number()) })
+			t.readDecided(at)
 		default:
 			at.value()
 		}
-	})
-	if !isAsked {
-		return
 	}
-	t.Asked++
 	switch {
+	case !isAsked:
+		return
 	case hits > 0:
 	case defaults:
 		t.Defaults++
 	default:
 		t.None++
 	}
+	t.Asked++
+}
+
+// readHits counts the rules of a list of hits, and says how many these are.
+func (t *Table) readHits(at *cursor) (hits int) {
+	for is := at.open('[', ']'); is; is = at.more(']') {
+		t.Hits = counted(t.Hits, hitRule(at))
+		hits++
+	}
+	return hits
+}
+
+func (t *Table) readDecided(at *cursor) {
+	if t.Decided == nil {
+		t.Decided = []int{}
+	}
+	for is := at.open('[', ']'); is; is = at.more(']') {
+		t.Decided = counted(t.Decided, at.number())
+	}
 }
 
 // hitRule is the number of the rule of a hit.
 func hitRule(at *cursor) (rule int) {
-	at.object(func(key []byte) {
-		if string(key) == "rule" {
+	for is := at.open('{', '}'); is; is = at.more('}') {
+		if string(at.key()) == "rule" {
 			rule = at.number()
-			return
+		} else {
+			at.value()
 		}
-		at.value()
-	})
+	}
 	return rule
 }
 

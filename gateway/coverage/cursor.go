@@ -1,5 +1,7 @@
 package coverage
 
+import "bytes"
+
 // A cursor goes through a compact JSON text that an engine wrote. It is lenient: a text that is none makes it bad.
 type cursor struct {
 	text  []byte
@@ -23,58 +25,58 @@ func (c *cursor) take(due byte) {
 	c.at++
 }
 
-// object hands each key of an object to member, which goes over its value.
-func (c *cursor) object(member func(key []byte)) {
-	c.take('{')
-	if c.peek() == '}' {
+// open goes into a list or an object, which begins and ends with these, and says whether it has a part.
+func (c *cursor) open(begin, end byte) bool {
+	c.take(begin)
+	if c.peek() == end {
 		c.at++
-		return
+		return false
 	}
-	for !c.isBad {
-		key := c.quoted()
-		c.take(':')
-		member(key)
-		if c.peek() != ',' {
-			c.take('}')
-			return
-		}
-		c.at++
-	}
+	return !c.isBad
 }
 
-// list calls item for each item of a list, which goes over it.
-func (c *cursor) list(item func()) {
-	c.take('[')
-	if c.peek() == ']' {
+// more goes behind a part of what ends so, and says whether another one is there.
+func (c *cursor) more(end byte) bool {
+	if c.peek() == ',' && !c.isBad {
 		c.at++
-		return
+		return true
 	}
-	for !c.isBad {
-		item()
-		if c.peek() != ',' {
-			c.take(']')
-			return
-		}
-		c.at++
-	}
+	c.take(end)
+	return false
+}
+
+// key goes over a key and its colon.
+func (c *cursor) key() []byte {
+	key := c.quoted()
+	c.take(':')
+	return key
 }
 
 // quoted is what stands within quotes, as it is written.
 func (c *cursor) quoted() []byte {
 	c.take('"')
 	start := c.at
-	for c.at < len(c.text) {
-		switch c.text[c.at] {
-		case '"':
-			c.at++
-			return c.text[start : c.at-1]
-		case '\\':
-			c.at++
+	for !c.isBad {
+		next := bytes.IndexByte(c.text[c.at:], '"')
+		if next < 0 {
+			break
 		}
-		c.at++
+		c.at += next + 1
+		if !isEscaped(c.text[start : c.at-1]) {
+			return c.text[start : c.at-1]
+		}
 	}
-	c.isBad = true
+	c.isBad, c.at = true, len(c.text)
 	return nil
+}
+
+// isEscaped says whether a quote behind a text is part of it: an odd number of backslashes stands at its end.
+func isEscaped(text []byte) bool {
+	end := len(text)
+	for end > 0 && text[end-1] == '\\' {
+		end--
+	}
+	return (len(text)-end)%2 == 1
 }
 
 // number is a whole number that is not below 0.
@@ -88,34 +90,36 @@ func (c *cursor) number() int {
 	return n
 }
 
+// What a byte is to a value that is gone over.
+const (
+	inner = iota
+	quote
+	opens
+	closes
+	comma
+)
+
+var classes = [256]uint8{'"': quote, '{': opens, '[': opens, '}': closes, ']': closes, ',': comma}
+
 // value goes over a value, and gives its text.
 func (c *cursor) value() []byte {
 	start, depth := c.at, 0
-	for c.at < len(c.text) {
-		switch c.text[c.at] {
-		case '"':
+	for c.at < len(c.text) && !c.isBad {
+		class := classes[c.text[c.at]]
+		if depth == 0 && class >= closes {
+			break
+		}
+		switch class {
+		case quote:
 			c.quoted()
-			if depth == 0 {
-				return c.text[start:c.at]
-			}
-		case '{', '[':
+			continue
+		case opens:
 			depth++
-			c.at++
-		case '}', ']':
-			if depth == 0 {
-				return c.text[start:c.at]
-			}
-			c.at++
-			if depth--; depth == 0 {
-				return c.text[start:c.at]
-			}
-		case ',':
-			if depth == 0 {
-				return c.text[start:c.at]
-			}
-			c.at++
-		default:
-			c.at++
+		case closes:
+			depth--
+		}
+		if c.at++; depth == 0 && class == closes {
+			break
 		}
 	}
 	c.isBad = c.isBad || depth > 0 || start == c.at

@@ -71,6 +71,38 @@ func Check(ctx context.Context, path string, memory uint64, text []byte) (*Lawfu
 	return &first.Lawful, lines[1:], nil
 }
 
+// tablesOption asks the check for what is found of decision tables: gaps, overlaps, and rules that never decide.
+const tablesOption = "--tables"
+
+// HasTables says whether the engine's check knows tablesOption, by its help.
+func HasTables(ctx context.Context, path string) bool {
+	ctx, stop := context.WithTimeout(ctx, checkPatience)
+	defer stop()
+	lines, err := askLines(ctx, path, 0, nil, "help", "check")
+	for _, line := range lines {
+		if err == nil && bytes.Contains(line, []byte(tablesOption)) {
+			return true
+		}
+	}
+	return false
+}
+
+// Tables asks what is found of the tables of a lawful model: a line for each table and for each finding.
+func Tables(ctx context.Context, path string, memory uint64, text []byte) (found []Place, err error) {
+	ctx, stop := context.WithTimeout(ctx, checkPatience)
+	defer stop()
+	lines, err := askLines(ctx, path, memory, text, "check", "--json", tablesOption)
+	if err != nil {
+		return nil, fmt.Errorf("checking the tables: %w", ended(err))
+	}
+	for _, line := range lines {
+		if bytes.HasPrefix(line, []byte(`{"table":`)) || bytes.HasPrefix(line, []byte(`{"finding":`)) {
+			found = append(found, line)
+		}
+	}
+	return found, nil
+}
+
 // ErrEnded says that the engine ended at a model that it was given, as for want of memory.
 var ErrEnded = errors.New("the engine ended at the model")
 

@@ -254,6 +254,24 @@ func TestRename(t *testing.T) {
 	}
 }
 
+func TestHasKey(t *testing.T) {
+	table := map[string]string{"net price": "net_price"}
+	for text, due := range map[string]bool{
+		`{"net price":1}`:                     true,
+		`{"x":[{"y":2},{"net price" : 2}]}`:   true,
+		`{"x":"net price","y":["net price"]}`: false,
+		`{"net_price":"\"net price\":1"}`:     false,
+		`{"net\u0020price":1}`:                true,
+		`{"x\"":1}`:                           true,
+		`{"x":"\\","net price":1}`:            true,
+		`{}`:                                  false,
+	} {
+		if HasKey([]byte(text), table) != due {
+			t.Errorf("%s: %v is due", text, due)
+		}
+	}
+}
+
 func TestOneLine(t *testing.T) {
 	for _, it := range []struct {
 		text    string

@@ -1,6 +1,33 @@
 package lines
 
-import "fmt"
+import (
+	"bytes"
+	"fmt"
+)
+
+// HasKey says whether some object of a lawful JSON text, at whatever depth, has a key that the table has. A key that is
+// written with an escape counts as one.
+func HasKey(text []byte, table map[string]string) bool {
+	s := scanner{text: text}
+	for {
+		quote := bytes.IndexByte(text[s.at:], '"')
+		if quote < 0 {
+			return false
+		}
+		s.at += quote
+		start := s.at + 1
+		if !s.str() {
+			return true
+		}
+		key := text[start : s.at-1]
+		if s.blanks(); s.peek() != ':' {
+			continue
+		}
+		if _, is := table[string(key)]; is || bytes.IndexByte(key, '\\') >= 0 {
+			return true
+		}
+	}
+}
 
 // Rename gives a lawful JSON text other keys, at whatever depth: each key that the table has becomes what stands there.
 // The text is compact then, and of several members with one key it has the last.

@@ -60,7 +60,7 @@ func Members(text []byte, nesting int) (members []Member, other bool, fault *Syn
 		return nil, true, fault
 	}
 	members = make([]Member, 0, fewMembers)
-	ok := s.object(func(m Member) { members = append(members, m) })
+	ok := s.object(func(key []byte, value Span) { members = append(members, Member{Text(key), value}) })
 	return members, false, s.ended(ok)
 }
 
@@ -160,7 +160,7 @@ func (s *scanner) value() (Span, bool) {
 	ok := false
 	switch c := s.peek(); {
 	case c == '{':
-		ok = s.object(func(m Member) { span.add(m.Value) })
+		ok = s.object(func(_ []byte, value Span) { span.add(value) })
 	case c == '[':
 		ok = s.list(span.add)
 	case c == '"':
@@ -239,7 +239,8 @@ func (s *scanner) list(take func(Span)) bool {
 	}
 }
 
-func (s *scanner) object(take func(Member)) bool {
+// object hands each member of an object to take: its key as it is written, in quotes, and its value.
+func (s *scanner) object(take func(key []byte, value Span)) bool {
 	if !s.enter() {
 		return false
 	}
@@ -249,34 +250,34 @@ func (s *scanner) object(take func(Member)) bool {
 		return true
 	}
 	for {
-		member, ok := s.member()
+		key, value, ok := s.member()
 		if !ok {
 			return false
 		}
-		take(member)
+		take(key, value)
 		if last, ok := s.next('}'); last || !ok {
 			return ok
 		}
 	}
 }
 
-func (s *scanner) member() (Member, bool) {
+func (s *scanner) member() (key []byte, value Span, ok bool) {
 	start := s.at
 	if s.peek() != '"' {
-		return Member{}, s.fail("a key in quotes is due")
+		return nil, Span{}, s.fail("a key in quotes is due")
 	}
 	if !s.str() {
-		return Member{}, false
+		return nil, Span{}, false
 	}
-	key := Text(s.text[start:s.at])
+	key = s.text[start:s.at]
 	s.blanks()
 	if s.peek() != ':' {
-		return Member{}, s.fail("a colon is due")
+		return nil, Span{}, s.fail("a colon is due")
 	}
 	s.at++
 	s.blanks()
-	value, ok := s.value()
-	return Member{Key: key, Value: value}, ok
+	value, ok = s.value()
+	return key, value, ok
 }
 
 func (s *scanner) word() bool {

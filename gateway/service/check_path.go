@@ -17,6 +17,8 @@ type wholePage struct {
 	Fault    string `json:"fault,omitempty"`
 	// Findings are lines of `desk check --json` behind the first: faults or warnings, each at its place.
 	Findings []json.RawMessage `json:"findings"`
+	// Tables are the lines that `--tables` adds; null where they were not asked.
+	Tables []json.RawMessage `json:"tables"`
 	imported
 }
 
@@ -118,7 +120,71 @@ func (s *Service) checked(w http.ResponseWriter, r *http.Request) (*wholePage, *
 		return nil, faultProblem(err)
 	}
 	s.shelf.add(model)
-	return model.whole(), nil
+	page := model.whole()
+	if page.Tables, err = s.tables(ctx, model); err != nil {
+		s.options.Log("%v", err)
+	}
+	return page, nil
+}
+
+// An analysis is what is found of the tables of a model, once that was asked.
+type analysis struct {
+	mu    sync.Mutex
+	found []engine.Place
+}
+
+// tables has a model's tables checked, if that was not done before. Nil is given where the engine does not do it.
+func (s *Service) tables(ctx context.Context, model *served) ([]engine.Place, error) {
+	if !s.hasTables {
+		return nil, nil
+	}
+	it := &model.analysis
+	it.mu.Lock()
+	defer it.mu.Unlock()
+	if it.found != nil {
+		return it.found, nil
+	}
+	found, err := engine.Tables(ctx, s.options.Engine, s.options.Memory, model.source.Text)
+	if err == nil {
+		it.found = append([]engine.Place{}, found...)
+	}
+	return it.found, err
+}
+
+// A tablesPage is what is found of the tables of a model.
+type tablesPage struct {
+	Sum    string         `json:"sha256"`
+	Tables []engine.Place `json:"tables"`
+}
+
+// tablesPath answers GET /v1/tables: what is found of the tables of a model, which may take long.
+func (s *Service) tablesPath(w http.ResponseWriter, r *http.Request) {
+	if !takes(w, r, http.MethodGet, http.MethodHead) {
+		return
+	}
+	page, p := s.analysed(r)
+	limitWrite(r, longAnswer+1)
+	if p != nil {
+		p.write(w, w.Header().Get("X-Request-Id"))
+		return
+	}
+	writePage(w, http.StatusOK, page)
+}
+
+func (s *Service) analysed(r *http.Request) (*tablesPage, *problem) {
+	if _, p := s.caller(r); p != nil {
+		return nil, p
+	}
+	model, p := s.asked(r)
+	if p != nil {
+		return nil, p
+	}
+	page := &tablesPage{Sum: model.engine.Sum}
+	p = s.explained(r.Context(), theTables, func(ctx context.Context) (err error) {
+		page.Tables, err = s.tables(ctx, model)
+		return err
+	})
+	return page, p
 }
 
 // askedBody reads the body of a POST of someone who may call.

@@ -5,6 +5,7 @@ import (
 	"context"
 	"net/http"
 	"strconv"
+	"sync"
 
 	"gateway/coverage"
 	"gateway/engine"
@@ -28,7 +29,11 @@ type covering struct {
 	lines   []lineAsked
 	jobs    []*engine.Job
 	room    []byte
-	counts  *coverage.Counts
+	// mu guards what is below it.
+	mu     sync.Mutex
+	counts *coverage.Counts
+	// renamed has results with the names of the file, by their texts: few differ, mostly.
+	renamed map[string][]byte
 }
 
 // coveragePath answers POST /v1/coverage: how often each rule hit and decided over the lines of the body, and the answer of
@@ -54,12 +59,11 @@ func (s *Service) covered(w http.ResponseWriter, r *http.Request) ([]byte, *prob
 	if p != nil {
 		return nil, p
 	}
-	c := &covering{model: model, service: model.services[r.URL.Query().Get("service")], counts: coverage.New()}
+	c := &covering{model: model, service: model.services[r.URL.Query().Get("service")], counts: coverage.New(),
+		renamed: map[string][]byte{}}
 	c.read(body)
-	if len(c.jobs) > 0 {
-		if p = s.explained(r.Context(), func(ctx context.Context) error { return c.ask(ctx, s.explainer(false)) }); p != nil {
-			return nil, p
-		}
+	if p := c.ask(r.Context(), s); p != nil {
+		return nil, p
 	}
 	w.Header()["Desk-Model"] = model.sum
 	text, err := c.text()
@@ -99,22 +103,15 @@ func (c *covering) line(number int, text []byte) {
 		c.lines = append(c.lines, it)
 		return
 	}
-	spans := map[string][]byte{}
-	for _, member := range members {
-		spans[member.Key] = text[member.Value.Start:member.Value.End]
-	}
+	found, isRequest := requestIn(text, members)
 	inputs, service := text, c.service
 	switch {
-	case spans["service"] != nil && spans["inputs"] != nil && (len(spans) == 2 || spans["client"] != nil && len(spans) == 3):
-		inputs, it.client, it.service = spans["inputs"], spans["client"], spans["service"]
-		service = nil
-		if it.service[0] == '"' {
-			service = c.model.services[lines.Text(it.service)]
+	case isRequest:
+		inputs, it.client, it.service = found.inputs, found.client, found.service
+		if service = c.serviceOf(found.service); service == nil {
+			it.problem = problemService.with("the model has no service " + lines.Brief(found.service, 60))
 		}
-		if service == nil {
-			it.problem = problemService.with("the model has no service " + lines.Brief(it.service, 60))
-		}
-	case isOther(spans):
+	case isOther(text, members):
 		return
 	case service == nil:
 		it.problem = problemShape.with("it is no request: it has not just client, service and inputs")
@@ -128,52 +125,148 @@ func (c *covering) line(number int, text []byte) {
 	c.lines = append(c.lines, it)
 }
 
-// isOther says whether a line is one of a model, a close or a resize.
-func isOther(members map[string][]byte) bool {
-	if model := members["model"]; len(members) == 1 && model != nil {
-		return model[0] == '{'
+// requestIn gives the parts of a line that has a service and inputs, and nothing else but a client, and says whether it is
+// one. Client, service and inputs are texts as they are written.
+func requestIn(text []byte, members []lines.Member) (it struct{ client, service, inputs []byte }, is bool) {
+	for _, member := range members {
+		value := text[member.Value.Start:member.Value.End]
+		switch member.Key {
+		case "client":
+			it.client = value
+		case "service":
+			it.service = value
+		case "inputs":
+			it.inputs = value
+		default:
+			return it, false
+		}
 	}
-	isClose := members["client"] != nil && members["close"] != nil
-	isResize := members["resize"] != nil && members["capacity"] != nil
-	return len(members) == 2 && (isClose || isResize)
+	return it, it.service != nil && it.inputs != nil
+}
+
+// serviceOf is the service whose name stands in quotes, or nil.
+func (c *covering) serviceOf(quoted []byte) *decisionService {
+	if quoted[0] != '"' {
+		return nil
+	}
+	return c.model.services[lines.Text(quoted)]
+}
+
+// isOther says whether a line is one of a model, a close or a resize.
+func isOther(text []byte, members []lines.Member) bool {
+	keys := map[string]byte{}
+	for _, member := range members {
+		switch member.Key {
+		case "model", "client", "close", "resize", "capacity":
+			keys[member.Key] = text[member.Value.Start]
+		default:
+			return false
+		}
+	}
+	has := func(one, other string) bool { return len(keys) == 2 && keys[one] != 0 && keys[other] != 0 }
+	return len(keys) == 1 && keys["model"] == '{' || has("client", "close") || has("resize", "capacity")
+}
+
+// leastSlice is how many requests an engine is asked at least where several are asked at once.
+const leastSlice = 2500
+
+// slices are the requests, in parts for several engines at once where they are many.
+func (c *covering) slices(most int) (slices [][]*engine.Job) {
+	count := len(c.jobs) / leastSlice
+	if count > most {
+		count = most
+	}
+	jobs := c.jobs
+	for ; count > 1; count-- {
+		size := len(jobs) / count
+		slices, jobs = append(slices, jobs[:size]), jobs[size:]
+	}
+	if len(jobs) > 0 {
+		slices = append(slices, jobs)
+	}
+	return slices
 }
 
 // ask has the requests explained, and counts what is told.
-func (c *covering) ask(ctx context.Context, explainer *engine.Explainer) error {
+func (c *covering) ask(ctx context.Context, s *Service) (first *problem) {
+	ctx, stop := context.WithCancel(ctx)
+	defer stop()
+	slices := c.slices(s.options.Processes)
+	problems := make(chan *problem, len(slices))
+	for _, jobs := range slices {
+		jobs := jobs
+		go func() {
+			p := s.explained(ctx, theExplanation, func(ctx context.Context) error {
+				return c.explain(ctx, s.explainer(false), jobs)
+			})
+			problems <- p
+			if p != nil {
+				stop()
+			}
+		}()
+	}
+	for range slices {
+		if p := <-problems; first == nil {
+			first = p
+		}
+	}
+	return first
+}
+
+// explain asks one engine for some of the requests.
+func (c *covering) explain(ctx context.Context, explainer *engine.Explainer, jobs []*engine.Job) error {
 	at := 0
-	return explainer.Each(ctx, c.model.engine, c.jobs, func(text []byte, cut bool) error {
-		if at == len(c.jobs) {
+	return explainer.Each(ctx, c.model.engine, jobs, func(text []byte, cut bool) error {
+		if at == len(jobs) {
 			return nil
 		}
-		it := &c.lines[c.jobs[at].Place]
+		it := &c.lines[jobs[at].Place]
 		at++
 		if cut {
 			it.problem = problemHuge.with("its explanation has over 16 MiB")
 			return nil
 		}
-		answer, err := c.counts.Add(text)
-		switch {
-		case err != nil:
-			return err
-		case answer.Refused != "":
-			it.problem = problemInside.with("the engine refused the request: " + answer.Refused)
-		case answer.Fault != "":
-			it.problem = problemLimit.with("")
-		default:
-			it.answer = c.named(answer.Result)
-		}
-		return nil
+		return c.told(it, text)
 	})
 }
 
+// told counts what is told of a line, and keeps its answer.
+func (c *covering) told(it *lineAsked, text []byte) error {
+	c.mu.Lock()
+	defer c.mu.Unlock()
+	answer, err := c.counts.Add(text)
+	switch {
+	case err != nil:
+		return err
+	case answer.Refused != "":
+		it.problem = problemInside.with("the engine refused the request: " + answer.Refused)
+	case answer.Fault != "":
+		it.problem = problemLimit.with("")
+	default:
+		it.answer = c.named(answer.Result)
+	}
+	return nil
+}
+
+// mostRenamed is how many results are kept with the names of the file, and how long each is at most.
+const mostRenamed = 1000
+
 // named is a result with the names of the file.
 func (c *covering) named(result []byte) []byte {
-	if len(c.model.words) > 0 && bytes.IndexByte(result, '{') >= 0 {
-		if renamed, err := lines.Rename(result, c.model.source.Names); err == nil {
-			return renamed
-		}
+	if len(c.model.words) == 0 || bytes.IndexByte(result, '{') < 0 {
+		return append([]byte(nil), result...)
 	}
-	return append([]byte(nil), result...)
+	if renamed, is := c.renamed[string(result)]; is {
+		return renamed
+	}
+	renamed, err := lines.Rename(result, c.model.source.Names)
+	if err != nil {
+		return append([]byte(nil), result...)
+	}
+	if len(c.renamed) < mostRenamed && len(result) <= mostRenamed {
+		c.renamed[string(result)] = renamed
+	}
+	return renamed
 }
 
 // text is the answer: the counts of each table, and what became of each line.

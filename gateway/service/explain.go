@@ -32,7 +32,7 @@ func (c *call) explain(ctx context.Context, misses bool) *problem {
 	explainer := c.service.explainer(misses)
 	room := func(size int) bool { return c.hold(size) == nil }
 	var told []engine.Explanation
-	p := c.service.explained(ctx, func(ctx context.Context) (err error) {
+	p := c.service.explained(ctx, theExplanation, func(ctx context.Context) (err error) {
 		told, err = explainer.Explain(ctx, c.model.engine, asked, room)
 		return err
 	})
@@ -54,8 +54,14 @@ func (s *Service) explainer(misses bool) *engine.Explainer {
 	return &engine.Explainer{Path: s.options.Engine, Memory: s.options.Memory, Misses: misses}
 }
 
-// explained has a place in which explanations are made, and bounds how long they take.
-func (s *Service) explained(ctx context.Context, explain func(ctx context.Context) error) *problem {
+// What is asked of an engine beside the pool.
+const (
+	theExplanation = "the explanation"
+	theTables      = "the check of the tables"
+)
+
+// explained has a place in which explanations are made, and bounds how long they take. What says what is asked.
+func (s *Service) explained(ctx context.Context, what string, explain func(ctx context.Context) error) *problem {
 	select {
 	case s.explaining <- struct{}{}:
 		defer func() { <-s.explaining }()
@@ -69,12 +75,12 @@ func (s *Service) explained(ctx context.Context, explain func(ctx context.Contex
 	case err == nil:
 		return nil
 	case errors.Is(err, context.DeadlineExceeded):
-		return problemLate.with("the explanation takes longer than it may")
+		return problemLate.with(what + " takes longer than it may")
 	case errors.Is(err, context.Canceled):
 		return problemLeft.with("")
 	}
 	s.options.Log("%v", err)
-	return problemDied.with("the explanation failed")
+	return problemDied.with(what + " failed")
 }
 
 // explanation is what is told of a request: nothing where that was not asked for.

@@ -37,6 +37,7 @@ func (s *Service) handler() http.Handler {
 		"/problems/":    s.problemsPath,
 		"/v1/check":     s.checkPath,
 		"/v1/coverage":  s.coveragePath,
+		"/v1/tables":    s.tablesPath,
 		"/":             page.Handle,
 	}
 	below := map[string]http.HandlerFunc{"/problems/": s.problemsPath, explainStart: s.explainPath, page.Files: page.Handle}

@@ -168,6 +168,128 @@ func TestCoverage(t *testing.T) {
 	}
 }
 
+// Of many requests several engines are asked at once, and the answers stand in the order of the lines.
+func TestCoverageInSlices(t *testing.T) {
+	r := serve(t, first, Options{Processes: 3})
+	defer r.stop(t)
+	var body strings.Builder
+	due := map[int]string{}
+	hits := [3]int{}
+	for n := 0; n < 3*leastSlice+1; n++ {
+		a := n % 12
+		fmt.Fprintf(&body, "{\"a\":%d}\n", a)
+		due[n] = "null"
+		for rule, is := range []bool{a > 5, a > 3, a == 9} {
+			if is {
+				hits[rule]++
+			}
+		}
+		switch {
+		case a > 5:
+			due[n] = `"many"`
+		case a > 3:
+			due[n] = `"some"`
+		}
+	}
+	status, text, _ := send(t, "POST", r.url+"/v1/coverage?service=s", body.String())
+	var told struct {
+		Tables  map[string]struct{ Hits []int }
+		Answers []struct{ Result json.RawMessage }
+	}
+	if err := json.Unmarshal([]byte(text), &told); err != nil || status != 200 || len(told.Answers) != len(due) {
+		t.Fatalf("%d, %d answers: %.200s", status, len(told.Answers), text)
+	}
+	for at, answer := range told.Answers {
+		if string(answer.Result) != due[at] {
+			t.Fatalf("answer %d is %s, and %s is due", at, answer.Result, due[at])
+		}
+	}
+	if got := told.Tables["/decisions/0/expr/table"].Hits; fmt.Sprint(got) != fmt.Sprint(hits) {
+		t.Errorf("the hits are %v, and %v is due", got, hits)
+	}
+}
+
+// What many requests are parted into has each of them once, in order.
+func TestSlices(t *testing.T) {
+	for _, it := range []struct{ count, most, due int }{{0, 4, 0}, {1, 4, 1}, {2*leastSlice - 1, 4, 1}, {2 * leastSlice, 4, 2},
+		{20 * leastSlice, 4, 4}, {5*leastSlice + 3, 1, 1}} {
+		c := &covering{}
+		for n := 0; n < it.count; n++ {
+			c.jobs = append(c.jobs, &engine.Job{Place: n})
+		}
+		slices, at := c.slices(it.most), 0
+		for _, jobs := range slices {
+			for _, job := range jobs {
+				if job.Place != at {
+					t.Fatalf("%d requests in %d slices: the one at place %d is %d", it.count, len(slices), at, job.Place)
+				}
+				at++
+			}
+		}
+		if at != it.count || len(slices) != it.due {
+			t.Errorf("%d requests are %d in %d slices, and %d are due", it.count, at, len(slices), it.due)
+		}
+	}
+}
+
+// standIn is an engine that tells of tables what stands in a file, and otherwise is the engine.
+func standIn(t *testing.T, told string) string {
+	t.Helper()
+	folder := t.TempDir()
+	real, err := filepath.Abs(desk())
+	if err != nil {
+		t.Fatal(err)
+	}
+	script := fmt.Sprintf("#!/bin/sh\ncase \"$*\" in\n\"help check\") echo '  --tables' ;;\n\"check --json --tables\") cat > /dev/null; "+
+		"cat %q ;;\n*) exec %q \"$@\" ;;\nesac\n", filepath.Join(folder, "told"), real)
+	for name, text := range map[string]string{"told": told, "engine": script} {
+		if err := os.WriteFile(filepath.Join(folder, name), []byte(text), 0o755); err != nil {
+			t.Fatal(err)
+		}
+	}
+	return filepath.Join(folder, "engine")
+}
+
+// What the check finds of tables is told of the model in force and of one that is checked, where the engine tells it.
+func TestTables(t *testing.T) {
+	told := `{"lawful":true}` + "\n" + `{"warning":"unneeded","pointer":"/inputs/1"}` + "\n" +
+		`{"table":"/decisions/0/expr/table","complete":false}` + "\n" + `{"finding":"never","table":"/decisions/0/expr/table","rules":[3]}` + "\n"
+	due := `"tables":[{"table":"/decisions/0/expr/table","complete":false},{"finding":"never","table":"/decisions/0/expr/table","rules":[3]}]`
+	for _, it := range []struct{ engine, due string }{{standIn(t, told), due}, {standIn(t, `{"lawful":true}`+"\n"), `"tables":[]`}} {
+		r := serve(t, first, Options{Engine: it.engine, Processes: 1})
+		for _, call := range []struct{ method, path, body string }{{"GET", "/v1/tables", ""}, {"POST", "/v1/check", first}} {
+			if status, text, _ := send(t, call.method, r.url+call.path, call.body); status != 200 || !strings.Contains(text, it.due) {
+				t.Errorf("%s: %d %s, and %s is due", call.path, status, text, it.due)
+			}
+		}
+		if status, _, _ := send(t, "GET", r.url+"/v1/tables?model=abc", ""); status != 404 {
+			t.Errorf("another model: %d", status)
+		}
+		// The model as such is told without waiting for it.
+		if _, text, _ := send(t, "GET", r.url+"/v1/model?whole=true", ""); !strings.Contains(text, `"tables":null`) {
+			t.Errorf("it is said unasked: %s", text)
+		}
+		r.stop(t)
+	}
+}
+
+// An engine that does not tell what it finds of tables is not asked.
+func TestNoTables(t *testing.T) {
+	engine := standIn(t, "")
+	text, err := os.ReadFile(engine)
+	if err != nil {
+		t.Fatal(err)
+	}
+	if err := os.WriteFile(engine, []byte(strings.Replace(string(text), "--tables'", "'", 1)), 0o755); err != nil {
+		t.Fatal(err)
+	}
+	r := serve(t, first, Options{Engine: engine})
+	defer r.stop(t)
+	if status, text, _ := send(t, "GET", r.url+"/v1/tables", ""); status != 200 || !strings.Contains(text, `"tables":null`) {
+		t.Errorf("%d %s", status, text)
+	}
+}
+
 // Of the models that were checked, the last ones are kept, each once.
 func TestShelf(t *testing.T) {
 	var s shelf

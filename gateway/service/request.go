@@ -1,7 +1,6 @@
 package service
 
 import (
-	"bytes"
 	"fmt"
 	"strings"
 
@@ -25,7 +24,7 @@ func (m *served) request(service *decisionService, text []byte, job *engine.Job,
 	if fault != nil {
 		return room, syntaxProblem(fault)
 	}
-	if m.hasName(text) {
+	if len(m.words) > 0 && lines.HasKey(text, m.words) {
 		renamed, err := lines.Rename(text, m.words)
 		if err != nil {
 			return room, problemInside.with(err.Error())
@@ -52,19 +51,6 @@ func (m *served) request(service *decisionService, text []byte, job *engine.Job,
 	return room, nil
 }
 
-// hasName says whether a text may have a name of the file that is another word in the model.
-func (m *served) hasName(text []byte) bool {
-	if len(m.quoted) > 0 && bytes.IndexByte(text, '\\') >= 0 {
-		return true
-	}
-	for _, name := range m.quoted {
-		if bytes.Contains(text, name) {
-			return true
-		}
-	}
-	return false
-}
-
 func (m *served) noObject(text []byte) *problem {
 	if _, fault := lines.Whole(text, lines.MaxNesting-1); fault != nil {
 		return syntaxProblem(fault)
@@ -86,7 +72,7 @@ func (m *served) values(service *decisionService, text []byte, members []lines.M
 			continue
 		}
 		fault := lines.Value(text, member.Value)
-		if of := m.types[member.Key]; of != nil && fault == nil {
+		if of := m.types[member.Key]; of != nil && fault == nil && !of.HoldsPlain(text[member.Value.Start:member.Value.End]) {
 			value, err := lines.Tree(text[member.Value.Start:member.Value.End])
 			if err != nil {
 				return problemInside.with(err.Error())

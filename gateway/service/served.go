@@ -21,8 +21,6 @@ type served struct {
 	services map[string]*decisionService
 	// words has the model's word for each name in the file that is another.
 	words map[string]string
-	// quoted has these names as they are written in JSON.
-	quoted [][]byte
 	// types has the type of each input of which the file says one, by its word.
 	types map[string]*types.Type
 	// origin says where the model came from, and since when it is in force.
@@ -30,6 +28,8 @@ type served struct {
 	since  time.Time
 	// sum is the header with the SHA-256 of the text.
 	sum []string
+	// analysis is what is found of its tables.
+	analysis analysis
 }
 
 // A decisionService is one service of a model.
@@ -72,7 +72,6 @@ func (m *served) index() (err error) {
 	for word, name := range m.source.Names {
 		if word != name {
 			m.words[name] = word
-			m.quoted = append(m.quoted, lines.AppendQuoted(nil, name))
 		}
 	}
 	for word, text := range m.source.Types {

@@ -27,16 +27,18 @@ type Service struct {
 	version string
 	// engineHeader is the header with the engine's version.
 	engineHeader []string
-	pool         *engine.Pool
-	journal      *journal.Journal
-	statePath    string
-	clients      *clients
-	turns        *turns
-	bodies       budget
-	metrics      *metrics
-	model        atomic.Pointer[served]
-	tokens       atomic.Pointer[tokens]
-	shelf        shelf
+	// hasTables says that the engine's check tells what it finds of tables.
+	hasTables bool
+	pool      *engine.Pool
+	journal   *journal.Journal
+	statePath string
+	clients   *clients
+	turns     *turns
+	bodies    budget
+	metrics   *metrics
+	model     atomic.Pointer[served]
+	tokens    atomic.Pointer[tokens]
+	shelf     shelf
 	// explaining bounds how many explanations are made at once.
 	explaining chan struct{}
 	// putting lets one model be put at a time.
@@ -108,6 +110,7 @@ func newService(ctx context.Context, options Options) (*Service, error) {
 		return nil, err
 	}
 	s := &Service{options: options, version: version, engineHeader: []string{version}, statePath: options.State}
+	s.hasTables = engine.HasTables(ctx, options.Engine)
 	s.clients, s.turns = newClients(options.ClientLimit, options.Limit), newTurns()
 	s.bodies.limit = bodiesLimit
 	s.explaining = make(chan struct{}, options.Processes)

@@ -74,7 +74,10 @@ func serve(t *testing.T, model string, options Options) *running {
 	if err != nil {
 		t.Fatal(err)
 	}
-	options.Engine, options.Model, options.Named = desk(), source, "the model of the test"
+	options.Model, options.Named = source, "the model of the test"
+	if options.Engine == "" {
+		options.Engine = desk()
+	}
 	if options.Processes == 0 {
 		options.Processes = 2
 	}

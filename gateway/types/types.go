@@ -13,8 +13,10 @@ import (
 
 // A Type is a schema that was read.
 type Type struct {
-	kinds      []string
-	enum       []any
+	kinds []string
+	enum  []any
+	// listed has the texts of enum.
+	listed     []string
 	ends       []bound
 	items      *Type
 	properties map[string]*Type
@@ -27,6 +29,9 @@ type bound struct {
 	at          *big.Rat
 	text        string
 	below, open bool
+	// whole is the end itself where isWhole says so.
+	whole   int64
+	isWhole bool
 }
 
 // A form is a schema as it is written.
@@ -58,6 +63,9 @@ func Read(text json.RawMessage) (*Type, error) {
 			t.kinds = append(t.kinds, fmt.Sprint(name))
 		}
 	}
+	for _, value := range it.Enum {
+		t.listed = append(t.listed, string(lines.Compact(nil, value)))
+	}
 	t.bound(it.Minimum, true, false)
 	t.bound(it.Maximum, false, false)
 	t.bound(it.ExclusiveMinimum, true, true)
@@ -66,9 +74,15 @@ func Read(text json.RawMessage) (*Type, error) {
 }
 
 func (t *Type) bound(limit json.Number, below, open bool) {
-	if at, is := new(big.Rat).SetString(limit.String()); is {
-		t.ends = append(t.ends, bound{at, limit.String(), below, open})
+	at, is := new(big.Rat).SetString(limit.String())
+	if !is {
+		return
 	}
+	end := bound{at: at, text: limit.String(), below: below, open: open, isWhole: at.IsInt() && at.Num().IsInt64()}
+	if end.isWhole {
+		end.whole = at.Num().Int64()
+	}
+	t.ends = append(t.ends, end)
 }
 
 func (t *Type) parts(it *form) (err error) {
@@ -192,12 +206,7 @@ func kindOf(value any) string {
 }
 
 func (t *Type) isListed(value any) bool {
-	for _, listed := range t.enum {
-		if string(lines.Compact(nil, listed)) == string(lines.Compact(nil, value)) {
-			return true
-		}
-	}
-	return len(t.enum) == 0
+	return len(t.enum) == 0 || t.isListedText(lines.Compact(nil, value))
 }
 
 func shown(value any) string {

@@ -2,6 +2,8 @@ package types
 
 import (
 	"encoding/json"
+	"fmt"
+	"math/rand"
 	"strings"
 	"testing"
 
@@ -41,11 +43,74 @@ func TestCheck(t *testing.T) {
 			t.Fatal(err)
 		}
 		fault := of.Check(value)
+		if of.HoldsPlain([]byte(it.value)) != (fault == nil) {
+			t.Errorf("%s of %s: what is seen of the text differs", it.value, it.schema)
+		}
 		switch {
 		case fault == nil && it.said != "":
 			t.Errorf("%s is taken by %s", it.value, it.schema)
 		case fault != nil && (it.said == "" || fault.Pointer != it.pointer || !strings.Contains(fault.Reason, it.said)):
 			t.Errorf("%s of %s: %+v, and %q at %q is due", it.value, it.schema, fault, it.said, it.pointer)
 		}
+	}
+}
+
+// pick gives one of several texts.
+func pick(random *rand.Rand, texts ...string) string {
+	return texts[random.Intn(len(texts))]
+}
+
+// someType is a schema, and someValue a value, each of parts that go together here and there.
+func someType(random *rand.Rand, depth int) string {
+	keys := []string{`"type":` + pick(random, `"integer"`, `"number"`, `"string"`, `["boolean","null"]`, `["object","null"]`, `"array"`)}
+	if random.Intn(3) == 0 {
+		keys[0] = fmt.Sprintf(`"minimum":%d`, random.Intn(9)-4)
+	}
+	if random.Intn(4) == 0 {
+		keys = append(keys, fmt.Sprintf(`"exclusiveMaximum":%s`, pick(random, "3", "2.5", "-1", "9223372036854775807")))
+	}
+	if random.Intn(6) == 0 {
+		keys = append(keys, `"enum":`+pick(random, `[1,2,"a"]`, `["a","b",null]`, `[true]`, `[[1]]`))
+	}
+	if depth > 0 {
+		keys = append(keys, `"items":`+someType(random, depth-1), `"properties":{"a":`+someType(random, depth-1)+`,"b":{}}`)
+	}
+	return "{" + strings.Join(keys, ",") + "}"
+}
+
+func someValue(random *rand.Rand, depth int) string {
+	if depth == 0 || random.Intn(2) == 0 {
+		return pick(random, "1", "-1", "0", "-0", "3", "1.5", "1e2", "123456789012345678", "9223372036854775807", `"a"`, `"b"`, `"\u0061"`, `""`,
+			"true", "false", "null")
+	}
+	if random.Intn(2) == 0 {
+		return "[ " + someValue(random, depth-1) + " , " + someValue(random, depth-1) + "]"
+	}
+	return `{"a":` + someValue(random, depth-1) + pick(random, `}`, ` , "b" : 1}`, `,"a":`+someValue(random, depth-1)+`}`, `,"c":[[],{}]}`)
+}
+
+// What is seen of a text to be of a type is of it.
+func TestHoldsPlain(t *testing.T) {
+	random, seen := rand.New(rand.NewSource(61)), 0
+	for n := 0; n < 5_000; n++ {
+		schema, text := someType(random, random.Intn(3)), someValue(random, random.Intn(4))
+		of, err := Read(json.RawMessage(schema))
+		if err != nil {
+			t.Fatal(err)
+		}
+		if !of.HoldsPlain([]byte(text)) {
+			continue
+		}
+		seen++
+		value, err := lines.Tree([]byte(text))
+		if err != nil {
+			t.Fatal(err)
+		}
+		if fault := of.Check(value); fault != nil {
+			t.Fatalf("%s is seen to be of the type %s, and it is not: %v", text, schema, fault)
+		}
+	}
+	if seen < 500 {
+		t.Errorf("only %d are seen to be of their types", seen)
 	}
 }

@@ -202,6 +202,8 @@ DUE: list[tuple[str, str, int, str]] = [
     ("expression", '"LOW', 5, "the second quote"),
 ]
 
+LETTERS = "a name has the letters A-Z and a-z, digits and _ alone; a text stands in quotes"
+
 # The kind of a text, the text, and the sentence that is due.
 HINTS: list[tuple[str, str, str]] = [
     ("tests", ">= 5 and < 7", "write [5..7)"),
@@ -239,6 +241,39 @@ HINTS: list[tuple[str, str, str]] = [
     ("expression", "x in [1, 2]", "write x = 1 or x = 2 for x in [1, 2]"),
     ("expression", "1 + if a then 1 else 2", "an if within another form stands in parentheses"),
     ("expression", "1 < 2 < 3", "write a < b and b < c for a < b < c"),
+    ("expression", "IF a then 1 else 2", "key words have small letters: write if"),
+    ("expression", "if a THEN 1 ELSE 2", "key words have small letters: write then"),
+    ("expression", "a AND b", "key words have small letters: write and"),
+    ("expression", "a Between 1 and 2", "key words have small letters: write between"),
+    ("tests", "NOT(5)", "key words have small letters: write not"),
+    ("tests", ">= 5 AND < 7", "write [5..7)"),
+    ("tests", "< 5 OR > 7", 'write a comma for "or" between tests'),
+    ("expression", "a // b", "there are no comments: // and /* begin none"),
+    ("tests", "/* b */ 5", "there are no comments: // and /* begin none"),
+    ("expression", "a > 5 ? 1 : 2", "write if a then b else c for a ? b : c"),
+    ("tests", "1, ? > 3", "a test leaves the input out: > 3 in place of ? > 3"),
+    ("expression", "min(a, b)", "min has one argument, a list: write min([a, b])"),
+    ("expression", "count(1, 2)", "count has one argument, a list: write count([a, b])"),
+    ("expression", "max(1,2,3)", "max has one argument, a list: write max([a, b])"),
+    ("expression", 'sum("(", [2], abs(3))', "sum has one argument, a list: write sum([a, b])"),
+    ("expression", "sum([abs(1, 2)])", "abs has one argument"),
+    ("expression", "not(a, b)", "not has one argument"),
+    ("expression", "modulo(1)", "modulo has two arguments"),
+    ("expression", "modulo(1, 2, 3)", "modulo has two arguments"),
+    (
+        "expression",
+        "string length(a)",
+        "there is no function string length, only not, abs, sum, min, max, count and modulo",
+    ),
+    ("expression", "größe", LETTERS),
+    ("tests", "é", LETTERS),
+    ("literal", "größe", 'a text stands in quotes: "größe"'),
+    ("literal", "very high", 'a text stands in quotes: "very high"'),
+    ("literal", "«HIGH»", 'a text stands between two ", which are written \\" within JSON'),
+    ("expression", "a ≤ 5", "write <= in place of ≤"),
+    ("expression", "a – 1", "write - in place of the dash"),
+    ("expression", "1,000", "a number has digits alone: 1000 for 1,000"),
+    ("tests", "> 1 000", "a number has digits alone: 1000 for 1,000"),
 ]
 
 # Expressions for which there is no sentence.

@@ -12,12 +12,16 @@ import time
 from hashlib import sha256
 from pathlib import Path
 
+from . import machine
+
 HERE = Path(__file__).resolve().parent.parent.parent
 DMN = HERE / "examples" / "dmn"
 LOAN = DMN / "loan.dmn"
 SERVICE = "Bureau Strategy Decision Service"
-# What 100,000 requests may take by the clock: four slow processors took 3.0 to 3.2 seconds.
-MOST_SECONDS = 16 / (os.cpu_count() or 1)
+# What 100,000 requests may take by the clock on a machine that does nothing else.
+MOST_SECONDS = 3
+# How long a slower or a busier machine may take: a gate that runs beside other work is to fail for mistakes alone.
+PATIENCE = max(2 * MOST_SECONDS, 24 / (os.cpu_count() or 1))
 # The second applicant of examples/dmn/README.md, who is declined.
 DECLINED = {"Applicant data": {"Age": 20, "Marital Status": "S", "Employment Status": "STUDENT", "Existing Customer": False,
                                "Monthly": {"Income": 1000, "Repayments": 0, "Expenses": 700}},
@@ -157,7 +161,7 @@ class Rows:
         self.browser.js("""[...document.querySelectorAll("table.rules")].at(-2).querySelector("[data-at='2']").click()""")
         said = lambda: self.browser.js("return [...document.querySelectorAll('.why')].at(-2).textContent")
         self.browser.wait(lambda: "missed" in said(), "why the rule missed")
-        assert said() == "Rule 3 missed: its test < 18 on Age_2 (column 3) is not met by 20.", said()
+        assert said() == "Rule 3 missed: its test < 18 on Age (column 3) is not met by 20.", said()
         cells = self.browser.js("return document.querySelectorAll('td.missed').length")
         # Of 11 + 8 + 3 + 3 + 4 + 3 rules, 3 + 1 + 1 + 1 + 2 + 1 hit.
         assert cells == 32 - 9, cells
@@ -229,15 +233,19 @@ class Rows:
         some = applicants(1000)
         path = self.suite.folder / "many.jsonl"
         path.write_text(lines(some) * 100)
-        seconds = []
-        for _ in range(2):
+        tries, usual = [], os.nice(0)
+        while not tries or len(tries) < 3 and tries[-1][0] >= MOST_SECONDS and machine.busy():
+            if tries:
+                machine.prefer(-10)
+            meter = machine.Meter()
             self.browser.file("coverage-file", path)
             self.browser.wait(lambda: self.browser.js("return document.getElementById('progress').value") > 0, "progress")
             due = "100,000 requests, 100,000 with a result"
             self.browser.wait(lambda: due in self.browser.text("counted"), "the counts", 300)
-            seconds.append(float(re.search(r"in ([\d.]+) s", self.browser.text("counted"))[1]))
-            if min(seconds) < MOST_SECONDS or busy():
-                break
+            tries.append((float(re.search(r"in ([\d.]+) s", self.browser.text("counted"))[1]), meter.others()))
+        if len(tries) > 1:
+            machine.prefer(usual)
+        said, is_within = times_said(tries)
         model = json.loads(self.suite.service("dmn/loan.dmn").get("/v1/model?whole=true")[1])["model"]
         hit = by_pointer(model, counted(self.suite.explained(LOAN, some))[0])
         for row in self.browser.saved("Rules as CSV"):
@@ -246,8 +254,8 @@ class Rows:
         self.browser.wait(lambda: self.browser.js("return document.getElementById('progress').value") > 0, "progress")
         self.browser.js("document.getElementById('stop').click()")
         self.browser.wait(lambda: "Stopped before the end" in self.browser.text("counted"), "that it was stopped")
-        assert min(seconds) < (300 if busy() else MOST_SECONDS), f"it takes {seconds} s"
-        return f"100,000 in {min(seconds)} s"
+        assert is_within, said
+        return said
 
     def markup(self) -> str:
         """Names and values that are markup are shown as texts, and run nothing."""
@@ -341,8 +349,8 @@ class Rows:
         self.browser.wait(lambda: self.browser.js("return !!document.querySelector('[data-at=\"1999\"]')"), "the last rule")
         steps = sorted(self.browser.js(SCROLL))
         middle = steps[len(steps) // 2]
-        assert middle < (1000 if busy() else 50), f"a step of scrolling takes {steps} ms"
-        assert min(seconds) < (10_000 if busy() else 1000), f"it is shown after {seconds} ms"
+        assert middle < (1000 if machine.busy() else 50), f"a step of scrolling takes {steps} ms"
+        assert min(seconds) < (10_000 if machine.busy() else 1000), f"it is shown after {seconds} ms"
         return f"{min(seconds):.0f} ms, a step of scrolling {middle:.1f} ms"
 
     def contrast(self) -> str:
@@ -513,9 +521,17 @@ class Rows:
         return ", ".join(f"{name} {size // 1000} kB" for name, size in sizes.items())
 
 
-def busy() -> bool:
-    """Whether the machine has more to do than it has processors, so that times say little."""
-    return os.getloadavg()[0] > (os.cpu_count() or 1)
+def times_said(tries: list[tuple[float, float]]) -> tuple[str, bool]:
+    """What is said of the seconds that some tries took, others having a part of the processors, and whether it is within the bound.
+
+    On a busy machine there are up to three tries, the later ones at a higher priority where this may be had; and what is asked
+    is asked of the part of the processors that others left.
+    """
+    least, part = min(tries)
+    said = f"100,000 in {least} s" + (f", the least of {len(tries)} tries on a busy machine" if len(tries) > 1 else "")
+    if least < MOST_SECONDS or part < 0.25:
+        return said, least < PATIENCE
+    return f"{said}; others had {part:.0%} of the processors, so it is as {least * (1 - part):.1f} s", least * (1 - part) < PATIENCE
 
 
 def worded(value: object) -> object:

@@ -1,5 +1,5 @@
 -- How a check ended.
-use Rattle.std.specs.Prelude.{◌≡◌, ◌≢◌, ◌<◌, ◌++◌, ℕ, List, [], Option, Some, IsUtf8, true, Result, Err, OnOk, IfOk, IfErr, length}
+use Rattle.std.specs.Prelude.{◌≡◌, ◌≢◌, ◌<◌, ◌++◌, ℕ, List, [], Option, None, Some, IsUtf8, true, Result, Err, OnOk, IfOk, IfErr, length}
 use Rattle.std.specs.Io.KnownBytes.{Appends, Consumes, IsAtEnd}
 use Rattle.serde_json.specs.Data.{Data}
 use Rattle.serde_json.specs.Read as json
@@ -11,6 +11,7 @@ use Rattle.desk_checking.specs.FirstFault.{IsFirstFault, subject}
 use Rattle.desk_checking.specs.Input.{model_text, most_bytes}
 use Rattle.desk_checking.specs.Placed.{TellsPlaces}
 use Rattle.desk_checking.specs.Told.{Begins, head}
+use Rattle.desk_checking.specs.declared.findings.CheckFindings.{CheckFindings}
 use Rattle.desk_checking.specs.declared.options.CheckOptions.{CheckOptions}
 
 -- the reader was read to its end, and what it gave has a model with this first fault, or with none
@@ -54,10 +55,12 @@ pub record Overflows (reader reader' : Reader) : Type 0 where
   pub too_long : most_bytes < length text
 
 -- A model was read from a reader and checked, and what it is was written: its first fault, or that it has none. Or a fault ended this.
-pub record Checked (options : CheckOptions) (reader reader' : Reader) (writer writer' : Writer) (found : Result (Option ModelFault) FrontFault) : Type 0 where
-  pub finds : IfOk found (λ fault. Finds options reader reader' fault)
-  pub tells : IfOk found (λ fault. Tells options writer writer' fault)
-  pub places : IfOk found (λ fault. options.json ≡ true → TellsAll options reader reader' writer writer' fault)
+pub record Checked (options : CheckOptions) (reader reader' : Reader) (writer writer' : Writer) (found : Result CheckFindings FrontFault) : Type 0 where
+  pub finds : IfOk found (λ findings. Finds options reader reader' findings.fault)
+  pub tells : IfOk found (λ findings. Tells options writer writer' findings.fault)
+  pub places : IfOk found (λ findings. options.json ≡ true → TellsAll options reader reader' writer writer' findings.fault)
+  -- Tables are refused only where the options ask for that, and the model is lawful. Which ones are is not said here.
+  pub strict : IfOk found (λ findings. findings.is_strict_failure ≡ true → (options.tables ≡ true) × (options.strict ≡ true) × (findings.fault ≡ None))
   pub long : (found ≡ Err Long) → Overflows reader reader'
   pub cut : (found ≡ Err Write) → Breaks options reader reader' writer writer'
   pub unwritten : IfErr found (λ e. e ≢ Write → Appends writer.contents writer'.contents [])

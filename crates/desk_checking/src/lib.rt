@@ -1,8 +1,10 @@
-//! `desk check`: reads one model, and says whether it is lawful, or where it is wrong.
+//! `desk check`: reads one model, and says whether it is lawful, or where it is wrong; and of its decision tables, whether they answer
+//! every case.
 #![tactic(auto)]
 
 mod cut;
 mod faults;
+mod findings;
 mod helping;
 mod input;
 mod lines;
@@ -16,8 +18,10 @@ mod sentence;
 mod shaped;
 mod subject;
 mod summary;
+mod tables;
 mod told;
 mod warned;
 
+pub use findings::CheckFindings;
 pub use model_check::check;
 pub use options::CheckOptions;

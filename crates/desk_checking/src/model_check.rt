@@ -1,5 +1,5 @@
 //! Checks one model.
-ghost use Rattle.std.specs.Prelude.{◌≡◌, ◌≢◌, ◌++◌, ◌<◌, ◌-◌, ◌^◌, None, Some, Err, OnOk, IfOk, IfErr, IsTrue, IsUtf8, codes, string_bytes};
+ghost use Rattle.std.specs.Prelude.{◌≡◌, ◌≢◌, ◌++◌, ◌<◌, ◌-◌, ◌^◌, true, None, Some, Err, OnOk, IfOk, IfErr, IsTrue, IsUtf8, codes, string_bytes};
 ghost use Rattle.std.specs.Io.KnownBytes.{Appends};
 ghost use Rattle.serde_json.specs.Data.{Data};
 ghost use Rattle.serde_json.specs.Read.{read};
@@ -12,6 +12,7 @@ ghost use Rattle.desk_checking.specs.Told.{head};
 
 use crate::cut::model_and_rest;
 use crate::faults::tell_faults;
+use crate::findings::CheckFindings;
 use crate::helping::Subject;
 use crate::input::read_whole;
 use crate::options::CheckOptions;
@@ -20,6 +21,7 @@ use crate::requests::request_notes;
 use crate::shaped::shape_lines;
 use crate::subject::subject;
 use crate::summary::{json_summary, summary};
+use crate::tables::{ToldTables, told_tables};
 use crate::told::told_of;
 use crate::warned::warning_lines;
 use desk_lines::{FrontFault, Sink, Source, write_all};
@@ -33,6 +35,8 @@ use std::alloc::{AllocError, Global};
 struct Verdict {
     fault: Option<ModelFault>,
     rest: String,
+    /// Whether `strict` refuses one of its tables, where these were looked through.
+    are_tables_refused: bool,
 }
 
 /// The rest of the line that has the fault's word.
@@ -68,36 +72,54 @@ fn said_of_fault(
     Ok(text)
 }
 
-/// What is told of a lawful model by its parts, what is mostly a mistake, and of the lines of requests behind it.
+/// What is told of the tables of a lawful model, where the options say so.
+fn said_of_tables(
+    alloc: Global,
+    options: CheckOptions,
+    json: &Value,
+    model: &WrittenModel,
+) -> Result<ToldTables, AllocError> {
+    if options.tables {
+        return told_tables(alloc, options.json, json, model);
+    }
+    Ok(ToldTables::none(alloc))
+}
+
+/// What is told of a lawful model by its parts, what is mostly a mistake, of its tables, and of the lines of requests behind it.
 fn said_of_model(
     alloc: Global,
-    is_json: bool,
+    options: CheckOptions,
     json: &Value,
     model: &WrittenModel,
     lines: &[u8],
-) -> Result<String, AllocError> {
-    let mut text = if is_json {
+) -> Result<ToldTables, AllocError> {
+    let mut text = if options.json {
         json_summary(alloc, model)?
     } else {
         summary(alloc, model)?
     };
-    let warnings = warning_lines(alloc, is_json, json, model)?;
+    let warnings = warning_lines(alloc, options.json, json, model)?;
     text.push_str(&warnings)?;
-    let notes = request_notes(alloc, is_json, model, lines)?;
+    let tables = said_of_tables(alloc, options, json, model)?;
+    text.push_str(&tables.text)?;
+    let notes = request_notes(alloc, options.json, model, lines)?;
     text.push_str(&notes)?;
-    Ok(text)
+    Ok(ToldTables {
+        text,
+        are_refused: tables.are_refused,
+    })
 }
 
-/// What is told of a lawful model, behind that it is lawful.
+/// What is told of a lawful model, behind that it is lawful, and whether `strict` refuses one of its tables.
 fn said_of_lawful(
     alloc: Global,
-    is_json: bool,
+    options: CheckOptions,
     json: &Value,
     lines: &[u8],
-) -> Result<String, AllocError> {
+) -> Result<ToldTables, AllocError> {
     match read_form(alloc, json)? {
-        Some(model) => said_of_model(alloc, is_json, json, &model, lines),
-        None => Ok(String::new(alloc)),
+        Some(model) => said_of_model(alloc, options, json, &model, lines),
+        None => Ok(ToldTables::none(alloc)),
     }
 }
 
@@ -124,22 +146,27 @@ fn said_of_syntax(alloc: Global, is_json: bool, error: &Error) -> Result<String,
 /// What the model of a JSON value is, with these lines of requests behind it.
 fn check_json(
     alloc: Global,
-    is_json: bool,
+    options: CheckOptions,
     json: &Value,
     lines: &[u8],
 ) -> Result<Verdict, AllocError>
     ensures fault { IfOk result (λ verdict. verdict.fault ≡ fault_in (read_model (view json.now))) }
-    ensures places { IsTrue is_json → IfOk result (λ verdict. TellsPlaces (view json.now) verdict.fault (string_bytes verdict.rest)) }
+    ensures places { IsTrue options.json → IfOk result (λ verdict. TellsPlaces (view json.now) verdict.fault (string_bytes verdict.rest)) }
 {
     match Plan::of(alloc, json) {
-        Ok(_) => Ok(Verdict {
-            fault: None,
-            rest: said_of_lawful(alloc, is_json, json, lines)?,
-        }),
+        Ok(_) => {
+            let said = said_of_lawful(alloc, options, json, lines)?;
+            Ok(Verdict {
+                fault: None,
+                rest: said.text,
+                are_tables_refused: said.are_refused,
+            })
+        }
         Err(ModelFault::Memory) => Err(AllocError),
         Err(fault) => Ok(Verdict {
             fault: Some(fault),
-            rest: said_of_fault(alloc, is_json, json, fault)?,
+            rest: said_of_fault(alloc, options.json, json, fault)?,
+            are_tables_refused: false,
         }),
     }
 }
@@ -148,20 +175,21 @@ fn check_json(
 #[tactic(auto, using(crate::proofs::FirstFaults::first_of_value, crate::proofs::FirstFaults::none_of_text))]
 fn check_text(
     alloc: Global,
-    is_json: bool,
+    options: CheckOptions,
     text: &[u8],
     lines: &[u8],
 ) -> Result<Verdict, AllocError>
     ensures first { IfOk result (λ verdict. IsFirstFault text.now verdict.fault) }
-    ensures places { IsTrue is_json → IfOk result (λ verdict. (d : Data) → IsUtf8 text.now → read text.now ≡ Some d →
+    ensures places { IsTrue options.json → IfOk result (λ verdict. (d : Data) → IsUtf8 text.now → read text.now ≡ Some d →
         TellsPlaces (subject_of d) verdict.fault (string_bytes verdict.rest)) }
 {
     match Value::from_slice(alloc, text) {
-        Ok(json) => check_json(alloc, is_json, subject(&json), lines),
+        Ok(json) => check_json(alloc, options, subject(&json), lines),
         Err(error) if error.is_memory() => Err(AllocError),
         Err(error) => Ok(Verdict {
             fault: Some(ModelFault::Syntax),
-            rest: said_of_syntax(alloc, is_json, &error)?,
+            rest: said_of_syntax(alloc, options.json, &error)?,
+            are_tables_refused: false,
         }),
     }
 }
@@ -187,28 +215,51 @@ fn write_told<W: Sink>(
     write_all(writer, told.as_bytes())
 }
 
+/// Whether `strict` refuses a table of a lawful model.
+fn is_strict_failure(options: CheckOptions, verdict: &Verdict) -> bool
+    ensures { IsTrue result → (options.tables ≡ true) × (options.strict ≡ true) × (verdict.now.fault ≡ None) }
+{
+    if !options.tables {
+        return false;
+    }
+    if !options.strict {
+        return false;
+    }
+    if verdict.fault.is_some() {
+        return false;
+    }
+    verdict.are_tables_refused
+}
+
 /// Reads from the reader to its end, and checks the model that stands there as JSON: all of it, of any layout, or its first line
 /// where the options say that lines of requests stand behind it. The model is what stands under the key `model`, or the whole.
 ///
 /// Writes what the model is, as lines of JSON where the options say so. What is written begins with the word of its first fault, or
 /// with that it is lawful. Behind a fault come the places of it and of later faults, at most 100 of each (of refused tables 100
-/// tables and 100 rules), as far as they are looked for; behind that it is lawful its inputs, decisions and services, what is mostly a mistake, and what is odd in the lines of requests.
+/// tables and 100 rules), as far as they are looked for; behind that it is lawful its inputs, decisions and services, what is mostly a
+/// mistake, where the options say so what is found of its decision tables, and what is odd in the lines of requests.
 ///
-/// The result is the first fault; None where the model is lawful. The faults of the run are those of `replay`, but that `Long`
+/// The result has the first fault, none where the model is lawful, and whether the options are strict and a table of a lawful model isn't
+/// as they want it: for a gap among the kinds of values that its tests ask for and no default, for rules that overlap against the hit
+/// policy, never hit or never decide, and where one of these isn't known. The faults of the run are those of `replay`, but that `Long`
 /// comes once more than 64 MiB came.
 pub fn check<R: Source, W: Sink>(
     alloc: Global,
     options: CheckOptions,
     reader: &mut R,
     writer: &mut W,
-) -> Result<Option<ModelFault>, FrontFault>
+) -> Result<CheckFindings, FrontFault>
     requires read_counts { (R.seen reader.old).faults < 2 ^ 64 - 1 }
     requires write_counts { (W.seen writer.old).faults < 2 ^ 64 - 1 }
     ensures { Checked options (R.seen reader.old) (R.seen reader.new) (W.seen writer.old) (W.seen writer.new) result }
 {
     let text = read_whole(alloc, reader)?;
     let (model, lines) = model_and_rest(options, &text);
-    let verdict = check_text(alloc, options.json, model, lines)?;
+    let verdict = check_text(alloc, options, model, lines)?;
     write_told(alloc, options, &verdict, writer)?;
-    Ok(verdict.fault)
+    let is_strict_failure = is_strict_failure(options, &verdict);
+    Ok(CheckFindings {
+        fault: verdict.fault,
+        is_strict_failure,
+    })
 }

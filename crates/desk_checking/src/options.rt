@@ -7,4 +7,8 @@ pub struct CheckOptions {
     pub json: bool,
     /// Behind the model, which is the first line, stand lines of requests.
     pub requests: bool,
+    /// Of each decision table is told which values no rule hits, which rules overlap and which decide nothing.
+    pub tables: bool,
+    /// Such a table is a failure. Without `tables` it means nothing.
+    pub strict: bool,
 }

@@ -28,9 +28,10 @@ flag name = record (new_rule name) {
   action = Some SetTrue;
 }
 
--- `check [--json] [--requests]`
+-- `check [--json] [--requests] [--tables] [--strict]`
 abbrev pub check_app : App
-check_app = with_rule (with_rule (new_app (codes "check")) (flag (codes "json"))) (flag (codes "requests"))
+check_app = with_rule (with_rule (with_rule (with_rule (new_app (codes "check")) (flag (codes "json"))) (flag (codes "requests")))
+    (flag (codes "tables"))) (flag (codes "strict"))
 
 -- a command that serves: `[--clients N] [--workers N] [--capacity N]`
 abbrev pub serving : App → App
@@ -103,6 +104,8 @@ is_true (Some text) = bytes_eq text (codes "true")
 pub record AreCheckOptionsOf (rows : List Row) (options : CheckOptions) : Type 0 where
   pub json : options.json ≡ is_true (first_of (codes "json") rows)
   pub requests : options.requests ≡ is_true (first_of (codes "requests") rows)
+  pub tables : options.tables ≡ is_true (first_of (codes "tables") rows)
+  pub strict : options.strict ≡ is_true (first_of (codes "strict") rows)
 
 -- the options of `explain` as the words give them
 pub record AreExplainOptionsOf (rows : List Row) (options : ExplainOptions) : Type 0 where

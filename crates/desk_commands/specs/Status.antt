@@ -13,6 +13,7 @@ use Rattle.desk_lines.specs.Told.{IsTold}
 use Rattle.desk_lines.specs.declared.fault.FrontFault.{FrontFault}
 use Rattle.desk_lines.specs.declared.fault.FrontFault.TheVariants.{Memory}
 use Rattle.desk_checking.specs.Checked.{Checked}
+use Rattle.desk_checking.specs.declared.findings.CheckFindings.{CheckFindings}
 use Rattle.desk_checking.specs.declared.options.CheckOptions.{CheckOptions}
 use Rattle.desk_explaining.specs.Printed.{AnyLines}
 use Rattle.desk_explaining.specs.Script as explaining
@@ -40,15 +41,24 @@ wrong_words = 2
 abbrev pub wrong_model : ℕ
 wrong_model = 3
 
+-- the model that was checked is lawful, and a table of it is not as the options are strict about
+abbrev pub refused_table : ℕ
+refused_table = 4
+
 -- of a command, by how it ended
 abbrev pub status_of : {X : Type 0} → Result X FrontFault → ℕ
 status_of (Ok x) = done
 status_of (Err why) = stopped
 
--- of `check`, by the first fault of the model, or by how it ended before
-abbrev pub status_of_check : Result (Option ModelFault) FrontFault → ℕ
-status_of_check (Ok None) = done
-status_of_check (Ok (Some fault)) = wrong_model
+-- of a model, by its first fault, and by whether a table of it is refused
+abbrev pub status_of_model : Option ModelFault → Bool → ℕ
+status_of_model (Some fault) is_refused = wrong_model
+status_of_model None true = refused_table
+status_of_model None false = done
+
+-- of `check`, by what was found of the model, or by how it ended before
+abbrev pub status_of_check : Result CheckFindings FrontFault → ℕ
+status_of_check (Ok findings) = status_of_model findings.fault findings.is_strict_failure
 status_of_check (Err why) = stopped
 
 -- of words that name no command

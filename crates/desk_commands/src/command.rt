@@ -69,11 +69,16 @@ fn check<'a>(alloc: Global) -> Result<Command<'a>, AllocError>
 {
     let json = "What is told is lines of JSON";
     let requests = "Behind the model, which is line 1, stand lines of requests";
+    let tables =
+        "Of each decision table is told whether it answers every case, and where it doesn't";
+    let strict = "With --tables: the status is 4 where one doesn't, or that isn't known";
     let check = Command::new(alloc, "check")
         .about(help::CHECK_ABOUT)
         .after_help(help::CHECK);
     let check = with_option(check, flag(alloc, "json", json))?;
-    with_option(check, flag(alloc, "requests", requests))
+    let check = with_option(check, flag(alloc, "requests", requests))?;
+    let check = with_option(check, flag(alloc, "tables", tables))?;
+    with_option(check, flag(alloc, "strict", strict))
 }
 
 /// Adds the options of a command that serves.

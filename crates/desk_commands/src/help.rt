@@ -33,6 +33,7 @@ Status:
   1  a fault ended the run, and is told on standard error by one word: read, write, long or memory
   2  the command line is wrong
   3  the model that was checked has a fault
+  4  the model is lawful, and check --tables --strict refuses a decision table of it
 
 Documents, in the repository:
   README.md           a first run, and a model of one's own
@@ -100,6 +101,19 @@ where its reading stops and what could stand there, and what to write in its pla
       stops at "and" (character 6): "," or the end is due
       write [5..7)
 
+With --tables it tells behind the warnings of each decision table whether it answers every case: values for which no
+rule applies, rules that overlap where that makes the result null (under U, and under A where they give other
+outputs), rules that never apply, and under F those that never decide. At most 100 of each kind a table:
+
+  table: decisions[0] "risk": 4 rules, U: not complete, rules overlap
+    rules 2 and 3 both apply: age 50, region any    U gives null
+    no rule: claims <= -1, age >= 25    e.g. -1, 25    the default
+    no rule for null and other kinds of claims, age
+
+With --strict as well the status is 4 where a table has one of these, or where that can't be decided. A gap counts
+among values of the kinds that the column's tests ask for, and where no output has a default. Without --tables
+--strict means nothing.
+
 Decisions, services and the model's inputs have their index in brackets: the first is number 0, as in
 JSON. Rules, inputs and outputs of a table, members, values and needs are numbered from 1.
 
@@ -107,10 +121,11 @@ Examples:
   desk check < examples/loan.json
   desk check --json < examples/loan.json
   desk check --requests < examples/clients.jsonl
+  desk check --tables < examples/loan.json
 
-The status is 0 where the model is lawful, whatever the warnings and the requests are, 3 where it has a
-fault, and 1 where a fault ended the run. Standard error then has one word: read, write, long (more than 64 MiB
-came) or memory.
+The status is 0 where the model is lawful, whatever the warnings, the tables and the requests are, 3 where it
+has a fault, 4 where --strict refuses a table, and 1 where a fault ended the run. Standard error then has one
+word: read, write, long (more than 64 MiB came) or memory.
 
 docs/MODEL.md in the repository says what a model is and what each fault means, docs/LINES.md what
 the lines of --json are."#;

@@ -50,6 +50,8 @@ pub fn check_options_of(matches: &ArgMatches<'_>) -> CheckOptions
     CheckOptions {
         json: is_given(matches, "json"),
         requests: is_given(matches, "requests"),
+        tables: is_given(matches, "tables"),
+        strict: is_given(matches, "strict"),
     }
 }
 

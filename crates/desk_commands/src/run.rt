@@ -6,14 +6,14 @@ ghost use Rattle.desk_lines.specs.Told.{IsTold};
 ghost use Rattle.lanes.specs.Made.{fault_in};
 ghost use Rattle.desk_checking.specs.Checked.{Checked};
 ghost use Rattle.desk_commands.specs.CommandLine.{IsCommand, kinds_of, named_by, named_in, texts_of};
-ghost use Rattle.desk_commands.specs.Status.{Does, EndsBy, Explained, Refuses, Replayed, Runs, Says, ServedWith, end_text, fault_line, no_utf8_line, status_of, status_of_check, status_of_kind, stopped, wrong_words};
+ghost use Rattle.desk_commands.specs.Status.{Does, EndsBy, Explained, Refuses, Replayed, Runs, Says, ServedWith, end_text, fault_line, no_utf8_line, status_of, status_of_check, status_of_kind, status_of_model, stopped, wrong_words};
 
 use crate::command::read_words;
 use crate::options::{check_options_of, explain_options_of, is_text, options_of};
 use clap::error::ErrorKind;
 use clap::{ArgMatches, Error};
 use desk_front::{
-    CheckOptions, ExplainOptions, FrontFault, Options, Sink, Source, check, explain,
+    CheckFindings, CheckOptions, ExplainOptions, FrontFault, Options, Sink, Source, check, explain,
     explain_in_text, replay, serve, write_all,
 };
 use lanes::OpenGate;
@@ -30,6 +30,8 @@ const STOPPED: u8 = 1;
 const WRONG_WORDS: u8 = 2;
 /// The status where the model that was checked has a fault.
 const WRONG_MODEL: u8 = 3;
+/// The status where it is lawful, and `--strict` refuses a table of it.
+const REFUSED_TABLE: u8 = 4;
 
 /// Writes a text as far as the writer takes it.
 fn tell<W: Sink>(text: &str, writer: &mut W)
@@ -99,6 +101,17 @@ fn run_serve<T: Threads + Wait + Sync, R: Source, W: Sink, F: Sink>(
     tell_end(end, faults)
 }
 
+/// The status of what was found of a model.
+fn status_of_findings(findings: CheckFindings) -> u8
+    ensures { result ≡ status_of_model findings.fault findings.is_strict_failure }
+{
+    match (findings.fault, findings.is_strict_failure) {
+        (Some(_), _) => WRONG_MODEL,
+        (None, true) => REFUSED_TABLE,
+        (None, false) => DONE,
+    }
+}
+
 /// Checks the model of the reader, and tells the fault that ends it, if one does.
 #[tactic(auto, using(desk_lines::proofs::Telling::told_nothing))]
 fn run_check<R: Source, W: Sink, F: Sink>(
@@ -115,8 +128,7 @@ fn run_check<R: Source, W: Sink, F: Sink>(
         status_of_check (F.seen faults.old) (F.seen faults.new) result }
 {
     match check(alloc, options, reader, writer) {
-        Ok(None) => DONE,
-        Ok(Some(_)) => WRONG_MODEL,
+        Ok(findings) => status_of_findings(findings),
         Err(fault) => tell_fault(fault, faults),
     }
 }
@@ -230,8 +242,8 @@ fn tell_of_command<W: Sink, F: Sink>(
 /// Runs the command that the words name, and gives the program's status. The first word is the program's name.
 ///
 /// The status is 0 where the command came to its end or help or the version was asked for, 1 where a fault ended it or no
-/// memory was found for the words, 2 where they name no command, and 3 where the model that was checked has a fault. A fault is
-/// told on `faults` by its word, and a wrong command line by the text of `clap`; help and the version go to the writer. A text
+/// memory was found for the words, 2 where they name no command, 3 where the model that was checked has a fault, and 4 where
+/// `--strict` refuses a decision table of it. A fault is told on `faults` by its word, and a wrong command line by the text of `clap`; help and the version go to the writer. A text
 /// that can't be written changes no status.
 pub fn run_desk<T: Threads + Wait + Sync, R: Source, W: Sink, F: Sink>(
     alloc: Global,

@@ -1,7 +1,12 @@
-pub mod Covered
-pub mod OnClasses
-pub mod Places
-pub mod Turning
-pub mod Sweeping
-pub mod HitRules
-pub mod Results
+mod Answering
+mod Halves
+mod HitRules
+mod Joins
+mod OnClasses
+mod PairSearches
+mod Places
+mod Results
+mod RulesOn
+mod Searches
+mod Turning
+mod Wholes

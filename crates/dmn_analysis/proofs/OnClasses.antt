@@ -1,5 +1,5 @@
 -- Comparisons with the values of a class.
-use Rattle.std.proofs.Common.{◌≡◌, ◌∙◌, sym, ap, refl, ℤ, ℕ, List, Bool, true, false, not, arith}
+use Rattle.std.proofs.Common.{◌≡◌, ◌∙◌, sym, ap, refl, ℤ, ℕ, List, [], ◌∷◌, length, Bool, true, false, not, arith}
 use Rattle.std.specs.Prelude.{int_le, int_lt, ◌<ℤ◌, ◌≤ℤ◌, bytes_eq}
 use Rattle.std.specs.Arc.{arc_str_bytes}
 use Rattle.std.specs.List.{list_any}
@@ -14,7 +14,7 @@ use Rattle.feel_value.specs.Comparison.{equal, less, bool_eq}
 use Rattle.feel_value.specs.Datum.{Datum, null, boolean, number, text, list, context}
 use Rattle.feel_value.specs.Logic.{is_yes, decided}
 use Rattle.feel_value.specs.declared.logic.Truth.TheVariants.{Yes, No, Unknown}
-use Rattle.dmn_analysis.specs.Classes.{is_list, is_number_in, is_other_text, is_parted, is_same}
+use Rattle.dmn_analysis.specs.Classes.{is_list, is_number_in, is_other_text, is_parted, is_same, is_word}
 
 -- ---- one value
 
@@ -137,6 +137,35 @@ not_equal_text ts t v among other = let found = is_a_text ts v other in ap (λ d
     go s none false e = ap (λ b. is_yes (decided b)) e
     go s none true e =
         let there : true ≡ false = sym among ∙ ap (λ x. list_any (λ u. bytes_eq x (arc_str_bytes u)) ts) (sym ((bytes_eq-Decides s t).0 e)) ∙ none in cc
+
+-- what is one of these texts is a text
+pub is_a_word : (ts : List (ArcStr Global)) (v : Datum) → is_word ts v ≡ true → (s : List ℕ) × (v ≡ text s) × (list_any (λ t. bytes_eq s (arc_str_bytes t)) ts ≡ true)
+is_a_word ts (text s) h = (s, refl, h)
+is_a_word ts null h = cc
+is_a_word ts (boolean b) h = cc
+is_a_word ts (number z) h = cc
+is_a_word ts (list ds) h = cc
+is_a_word ts (context es) h = cc
+
+-- a text that isn't one of these is equal to none of them
+pub not_equal_word : (ts : List (ArcStr Global)) (t : List ℕ) (v : Datum) → list_any (λ u. bytes_eq t (arc_str_bytes u)) ts ≡ false → is_word ts v ≡ true → is_yes (equal v (text t)) ≡ false
+not_equal_word ts t v none is = let found = is_a_word ts v is in ap (λ d. is_yes (equal d (text t))) found.1 ∙ go found.0 found.2 (bytes_eq found.0 t) refl
+  where
+    go : (s : List ℕ) → list_any (λ u. bytes_eq s (arc_str_bytes u)) ts ≡ true → (b : Bool) → bytes_eq s t ≡ b → is_yes (decided (bytes_eq s t)) ≡ false
+    go s among false e = ap (λ b. is_yes (decided b)) e
+    go s among true e =
+        let there : true ≡ false = sym among ∙ ap (λ x. list_any (λ u. bytes_eq x (arc_str_bytes u)) ts) ((bytes_eq-Decides s t).0 e) ∙ none in cc
+
+-- the only one of these texts
+only_text : (ts : List (ArcStr Global)) (s t : List ℕ) → length ts ≡ 1 → list_any (λ u. bytes_eq s (arc_str_bytes u)) ts ≡ true → list_any (λ u. bytes_eq t (arc_str_bytes u)) ts ≡ true → s ≡ t
+only_text [] s t e a b = cc
+only_text (u ∷ []) s t e a b = (bytes_eq-Decides s (arc_str_bytes u)).0 (sym (or_false (bytes_eq s (arc_str_bytes u))) ∙ a) ∙ sym ((bytes_eq-Decides t (arc_str_bytes u)).0 (sym (or_false (bytes_eq t (arc_str_bytes u))) ∙ b))
+only_text (u ∷ w ∷ ts) s t e a b = absurd (omega (arith, e))
+
+pub equal_word : (ts : List (ArcStr Global)) (t : List ℕ) (v : Datum) → length ts ≡ 1 → list_any (λ u. bytes_eq t (arc_str_bytes u)) ts ≡ true → is_word ts v ≡ true → is_yes (equal v (text t)) ≡ true
+equal_word ts t v one among is =
+    let found = is_a_word ts v is in
+    ap (λ d. is_yes (equal d (text t))) found.1 ∙ ap (λ b. is_yes (decided b)) ((bytes_eq-Decides found.0 t).1 (only_text ts found.0 t one found.2 among))
 
 -- ---- lists and contexts
 

@@ -1,10 +1,10 @@
 -- What is told of the elements of a list, each by its place.
-use Rattle.std.proofs.Common.{◌≡◌, ◌∙◌, sym, ap, refl, subst, ℕ, zero, suc, ◌⊎◌, ◌<◌, List, [], ◌∷◌, ◌++◌, length, map, get_or, option_map, Some, inl, inr, arith}
+use Rattle.std.proofs.Common.{◌≡◌, ◌∙◌, sym, ap, refl, subst, ℕ, zero, suc, ◌+◌, ◌⊎◌, ◌<◌, List, [], ◌∷◌, ◌++◌, length, map, get_or, option_map, Some, inl, inr, arith}
 use Rattle.std.specs.List.{slice_get, All}
 use Rattle.std.proofs.lemmas.Option.{get_or_from_slice_get, same_Some, slice_get-get_or, slice_get-map, slice_get_within}
 use Rattle.std.proofs.lemmas.List.Elements.{All-get_or}
 
-pushed : {X : Type 0} (xs : List X) (x y : X) (w : ℕ) → slice_get (xs ++ x ∷ []) w ≡ Some y → (slice_get xs w ≡ Some y) ⊎ ((w ≡ length xs) × (x ≡ y))
+pub pushed : {X : Type 0} (xs : List X) (x y : X) (w : ℕ) → slice_get (xs ++ x ∷ []) w ≡ Some y → (slice_get xs w ≡ Some y) ⊎ ((w ≡ length xs) × (x ≡ y))
 pushed [] x y zero e = inr (refl, same_Some x y e)
 pushed [] x y (suc w) e = cc
 pushed (z ∷ xs) x y zero e = inl e
@@ -44,3 +44,9 @@ map_at f xs i x h = slice_get-map f xs i ∙ ap (option_map f) h
 -- what holds of each holds of one that was looked up
 pub looked_up : {X : Type 0} (P : X → Type 0) (xs ys : List X) (i : ℕ) (x : X) → ys ≡ xs → i < length ys → x ≡ get_or ys i x → All P xs → P x
 looked_up P xs ys i x same within here all = subst P (sym here) (All-get_or P ys i x within (subst (All P) (sym same) all))
+
+pub below_next : (k i : ℕ) → k < i + 1 → (k < i) ⊎ (k ≡ i)
+below_next zero zero h = inr refl
+below_next zero (suc i) h = inl (omega arith)
+below_next (suc k) zero h = absurd (omega (arith, h))
+below_next (suc k) (suc i) h = elim (below_next k i (omega (arith, h))) [ inl p ↦ inl (omega (arith, p)) | inr q ↦ inr (ap suc q) ]

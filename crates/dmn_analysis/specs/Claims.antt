@@ -1,5 +1,5 @@
 -- What is claimed of a decision table.
-use Rattle.std.specs.Prelude.{◌≡◌, ◌≢◌, ◌<◌, ⊤, ℕ, List, [], length, true, false, Some}
+use Rattle.std.specs.Prelude.{◌≡◌, ◌≢◌, ◌<◌, ◌⊎◌, IsTrue, ℕ, List, [], length, true, false, Some}
 use Rattle.std.specs.List.{slice_get, All}
 use Rattle.feel_value.specs.Datum.{Datum}
 use Rattle.feel_value.specs.Limits.{is_value}
@@ -8,10 +8,12 @@ use Rattle.dmn_table.specs.Hits.{does_hit}
 use Rattle.dmn_table.specs.Table.{Rule, Table}
 use Rattle.dmn_analysis.specs.Asked.{is_asked}
 use Rattle.dmn_analysis.specs.declared.asked.Asked.{Asked}
-use Rattle.dmn_analysis.specs.declared.answers.Coverage.{Coverage}
-use Rattle.dmn_analysis.specs.declared.answers.Coverage.TheVariants as coverage
-use Rattle.dmn_analysis.specs.declared.answers.Uniqueness.{Uniqueness}
-use Rattle.dmn_analysis.specs.declared.answers.Uniqueness.TheVariants as uniqueness
+use Rattle.dmn_analysis.specs.Cells.{AreIn}
+use Rattle.dmn_analysis.specs.declared.cell.Cell.{Cell}
+use Rattle.dmn_analysis.specs.declared.cell.Words.{Words}
+use Rattle.dmn_analysis.specs.declared.found.Gap.{Gap}
+use Rattle.dmn_analysis.specs.declared.found.Gaps.{Gaps}
+use Rattle.dmn_analysis.specs.declared.found.Overlaps.{Overlaps}
 
 -- values of so many input columns, one each
 pub record AreInputs (count : ℕ) (values : List Datum) : Type 0 where
@@ -36,10 +38,13 @@ AlwaysHit count rules asked = (m : Bindings) (values : List Datum) → AreInputs
 abbrev pub IsComplete : Table → List Asked → Type 0
 IsComplete t asked = AlwaysHit (length t.inputs) t.rules asked
 
--- no rule hits for these values, where no name stands for anything
-pub record IsGap (t : Table) (values : List Datum) : Type 0 where
-  pub one_each : length values ≡ length t.inputs
-  pub misses : All (λ r. does_hit [] values r ≡ Some false) t.rules
+-- none of these rules hits for these values, one a column of so many, where no name stands for anything
+pub record IsGapIn (count : ℕ) (rules : List Rule) (values : List Datum) : Type 0 where
+  pub one_each : length values ≡ count
+  pub misses : All (λ r. does_hit [] values r ≡ Some false) rules
+
+abbrev pub IsGap : Table → List Datum → Type 0
+IsGap t values = IsGapIn (length t.inputs) t.rules values
 
 -- Whatever the values, and whatever the names stand for, no two of the rules hit.
 abbrev pub NeverTwo : ℕ → List Rule → Type 0
@@ -56,12 +61,15 @@ pub record Hits (rules : List Rule) (i : ℕ) (values : List Datum) : Type 0 whe
   pub there : slice_get rules i ≡ Some rule
   pub hits : does_hit [] values rule ≡ Some true
 
--- two rules that hit for these values
-pub record AreOverlapping (t : Table) (i j : ℕ) (values : List Datum) : Type 0 where
-  pub one_each : length values ≡ length t.inputs
+-- two rules that hit for these values, one a column of so many
+pub record AreOverlappingIn (count : ℕ) (rules : List Rule) (i j : ℕ) (values : List Datum) : Type 0 where
+  pub one_each : length values ≡ count
   pub in_order : i < j
-  pub first : Hits t.rules i values
-  pub second : Hits t.rules j values
+  pub first : Hits rules i values
+  pub second : Hits rules j values
+
+abbrev pub AreOverlapping : Table → ℕ → ℕ → List Datum → Type 0
+AreOverlapping t i j values = AreOverlappingIn (length t.inputs) t.rules i j values
 
 -- Whatever the values, and whatever the names stand for, the rule doesn't hit.
 abbrev pub NeverHits : ℕ → List Rule → ℕ → Type 0
@@ -85,14 +93,30 @@ HitsBehind count rules i = (m : Bindings) (values : List Datum) → AreInputs co
 abbrev pub IsMasked : Table → ℕ → Type 0
 IsMasked t i = HitsBehind (length t.inputs) t.rules i
 
--- what is told of a table's gaps
-abbrev pub TellsCoverage : Table → List Asked → Coverage → Type 0
-TellsCoverage t asked coverage.Complete = IsComplete t asked
-TellsCoverage t asked (coverage.Gap values) = IsGap t values.items
-TellsCoverage t asked coverage.Open = ⊤
+-- for none of the values of these cells a rule hits, whatever the names stand for
+abbrev pub IsBareOf : List Words → List Rule → List Cell → Type 0
+IsBareOf words rules cells = (m : Bindings) (values : List Datum) (r : ℕ) (rule : Rule) → length values ≡ length cells → AreIn words cells values → slice_get rules r ≡ Some rule → does_hit m values rule ≢ Some true
 
--- what is told of a table's overlaps
-abbrev pub TellsUniqueness : Table → Uniqueness → Type 0
-TellsUniqueness t uniqueness.Unique = IsUnique t
-TellsUniqueness t (uniqueness.Overlap i j values) = AreOverlapping t i j values.items
-TellsUniqueness t uniqueness.Open = ⊤
+-- a gap as it is told: no rule hits for any values of its cells, nor for those that it comes with
+pub record TellsGap (t : Table) (words : List Words) (gap : Gap) : Type 0 where
+  pub none : IsBareOf words t.rules gap.cells.items
+  pub witness : IsGap t gap.values.items
+
+-- the values are in the cells of a gap
+pub record IsInGap (words : List Words) (gaps : List Gap) (values : List Datum) : Type 0 where
+  pub place : ℕ
+  pub gap : Gap
+  pub there : slice_get gaps place ≡ Some gap
+  pub inside : AreIn words gap.cells.items values
+
+-- What is told of a table's gaps among what is asked about. Where all are told, each values for which no rule hits are in one of
+-- them; so where there is none, the table is complete.
+pub record TellsGaps (t : Table) (asked : List Asked) (gaps : Gaps) : Type 0 where
+  pub each : All (TellsGap t gaps.words.items) gaps.found.items
+  pub all : IsTrue gaps.is_all → gaps.more ≡ 0 → (m : Bindings) (values : List Datum) → AreInputs (length t.inputs) values → AreAsked asked values → HasHit m values t.rules ⊎ IsInGap gaps.words.items gaps.found.items values
+  pub complete : IsTrue gaps.is_all → gaps.more ≡ 0 → gaps.found.items ≡ [] → IsComplete t asked
+
+-- What is told of a table's overlaps.
+pub record TellsOverlaps (t : Table) (overlaps : Overlaps) : Type 0 where
+  pub each : All (λ o. AreOverlapping t o.first o.second o.values.items) overlaps.found.items
+  pub unique : IsTrue overlaps.is_all → overlaps.found.items ≡ [] → IsUnique t

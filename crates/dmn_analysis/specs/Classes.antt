@@ -24,6 +24,11 @@ abbrev pub is_other_text : List (ArcStr Global) → Datum → Bool
 is_other_text texts (text s) = not (list_any (λ t. bytes_eq s (arc_str_bytes t)) texts)
 is_other_text texts d = false
 
+-- a text that is one of these
+abbrev pub is_word : List (ArcStr Global) → Datum → Bool
+is_word texts (text s) = list_any (λ t. bytes_eq s (arc_str_bytes t)) texts
+is_word texts d = false
+
 abbrev pub is_truth : Bool → Datum → Bool
 is_truth b (boolean c) = bool_eq b c
 is_truth b d = false
@@ -54,5 +59,6 @@ is_same (context es) v = false
 abbrev pub is_of : Class → Datum → Bool
 is_of (class.One value) v = is_same (datum_of value) v
 is_of (class.Numbers low high) v = is_number_in low high v
-is_of (class.OtherTexts texts) v = is_other_text texts.items v
+is_of (class.Words texts) v = is_word texts.now v
+is_of (class.OtherTexts texts) v = is_other_text texts.now v
 is_of class.Parted v = is_parted v

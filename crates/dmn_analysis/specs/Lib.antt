@@ -1,7 +1,9 @@
 pub mod Classes
 pub mod Asked
-pub mod Columns
-pub mod Sweep
-pub mod Memo
-pub mod Pairs
+pub mod Cells
+pub mod Cutting
+pub mod Whole
 pub mod Claims
+pub mod Searching
+pub mod Telling
+pub mod Joining

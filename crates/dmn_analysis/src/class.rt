@@ -6,25 +6,27 @@ ghost use Rattle.feel_value.specs.Comparison.{equal, less};
 ghost use Rattle.feel_value.specs.Datum.{Datum, text as text_datum};
 ghost use Rattle.feel_value.specs.Logic.{is_yes};
 ghost use Rattle.feel_value.specs.View.{datum_of};
-ghost use Rattle.dmn_analysis.specs.Classes.{is_number_in, is_of, is_other_text, is_parted};
+ghost use Rattle.dmn_analysis.specs.Classes.{is_number_in, is_of, is_other_text, is_parted, is_word};
 
 use feel_value::{Truth, Value};
 use std::sync::ArcStr;
 
 /// A class of values of a column.
 #[derive(Drop)]
-pub(crate) enum Class {
+pub(crate) enum Class<'a> {
     /// This value, which is null, a truth value or a text.
     One(Value),
     /// The numbers from one to another, both included.
     Numbers(i64, i64),
+    /// The texts that are one of these.
+    Words(&'a [ArcStr]),
     /// The texts that are none of these.
-    OtherTexts(Vec<ArcStr>),
+    OtherTexts(&'a [ArcStr]),
     /// The lists and the contexts.
     Parted,
 }
 
-impl Class {
+impl Class<'_> {
     /// Whether each value of the class is less than this one, where they agree in it.
     pub(crate) fn below(&self, value: &Value) -> Option<Truth>
         ensures { IfSome result (λ t. (v : Datum) → is_of self.now v ≡ true → less v (datum_of value.now) ≡ t) }
@@ -32,6 +34,7 @@ impl Class {
         match self {
             Class::One(one) => Some(one.less(value)),
             Class::Numbers(low, high) => numbers_below(*low, *high, value),
+            Class::Words(_) => text_below(value),
             Class::OtherTexts(_) => text_below(value),
             Class::Parted => Some(Truth::Unknown),
         }
@@ -44,6 +47,7 @@ impl Class {
         match self {
             Class::One(one) => Some(value.less(one)),
             Class::Numbers(low, high) => numbers_above(*low, *high, value),
+            Class::Words(_) => text_above(value),
             Class::OtherTexts(_) => text_above(value),
             Class::Parted => Some(Truth::Unknown),
         }
@@ -56,6 +60,7 @@ impl Class {
         match self {
             Class::One(one) => Some(one.is_equal(value)),
             Class::Numbers(low, high) => numbers_equal(*low, *high, value),
+            Class::Words(texts) => words_equal(texts, value),
             Class::OtherTexts(texts) => other_texts_equal(texts, value),
             Class::Parted => parted_equal(value),
         }
@@ -124,6 +129,21 @@ fn text_above(value: &Value) -> Option<Truth>
         Value::Text(_) => None,
         _ => Some(Truth::Unknown),
     }
+}
+
+fn words_equal(texts: &[ArcStr], value: &Value) -> Option<bool>
+    ensures { IfSome result (λ b. (v : Datum) → is_word texts.now v ≡ true → is_yes (equal v (datum_of value.now)) ≡ b) }
+{
+    let Value::Text(text) = value else {
+        return Some(false);
+    };
+    if !is_among(text.as_str(), texts) {
+        return Some(false);
+    }
+    if texts.len() == 1 {
+        return Some(true);
+    }
+    None
 }
 
 fn other_texts_equal(texts: &[ArcStr], value: &Value) -> Option<bool>

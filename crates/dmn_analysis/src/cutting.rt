@@ -1,183 +1,185 @@
-//! The classes into which the tests of a column cut its values. Nothing is promised of them here: whether they cover what is
-//! asked about is found afterwards.
-use crate::asked::{Asked, Texts};
-use crate::class::{Class, is_among};
-use crate::on_class::{literal, negative};
-use dmn_table::Rule;
-use feel_text::{Bound, Test, TestsTree, Tree};
-use feel_value::Value;
+//! Cells cut in two.
+ghost use Rattle.std.specs.Prelude.{◌≡◌, ◌<◌, IfOk, IfSome, length, set};
+ghost use Rattle.dmn_analysis.specs.Cutting.{AreHalves, MakeUp, kept_of, numbers_alone, other_kinds_of, with_from, with_low, words_alone};
+
+use crate::cell::Cell;
 use std::alloc::{AllocError, Global};
-use std::sync::ArcStr;
 
-/// Numbers at which a class begins, and texts, in no order.
-#[derive(Drop)]
-struct Cuts {
-    starts: Vec<i64>,
-    texts: Vec<ArcStr>,
+/// Some of the kinds of values.
+#[derive(Clone, Copy)]
+pub(crate) struct Kinds {
+    pub(crate) null: bool,
+    pub(crate) yes: bool,
+    pub(crate) no: bool,
+    pub(crate) numbers: bool,
+    pub(crate) words: bool,
+    pub(crate) others: bool,
+    pub(crate) parted: bool,
 }
 
-/// The number that an expression is, where it is a literal, with a `-` or without.
-fn number(expr: &Tree) -> Option<i64> {
-    if let Some(n) = negative(expr) {
-        return Some(n);
-    }
-    match literal(expr) {
-        Some(Value::Number(n)) => Some(*n),
-        _ => None,
-    }
+/// How a cell is cut in two.
+#[derive(Clone, Copy)]
+pub(crate) enum Cut {
+    /// These kinds of values, and the others.
+    Kinds(Kinds),
+    /// The numbers below this one, and all else.
+    Number(i64),
+    /// The words before this place, and all else.
+    Word(usize),
 }
 
-impl Cuts {
-    // A class begins at this number.
-    fn at(&mut self, n: i64) -> Result<(), AllocError> {
-        self.starts.push(n)?;
-        Ok(())
-    }
-
-    // A class begins behind this number.
-    fn behind(&mut self, n: i64) -> Result<(), AllocError> {
-        if let Some(next) = n.checked_add(1) {
-            self.starts.push(next)?;
-        }
-        Ok(())
-    }
-
-    fn add_bound(&mut self, bound: Bound, expr: &Tree) -> Result<(), AllocError> {
-        let Some(n) = number(expr) else {
-            return Ok(());
-        };
-        match bound {
-            Bound::Below | Bound::AtLeast => self.at(n),
-            Bound::AtMost | Bound::Above => self.behind(n),
-        }
-    }
-
-    fn add_value(&mut self, expr: &Tree) -> Result<(), AllocError> {
-        if let Some(n) = number(expr) {
-            self.at(n)?;
-            return self.behind(n);
-        }
-        let Some(Value::Text(text)) = literal(expr) else {
-            return Ok(());
-        };
-        if !is_among(text.as_str(), &self.texts) {
-            self.texts.push(text.clone()?)?;
-        }
-        Ok(())
-    }
-
-    fn add_test(&mut self, test: &Test) -> Result<(), AllocError> {
-        match test {
-            Test::Compares(bound, expr) => self.add_bound(*bound, expr),
-            Test::Interval(closed_low, low, high, closed_high) => {
-                self.add_bound(feel_text::low_end(*closed_low), low)?;
-                self.add_bound(feel_text::high_end(*closed_high), high)
-            }
-            Test::Equals(expr) => self.add_value(expr),
-        }
-    }
-
-    fn add_tests(&mut self, tests: &TestsTree) -> Result<(), AllocError> {
-        match tests {
-            TestsTree::Any => Ok(()),
-            TestsTree::OneOf(tests) | TestsTree::NoneOf(tests) => {
-                for test in tests {
-                    self.add_test(test)?;
-                }
-                Ok(())
-            }
-        }
-    }
-
-    fn of(alloc: Global, rules: &[Rule], place: usize) -> Result<Cuts, AllocError> {
-        let mut cuts = Cuts {
-            starts: Vec::new(alloc),
-            texts: Vec::new(alloc),
-        };
-        for rule in rules {
-            if let Some(tests) = rule.tests.get(place) {
-                cuts.add_tests(tests.tree())?;
-            }
-        }
-        cuts.starts.sort_unstable();
-        cuts.starts.dedup();
-        Ok(cuts)
-    }
-
-    // Adds the classes of numbers, the lowest first.
-    fn add_numbers(&self, classes: &mut Vec<Class>) -> Result<(), AllocError> {
-        let mut low = -i64::MAX;
-        for start in &self.starts {
-            if *start > low {
-                classes.push(Class::Numbers(low, start.saturating_sub(1)))?;
-                low = *start;
-            }
-        }
-        classes.push(Class::Numbers(low, i64::MAX))?;
-        Ok(())
+/// The kinds that are none of these.
+fn other_kinds(kinds: Kinds) -> Kinds
+    ensures { result ≡ other_kinds_of kinds }
+{
+    Kinds {
+        null: !kinds.null,
+        yes: !kinds.yes,
+        no: !kinds.no,
+        numbers: !kinds.numbers,
+        words: !kinds.words,
+        others: !kinds.others,
+        parted: !kinds.parted,
     }
 }
 
-/// How many classes there are, less those that each column has.
-pub(crate) fn count_of(alloc: Global, rules: &[Rule], place: usize) -> Result<usize, AllocError> {
-    let cuts = Cuts::of(alloc, rules, place)?;
-    Ok(cuts.starts.len().saturating_add(cuts.texts.len()))
-}
-
-// Adds a class for each of these texts.
-fn add_each(texts: &[ArcStr], classes: &mut Vec<Class>) -> Result<(), AllocError> {
-    for text in texts {
-        classes.push(Class::One(Value::Text(text.clone()?)))?;
-    }
-    Ok(())
-}
-
-// Adds the classes of the texts that are asked about, where these are named.
-fn add_texts(
-    asked: &Texts,
-    named: Vec<ArcStr>,
-    classes: &mut Vec<Class>,
-) -> Result<(), AllocError> {
-    match asked {
-        Texts::None => Ok(()),
-        Texts::These(texts) => add_each(texts, classes),
-        Texts::All => {
-            add_each(&named, classes)?;
-            classes.push(Class::OtherTexts(named))?;
-            Ok(())
-        }
+/// The values of the cell that are of these kinds.
+pub(crate) fn of_kinds(cell: Cell, kinds: Kinds) -> Cell
+    ensures { result ≡ kept_of cell kinds }
+{
+    Cell {
+        null: cell.null && kinds.null,
+        yes: cell.yes && kinds.yes,
+        no: cell.no && kinds.no,
+        low: if kinds.numbers { cell.low } else { 1 },
+        high: if kinds.numbers { cell.high } else { 0 },
+        from: if kinds.words { cell.from } else { 0 },
+        to: if kinds.words { cell.to } else { 0 },
+        others: cell.others && kinds.others,
+        parted: cell.parted && kinds.parted,
     }
 }
 
-// Adds the other classes that are asked about.
-fn add_others(asked: &Asked, classes: &mut Vec<Class>) -> Result<(), AllocError> {
-    if asked.null {
-        classes.push(Class::One(Value::Null))?;
-    }
-    if asked.truths {
-        classes.push(Class::One(Value::Bool(false)))?;
-        classes.push(Class::One(Value::Bool(true)))?;
-    }
-    if asked.parted {
-        classes.push(Class::Parted)?;
-    }
-    Ok(())
+/// The values of the cell that are of other kinds.
+pub(crate) fn of_other_kinds(cell: Cell, kinds: Kinds) -> Cell
+    ensures { result ≡ kept_of cell (other_kinds_of kinds) }
+{
+    of_kinds(cell, other_kinds(kinds))
 }
 
-/// The classes of a column, of the values that are asked about.
-pub(crate) fn classes_of(
+// The numbers between two, both included.
+fn only_numbers(low: i64, high: i64) -> Cell
+    ensures { result ≡ numbers_alone low high }
+{
+    Cell {
+        null: false,
+        yes: false,
+        no: false,
+        low,
+        high,
+        from: 0,
+        to: 0,
+        others: false,
+        parted: false,
+    }
+}
+
+// The words between two places.
+fn only_words(from: usize, to: usize) -> Cell
+    ensures { result ≡ words_alone from to }
+{
+    Cell {
+        null: false,
+        yes: false,
+        no: false,
+        low: 1,
+        high: 0,
+        from,
+        to,
+        others: false,
+        parted: false,
+    }
+}
+
+// The cell without the numbers below this one.
+fn numbers_from(cell: Cell, low: i64) -> Cell
+    ensures { result ≡ with_low cell low }
+{
+    Cell { low, ..cell }
+}
+
+// The cell without the words before this place.
+fn words_from(cell: Cell, from: usize) -> Cell
+    ensures { result ≡ with_from cell from }
+{
+    Cell { from, ..cell }
+}
+
+fn cut_at_number(cell: Cell, number: i64) -> Option<(Cell, Cell)>
+    ensures { IfSome result (λ halves. MakeUp cell halves.0 halves.1) }
+{
+    if number <= cell.low || number > cell.high {
+        return None;
+    }
+    let lower = only_numbers(cell.low, number - 1);
+    let upper = numbers_from(cell, number);
+    Some((lower, upper))
+}
+
+fn cut_at_word(cell: Cell, place: usize) -> Option<(Cell, Cell)>
+    ensures { IfSome result (λ halves. MakeUp cell halves.0 halves.1) }
+{
+    if place <= cell.from || place >= cell.to {
+        return None;
+    }
+    let lower = only_words(cell.from, place);
+    let upper = words_from(cell, place);
+    Some((lower, upper))
+}
+
+/// The two parts of a cell; None where it can't be cut so.
+pub(crate) fn cut_cell(cell: Cell, cut: Cut) -> Option<(Cell, Cell)>
+    ensures { IfSome result (λ halves. MakeUp cell halves.0 halves.1) }
+{
+    match cut {
+        Cut::Kinds(kinds) => Some((of_kinds(cell, kinds), of_other_kinds(cell, kinds))),
+        Cut::Number(number) => cut_at_number(cell, number),
+        Cut::Word(place) => cut_at_word(cell, place),
+    }
+}
+
+/// The cells with another one at a place.
+fn with_cell(
     alloc: Global,
-    rules: &[Rule],
+    cells: &[Cell],
     place: usize,
-    asked: &Asked,
-) -> Result<Vec<Class>, AllocError> {
-    let cuts = Cuts::of(alloc, rules, place)?;
-    let mut classes = Vec::new(alloc);
-    if asked.numbers {
-        cuts.add_numbers(&mut classes)?;
+    cell: Cell,
+) -> Result<Vec<Cell>, AllocError>
+    requires { place < length cells.now }
+    ensures { IfOk result (λ all. all.items ≡ set cells.now place cell) }
+{
+    let mut all = Vec::from_slice(alloc, cells)?;
+    all[place] = cell;
+    Ok(all)
+}
+
+/// Two lists of cells, each like this one but at a place, that have all of its values between them; None where the cell at the
+/// place can't be cut so.
+pub(crate) fn cut_cells(
+    alloc: Global,
+    cells: &[Cell],
+    place: usize,
+    cut: Cut,
+) -> Result<Option<(Vec<Cell>, Vec<Cell>)>, AllocError>
+    ensures { IfOk result (λ found. IfSome found (λ halves. AreHalves cells.now halves.0.items halves.1.items)) }
+{
+    if place >= cells.len() {
+        return Ok(None);
     }
-    let Cuts { starts: _, texts } = cuts;
-    add_texts(&asked.texts, texts, &mut classes)?;
-    add_others(asked, &mut classes)?;
-    Ok(classes)
+    let Some((lower, upper)) = cut_cell(cells[place], cut) else {
+        return Ok(None);
+    };
+    let below = with_cell(alloc, cells, place, lower)?;
+    let above = with_cell(alloc, cells, place, upper)?;
+    Ok(Some((below, above)))
 }

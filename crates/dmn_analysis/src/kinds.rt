@@ -1,7 +1,7 @@
 //! What the tests of a column ask for.
 use crate::asked::{Asked, Texts};
-use crate::class::is_among;
 use crate::on_class::{literal, negative};
+use crate::words::in_order;
 use dmn_table::{Rule, Table};
 use feel_text::{Test, TestsTree, Tree};
 use feel_value::Value;
@@ -33,9 +33,7 @@ impl Seen {
     }
 
     fn see_text(&mut self, text: &ArcStr) -> Result<(), AllocError> {
-        if !is_among(text.as_str(), &self.texts) {
-            self.texts.push(text.clone()?)?;
-        }
+        self.texts.push(text.clone()?)?;
         Ok(())
     }
 
@@ -125,7 +123,7 @@ impl Seen {
         let texts = if texts.is_empty() {
             Texts::None
         } else if words_only && !has_order {
-            Texts::These(texts)
+            Texts::These(in_order(texts))
         } else {
             Texts::All
         };

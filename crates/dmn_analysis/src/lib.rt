@@ -2,25 +2,39 @@
 //! does; or values for which it is otherwise.
 #![tactic(auto)]
 
-mod answers;
 mod asked;
 mod asking;
+mod bounds;
+mod cell;
+mod choosing;
 mod class;
-mod columns;
-mod covering;
 mod cutting;
+mod found;
+mod gap_answers;
+mod gaps;
+mod joined;
+mod joining;
 mod kinds;
 mod laws;
-mod memo;
+mod met;
 mod on_class;
+mod pair_answers;
 mod pairs;
-mod placing;
-mod single;
-mod sweep;
+mod pieces;
+mod rule_on;
+mod searching;
+mod single_answers;
+mod whole;
+mod within;
 mod witness;
+mod words;
 
-pub use answers::{Coverage, Uniqueness, find_gap, find_overlap};
 pub use asked::{Asked, Texts};
+pub use cell::{Cell, Words};
+pub use found::{Gap, Gaps, Mask, Masks, Overlap, Overlaps};
+pub use gap_answers::find_gaps;
 pub use kinds::kinds_asked;
 pub use laws::{complete_gives_no_default, unique_gives_one_hit};
-pub use single::{masked, never_met};
+pub use pair_answers::find_overlaps;
+pub use pieces::{Part, Piece};
+pub use single_answers::{find_masked, never_met};

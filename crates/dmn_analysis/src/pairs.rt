@@ -1,78 +1,108 @@
-//! What single columns show of one rule, or of two.
-ghost use Rattle.std.specs.Prelude.{◌≡◌, ◌<◌, ℕ, IsTrue, None};
-ghost use Rattle.std.specs.List.{All};
-ghost use Rattle.dmn_analysis.specs.Columns.{IsNever};
-ghost use Rattle.dmn_analysis.specs.Pairs.{AreApart, IsApartAt, IsOut};
+//! A search for values for which two rules hit.
+ghost use Rattle.std.specs.Prelude.{◌≡◌, List, OnOk, IfOk, map};
+ghost use Rattle.dmn_table.specs.Parts.{rule_view};
+ghost use Rattle.dmn_analysis.specs.Cutting.{AreHalves};
+ghost use Rattle.dmn_analysis.specs.Searching.{AreLeft, KnowsPairs, KnowsPairsBut, Scene};
+ghost use Rattle.dmn_analysis.specs.declared.cell.Cell.{Cell as CellData};
 
-use crate::columns::{Column, Row};
+use crate::cell::{Cell, Words};
+use crate::gaps::Pending;
+use crate::searching::{are_few, first_unsure, halves, possible};
+use dmn_table::Rule;
+use std::alloc::{AllocError, Global};
 
-fn is_apart_at(row: &Row, i: usize, j: usize) -> bool
-    ensures { IsTrue result → IsApartAt i j row.now }
-{
-    if row.never(i) {
-        return true;
-    }
-    row.never(j)
+/// Cells for whose values each of these rules hits.
+#[derive(Drop)]
+pub(crate) struct Shared {
+    pub(crate) cells: Vec<Cell>,
+    pub(crate) rules: Vec<usize>,
 }
 
-// Whether one of the two rules is never met, whichever the row.
-fn part(rows: &[Row], i: usize, j: usize) -> bool
-    ensures { IsTrue result → All (IsApartAt i j) rows.now }
-{
-    for row in rows {
-        if !is_apart_at(row, i, j) {
-            return false;
-        }
-    }
-    true
+/// What a search for two rules has found so far.
+#[derive(Drop)]
+pub(crate) struct PairSearch {
+    pub(crate) pending: Vec<Pending>,
+    pub(crate) shared: Vec<Shared>,
+    /// Rules of which it isn't known whether they hit where another may.
+    pub(crate) open: Vec<usize>,
 }
 
-/// Whether a column shows that no values meet both rules. False says nothing.
-pub(crate) fn are_apart(columns: &[Column], i: usize, j: usize) -> bool
-    ensures { IsTrue result → AreApart columns.now i j }
-{
-    for column in columns {
-        if part(&column.rows, i, j) {
-            return true;
-        }
+impl PairSearch {
+    // Cells that were cut in two.
+    fn put(
+        &mut self,
+        alloc: Global,
+        lower: Vec<Cell>,
+        upper: Vec<Cell>,
+        left: Vec<usize>,
+    ) -> Result<(), AllocError>
+        ensures { OnOk result ((s : Scene) (cells : List CellData) → KnowsPairsBut s cells self.old → AreHalves cells lower.items upper.items → AreLeft s cells left.items → KnowsPairs s self.new) }
+    {
+        let copy = Vec::from_slice(alloc, &left)?;
+        self.pending.push(Pending {
+            cells: upper,
+            left: copy,
+        })?;
+        self.pending.push(Pending { cells: lower, left })?;
+        Ok(())
     }
-    false
+
+    // One turn of the search.
+    fn turn(
+        &mut self,
+        alloc: Global,
+        words: &[Words],
+        rules: &[Rule],
+        next: Pending,
+        steps: &mut u64,
+    ) -> Result<(), AllocError>
+        ensures { OnOk result ((s : Scene) → s.words ≡ words.now → s.rules ≡ map rule_view rules.now → KnowsPairsBut s next.cells.items self.old → AreLeft s next.cells.items next.left.items → KnowsPairs s self.new) }
+    {
+        let left = possible(alloc, words, rules, &next.cells, &next.left, steps)?;
+        if are_few(&left) {
+            return Ok(());
+        }
+        let Some(unsure) = first_unsure(words, rules, &next.cells, &left, steps) else {
+            let Pending { cells, left: _ } = next;
+            self.shared.push(Shared { cells, rules: left })?;
+            return Ok(());
+        };
+        let Some((lower, upper)) = halves(alloc, words, rules, &next.cells, &left, steps)? else {
+            self.open.push(unsure)?;
+            return Ok(());
+        };
+        self.put(alloc, lower, upper, left)?;
+        Ok(())
+    }
 }
 
-/// The first rule behind i, below a number, that isn't shown to be apart from it.
-pub(crate) fn near(columns: &[Column], i: usize, count: usize) -> Option<usize>
-    ensures { result ≡ None → (j : ℕ) → i < j → j < count → AreApart columns.now i j }
+/// Searches these cells for values for which two of the rules that are left hit. It ends where nothing is pending, where the steps
+/// ran out, or where as many cells were found as are wanted.
+pub(crate) fn find_shared(
+    alloc: Global,
+    words: &[Words],
+    rules: &[Rule],
+    first: Pending,
+    most: usize,
+    steps: &mut u64,
+) -> Result<PairSearch, AllocError>
+    ensures { IfOk result (λ search. (s : Scene) → s.words ≡ words.now → s.rules ≡ map rule_view rules.now → s.first ≡ first.left.items → s.whole ≡ first.cells.items → KnowsPairs s search) }
 {
-    if i >= count {
-        return None;
-    }
-    for j in i + 1..count {
-        if !are_apart(columns, i, j) {
-            return Some(j);
+    let mut search = PairSearch {
+        pending: Vec::new(alloc),
+        shared: Vec::new(alloc),
+        open: Vec::new(alloc),
+    };
+    search.pending.push(first)?;
+    let turns = *steps;
+    for _turn in 0..turns {
+        if *steps == 0 || search.shared.len() >= most {
+            return Ok(search);
         }
+        let Some(next) = search.pending.pop() else {
+            return Ok(search);
+        };
+        search.turn(alloc, words, rules, next, steps)?;
     }
-    None
-}
-
-fn leave_out(rows: &[Row], i: usize) -> bool
-    ensures { IsTrue result → All (λ row. IsNever row i) rows.now }
-{
-    for row in rows {
-        if !row.never(i) {
-            return false;
-        }
-    }
-    true
-}
-
-/// Whether a column shows that no values meet the rule. False says nothing.
-pub(crate) fn is_out(columns: &[Column], i: usize) -> bool
-    ensures { IsTrue result → IsOut columns.now i }
-{
-    for column in columns {
-        if leave_out(&column.rows, i) {
-            return true;
-        }
-    }
-    false
+    Ok(search)
 }

@@ -21,6 +21,24 @@ pub enum Hint {
     Quotes(String),
     /// This word of capitals is a constant.
     Lower(&'static str),
+    /// This key word stands in capital letters.
+    Keyword(&'static str),
+    /// A comment.
+    Comment,
+    /// `a ? b : c`.
+    Conditional,
+    /// This function has one argument, a list.
+    OneList(&'static str),
+    /// This function has one argument.
+    OneArgument(&'static str),
+    /// `modulo` has two arguments.
+    TwoArguments,
+    /// A comma, a blank or `_` stands in a number, before its last three digits.
+    Digits,
+    /// A letter of no name.
+    Letters,
+    /// This sign is written as the second one.
+    Sign(&'static str, &'static str),
     /// `==`.
     Equal,
     /// `<>`.
@@ -89,9 +107,20 @@ impl Hint {
             Hint::In => "write x = 1 or x = 2 for x in [1, 2]",
             Hint::Parentheses => "an if within another form stands in parentheses",
             Hint::Chain => "write a < b and b < c for a < b < c",
+            Hint::Comment => "there are no comments: // and /* begin none",
+            Hint::Conditional => "write if a then b else c for a ? b : c",
+            Hint::TwoArguments => "modulo has two arguments",
+            Hint::Digits => "a number has digits alone: 1000 for 1,000",
+            Hint::Letters => {
+                "a name has the letters A-Z and a-z, digits and _ alone; a text stands in quotes"
+            }
             Hint::Interval(_)
             | Hint::Quotes(_)
             | Hint::Lower(_)
+            | Hint::Keyword(_)
+            | Hint::OneList(_)
+            | Hint::OneArgument(_)
+            | Hint::Sign(_, _)
             | Hint::Function(_)
             | Hint::Blank(_) => "",
         }
@@ -104,6 +133,12 @@ impl fmt::Display for Hint {
             Hint::Interval(interval) => write!(f, "write {interval}"),
             Hint::Quotes(word) => write!(f, "a text stands in quotes: \"{word}\""),
             Hint::Lower(word) => write!(f, "write {word}"),
+            Hint::Keyword(word) => write!(f, "key words have small letters: write {word}"),
+            Hint::OneList(name) => {
+                write!(f, "{name} has one argument, a list: write {name}([a, b])")
+            }
+            Hint::OneArgument(name) => write!(f, "{name} has one argument"),
+            Hint::Sign(sign, other) => write!(f, "write {other} in place of {sign}"),
             Hint::Function(name) => write!(
                 f,
                 "there is no function {name}, only not, abs, sum, min, max, count and modulo"

@@ -1,10 +1,13 @@
 //! Which sentence helps at a stop.
 
+use crate::call::of_call;
 use crate::hint::Hint;
 use crate::interval::interval;
 use crate::parts::{Parts, word_of};
+use crate::print::of_print;
 use crate::scan::tokens;
 use crate::stop::{Kind, Stop};
+use crate::words::{function_name, is_loop, keyword, of_literal};
 use std::alloc::{AllocError, Global};
 
 /// The hint for signs of other languages.
@@ -18,21 +21,15 @@ fn of_sign(kind: Kind, parts: Parts<'_>) -> Option<Hint> {
         (_, b'!', _) => Some(Hint::Not),
         (_, b'&', _) => Some(Hint::And),
         (_, b'|', _) => Some(Hint::Or),
+        (_, b'/', Some(b'/' | b'*')) => Some(Hint::Comment),
         (_, b'/', _) => Some(Hint::Division),
+        (_, b'?', _) if parts.ends_with_value() && parts.has_behind(b':') => {
+            Some(Hint::Conditional)
+        }
         (_, b'?', _) => Some(Hint::Input),
         (_, b'{', _) => Some(Hint::Braces),
         (_, b'\'' | b'`', _) => Some(Hint::DoubleQuotes),
         (_, b'@', _) => Some(Hint::Date),
-        _ => None,
-    }
-}
-
-/// The hint for quotes of print, which have three bytes of UTF-8.
-fn of_quotes(parts: Parts<'_>) -> Option<Hint> {
-    let mut bytes = parts.rest.iter().copied();
-    let begins = bytes.next() == Some(0xE2) && bytes.next() == Some(0x80);
-    match bytes.next() {
-        Some(0x98..=0x9F) if begins => Some(Hint::DoubleQuotes),
         _ => None,
     }
 }
@@ -42,10 +39,25 @@ fn of_number(parts: Parts<'_>) -> Option<Hint> {
     if parts.is_day() {
         return Some(Hint::Date);
     }
+    if parts.is_parted() {
+        return Some(Hint::Digits);
+    }
     if parts.is_decimal() {
         return Some(Hint::Decimal);
     }
     None
+}
+
+/// The hint for a key word in capital letters, at a stop or right before it.
+fn of_keyword(kind: Kind, parts: Parts<'_>) -> Option<Hint> {
+    let word = match keyword(parts.word()) {
+        Some(word) => word,
+        None => keyword(parts.last_word())?,
+    };
+    if word == "or" && kind == Kind::UnaryTests {
+        return Some(Hint::Comma);
+    }
+    Some(Hint::Keyword(word))
 }
 
 /// Whether a word is the name of a function of dates.
@@ -62,38 +74,6 @@ fn of_bracket(alloc: Global, parts: Parts<'_>) -> Result<Option<Hint>, AllocErro
         Some(b'[') if !name.is_empty() => Ok(Some(Hint::Index)),
         _ => Ok(None),
     }
-}
-
-/// The constant that a word of other letters is.
-fn constant(word: &str) -> Option<&'static str> {
-    if word.eq_ignore_ascii_case("true") {
-        return Some("true");
-    }
-    if word.eq_ignore_ascii_case("false") {
-        return Some("false");
-    }
-    if word.eq_ignore_ascii_case("null") {
-        return Some("null");
-    }
-    None
-}
-
-/// The hint for a word in the place of a literal.
-fn of_literal(alloc: Global, text: &str) -> Result<Option<Hint>, AllocError> {
-    let trimmed = text.trim();
-    let word = word_of(trimmed.as_bytes());
-    if word.is_empty() || word.len() != trimmed.len() {
-        return Ok(None);
-    }
-    if let Some(constant) = constant(word) {
-        return Ok(Some(Hint::Lower(constant)));
-    }
-    Ok(Some(Hint::Quotes(String::from_str(alloc, word)?)))
-}
-
-/// Whether a word begins a form over the members of a list.
-fn is_loop(word: &str) -> bool {
-    matches!(word, "for" | "some" | "every")
 }
 
 /// Whether a word can't be the second word of a name.
@@ -122,7 +102,10 @@ fn of_word(alloc: Global, kind: Kind, parts: Parts<'_>) -> Result<Option<Hint>, 
     if last.is_empty() || is_keyword(word) || parts.ends_with_digit() {
         return Ok(None);
     }
-    Ok(Some(Hint::Blank(String::from_str(alloc, last)?)))
+    match function_name(alloc, last, parts.rest)? {
+        Some(name) => Ok(Some(Hint::Function(name))),
+        None => Ok(Some(Hint::Blank(String::from_str(alloc, last)?))),
+    }
 }
 
 /// Whether a chain of comparisons stops here: a sign of one where none may stand behind a value.
@@ -139,7 +122,10 @@ fn of_parts(alloc: Global, kind: Kind, parts: Parts<'_>) -> Result<Option<Hint>,
     if let Some(hint) = of_sign(kind, parts) {
         return Ok(Some(hint));
     }
-    if let Some(hint) = of_quotes(parts) {
+    if let Some(hint) = of_print(parts.rest) {
+        return Ok(Some(hint));
+    }
+    if let Some(hint) = of_keyword(kind, parts) {
         return Ok(Some(hint));
     }
     if let Some(hint) = of_bracket(alloc, parts)? {
@@ -177,7 +163,10 @@ pub fn hint_of(
         Kind::UnaryTests => of_test(alloc, text)?,
         Kind::Literal => of_literal(alloc, text)?,
     };
-    match first {
+    if first.is_some() {
+        return Ok(first);
+    }
+    match of_call(alloc, text, stop)? {
         Some(hint) => Ok(Some(hint)),
         None => of_parts(alloc, kind, Parts::of(text, stop.at)),
     }

@@ -33,11 +33,19 @@ fn bound_of<'a>(text: &'a str, sign: &Placed, end: usize) -> Option<Bound<'a>> {
     })
 }
 
+/// Whether a token is `and`, in whatever letters.
+fn is_and(text: &str, placed: &Placed) -> bool {
+    match part(text, placed.begin, placed.end) {
+        Some(word) => word.eq_ignore_ascii_case("and"),
+        None => false,
+    }
+}
+
 /// The bounds of two comparisons, with this token between.
 fn bounds<'a>(text: &'a str, tokens: &[Placed], between: usize) -> Option<(Bound<'a>, Bound<'a>)> {
     let and = tokens.get(between)?;
     let sign = tokens.get(between.checked_add(1)?)?;
-    if and.token != Token::And || sign.token != Token::Order {
+    if !is_and(text, and) || sign.token != Token::Order {
         return None;
     }
     let first = bound_of(text, tokens.first()?, and.begin)?;

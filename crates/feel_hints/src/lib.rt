@@ -4,6 +4,7 @@
 //! the stop can be completed is tested, and not proved.
 #![tactic(auto)]
 
+mod call;
 mod due;
 mod halt;
 mod hint;
@@ -12,10 +13,12 @@ mod interval;
 mod machine;
 mod near;
 mod parts;
+mod print;
 mod scan;
 mod stop;
 mod tests_halt;
 mod token;
+mod words;
 
 pub use due::Due;
 pub use hint::Hint;

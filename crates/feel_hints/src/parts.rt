@@ -58,6 +58,36 @@ impl<'a> Parts<'a> {
         self.last().is_some_and(is_digit)
     }
 
+    /// Whether the text before ends with a value: a word, a text in quotes, or what stands in brackets.
+    pub(crate) fn ends_with_value(self) -> bool {
+        match self.last() {
+            Some(b'"' | b')' | b']') => true,
+            Some(byte) => is_word_byte(byte),
+            None => false,
+        }
+    }
+
+    /// Whether this byte stands in the rest.
+    pub(crate) fn has_behind(self, byte: u8) -> bool {
+        self.rest.contains(&byte)
+    }
+
+    /// Whether the stop is within a number at a comma, a blank or a `_` before its last three digits.
+    pub(crate) fn is_parted(self) -> bool {
+        let mark: usize = match self.first() {
+            Some(b',' | b'_') => 1,
+            _ => 0,
+        };
+        let ends = match self.rest.get(mark.saturating_add(3)) {
+            Some(byte) => !is_word_byte(*byte),
+            None => true,
+        };
+        let has_three = self.has_digit(mark)
+            && self.has_digit(mark.saturating_add(1))
+            && self.has_digit(mark.saturating_add(2));
+        self.ends_with_digit() && has_three && ends
+    }
+
     /// Whether the text before ends with a digit and a point.
     fn ends_with_point(self) -> bool {
         let mut last = self.before.iter().rev().copied();

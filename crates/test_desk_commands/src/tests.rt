@@ -196,6 +196,24 @@ fn checks_as_its_options_say(rt: HostRuntime) -> Result<(), Fail> {
 }
 
 #[test]
+fn strict_tables_have_a_status(rt: HostRuntime) -> Result<(), Fail> {
+    let alloc = rt.alloc();
+    let table =
+        b"{\"inputs\":[\"a\"],\"services\":[],\"decisions\":[{\"name\":\"d\",\"needs\":[\"a\"],\"expr\":{\"table\":{\"hit\":\"U\",\"inputs\":[\"a\"],\"outputs\":[{\"name\":\"r\"}],\"rules\":[{\"when\":[\"> 5\"],\"then\":[\"1\"]}]}}}]}".as_slice();
+    let left = run(&rt, alloc, &["desk", "check", "--strict"], table)?;
+    assert!(rt; left.status == 0 && !left.shows("\ntable: "));
+    let left = run(&rt, alloc, &["desk", "check", "--tables"], table)?;
+    assert!(rt; left.status == 0 && left.shows("\ntable: decisions[0] \"d\": 1 rule, U: "));
+    let words = &["desk", "check", "--tables", "--strict"];
+    let left = run(&rt, alloc, words, table)?;
+    assert!(rt; left.status == 4 && left.shows("\n  no rule: a <= 5 "));
+    let lawful = b"{\"inputs\":[],\"decisions\":[],\"services\":[]}\n".as_slice();
+    assert!(rt; run(&rt, alloc, words, lawful)?.status == 0);
+    assert!(rt; run(&rt, alloc, words, b"{}".as_slice())?.status == 3);
+    Ok(())
+}
+
+#[test]
 fn a_fault_is_told_by_its_word(rt: HostRuntime) -> Result<(), Fail> {
     let alloc = rt.alloc();
     let left = run(&rt, alloc, &["desk", "replay"], Broken)?;
@@ -285,7 +303,7 @@ fn the_version_is_told(rt: HostRuntime) -> Result<(), Fail> {
     assert!(rt; long.is_help());
     assert!(rt;
         long.output
-            .starts_with(b"desk 0.14.0\nlicence MIT OR Apache-2.0\nproved with ")
+            .starts_with(b"desk 0.15.1\nlicence MIT OR Apache-2.0\nproved with ")
     );
     assert!(rt; long.shows("\nsources "));
     let short = run(&rt, alloc, &["desk", "-V"], input)?;

@@ -43,6 +43,9 @@ export const inForce = () => ask("v1/model?whole=true");
 /** Checks a model, which is a Blob of JSON or DMN. */
 export const check = (blob) => ask("v1/check", blob);
 
+/** What is found of the tables of a model: lines, or null where the engine does not tell it. */
+export const tables = (model) => ask(`v1/tables?model=${model.sha256}`);
+
 /** How the answer to inputs comes about under a model: `result` or `problem`, and `decisions`. */
 export async function explain(model, service, inputs, { misses, signal }) {
   const query = `?model=${model.sha256}${misses ? "&misses=true" : ""}`;

@@ -23,6 +23,7 @@ async function isModel(file) {
 
 function listen() {
   byID("skip").addEventListener("click", () => byID("decisions-title").focus());
+  document.querySelector("nav").addEventListener("click", ({ target }) => byID(target.dataset.to)?.scrollIntoView());
   byID("service").addEventListener("change", (event) => {
     state.told = {};
     chooseService(event.target.value);

@@ -60,6 +60,45 @@ export async function askMisses() {
   tell(true);
 }
 
+/** Fills the form with the values of a finding of a table, and asks; or says at the table why it cannot. */
+export async function tryWitness(view, finding) {
+  const it = model();
+  const [, at] = view.pointer.match(/^\/decisions\/(\d+)/);
+  const service = finding.inputs && serviceFor(it, it.decisions[Number(at)].name, Object.keys(finding.inputs));
+  if (!service) {
+    view.say(`The form cannot be filled with these values: ${whyNot(it, view, finding)}.`);
+    return;
+  }
+  fillFrom(it.name(service.name), merged(state.inputs, finding.inputs));
+  await decide();
+  const values = finding.witness.map((value, at) => `${view.column(at)} ${show(value)}`).join(", ");
+  const isTaken = state.told[state.shown] !== undefined;
+  view.say(`The form has ${values}. `, isTaken ? "The rules that hit are lit." : "The service does not take them: see the form.");
+}
+
+/** A service that takes some inputs and evaluates a decision: the one that is chosen, if it does. */
+function serviceFor(it, decision, inputs) {
+  const does = (service) => [...listOf(service.outputs), ...listOf(service.encapsulated)].includes(decision) &&
+    inputs.every((word) => listOf(service.inputData).includes(word));
+  return [it.service(state.service), ...it.services].filter(Boolean).find(does);
+}
+
+function whyNot(it, view, finding) {
+  if (finding.inputs) return "no service takes these inputs and evaluates this decision";
+  const isInput = (text) => it.inputs.includes(String(text).split(".")[0]) && /^[\w.]+$/.test(text);
+  const others = view.inputs.flatMap((text, at) => (isInput(text) ? [] : [view.column(at)]));
+  return others.length > 0 ? `no input stands in ${others.join(", ")}, but what is computed on the way` :
+    "its columns are not each an input of its own";
+}
+
+/** An object with the members of another one put into it, also within members that both have. */
+function merged(object, other) {
+  const isObject = (value) => value !== null && typeof value === "object" && !Array.isArray(value);
+  if (!isObject(object) || !isObject(other)) return other;
+  const pairs = Object.entries(other).map(([key, value]) => [key, merged(object[key], value)]);
+  return { ...object, ...Object.fromEntries(pairs) };
+}
+
 /** Shows what was told of the inputs; `isMore` says that it is more of the same case. */
 export function tell(isMore = false) {
   const it = model();
@@ -85,33 +124,47 @@ function drawResult(told, byWord) {
     return;
   }
   byID("result").replaceChildren(el("p", { class: "answer" }, unseen("The result is "),
-    told.problem ? told.problem.message : show(told.result)));
+    told.problem ? told.problem.message : show(told.result, 2)));
   if (told.explained) {
     byID("way").replaceChildren(el("p", {}, "How it came about is too long to be told."));
     return;
   }
   const steps = [...byWord].reverse().map(([word, part]) => {
-    const expr = model().decisions.find((it) => it.name === word)?.expr;
     return el("li", {}, button(model().name(word), () => goTo(word), { class: "link" }), " = ", el("code", {}, outcome(part)),
-      part.given === undefined ? whichRules(expr, part) : ", given");
+      part.given === undefined ? whichRules(word, part) : ", given");
   });
   byID("way").replaceChildren(el("p", {}, "It came about by, last first:"), el("ol", { class: "way", reversed: true }, steps));
 }
 
-/** Which rules made a value: those of the table of the part itself, of its result, or of the entry that this names. */
-function whichRules(expr, part) {
-  if (!part?.table) {
-    if (!part?.result) return "";
-    const entry = listOf(expr?.context).findIndex((it) => it?.name === expr.result);
-    if (entry < 0) return whichRules(expr?.result, part.result);
-    return whichRules(expr.context[entry].expr, listOf(part.entries)[entry]);
-  }
-  const hits = listOf(part.table.hits).map((hit) => hit.rule);
-  if (hits.length === 0) return part.table.defaults ? ", no rule hit: the default" : ", no rule hit";
-  const decided = part.table.decided;
-  const named = (rules) => `${rules.length === 1 ? "rule" : "rules"} ${first(rules)}`;
-  if (!decided) return `, ${named(hits)} hit`;
-  return decided.length > 0 ? `, ${named(decided)} decided` : `, ${named(hits)} hit, none decided`;
+/** Which rules made the value of a decision, and by which values. */
+function whichRules(word, part) {
+  const at = model().decisions.findIndex((it) => it.name === word);
+  const made = tableOf(model().decisions[at]?.expr, part, `/decisions/${at}/expr`);
+  if (!made) return "";
+  const hits = listOf(made.told.hits).map((hit) => hit.rule);
+  if (hits.length === 0) return made.told.defaults ? ", no rule hit: the default" : ", no rule hit";
+  const said = (rules, did) => `, ${rules.length === 1 ? "rule" : "rules"} ${first(rules)} ${did}${byValues(made, rules)}`;
+  const { decided } = made.told;
+  if (!decided) return said(hits, "hit");
+  return decided.length > 0 ? said(decided, "decided") : said(hits, "hit, none decided");
+}
+
+/** The table that made a value: that of the part itself, of its result, or of the entry that this names. */
+function tableOf(expr, part, pointer) {
+  if (part?.table) return { table: expr?.table, told: part.table, pointer: `${pointer}/table` };
+  if (!part?.result) return null;
+  const entry = listOf(expr?.context).findIndex((it) => it?.name === expr.result);
+  if (entry < 0) return tableOf(expr?.result, part.result, `${pointer}/result`);
+  return tableOf(expr.context[entry].expr, listOf(part.entries)[entry], `${pointer}/context/${entry}/expr`);
+}
+
+/** The values that the tests of a rule met, where one rule alone is told. */
+function byValues({ table, told, pointer }, rules) {
+  if (rules.length !== 1) return "";
+  const tests = listOf(listOf(table?.rules)[rules[0] - 1]?.when);
+  const met = tests.flatMap((text, at) =>
+    (text === "-" ? [] : [`${model().column(pointer, table, at)} is ${show(listOf(told.inputs)[at])}`]));
+  return met.length > 0 ? `: ${met.join(" and ")}` : "";
 }
 
 function writeAddress() {

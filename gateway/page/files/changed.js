@@ -8,6 +8,7 @@ import { state, tried } from "./state.js";
 
 export async function takeModel(file) {
   byID("changed").replaceChildren(el("p", {}, `${file.name} is being checked ..`));
+  byID("changed-title").scrollIntoView();
   const whole = await tried(() => api.check(file).catch((fault) => {
     drawRefused(file.name, fault);
     throw fault;

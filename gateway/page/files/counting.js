@@ -17,6 +17,7 @@ export async function takeRequests(file) {
   progress.value = 0;
   progress.hidden = byID("stop").hidden = false;
   byID("counted").replaceChildren(`${file.name} is being counted ..`);
+  byID("coverage-title").scrollIntoView();
   byID("coverage").replaceChildren();
   await tried(() => coverage.run());
   if (state.coverage !== coverage) return;
@@ -33,14 +34,19 @@ function drawCoverage(coverage) {
   const never = rules.filter((it) => (it.decided ?? it.hits) === 0);
   const count = coverage.answers.length;
   const refused = coverage.answers.filter((it) => it.problem !== undefined).length;
-  byID("counted").replaceChildren(el("p", {}, coverage.isWhole ? "" : "Stopped before the end. ",
-    `${counted(count, "request")}, ${grouped(count - refused)} with a result`,
-    refused > 0 ? `, ${grouped(refused)} without` : "", `, in ${coverage.seconds.toFixed(1)} s. `,
-    `${grouped(never.length)} of ${counted(rules.length, "rule")} never ${word}.`));
   byID("coverage").replaceChildren(
     el("p", {}, button("Rules as CSV", () => save("rules.csv", coverage.rulesCSV())), " ",
       button("Answers as CSV", () => save("answers.csv", coverage.answersCSV()))),
     ...neverList(never, `Rules that never ${word}`), ...answersOf(coverage));
+  const seconds = (performance.now() - coverage.start) / 1000;
+  byID("counted").replaceChildren(el("p", {}, coverage.isWhole ? "" : "Stopped before the end. ",
+    `${counted(count, "request")}, ${grouped(count - refused)} with a result`,
+    refused > 0 ? `, ${grouped(refused)} without` : "", `, in ${seconds.toFixed(1)} s. `,
+    `${grouped(never.length)} of ${counted(rules.length, "rule")} never ${word}.`));
+  // What was counted comes into view, unless someone went elsewhere meanwhile.
+  const title = byID("coverage-title");
+  const { top } = title.getBoundingClientRect();
+  if (top >= 0 && top < innerHeight) title.scrollIntoView();
 }
 
 /** Rules that never decided, each with a way to it. */

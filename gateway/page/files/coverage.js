@@ -5,7 +5,8 @@ import { listOf, tablesOf } from "./model.js";
 
 const PIECE = 512 * 1024;
 const LONGEST = 16 * 1024 * 1024;
-const AT_ONCE = 4;
+/** A browser has six connections to a service at once: one is left for what is asked meanwhile. */
+const AT_ONCE = 5;
 const NEWLINE = 10;
 
 export class Coverage {
@@ -15,29 +16,26 @@ export class Coverage {
     this.tables = new Map();
     this.pieces = [];
     this.done = 0;
+    this.start = performance.now();
     this.isWhole = false;
     this.abort = new AbortController();
   }
 
   /** Counts to the end of the file, or until it is stopped: then over what was counted by then. */
   async run() {
-    const start = performance.now();
     const pieces = this.parts();
     const worker = async () => {
       for (let next = await pieces.next(); !next.done; next = await pieces.next()) await this.ask(next.value);
     };
-    try {
-      await Promise.all(Array.from({ length: AT_ONCE }, worker));
-      this.isWhole = true;
-    } catch (fault) {
-      if (fault.name !== "AbortError") {
-        this.stop();
-        throw fault;
-      }
-    } finally {
-      this.answers = this.pieces.flatMap((piece) => piece?.answers ?? []);
-      this.seconds = (performance.now() - start) / 1000;
-    }
+    const workers = Array.from({ length: AT_ONCE }, () => worker().catch((fault) => {
+      this.stop();
+      throw fault;
+    }));
+    const ends = await Promise.allSettled(workers);
+    this.answers = this.pieces.flatMap((piece) => piece?.answers ?? []);
+    this.isWhole = ends.every((end) => end.status === "fulfilled");
+    const fault = ends.map((end) => end.reason).find((reason) => reason && reason.name !== "AbortError");
+    if (fault) throw fault;
   }
 
   stop() {
@@ -49,11 +47,10 @@ export class Coverage {
     let line = 1;
     for (let start = 0, number = 0; start < this.file.size; number += 1) {
       const bytes = await this.wholeLines(start);
-      const lines = bytes.reduce((sum, byte) => sum + (byte === NEWLINE ? 1 : 0), 0);
-      const hasMark = start === 0 && bytes[0] === 0xef && bytes[1] === 0xbb && bytes[2] === 0xbf;
-      yield { number, start, line, size: bytes.length, body: hasMark ? bytes.subarray(3) : bytes };
+      const mark = start === 0 && bytes[0] === 0xef && bytes[1] === 0xbb && bytes[2] === 0xbf ? 3 : 0;
+      yield { number, start, line, size: bytes.length, body: this.file.slice(start + mark, start + bytes.length) };
       start += bytes.length;
-      line += lines;
+      line += newlines(bytes);
     }
   }
 
@@ -121,6 +118,12 @@ export class Coverage {
       it.problem === undefined ? writeJSON(it.result) : "", it.problem ?? "", it.detail ?? ""]));
     return csvRow(["line", "client", "service", "result", "problem", "detail"]) + rows.join("");
   }
+}
+
+function newlines(bytes) {
+  let count = 0;
+  for (let at = bytes.indexOf(NEWLINE); at >= 0; at = bytes.indexOf(NEWLINE, at + 1)) count += 1;
+  return count;
 }
 
 /** A row of CSV (RFC 4180). A text that a spreadsheet would take for a formula begins with a quote. */

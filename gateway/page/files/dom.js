@@ -47,22 +47,20 @@ export function readJSON(text) {
 
 /** Writes a value as JSON; `space` parts it as in JSON.stringify. */
 export function writeJSON(value, space) {
-  let found = false;
-  const text = JSON.stringify(value, (_, part) => {
-    if (typeof part === "bigint") {
-      found = true;
-      return MARK + "n" + part;
-    }
-    return part;
-  }, space);
-  return found ? text.replace(new RegExp(`"${MARK}n(-?\\d+)"`, "g"), "$1") : text;
+  try {
+    return JSON.stringify(value, null, space);
+  } catch {
+    // JSON.stringify takes no BigInt.
+    const marked = JSON.stringify(value, (_, part) => (typeof part === "bigint" ? MARK + "n" + part : part), space);
+    return marked.replace(new RegExp(`"${MARK}n(-?\\d+)"`, "g"), "$1");
+  }
 }
 
 const LONGEST = 2000;
 
-/** A value for people: JSON, cut where it is long. */
-export function show(value) {
-  const text = value === undefined ? "" : writeJSON(value);
+/** A value for people: JSON, cut where it is long. `space` parts it as in JSON.stringify. */
+export function show(value, space) {
+  const text = value === undefined ? "" : writeJSON(value, space);
   return text.length > LONGEST ? text.slice(0, LONGEST) + " .." : text;
 }
 

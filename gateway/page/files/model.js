@@ -31,6 +31,8 @@ export class Model {
     this.places = whole.places ?? {};
     this.diagram = whole.diagram;
     this.findings = whole.findings;
+    // What is found of the tables is asked for later, where it does not stand there.
+    this.tables = whole.tables ?? undefined;
     // A model with a fault may have any form.
     this.inputs = listOf(written.inputs).filter((name) => typeof name === "string");
     this.decisions = listOf(written.decisions).filter((part) => typeof part?.name === "string");
@@ -53,6 +55,11 @@ export class Model {
     if (this.names.size === 0) return text;
     return text.replace(/"(?:[^"\\]|\\.)*"|[A-Za-z_][A-Za-z0-9_]*/g,
       (token) => (token.startsWith('"') ? token : this.name(token)));
+  }
+
+  /** What a column of the table at a pointer is called: by its label in the file, or by its expression. */
+  column(pointer, table, at) {
+    return this.places[`${pointer}/inputs/${at}`]?.name || this.text(listOf(table?.inputs)[at]);
   }
 
   service(word) {

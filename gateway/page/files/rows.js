@@ -48,7 +48,7 @@ export class Rows {
     const [above, below] = spaces.map((height) => {
       const cell = el("td", { class: "space" });
       cell.style.height = `${height}px`;
-      return el("tr", { "aria-hidden": "true" }, cell);
+      return el("tr", { "aria-hidden": "true", class: "space" }, cell);
     });
     this.body.replaceChildren(...[above, ...rows, below].filter(Boolean));
     if (focused !== undefined) this.at(focused)?.focus({ preventScroll: true });

@@ -1,11 +1,13 @@
 // The model that is shown: its graph, its decisions, what was found in it, and the form of a service.
-import { askMisses, tell } from "./case.js";
+import * as api from "./api.js";
+import { askMisses, tell, tryWitness } from "./case.js";
 import { button, byID, counted, el, framed } from "./dom.js";
+import { byTable, verdict } from "./findings.js";
 import { Form } from "./form.js";
 import { GraphView } from "./graph.js";
 import { LogicView } from "./logic.js";
 import { differences, sentence } from "./model.js";
-import { model, state } from "./state.js";
+import { model, state, tried } from "./state.js";
 
 export function showModel() {
   const it = model();
@@ -19,6 +21,31 @@ export function showModel() {
   drawDecisions();
   drawChecks();
   chooseService(it.service(state.service) ? state.service : it.services[0]?.name ?? "");
+  askTables(it);
+}
+
+/** Asks what the check finds of the tables, unless that is known, and shows it. */
+async function askTables(it) {
+  if (!it.isLawful) return;
+  if (it.tables === undefined) {
+    it.tables = null;
+    it.tables = (await tried(() => api.tables(it)))?.tables ?? null;
+  }
+  if (it.tables && it === model()) drawTables(byTable(it.tables));
+}
+
+function drawTables(found) {
+  const items = [];
+  for (const { logic } of state.views.values()) {
+    for (const view of logic.tables.filter(({ pointer }) => found.has(pointer))) {
+      const of = found.get(view.pointer);
+      view.analyse(of);
+      const { text, isFine } = verdict(of.told, view.table);
+      items.push(el("li", { class: isFine ? "" : "finding" }, `${view.name}: ${text} `, button("Show", () => view.come())));
+    }
+  }
+  const title = items.length > 0 ? el("p", {}, `What was found of ${counted(items.length, "table")}:`) : "";
+  byID("tables").replaceChildren(title, el("ul", {}, items));
 }
 
 function drawDecisions() {
@@ -29,11 +56,11 @@ function drawDecisions() {
   byID("decisions").replaceChildren(...it.decisions.map((decision, at) => {
     const name = it.name(decision.name);
     const value = el("span", { class: "value" });
-    const logic = new LogicView(it, decision.expr, `/decisions/${at}/expr`, name, { askMisses, differing });
+    const logic = new LogicView(it, decision.expr, `/decisions/${at}/expr`, name, { askMisses, tryWitness, differing });
     const heading = el("h3", { tabindex: -1 }, name, " ", value);
-    const needs = it.needs(decision).map((need) => it.name(need)).join(", ");
+    const needs = it.needs(decision).flatMap((need) => [", ", button(it.name(need), () => goTo(need), { class: "link" })]);
     const found = it.foundAt(`/decisions/${at}`).map((finding) => el("p", { class: "finding" }, sentence(finding)));
-    const below = needs ? el("p", { class: "quiet" }, `needs ${needs}`) : null;
+    const below = needs.length > 0 ? el("p", { class: "quiet" }, "needs ", needs.slice(1)) : null;
     state.views.set(decision.name, { heading, value, logic });
     return el("article", {}, heading, below, found, logic.element);
   }));
@@ -50,6 +77,7 @@ function drawChecks() {
   const said = it.isLawful ? "The model has no fault" : `The model has a fault: ${it.fault}`;
   const more = it.isLawful && shown.length === 0 ? ", and nothing in it looks like a mistake." : ".";
   byID("checks").replaceChildren(el("p", {}, said, more), el("ul", {}, shown));
+  byID("tables").replaceChildren();
 }
 
 /** Goes to the place of a finding. */
@@ -59,7 +87,7 @@ export function reveal(finding) {
   const name = model().decisions[Number(decision)]?.name;
   const table = state.views.get(name)?.logic.tables.find((it) => finding.pointer.startsWith(`${it.pointer}/`));
   if (!table) return goTo(name);
-  table.element.scrollIntoView({ block: "center" });
+  table.come();
   return table.reveal(finding);
 }
 

@@ -1,12 +1,19 @@
 // A decision table: its columns and rules, which rules hit and decided, why others missed, and what was found at cells.
-import { button, el, show, unseen } from "./dom.js";
+import { button, counted, el, show, unseen } from "./dom.js";
+import { listed, rowsOf, said, verdict } from "./findings.js";
 import { listOf, policyOf, sentence } from "./model.js";
 import { ALL_AT_ONCE, Rows } from "./rows.js";
 
+/** How many findings a mark tells. */
+const MOST_SAID = 5;
+
 export class TableView {
-  /** `askMisses` is called where it is asked why a rule missed and that was not told. */
-  constructor(model, table, pointer, name, { askMisses, differing }) {
-    Object.assign(this, { model, table, pointer, name, askMisses, differing });
+  /**
+   * `askMisses` is called where it is asked why a rule missed and that was not told, `tryWitness` with the view and a finding
+   * whose values are to be tried.
+   */
+  constructor(model, table, pointer, name, { askMisses, tryWitness, differing }) {
+    Object.assign(this, { model, table, pointer, name, askMisses, tryWitness, differing });
     this.rules = listOf(table.rules);
     this.inputs = listOf(table.inputs);
     this.outputs = listOf(table.outputs);
@@ -20,14 +27,20 @@ export class TableView {
     this.head = el("thead", { role: "rowgroup" });
     this.foot = el("tfoot", { role: "rowgroup" });
     this.why = el("p", { class: "why", role: "status" });
+    this.verdict = el("p", { class: "verdict" });
+    this.analysis = el("div");
     this.grid = el("table", { role: "table", "aria-label": `Table of ${name}`,
       class: this.isVirtual ? "rules virtual" : "rules" }, this.head, this.body, this.foot);
     this.scroller = el("div", { class: "scroll", role: "region", tabindex: 0,
       "aria-label": `Table of ${name}, which scrolls` }, this.grid);
-    this.element = el("div", { class: "table" }, this.policy(), this.scroller, this.why);
+    this.element = el("div", { class: "table" }, this.policy(), this.verdict, this.scroller, this.why, this.analysis);
     this.body.addEventListener("keydown", (event) => this.key(event));
     this.rows = new Rows(this.scroller, this.body, (at) => this.row(at));
     this.draw();
+  }
+
+  column(at) {
+    return this.model.column(this.pointer, this.table, at);
   }
 
   policy() {
@@ -68,7 +81,8 @@ export class TableView {
   /** A button that tells what was found at a place. */
   marks(findings) {
     if (findings.length === 0) return null;
-    const text = findings.map(sentence).join("; ");
+    const more = findings.length > MOST_SAID ? `; and ${counted(findings.length - MOST_SAID, "other")}` : "";
+    const text = findings.slice(0, MOST_SAID).map(sentence).join("; ") + more;
     const word = findings.some((finding) => finding.fault) ? "fault" : "warning";
     const said = `${word}: ${text}`;
     return button("!", () => this.say(said), { class: `mark ${word}`, title: text, "aria-label": said });
@@ -90,18 +104,18 @@ export class TableView {
   headRows() {
     const values = this.values;
     const cell = (text, kind, at, more) => el("th", { role: "columnheader", scope: "col", class: kind },
-      el("code", {}, text), more, this.marks(this.model.foundAt(`${this.pointer}/${kind}s/${at}`, true)));
+      text, more, this.marks(this.model.foundAt(`${this.pointer}/${kind}s/${at}`, true)));
     const value = (at) =>
       (values && at < values.length ? el("span", { class: "value" }, unseen("is "), show(values[at])) : null);
-    const label = (at) => {
-      const name = this.model.places[`${this.pointer}/inputs/${at}`]?.name;
-      return name && name !== this.model.text(this.inputs[at]) ? el("span", { class: "label" }, name) : null;
+    const asked = (at) => {
+      const [name, text] = [this.column(at), el("code", {}, this.model.text(this.inputs[at]))];
+      return name === text.textContent ? text : [name, el("span", { class: "label" }, text)];
     };
     const listed = (output) => (listOf(output.values).length ?
       el("span", { class: "label" }, unseen("one of "), listOf(output.values).join(", ")) : null);
     return [el("tr", { role: "row", "aria-rowindex": 1 }, el("th", { role: "columnheader", scope: "col" }, "Rule"),
-      this.inputs.map((text, at) => cell(this.model.text(text), "input", at, [label(at), value(at)])),
-      this.outputs.map((output, at) => cell(this.model.name(output.name), "output", at, listed(output))),
+      this.inputs.map((_, at) => cell(asked(at), "input", at, value(at))),
+      this.outputs.map((output, at) => cell(el("code", {}, this.model.name(output.name)), "output", at, listed(output))),
       this.counts ? [el("th", { role: "columnheader", scope: "col" }, "Hit"),
         el("th", { role: "columnheader", scope: "col" }, "Decided")] : null)];
   }
@@ -185,7 +199,7 @@ export class TableView {
     const test = this.model.text(this.rules[at].when?.[column - 1]);
     this.rows.at(at)?.focus();
     const code = (text) => el("code", {}, text);
-    return this.say(`Rule ${number} missed: its test `, code(test), " on ", code(this.model.text(this.inputs[column - 1])),
+    return this.say(`Rule ${number} missed: its test `, code(test), " on ", code(this.column(column - 1)),
       ` (column ${column}) is not met by `, code(show(this.values[column - 1])), ".");
   }
 
@@ -215,6 +229,28 @@ export class TableView {
   count(counts) {
     this.counts = counts ?? null;
     this.draw();
+  }
+
+  /** Shows what the check found of the table as such. */
+  analyse({ told, findings }) {
+    const { text, isFine } = verdict(told, this.table);
+    this.verdict.classList.toggle("finding", !isFine);
+    this.verdict.replaceChildren(text);
+    this.analysis.replaceChildren(...listed(this, findings, this.tryWitness));
+    for (const finding of findings) {
+      for (const at of rowsOf(finding)) {
+        const found = this.found.get(at) ?? [];
+        found.push({ finding: { said: said(this, finding) } });
+        this.found.set(at, found);
+      }
+    }
+    this.draw();
+  }
+
+  /** Brings the table into view, and makes it the place where keys go. */
+  come() {
+    this.element.scrollIntoView({ block: "center" });
+    this.scroller.focus({ preventScroll: true });
   }
 
   /** Goes to the place of a finding, and says it. */

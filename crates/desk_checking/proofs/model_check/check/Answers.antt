@@ -23,6 +23,7 @@ returns g c = record {
     written = c.in_ok-write_told.ensures.all;
     places = subst (λ t. (d : Data) → IsUtf8 t → read t ≡ Some d → TellsPlaces (subject d) c.in_ok-verdict.verdict.fault (string_bytes c.in_ok-verdict.verdict.rest)) (c.model_and_rest.ensures ∙ ap (model_text c.args.options) c.deref.ensures.value) (c.in_ok-verdict.ensures.places json);
   };
+  strict = c.is_strict_failure-is_strict_failure.ensures;
   long = λ e. let wrong : ⊥ = cc in absurd wrong;
   read_only_at_fault = λ e. let wrong : ⊥ = cc in absurd wrong;
   write_only_at_fault = λ e. let wrong : ⊥ = cc in absurd wrong;

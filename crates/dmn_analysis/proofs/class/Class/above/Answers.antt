@@ -4,7 +4,7 @@ use Rattle.std.proofs.lemmas.Option.{IfSome_then}
 use Rattle.feel_value.specs.Comparison.{less}
 use Rattle.feel_value.specs.View.{datum_of}
 use Rattle.dmn_analysis.specs.Classes.{is_number_in, is_of}
-use Rattle.dmn_analysis.proofs.OnClasses.{is_a_text, parted_above, same_value}
+use Rattle.dmn_analysis.proofs.OnClasses.{is_a_text, is_a_word, parted_above, same_value}
 use Rattle.dmn_analysis.proofs.class.Class.above.Goals as goal
 
 pub returns-in-One : goal.returns-in-One
@@ -22,9 +22,14 @@ returns-in-Numbers c = IfSome_then c.numbers_above.result c.numbers_above.ensure
     let same_high : to_z w64 (of_z w64 high) ≡ high = omega (arith, ints) in
     told v (ap₂ (λ a b. is_number_in a b v) same_low same_high ∙ ap (λ k. is_of k v) (sym c.in-Numbers.is) ∙ h))
 
+pub returns-in-Words : goal.returns-in-Words
+returns-in-Words c = IfSome_then c.text_above.result c.text_above.ensures (λ t told v h.
+    let text = is_a_word c.in-Words.field-0.now v (ap (λ k. is_of k v) (sym c.in-Words.is) ∙ h) in
+    ap (λ w. less (datum_of c.args.value.now) w) text.1 ∙ told text.0)
+
 pub returns-in-OtherTexts : goal.returns-in-OtherTexts
-returns-in-OtherTexts c = IfSome_then c.text_above.result c.text_above.ensures (λ t told v h.
-    let text = is_a_text c.in-OtherTexts.field-0.items v (ap (λ k. is_of k v) (sym c.in-OtherTexts.is) ∙ h) in
+returns-in-OtherTexts c = IfSome_then c.text_above-in-OtherTexts.result c.text_above-in-OtherTexts.ensures (λ t told v h.
+    let text = is_a_text c.in-OtherTexts.field-0.now v (ap (λ k. is_of k v) (sym c.in-OtherTexts.is) ∙ h) in
     ap (λ w. less (datum_of c.args.value.now) w) text.1 ∙ told text.0)
 
 pub returns-in-Parted : goal.returns-in-Parted

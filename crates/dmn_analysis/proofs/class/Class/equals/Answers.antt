@@ -5,7 +5,7 @@ use Rattle.feel_value.specs.Comparison.{equal}
 use Rattle.feel_value.specs.Datum.{Datum}
 use Rattle.feel_value.specs.Logic.{is_yes}
 use Rattle.feel_value.specs.View.{datum_of}
-use Rattle.dmn_analysis.specs.Classes.{is_number_in, is_of, is_other_text}
+use Rattle.dmn_analysis.specs.Classes.{is_number_in, is_of}
 use Rattle.dmn_analysis.proofs.OnClasses.{same_value}
 use Rattle.dmn_analysis.proofs.class.Class.equals.Goals as goal
 
@@ -24,11 +24,13 @@ returns-in-Numbers c = IfSome_then c.numbers_equal.result c.numbers_equal.ensure
     let same_high : to_z w64 (of_z w64 high) ≡ high = omega (arith, ints) in
     told v (ap₂ (λ a b. is_number_in a b v) same_low same_high ∙ ap (λ k. is_of k v) (sym c.in-Numbers.is) ∙ h))
 
+pub returns-in-Words : goal.returns-in-Words
+returns-in-Words c =
+    subst (λ k. IfSome c.words_equal.result (λ b. (v : Datum) → is_of k v ≡ true → is_yes (equal v (datum_of c.args.value.now)) ≡ b)) (sym c.in-Words.is) c.words_equal.ensures
+
 pub returns-in-OtherTexts : goal.returns-in-OtherTexts
 returns-in-OtherTexts c =
-    let d = datum_of c.args.value.now in
-    let told = subst (λ ts. IfSome c.other_texts_equal.result (λ b. (v : Datum) → is_other_text ts v ≡ true → is_yes (equal v d) ≡ b)) c.deref.ensures.value c.other_texts_equal.ensures in
-    subst (λ k. IfSome c.other_texts_equal.result (λ b. (v : Datum) → is_of k v ≡ true → is_yes (equal v d) ≡ b)) (sym c.in-OtherTexts.is) told
+    subst (λ k. IfSome c.other_texts_equal.result (λ b. (v : Datum) → is_of k v ≡ true → is_yes (equal v (datum_of c.args.value.now)) ≡ b)) (sym c.in-OtherTexts.is) c.other_texts_equal.ensures
 
 pub returns-in-Parted : goal.returns-in-Parted
 returns-in-Parted c =

@@ -1,0 +1,128 @@
+-- What a search has found, as it is told of a table.
+use Rattle.std.proofs.Common.{◌≡◌, ◌∙◌, sym, ap, subst, ℕ, ◌<◌, ◌⊎◌, inl, inr, List, [], length, map, true, IsTrue, Some, None, arith}
+use Rattle.std.specs.List.{slice_get, All}
+use Rattle.std.proofs.lemmas.List.Elements.{All-weaker}
+use Rattle.std.proofs.lemmas.Option.{same_Some, slice_get_past, slice_get_within}
+use Rattle.feel_value.specs.Datum.{Datum}
+use Rattle.feel_value.specs.Limits.{is_value}
+use Rattle.feel_text.specs.Meaning.{Bindings}
+use Rattle.dmn_table.specs.Hits.{does_hit}
+use Rattle.dmn_table.specs.Table.{Rule, Table}
+use Rattle.dmn_analysis.specs.Asked.{is_asked}
+use Rattle.dmn_analysis.specs.Cells.{AreIn}
+use Rattle.dmn_analysis.specs.Claims.{AreAsked, AreInputs, HasHit, HitsBehind, IsInGap, NeverHits, NeverTwo, TellsGap, TellsGaps}
+use Rattle.dmn_analysis.specs.Joining.{AreCovered}
+use Rattle.dmn_analysis.specs.Searching.{IsAmong, IsInSome, Knows, KnowsPairs, Scene, cells_of}
+use Rattle.dmn_analysis.specs.Telling.{HasGapOf, IsBehind, IsToldGap}
+use Rattle.dmn_analysis.specs.Whole.{AreWhole}
+use Rattle.dmn_analysis.specs.declared.asked.Asked.{Asked}
+use Rattle.dmn_analysis.specs.declared.cell.Cell.{Cell}
+use Rattle.dmn_analysis.specs.declared.cell.Words.{Words}
+use Rattle.dmn_analysis.specs.declared.found.Gap.{Gap}
+use Rattle.dmn_analysis.specs.declared.found.Gaps.{Gaps}
+use Rattle.dmn_analysis.specs.declared.gaps.Bare.{Bare}
+use Rattle.dmn_analysis.specs.declared.gaps.Search.{Search}
+use Rattle.dmn_analysis.specs.declared.pairs.PairSearch.{PairSearch}
+use Rattle.dmn_analysis.proofs.HitRules.{everything, mapped}
+use Rattle.dmn_analysis.proofs.Places.{All-at}
+
+nowhere : (words : List Words) (values : List Datum) → IsInSome words [] values → ⊥
+nowhere words values h = let e : None ≡ Some h.cells = h.there in cc
+
+-- values that are asked about are in the whole cells
+pub in_whole : (words : List Words) (asked : List Asked) (cells : List Cell) (values : List Datum) → AreWhole words asked cells → All (λ v. is_value v ≡ true) values → AreAsked asked values → AreIn words cells values
+in_whole words asked cells values whole lawful all = λ k ws c v of there has.
+    let one = whole k ws c of there in
+    one.is_whole v (All-at (λ v. is_value v ≡ true) values k v lawful has) (all k one.asked_there v one.there has)
+
+-- ---- gaps
+
+pub tells_gaps : (t : Table) (asked : List Asked) (cells : List Cell) (first : List ℕ) (search : Search) (gaps : Gaps) → length cells ≡ length t.inputs → AreWhole gaps.words.items asked cells
+    → ((r : ℕ) → r < length t.rules → IsAmong first r) → Knows (record { words = gaps.words.items; rules = t.rules; chosen = length t.rules; first = first; whole = cells }) search
+    → All (IsToldGap (record { words = gaps.words.items; rules = t.rules; chosen = length t.rules; first = first; whole = cells }) (length t.inputs)) gaps.found.items
+    → (IsTrue gaps.is_all → gaps.more ≡ 0 → All (λ (b : Bare). (values : List Datum) → AreIn gaps.words.items b.cells.items values → IsInGap gaps.words.items gaps.found.items values) search.bare.items)
+    → (IsTrue gaps.is_all → (search.pending.items ≡ []) × (search.open.items ≡ [])) → TellsGaps t asked gaps
+tells_gaps t asked cells first search gaps long whole each knows told covers done = record {
+  each = All-weaker (IsToldGap s (length t.inputs)) (TellsGap t gaps.words.items) (λ gap is. record {
+    none = λ m values r rule same inside there. is.bare.none r rule (each r (slice_get_within t.rules r rule there)) there m values same inside;
+    witness = is.witness;
+  }) gaps.found.items told;
+  all = all_told;
+  complete = λ sure zero nothing m values inputs are_asked.
+      elim (all_told sure zero m values inputs are_asked) [
+        | inl hit ↦ hit
+        | inr gap ↦ absurd (no_gap gap.place gap.gap (ap (λ gs. slice_get gs gap.place) (sym nothing) ∙ gap.there))
+      ];
+}
+  where
+    s : Scene
+    s = record { words = gaps.words.items; rules = t.rules; chosen = length t.rules; first = first; whole = cells }
+
+    no_gap : (k : ℕ) (g : Gap) → slice_get [] k ≡ Some g → ⊥
+    no_gap k g e = let none : None ≡ Some g = e in cc
+
+    all_told : IsTrue gaps.is_all → gaps.more ≡ 0 → (m : Bindings) (values : List Datum) → AreInputs (length t.inputs) values → AreAsked asked values → HasHit m values t.rules ⊎ IsInGap gaps.words.items gaps.found.items values
+    all_told sure zero m values inputs are_asked =
+        elim (knows.parted (done sure).1 m values (record {
+          long = inputs.one_each ∙ sym long;
+          inside = in_whole gaps.words.items asked cells values whole inputs.lawful are_asked;
+          chosen = λ rule there. let none : None ≡ Some rule = sym (slice_get_past t.rules (length t.rules) (omega arith)) ∙ there in cc;
+        })) [
+          | inl hit ↦ inl (record { place = hit.number; rule = hit.rule; there = hit.there; hits = hit.hits })
+          | inr rest ↦ elim rest [
+            | inl b ↦
+                let one = mapped (λ (b : Bare). b.cells.items) search.bare.items b.place b.cells b.there in
+                inr (All-at (λ (b : Bare). (values : List Datum) → AreIn gaps.words.items b.cells.items values → IsInGap gaps.words.items gaps.found.items values) search.bare.items b.place one.0 (covers sure zero) one.1
+                values (subst (λ cs. AreIn gaps.words.items cs values) (sym one.2) b.inside))
+            | inr p ↦ absurd (nowhere gaps.words.items values (subst (λ ps. IsInSome gaps.words.items (cells_of ps) values) (done sure).0 p))
+          ]
+        ]
+
+-- ---- overlaps
+
+pub never_two : (t : Table) (words : List Words) (asked : List Asked) (cells : List Cell) (first : List ℕ) (search : PairSearch) → length cells ≡ length t.inputs → AreWhole words asked cells
+    → All (λ a. (v : Datum) → is_asked a v ≡ true) asked → ((r : ℕ) → r < length t.rules → IsAmong first r)
+    → KnowsPairs (record { words = words; rules = t.rules; chosen = length t.rules; first = first; whole = cells }) search
+    → search.pending.items ≡ [] → search.open.items ≡ [] → search.shared.items ≡ [] → NeverTwo (length t.inputs) t.rules
+never_two t words asked cells first search long whole all each knows none unopened unshared m values inputs i j r q less there other hits also =
+    elim (knows.parted unopened unshared m values (inputs.one_each ∙ sym long) (in_whole words asked cells values whole inputs.lawful (everything asked values all))) [
+      | inl few ↦ few i j r q less (each i (slice_get_within t.rules i r there)) (each j (slice_get_within t.rules j q other)) there other hits also
+      | inr p ↦ nowhere words values (subst (λ ps. IsInSome words (cells_of ps) values) none p)
+    ]
+
+-- ---- single rules
+
+pub behind_from : (s : Scene) (search : Search) (below : ℕ) → Knows s search → search.pending.items ≡ [] → search.open.items ≡ [] → search.bare.items ≡ [] → All (λ r. r < below) s.first
+    → IsBehind s.words s.rules s.whole s.chosen below
+behind_from s search below knows none unopened covered all m values long inside chosen =
+    elim (knows.parted unopened m values (record { long = long; inside = inside; chosen = chosen })) [
+      | inl hit ↦ record { number = hit.number; less = All-at (λ r. r < below) s.first hit.among.place hit.number all hit.among.there; rule = hit.rule; there = hit.there; hits = hit.hits }
+      | inr rest ↦ elim rest [
+        | inl b ↦ absurd (nowhere s.words values (subst (λ bs. IsInSome s.words (map (λ (b : Bare). b.cells.items) bs) values) covered b))
+        | inr p ↦ absurd (nowhere s.words values (subst (λ ps. IsInSome s.words (cells_of ps) values) none p))
+      ]
+    ]
+
+pub never_hits : (words : List Words) (rules : List Rule) (asked : List Asked) (cells : List Cell) (count i : ℕ) → length cells ≡ count → AreWhole words asked cells → All (λ a. (v : Datum) → is_asked a v ≡ true) asked
+    → IsBehind words rules cells i 0 → NeverHits count rules i
+never_hits words rules asked cells count i long whole all behind m values inputs r there hits =
+    let found = behind m values (inputs.one_each ∙ sym long) (in_whole words asked cells values whole inputs.lawful (everything asked values all))
+    (λ q here. subst (λ x. does_hit m values x ≡ Some true) (same_Some r q (sym there ∙ here)) hits) in
+    absurd (omega (arith, found.less))
+
+pub hits_behind : (words : List Words) (rules : List Rule) (asked : List Asked) (cells : List Cell) (count i : ℕ) → length cells ≡ count → AreWhole words asked cells → All (λ a. (v : Datum) → is_asked a v ≡ true) asked
+    → IsBehind words rules cells i i → HitsBehind count rules i
+hits_behind words rules asked cells count i long whole all behind m values inputs r there hits =
+    let found = behind m values (inputs.one_each ∙ sym long) (in_whole words asked cells values whole inputs.lawful (everything asked values all))
+    (λ q here. subst (λ x. does_hit m values x ≡ Some true) (same_Some r q (sym there ∙ here)) hits) in
+    record { place = found.number; before = found.less; rule = found.rule; there = found.there; hits = found.hits }
+
+-- ---- gaps of cells that were joined
+
+pub in_told : (words : List Words) (found : List Gap) (all : List Bare) (cells : List Cell) → AreCovered cells all → All (λ (b : Bare). HasGapOf found b.cells.items) all
+    → (values : List Datum) → AreIn words cells values → IsInGap words found values
+in_told words found all cells covered told values inside =
+    let b = covered words values inside in
+    let one = mapped (λ (b : Bare). b.cells.items) all b.place b.cells b.there in
+    let gap = All-at (λ (b : Bare). HasGapOf found b.cells.items) all b.place one.0 told one.1 in
+    record { place = gap.place; gap = gap.gap; there = gap.there; inside = subst (λ cs. AreIn words cs values) (sym (gap.same ∙ one.2)) b.inside }

@@ -1,0 +1,88 @@
+-- The cells of all values that are asked about.
+use Rattle.std.proofs.Common.{◌≡◌, ◌∙◌, sym, ap, ap₂, refl, subst, inl, inr, ℕ, suc, ℤ, pos, List, [], ◌∷◌, ◌++◌, length, map, Bool, true, false, not, ◌&&◌, ◌||◌, if◌then◌else◌, Some, Vec, arith}
+use Rattle.std.specs.Arc.{arc_str_bytes}
+use Rattle.std.specs.Prelude.{bytes_eq, int_le, ◌-ℤ◌}
+use Rattle.std.specs.List.{list_any, slice_get}
+use Rattle.std.specs.declared.alloc.Global.{Global}
+use Rattle.std.specs.declared.sync.ArcStr.{ArcStr}
+use Rattle.std.proofs.lemmas.Int.{ints}
+use Rattle.std.proofs.lemmas.List.{take_all}
+use Rattle.std.proofs.lemmas.Option.{same_Some}
+use Rattle.feel_value.specs.Datum.{null, boolean, number, text, list, context}
+use Rattle.feel_value.specs.Limits.{in_range, is_value}
+use Rattle.dmn_analysis.specs.Cells.{is_text_among, words_within}
+use Rattle.dmn_analysis.specs.Whole.{AreWhole, AreWholeTexts, HasWhole, IsWhole, whole_of}
+use Rattle.dmn_analysis.specs.declared.asked.Asked.{Asked}
+use Rattle.dmn_analysis.specs.declared.asked.Texts.TheVariants as texts
+use Rattle.dmn_analysis.specs.declared.cell.Cell.{Cell}
+use Rattle.dmn_analysis.specs.declared.cell.Words.{Words}
+use Rattle.dmn_analysis.proofs.Places.{pushed}
+
+pub same_texts : (a b : List (ArcStr Global)) → length a ≡ length b
+    → ((k : ℕ) (x y : ArcStr Global) → slice_get a k ≡ Some x → slice_get b k ≡ Some y → arc_str_bytes x ≡ arc_str_bytes y) → map arc_str_bytes a ≡ map arc_str_bytes b
+same_texts [] [] e h = refl
+same_texts [] (y ∷ b) e h = absurd (omega (arith, e))
+same_texts (x ∷ a) [] e h = absurd (omega (arith, e))
+same_texts (x ∷ a) (y ∷ b) e h = ap₂ (λ t ts. t ∷ ts) (h 0 x y refl refl) (same_texts a b (omega (arith, e)) (λ k u v here there. h (suc k) u v here there))
+
+among_same : (a b : List (ArcStr Global)) (s : List ℕ) → map arc_str_bytes a ≡ map arc_str_bytes b → is_text_among a s ≡ is_text_among b s
+among_same a b s e = by_bytes a ∙ ap (list_any (λ t. bytes_eq s t)) e ∙ sym (by_bytes b)
+  where
+    by_bytes : (ts : List (ArcStr Global)) → is_text_among ts s ≡ list_any (λ t. bytes_eq s t) (map arc_str_bytes ts)
+    by_bytes [] = refl
+    by_bytes (t ∷ ts) = ap (λ b. bytes_eq s (arc_str_bytes t) || b) (by_bytes ts)
+
+either : (b : Bool) → (b || not b) ≡ true
+either true = refl
+either false = refl
+
+left_of : (a b : Bool) → a ≡ true → (a || b) ≡ true
+left_of true b e = refl
+left_of false b e = cc
+
+all_words : (ws : List (ArcStr Global)) → words_within ws 0 (length ws) ≡ ws
+all_words ws = take_all (length ws) ws (omega arith)
+
+pub whole_all : (ws : List (ArcStr Global)) → AreWholeTexts ws texts.All (length ws) true
+whole_all ws s e = ap (λ us. is_text_among us s || not (is_text_among ws s)) (all_words ws) ∙ either (is_text_among ws s)
+
+pub whole_these : (ws : List (ArcStr Global)) (ts : Vec (ArcStr Global) Global) → map arc_str_bytes ts.items ≡ map arc_str_bytes ws → AreWholeTexts ws (texts.These ts) (length ws) false
+whole_these ws ts same s e =
+    left_of (is_text_among (words_within ws 0 (length ws)) s) (false && not (is_text_among ws s)) (ap (λ us. is_text_among us s) (all_words ws) ∙ sym (among_same ts.items ws s same) ∙ e)
+
+-- ---- all values
+
+first_of : (a b : Bool) → (a && b) ≡ true → a ≡ true
+first_of true b e = refl
+first_of false b e = cc
+
+number_in_range : (z : ℤ) → is_value (number z) ≡ true → in_range z ≡ true
+number_in_range z e = first_of (in_range z) _ (first_of _ _ e)
+
+number_in_whole : (z : ℤ) (b : Bool) → in_range z ≡ true → b ≡ true → (int_le (if b then (pos 0 -ℤ pos 9223372036854775807) else pos 1) z && int_le z (if b then pos 9223372036854775807 else pos 0)) ≡ true
+number_in_whole z true range e = grind (arith, ints, range)
+number_in_whole z false range e = cc
+
+pub is_whole : (ws : Words) (asked : Asked) (to : ℕ) (others : Bool) → AreWholeTexts ws.texts.items asked.texts to others → IsWhole ws asked (whole_of asked to others)
+is_whole ws asked to others texts null lawful e = e
+is_whole ws asked to others texts (boolean true) lawful e = e
+is_whole ws asked to others texts (boolean false) lawful e = e
+is_whole ws asked to others texts (number z) lawful e = number_in_whole z asked.numbers (number_in_range z lawful) e
+is_whole ws asked to others texts (text s) lawful e = texts s e
+is_whole ws asked to others texts (list ds) lawful e = e
+is_whole ws asked to others texts (context es) lawful e = e
+
+-- one cell more
+pub whole_more : (words : List Words) (asked : List Asked) (cells : List Cell) (ws : Words) (a : Asked) (c : Cell) → AreWhole words asked cells → slice_get words (length cells) ≡ Some ws
+    → slice_get asked (length cells) ≡ Some a → IsWhole ws a c → AreWhole words asked (cells ++ c ∷ [])
+whole_more words asked cells ws a c before of is whole k ws' c' of' there =
+    elim (pushed cells c c' k there) [
+      | inl here ↦ before k ws' c' of' here
+      | inr last ↦
+          subst (λ d. HasWhole asked k ws' d) last.1
+          (subst (λ n. HasWhole asked n ws' c) (sym last.0) (record {
+            asked_there = a;
+            there = is;
+            is_whole = subst (λ w. IsWhole w a c) (same_Some ws ws' (sym of ∙ ap (slice_get words) (sym last.0) ∙ of')) whole;
+          }))
+    ]

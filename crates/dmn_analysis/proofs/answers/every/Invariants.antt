@@ -1,8 +1,0 @@
-use Rattle.std.proofs.Common.{◌≡◌, true}
-use Rattle.std.specs.List.{All}
-use Rattle.feel_value.specs.Datum.{Datum}
-use Rattle.dmn_analysis.specs.Asked.{is_asked}
-use Rattle.dmn_analysis.proofs.answers.every.Given as goal
-
-abbrev pub invariant-loop-place : goal.invariant-loop-place
-invariant-loop-place l = All (λ a. (v : Datum) → is_asked a v ≡ true) l.all.items

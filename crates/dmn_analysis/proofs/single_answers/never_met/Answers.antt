@@ -1,0 +1,26 @@
+use Rattle.std.proofs.Common.{subst, length, map}
+use Rattle.std.specs.List.{All}
+use Rattle.std.proofs.lemmas.List.Elements.{All-weaker}
+use Rattle.dmn_table.specs.Parts.{rule_view}
+use Rattle.dmn_analysis.specs.Claims.{NeverHits}
+use Rattle.dmn_analysis.specs.Telling.{IsBehind}
+use Rattle.dmn_analysis.specs.Whole.{AreWhole}
+use Rattle.dmn_analysis.proofs.Answering.{never_hits}
+use Rattle.dmn_analysis.proofs.single_answers.never_met.Goals as goal
+
+pub returns : goal.returns
+returns c =
+    let t = c.args.table.now in
+    let asked = c.in_ok-asked.asked.items in
+    let words = c.in_ok-words.words.items in
+    let cells = c.in-Some.cells.items in
+    let rules = c.rules-rules.ensures.rules in
+    let long = rw c.in-Some.is at c.in_ok-cells.ensures.long in
+    let whole = subst (λ ws. AreWhole ws asked cells) c.deref.ensures.value (subst (λ xs. AreWhole c.deref.result.now xs cells) c.deref-2.ensures.value (rw c.in-Some.is at c.in_ok-cells.ensures.all)) in
+    let out = c.in_ok-out.out.items in
+    let behind = c.in_ok-out.ensures in
+    subst (λ is. All (NeverHits (length is) t.rules) out) c.inputs-count.ensures
+    (subst (λ rs. All (NeverHits (length c.inputs-count.result.now) rs) out) rules
+    (All-weaker (λ i. IsBehind c.deref-3.result.now (map rule_view c.rules-rules.result.now) c.deref-4.result.now i 0) (NeverHits (length c.inputs-count.result.now) (map rule_view c.rules-rules.result.now)) (λ i b.
+    never_hits words (map rule_view c.rules-rules.result.now) asked cells (length c.inputs-count.result.now) i long whole c.in_ok-asked.ensures
+    (subst (λ ws. IsBehind ws (map rule_view c.rules-rules.result.now) cells i 0) c.deref-3.ensures.value (subst (λ cs. IsBehind c.deref-3.result.now (map rule_view c.rules-rules.result.now) cs i 0) c.deref-4.ensures.value b))) out behind))

@@ -1,0 +1,347 @@
+//! Where cells are cut, so that few rules are on both sides. Nothing is promised of it: any cut is a right one.
+use crate::bounds::Bounds;
+use crate::cell::{Cell, Words};
+use crate::cutting::{Cut, Kinds, cut_cell, of_kinds, of_other_kinds};
+use crate::rule_on::asked;
+use dmn_table::Rule;
+use std::alloc::{AllocError, Global};
+
+/// A cut of one of the cells, and how dear it is: the less, the better.
+#[derive(Clone, Copy)]
+pub(crate) struct Choice {
+    pub(crate) place: usize,
+    pub(crate) cut: Cut,
+    dear: u64,
+}
+
+// How dear it is that so many rules are left on the one side, and so many on the other.
+fn dear(lower: usize, upper: usize) -> u64 {
+    let (lower, upper) = (lower as u64, upper as u64);
+    let both = lower.saturating_add(upper);
+    both.saturating_mul(2).saturating_add(lower.max(upper))
+}
+
+fn better(one: Option<Choice>, other: Choice) -> Option<Choice> {
+    match one {
+        Some(one) if one.dear <= other.dear => Some(one),
+        _ => Some(other),
+    }
+}
+
+/// The rules that don't hit for all values of the cell at a place, as far as that column goes, and how many do.
+#[derive(Drop)]
+struct Mixed {
+    rules: Vec<usize>,
+    met: usize,
+}
+
+impl Mixed {
+    fn of(
+        alloc: Global,
+        words: &Words,
+        rules: &[Rule],
+        cell: Cell,
+        place: usize,
+        left: &[usize],
+        steps: &mut u64,
+    ) -> Result<Mixed, AllocError> {
+        let mut mixed = Mixed {
+            rules: Vec::new(alloc),
+            met: 0,
+        };
+        for number in left {
+            let Some(rule) = rules.get(*number) else {
+                continue;
+            };
+            let Some(tests) = rule.tests.get(place) else {
+                continue;
+            };
+            if asked(words, cell, tests, true, steps) {
+                mixed.met = mixed.met.saturating_add(1);
+            } else {
+                mixed.rules.push(*number)?;
+            }
+        }
+        Ok(mixed)
+    }
+
+    // How many rules may hit for values of this cell.
+    fn count_in(
+        &self,
+        words: &Words,
+        rules: &[Rule],
+        cell: Cell,
+        place: usize,
+        steps: &mut u64,
+    ) -> usize {
+        let mut count = self.met;
+        for number in &self.rules {
+            let Some(rule) = rules.get(*number) else {
+                continue;
+            };
+            let Some(tests) = rule.tests.get(place) else {
+                continue;
+            };
+            if !asked(words, cell, tests, false, steps) {
+                count = count.saturating_add(1);
+            }
+        }
+        count
+    }
+}
+
+const NO_KINDS: Kinds = Kinds {
+    null: false,
+    yes: false,
+    no: false,
+    numbers: false,
+    words: false,
+    others: false,
+    parted: false,
+};
+
+/// Each kind by itself.
+const EACH_KIND: [Kinds; 7] = [
+    Kinds {
+        null: true,
+        ..NO_KINDS
+    },
+    Kinds {
+        yes: true,
+        ..NO_KINDS
+    },
+    Kinds {
+        no: true,
+        ..NO_KINDS
+    },
+    Kinds {
+        parted: true,
+        ..NO_KINDS
+    },
+    Kinds {
+        others: true,
+        ..NO_KINDS
+    },
+    Kinds {
+        words: true,
+        ..NO_KINDS
+    },
+    Kinds {
+        numbers: true,
+        ..NO_KINDS
+    },
+];
+
+fn joined(a: Kinds, b: Kinds) -> Kinds {
+    Kinds {
+        null: a.null || b.null,
+        yes: a.yes || b.yes,
+        no: a.no || b.no,
+        numbers: a.numbers || b.numbers,
+        words: a.words || b.words,
+        others: a.others || b.others,
+        parted: a.parted || b.parted,
+    }
+}
+
+fn is_empty(cell: Cell) -> bool {
+    let kinds = cell.null || cell.yes || cell.no || cell.others || cell.parted;
+    !kinds && cell.low > cell.high && cell.from >= cell.to
+}
+
+/// The kinds of a cell: those on which no mixed rule may hit, and whether there are others.
+#[derive(Clone, Copy)]
+struct Sorted {
+    dull: Kinds,
+    first: Kinds,
+    dull_count: usize,
+    count: usize,
+}
+
+fn sort_kinds(
+    words: &Words,
+    rules: &[Rule],
+    cell: Cell,
+    place: usize,
+    mixed: &Mixed,
+    steps: &mut u64,
+) -> Sorted {
+    let mut sorted = Sorted {
+        dull: NO_KINDS,
+        first: NO_KINDS,
+        dull_count: 0,
+        count: 0,
+    };
+    for kind in &EACH_KIND {
+        let part = of_kinds(cell, *kind);
+        if is_empty(part) {
+            continue;
+        }
+        sorted.first = *kind;
+        sorted.count = sorted.count.saturating_add(1);
+        if mixed.count_in(words, rules, part, place, steps) == mixed.met {
+            sorted.dull = joined(sorted.dull, *kind);
+            sorted.dull_count = sorted.dull_count.saturating_add(1);
+        }
+    }
+    sorted
+}
+
+// The choice to part the kinds of a cell; None where there is but one.
+fn kinds_choice(
+    words: &Words,
+    rules: &[Rule],
+    cell: Cell,
+    place: usize,
+    mixed: &Mixed,
+    steps: &mut u64,
+) -> Option<Choice> {
+    let sorted = sort_kinds(words, rules, cell, place, mixed, steps);
+    if sorted.count < 2 {
+        return None;
+    }
+    let all = mixed.met.saturating_add(mixed.rules.len());
+    if sorted.dull_count > 0 && sorted.dull_count < sorted.count {
+        return Some(Choice {
+            place,
+            cut: Cut::Kinds(sorted.dull),
+            dear: dear(mixed.met, all),
+        });
+    }
+    let part = of_kinds(cell, sorted.first);
+    let rest = of_other_kinds(cell, sorted.first);
+    let lower = mixed.count_in(words, rules, part, place, steps);
+    let upper = mixed.count_in(words, rules, rest, place, steps);
+    Some(Choice {
+        place,
+        cut: Cut::Kinds(sorted.first),
+        dear: dear(lower, upper),
+    })
+}
+
+// The choice to cut the words of a cell in the middle; None where there is but one.
+fn words_choice(
+    words: &Words,
+    rules: &[Rule],
+    cell: Cell,
+    place: usize,
+    mixed: &Mixed,
+    steps: &mut u64,
+) -> Option<Choice> {
+    if cell.to.saturating_sub(cell.from) < 2 {
+        return None;
+    }
+    let cut = Cut::Word(cell.from + (cell.to - cell.from) / 2);
+    let (low, high) = cut_cell(cell, cut)?;
+    let lower = mixed.count_in(words, rules, low, place, steps);
+    let upper = mixed.count_in(words, rules, high, place, steps);
+    Some(Choice {
+        place,
+        cut,
+        dear: dear(lower, upper),
+    })
+}
+
+fn bounds_of(
+    alloc: Global,
+    rules: &[Rule],
+    cell: Cell,
+    place: usize,
+    mixed: &Mixed,
+) -> Result<Bounds, AllocError> {
+    let mut bounds = Bounds::new(alloc, cell.low, cell.high);
+    for number in &mixed.rules {
+        let Some(rule) = rules.get(*number) else {
+            continue;
+        };
+        if let Some(tests) = rule.tests.get(place) {
+            bounds.add(tests.tree())?;
+        }
+    }
+    bounds.cuts.sort_unstable();
+    bounds.cuts.dedup();
+    bounds.starts.sort_unstable();
+    bounds.ends.sort_unstable();
+    Ok(bounds)
+}
+
+// How many of these numbers, which rise, are below another: at least as many as are known to be.
+fn count_below(numbers: &[i64], known: usize, bound: i64) -> usize {
+    for place in known..numbers.len() {
+        if numbers[place] >= bound {
+            return place;
+        }
+    }
+    numbers.len()
+}
+
+// The best choice to cut the numbers of a cell.
+fn numbers_choice(bounds: &Bounds, place: usize, met: usize) -> Option<Choice> {
+    let mut best = None;
+    let mut begun = 0;
+    let mut ended = 0;
+    for number in &bounds.cuts {
+        begun = count_below(&bounds.starts, begun, *number);
+        ended = count_below(&bounds.ends, ended, *number);
+        let lower = met.saturating_add(begun);
+        let upper = met.saturating_add(bounds.ends.len().saturating_sub(ended));
+        best = better(
+            best,
+            Choice {
+                place,
+                cut: Cut::Number(*number),
+                dear: dear(lower, upper),
+            },
+        );
+    }
+    best
+}
+
+// The best choice in one column; None where all of the rules that are left hit there, or nothing can be cut.
+fn choice_in(
+    alloc: Global,
+    words: &Words,
+    rules: &[Rule],
+    cell: Cell,
+    place: usize,
+    left: &[usize],
+    steps: &mut u64,
+) -> Result<Option<Choice>, AllocError> {
+    let mixed = Mixed::of(alloc, words, rules, cell, place, left, steps)?;
+    if mixed.rules.is_empty() {
+        return Ok(None);
+    }
+    if let Some(choice) = kinds_choice(words, rules, cell, place, &mixed, steps) {
+        return Ok(Some(choice));
+    }
+    if let Some(choice) = words_choice(words, rules, cell, place, &mixed, steps) {
+        return Ok(Some(choice));
+    }
+    if cell.low >= cell.high {
+        return Ok(None);
+    }
+    let bounds = bounds_of(alloc, rules, cell, place, &mixed)?;
+    Ok(numbers_choice(&bounds, place, mixed.met))
+}
+
+/// The best choice to cut one of the cells for the rules that are left; None where each of them hits for all values or none is known
+/// to part them.
+pub(crate) fn choose(
+    alloc: Global,
+    words: &[Words],
+    rules: &[Rule],
+    cells: &[Cell],
+    left: &[usize],
+    steps: &mut u64,
+) -> Result<Option<Choice>, AllocError> {
+    let mut best = None;
+    for (place, cell) in cells.iter().enumerate() {
+        let Some(words) = words.get(place) else {
+            continue;
+        };
+        if let Some(choice) = choice_in(alloc, words, rules, *cell, place, left, steps)? {
+            best = better(best, choice);
+        }
+    }
+    Ok(best)
+}

@@ -1,0 +1,227 @@
+//! Whether some rule hits whatever the values are, or for which values none does.
+ghost use Rattle.std.specs.Prelude.{◌≡◌, ◌<◌, ℕ, [], IsTrue, IfOk, IfSome, Some, false, length, map};
+ghost use Rattle.std.specs.List.{All};
+ghost use Rattle.dmn_table.specs.Hits.{does_hit as does_hit_of};
+ghost use Rattle.dmn_table.specs.Parts.{rule_view};
+ghost use Rattle.dmn_analysis.specs.Claims.{IsGapIn, TellsGaps};
+ghost use Rattle.dmn_analysis.specs.Searching.{IsAmong, IsBare, Scene};
+ghost use Rattle.dmn_analysis.specs.Telling.{HasGapOf, IsToldGap};
+
+use crate::asked::Asked;
+use crate::asking::all_miss;
+use crate::cell::{Cell, Words};
+use crate::found::{Gap, Gaps};
+use crate::gaps::{Bare, Pending, Search, go_through};
+use crate::joined::joined_where_right;
+use crate::pieces::parts_of;
+use crate::searching::first_of;
+use crate::whole::whole;
+use crate::witness::values_of;
+use crate::words::all_words;
+use dmn_table::{Rule, Table};
+use feel_value::Feel;
+use std::alloc::{AllocError, Global};
+
+/// The places of so many rules.
+pub(crate) fn places(alloc: Global, count: usize) -> Result<Vec<usize>, AllocError>
+    ensures below { IfOk result (λ places. All (λ r. r < count) places.items) }
+    ensures each { IfOk result (λ places. (r : ℕ) → r < count → IsAmong places.items r) }
+{
+    let mut places = Vec::with_capacity(alloc, count)?;
+    for place in 0..count {
+        places.push(place)?;
+    }
+    Ok(places)
+}
+
+// Values of the cells for which no rule hits where no name stands for anything; None where the rules don't say so.
+fn witness(
+    alloc: Global,
+    words: &[Words],
+    rules: &[Rule],
+    cells: &[Cell],
+    count: usize,
+) -> Result<Option<Vec<Feel>>, AllocError>
+    ensures one_each { IfOk result (λ found. IfSome found (λ values. length values.items ≡ count)) }
+    ensures misses { IfOk result (λ found. IfSome found (λ values. All (λ r. does_hit_of [] values.items (rule_view r) ≡ Some false) rules.now)) }
+{
+    let Some(values) = values_of(alloc, words, cells)? else {
+        return Ok(None);
+    };
+    if values.len() != count {
+        return Ok(None);
+    }
+    if !all_miss(alloc, rules, &values)? {
+        return Ok(None);
+    }
+    Ok(Some(values))
+}
+
+// The gap of these cells, with a witness; None where the rules don't bear it out.
+fn gap_of(
+    alloc: Global,
+    words: &[Words],
+    rules: &[Rule],
+    cells: &[Cell],
+    count: usize,
+) -> Result<Option<Gap>, AllocError>
+    ensures cells { IfOk result (λ found. IfSome found (λ gap. gap.cells.items ≡ cells.now)) }
+    ensures witness { IfOk result (λ found. IfSome found (λ gap. IsGapIn count (map rule_view rules.now) gap.values.items)) }
+{
+    let Some(values) = witness(alloc, words, rules, cells, count)? else {
+        return Ok(None);
+    };
+    let parts = parts_of(alloc, words, cells)?;
+    let copy = Vec::from_slice(alloc, cells)?;
+    Ok(Some(Gap {
+        cells: copy,
+        parts,
+        values,
+    }))
+}
+
+/// Gaps that are told, and how many others there are.
+#[derive(Drop)]
+struct Told {
+    found: Vec<Gap>,
+    more: usize,
+    // Whether the rules bore out each of those that were to be told.
+    is_all: bool,
+}
+
+// A gap for each of these cells, at most so many.
+fn tell(
+    alloc: Global,
+    words: &[Words],
+    rules: &[Rule],
+    bare: &[Bare],
+    count: usize,
+    most: usize,
+) -> Result<Told, AllocError>
+    ensures each { IfOk result (λ told. (s : Scene) → s.rules ≡ map rule_view rules.now → All (IsBare s) bare.now → All (IsToldGap s count) told.found.items) }
+    ensures all { IfOk result (λ told. IsTrue told.is_all → told.more ≡ 0 → All (λ b. HasGapOf told.found.items b.cells.items) bare.now) }
+{
+    let mut found = Vec::new(alloc);
+    let mut is_all = true;
+    for place in 0..bare.len() {
+        if place >= most {
+            let more = bare.len() - place;
+            return Ok(Told {
+                found,
+                more,
+                is_all,
+            });
+        }
+        let Some(gap) = gap_of(alloc, words, rules, &bare[place].cells, count)? else {
+            is_all = false;
+            continue;
+        };
+        found.push(gap)?;
+    }
+    Ok(Told {
+        found,
+        more: 0,
+        is_all,
+    })
+}
+
+// Whether nothing is pending.
+fn are_none(pending: &[Pending]) -> bool
+    ensures { IsTrue result → pending.now ≡ [] }
+{
+    pending.first().is_none()
+}
+
+// Whether a search went through all, and met no rule of which it isn't known whether it hits.
+pub(crate) fn is_done(pending: &[Pending], unsure: &[usize]) -> bool
+    ensures { IsTrue result → (pending.now ≡ []) × (unsure.now ≡ []) }
+{
+    if !are_none(pending) {
+        return false;
+    }
+    first_of(unsure).is_none()
+}
+
+// Whether each gap is told, or counted among the others.
+fn are_all(told: &Told, pending: &[Pending], unsure: &[usize]) -> bool
+    ensures done { IsTrue result → (pending.now ≡ []) × (unsure.now ≡ []) }
+    ensures told { IsTrue result → IsTrue told.now.is_all }
+{
+    if !told.is_all {
+        return false;
+    }
+    is_done(pending, unsure)
+}
+
+/// These numbers, each once, in order.
+pub(crate) fn distinct(numbers: Vec<usize>) -> Vec<usize> {
+    let mut numbers = numbers;
+    numbers.sort_unstable();
+    numbers.dedup();
+    numbers
+}
+
+fn nothing_told(alloc: Global, words: Vec<Words>) -> Gaps
+    ensures found { result.found.items ≡ [] }
+    ensures undecided { result.is_all ≡ false }
+{
+    Gaps {
+        words,
+        found: Vec::new(alloc),
+        more: 0,
+        is_all: false,
+        open: Vec::new(alloc),
+        steps: 0,
+    }
+}
+
+/// Whether some rule of the table hits, whatever the values of its input columns that are asked about and whatever the names stand
+/// for: the gaps among them, of which at most so many are told. `asked` has an entry for each input column, with all texts, none, or
+/// just those that stand in the column's tests, as `kinds_asked` has them; otherwise nothing is decided. The search takes at most so
+/// many steps: a step is one entry of a rule asked of some values.
+pub fn find_gaps(
+    alloc: Global,
+    table: &Table,
+    asked: &[Asked],
+    most: usize,
+    steps: u64,
+) -> Result<Gaps, AllocError>
+    ensures { IfOk result (TellsGaps table.now asked.now) }
+{
+    let rules = table.rules();
+    let count = table.inputs().len();
+    let words = all_words(alloc, rules, count)?;
+    let Some(cells) = whole(alloc, &words, asked, count)? else {
+        return Ok(nothing_told(alloc, words));
+    };
+    let left = places(alloc, rules.len())?;
+    let first = Pending { cells, left };
+    let mut rest = steps;
+    let search = go_through(
+        alloc,
+        &words,
+        rules,
+        rules.len(),
+        first,
+        usize::MAX,
+        &mut rest,
+    )?;
+    let Search {
+        pending,
+        bare,
+        open,
+        sure: _,
+    } = search;
+    let all = joined_where_right(alloc, &words, rules, bare, count)?;
+    let told = tell(alloc, &words, rules, &all, count, most)?;
+    let is_all = are_all(&told, &pending, &open);
+    let Told { found, more, .. } = told;
+    Ok(Gaps {
+        words,
+        found,
+        more,
+        is_all,
+        open: distinct(open),
+        steps: steps.saturating_sub(rest),
+    })
+}

@@ -1,0 +1,248 @@
+//! Whether no two rules hit whatever the values are, or for which values two do.
+ghost use Rattle.std.specs.Prelude.{◌≡◌, [], true, false, IsTrue, IfOk, IfSome, length, map};
+ghost use Rattle.std.specs.List.{All};
+ghost use Rattle.feel_value.specs.Datum.{Datum};
+ghost use Rattle.dmn_table.specs.Parts.{rule_view};
+ghost use Rattle.dmn_analysis.specs.Asked.{is_asked};
+ghost use Rattle.dmn_analysis.specs.Claims.{AreOverlappingIn, Hits, TellsOverlaps};
+
+use crate::asked::Asked;
+use crate::asking::hits;
+use crate::cell::{Cell, Words};
+use crate::found::{Overlap, Overlaps};
+use crate::gap_answers::{distinct, places};
+use crate::gaps::Pending;
+use crate::pairs::{PairSearch, Shared, find_shared};
+use crate::pieces::parts_of;
+use crate::searching::first_of;
+use crate::whole::whole;
+use crate::witness::values_of;
+use crate::words::all_words;
+use dmn_table::{Rule, Table};
+use feel_value::Feel;
+use std::alloc::{AllocError, Global};
+
+/// The most pairs of rules that are looked at.
+const MOST_PAIRS: usize = 100_000;
+
+/// The most cells with several rules that are looked for.
+const MOST_SHARED: usize = 100_000;
+
+/// Every value is asked about, in each of so many columns.
+pub(crate) fn every(alloc: Global, count: usize) -> Result<Vec<Asked>, AllocError>
+    ensures { IfOk result (λ all. All (λ a. (v : Datum) → is_asked a v ≡ true) all.items) }
+{
+    let mut all = Vec::with_capacity(alloc, count)?;
+    for _place in 0..count {
+        all.push(Asked::every())?;
+    }
+    Ok(all)
+}
+
+/// Two rules, and the cells in whose values both hit.
+#[derive(Clone, Copy, PartialEq, Eq, PartialOrd, Ord)]
+struct Pair {
+    first: usize,
+    second: usize,
+    shared: usize,
+}
+
+// Adds the pairs of these rules.
+fn add_pairs(pairs: &mut Vec<Pair>, rules: &[usize], shared: usize) -> Result<(), AllocError> {
+    for second in 1..rules.len() {
+        for first in 0..second {
+            if pairs.len() >= MOST_PAIRS {
+                return Ok(());
+            }
+            pairs.push(Pair {
+                first: rules[first],
+                second: rules[second],
+                shared,
+            })?;
+        }
+    }
+    Ok(())
+}
+
+// The pairs of rules that share cells, each once.
+fn pairs_of(alloc: Global, all: &[Shared]) -> Result<Vec<Pair>, AllocError> {
+    let mut pairs = Vec::new(alloc);
+    for (place, shared) in all.iter().enumerate() {
+        add_pairs(&mut pairs, &shared.rules, place)?;
+    }
+    pairs.sort_unstable();
+    pairs.dedup_by(|a, b| a.first == b.first && a.second == b.second);
+    Ok(pairs)
+}
+
+// Values of the cells for which both rules hit where no name stands for anything; None where the rules don't say so.
+fn witness(
+    alloc: Global,
+    words: &[Words],
+    rules: &[Rule],
+    cells: &[Cell],
+    i: usize,
+    j: usize,
+    count: usize,
+) -> Result<Option<Vec<Feel>>, AllocError>
+    ensures one_each { IfOk result (λ found. IfSome found (λ values. length values.items ≡ count)) }
+    ensures first { IfOk result (λ found. IfSome found (λ values. Hits (map rule_view rules.now) i values.items)) }
+    ensures second { IfOk result (λ found. IfSome found (λ values. Hits (map rule_view rules.now) j values.items)) }
+{
+    let Some(values) = values_of(alloc, words, cells)? else {
+        return Ok(None);
+    };
+    if values.len() != count {
+        return Ok(None);
+    }
+    if !hits(alloc, rules, i, &values)? {
+        return Ok(None);
+    }
+    if !hits(alloc, rules, j, &values)? {
+        return Ok(None);
+    }
+    Ok(Some(values))
+}
+
+fn overlap_of(
+    alloc: Global,
+    words: &[Words],
+    rules: &[Rule],
+    cells: &[Cell],
+    pair: Pair,
+    count: usize,
+) -> Result<Option<Overlap>, AllocError>
+    ensures { IfOk result (λ found. IfSome found (λ o. AreOverlappingIn count (map rule_view rules.now) o.first o.second o.values.items)) }
+{
+    let (first, second) = (pair.first, pair.second);
+    if first >= second {
+        return Ok(None);
+    }
+    let Some(values) = witness(alloc, words, rules, cells, first, second, count)? else {
+        return Ok(None);
+    };
+    let parts = parts_of(alloc, words, cells)?;
+    Ok(Some(Overlap {
+        first,
+        second,
+        parts,
+        values,
+    }))
+}
+
+// The overlaps of these pairs, at most so many.
+fn tell(
+    alloc: Global,
+    words: &[Words],
+    rules: &[Rule],
+    all: &[Shared],
+    pairs: &[Pair],
+    count: usize,
+    most: usize,
+) -> Result<Vec<Overlap>, AllocError>
+    ensures { IfOk result (λ found. All (λ o. AreOverlappingIn count (map rule_view rules.now) o.first o.second o.values.items) found.items) }
+{
+    let mut found = Vec::new(alloc);
+    for pair in pairs {
+        if found.len() >= most {
+            return Ok(found);
+        }
+        let Some(shared) = all.get(pair.shared) else {
+            continue;
+        };
+        let Some(overlap) = overlap_of(alloc, words, rules, &shared.cells, *pair, count)? else {
+            continue;
+        };
+        found.push(overlap)?;
+    }
+    Ok(found)
+}
+
+fn nothing_told(alloc: Global) -> Overlaps
+    ensures found { result.found.items ≡ [] }
+    ensures undecided { result.is_all ≡ false }
+{
+    Overlaps {
+        found: Vec::new(alloc),
+        more: 0,
+        is_all: false,
+        open: Vec::new(alloc),
+        steps: 0,
+    }
+}
+
+// Whether nothing is pending.
+fn are_none(pending: &[Pending]) -> bool
+    ensures { IsTrue result → pending.now ≡ [] }
+{
+    pending.first().is_none()
+}
+
+fn are_unshared(shared: &[Shared]) -> bool
+    ensures { IsTrue result → shared.now ≡ [] }
+{
+    shared.first().is_none()
+}
+
+// Whether a search went through all, and met no rule of which it isn't known whether it hits.
+fn is_done(search: &PairSearch) -> bool
+    ensures { IsTrue result → (search.now.pending.items ≡ []) × (search.now.open.items ≡ []) }
+{
+    if !are_none(&search.pending) {
+        return false;
+    }
+    first_of(&search.open).is_none()
+}
+
+fn are_untold(found: &[Overlap]) -> bool
+    ensures { found.now ≡ [] → IsTrue result }
+{
+    found.is_empty()
+}
+
+// Whether it is known that there are no other pairs than those that are told; where none is told, none were found.
+fn are_all(search: &PairSearch, pairs: usize, found: &[Overlap]) -> bool
+    ensures done { IsTrue result → (search.now.pending.items ≡ []) × (search.now.open.items ≡ []) }
+    ensures none { IsTrue result → found.now ≡ [] → search.now.shared.items ≡ [] }
+{
+    if pairs >= MOST_PAIRS {
+        return false;
+    }
+    if are_untold(found) && !are_unshared(&search.shared) {
+        return false;
+    }
+    is_done(search)
+}
+
+/// Whether no two rules of the table hit, whatever the values of its input columns and whatever the names stand for: the pairs that
+/// do, of which at most so many are told, each once. The search takes at most so many steps.
+pub fn find_overlaps(
+    alloc: Global,
+    table: &Table,
+    most: usize,
+    steps: u64,
+) -> Result<Overlaps, AllocError>
+    ensures { IfOk result (TellsOverlaps table.now) }
+{
+    let rules = table.rules();
+    let count = table.inputs().len();
+    let asked = every(alloc, count)?;
+    let words = all_words(alloc, rules, count)?;
+    let Some(cells) = whole(alloc, &words, &asked, count)? else {
+        return Ok(nothing_told(alloc));
+    };
+    let left = places(alloc, rules.len())?;
+    let first = Pending { cells, left };
+    let mut rest = steps;
+    let search = find_shared(alloc, &words, rules, first, MOST_SHARED, &mut rest)?;
+    let pairs = pairs_of(alloc, &search.shared)?;
+    let found = tell(alloc, &words, rules, &search.shared, &pairs, count, most)?;
+    let is_all = are_all(&search, pairs.len(), &found);
+    Ok(Overlaps {
+        more: pairs.len().saturating_sub(found.len()),
+        found,
+        is_all,
+        open: distinct(search.open),
+        steps: steps.saturating_sub(rest),
+    })
+}

@@ -1,0 +1,55 @@
+//! Whether a rule hits for all values of some cells, or for none, whatever the names stand for.
+ghost use Rattle.std.specs.Prelude.{◌≡◌, true, IsTrue};
+ghost use Rattle.dmn_table.specs.Parts.{rule_view};
+ghost use Rattle.dmn_analysis.specs.Searching.{CannotHit, MustHit, SettlesIn};
+
+use crate::cell::{Cell, Words};
+use crate::met::are_sure;
+use dmn_table::Rule;
+use feel_text::Tests;
+
+/// So many words cost one step more to look through.
+const WORDS_A_STEP: usize = 16;
+
+// What it costs to ask tests of a cell.
+fn cost(cell: Cell) -> u64 {
+    1 + (cell.to.saturating_sub(cell.from) / WORDS_A_STEP) as u64
+}
+
+/// Whether it is known that each value of the cell meets the tests, or that none does, as is asked. It takes steps.
+pub(crate) fn asked(words: &Words, cell: Cell, tests: &Tests, met: bool, steps: &mut u64) -> bool
+    ensures { IsTrue result → SettlesIn met words.now cell tests.now }
+{
+    *steps = steps.saturating_sub(cost(cell));
+    are_sure(&words.texts, cell, tests, met)
+}
+
+/// Whether the rule is known to hit for all values of the cells.
+pub(crate) fn must_hit(words: &[Words], cells: &[Cell], rule: &Rule, steps: &mut u64) -> bool
+    ensures { IsTrue result → MustHit words.now cells.now (rule_view rule.now) }
+{
+    for (place, tests) in rule.tests.iter().enumerate() {
+        if place >= words.len() || place >= cells.len() {
+            return false;
+        }
+        if !asked(&words[place], cells[place], tests, true, steps) {
+            return false;
+        }
+    }
+    true
+}
+
+/// Whether the rule is known to hit for none of the values of the cells.
+pub(crate) fn cannot_hit(words: &[Words], cells: &[Cell], rule: &Rule, steps: &mut u64) -> bool
+    ensures { IsTrue result → CannotHit words.now cells.now (rule_view rule.now) }
+{
+    for (place, tests) in rule.tests.iter().enumerate() {
+        if place >= words.len() || place >= cells.len() {
+            return false;
+        }
+        if asked(&words[place], cells[place], tests, false, steps) {
+            return true;
+        }
+    }
+    false
+}

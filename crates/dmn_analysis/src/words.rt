@@ -1,0 +1,71 @@
+//! The texts that stand in the tests of a table's columns.
+use crate::cell::Words;
+use crate::on_class::literal;
+use dmn_table::Rule;
+use feel_text::{Test, TestsTree, Tree};
+use feel_value::Value;
+use std::alloc::{AllocError, Global};
+use std::sync::ArcStr;
+
+fn add_text(texts: &mut Vec<ArcStr>, expr: &Tree) -> Result<(), AllocError> {
+    if let Some(Value::Text(text)) = literal(expr) {
+        texts.push(text.clone()?)?;
+    }
+    Ok(())
+}
+
+fn add_test(texts: &mut Vec<ArcStr>, test: &Test) -> Result<(), AllocError> {
+    match test {
+        Test::Compares(_, expr) | Test::Equals(expr) => add_text(texts, expr),
+        Test::Interval(_, low, high, _) => {
+            add_text(texts, low)?;
+            add_text(texts, high)
+        }
+    }
+}
+
+fn add_tests(texts: &mut Vec<ArcStr>, tests: &TestsTree) -> Result<(), AllocError> {
+    match tests {
+        TestsTree::Any => Ok(()),
+        TestsTree::OneOf(tests) | TestsTree::NoneOf(tests) => {
+            for test in tests {
+                add_test(texts, test)?;
+            }
+            Ok(())
+        }
+    }
+}
+
+/// These texts, each once, in their order.
+pub(crate) fn in_order(texts: Vec<ArcStr>) -> Vec<ArcStr> {
+    let mut texts = texts;
+    texts.sort_unstable_by(|a, b| a.as_str().cmp(b.as_str()));
+    texts.dedup_by(|a, b| a.as_str() == b.as_str());
+    texts
+}
+
+/// The texts that stand in the tests of the column at this place, each once, in their order.
+pub(crate) fn words_of(alloc: Global, rules: &[Rule], place: usize) -> Result<Words, AllocError> {
+    let mut texts = Vec::new(alloc);
+    for rule in rules {
+        if let Some(tests) = rule.tests.get(place) {
+            add_tests(&mut texts, tests.tree())?;
+        }
+    }
+    Ok(Words {
+        texts: in_order(texts),
+    })
+}
+
+/// The same of each of so many columns.
+pub(crate) fn all_words(
+    alloc: Global,
+    rules: &[Rule],
+    count: usize,
+) -> Result<Vec<Words>, AllocError> {
+    let mut all = Vec::with_capacity(alloc, count)?;
+    for place in 0..count {
+        all.push(words_of(alloc, rules, place)?)?;
+    }
+    Ok(all)
+}

@@ -1,0 +1,169 @@
+package types
+
+import "bytes"
+
+// HoldsPlain says whether a value is of this type, as far as that is seen without reading its text into a tree: where it is
+// not seen, Check says more. The text is a lawful JSON value with no blanks around it.
+func (t *Type) HoldsPlain(text []byte) bool {
+	r := reader{text: text}
+	return t.holds(&r) && r.at == len(text)
+}
+
+// anything is the type of what has none.
+var anything = &Type{}
+
+// or is the type itself, or anything where there is none.
+func (t *Type) or() *Type {
+	if t == nil {
+		return anything
+	}
+	return t
+}
+
+// holds goes over a value, and says whether it is seen to be of this type.
+func (t *Type) holds(r *reader) bool {
+	switch r.peek() {
+	case '{':
+		return t.takes("object") && len(t.enum) == 0 && r.parts('}', func() bool { return t.holdsMember(r) })
+	case '[':
+		return t.takes("array") && len(t.enum) == 0 && r.parts(']', func() bool { return t.items.or().holds(r) })
+	}
+	text := r.scalar()
+	if len(text) == 0 || !t.isListedText(text) {
+		return false
+	}
+	switch text[0] {
+	case '"':
+		return t.takes("string")
+	case 't', 'f':
+		return t.takes("boolean")
+	case 'n':
+		return t.takes("null")
+	}
+	return (t.takes("integer") || t.takes("number")) && t.holdsNumber(text)
+}
+
+// holdsMember goes over a member of an object. One whose key comes again is held to the type, too.
+func (t *Type) holdsMember(r *reader) bool {
+	key := r.scalar()
+	if len(key) < 2 {
+		return false
+	}
+	r.blanks()
+	r.at++
+	r.blanks()
+	return t.properties[string(key[1:len(key)-1])].or().holds(r)
+}
+
+func (t *Type) takes(kind string) bool {
+	for _, own := range t.kinds {
+		if own == kind {
+			return true
+		}
+	}
+	return len(t.kinds) == 0
+}
+
+// isListedText says whether a value stands among the allowed ones just as it is written.
+func (t *Type) isListedText(text []byte) bool {
+	for _, listed := range t.listed {
+		if string(text) == listed {
+			return true
+		}
+	}
+	return len(t.enum) == 0
+}
+
+// mostCharacters is how many a whole number has at most that is surely in range.
+const mostCharacters = 18
+
+// holdsNumber says whether a number is a short whole one within the bounds.
+func (t *Type) holdsNumber(text []byte) bool {
+	digits := bytes.TrimPrefix(text, []byte("-"))
+	isNegative := len(digits) < len(text)
+	if len(digits) == 0 || len(text) > mostCharacters || isNegative && digits[0] == '0' {
+		return false
+	}
+	number := int64(0)
+	for _, c := range digits {
+		if c < '0' || c > '9' {
+			return false
+		}
+		number = number*10 + int64(c-'0')
+	}
+	if isNegative {
+		number = -number
+	}
+	return t.bounds(number)
+}
+
+// bounds says whether a number is within the bounds, where these are whole.
+func (t *Type) bounds(number int64) bool {
+	for _, end := range t.ends {
+		if !end.isWhole || end.open && number == end.whole || end.below && number < end.whole || !end.below && number > end.whole {
+			return false
+		}
+	}
+	return true
+}
+
+// A reader goes over a lawful JSON text.
+type reader struct {
+	text []byte
+	at   int
+}
+
+func (r *reader) peek() byte {
+	if r.at < len(r.text) {
+		return r.text[r.at]
+	}
+	return 0
+}
+
+func (r *reader) blanks() {
+	for c := r.peek(); c == ' ' || c == '\n' || c == '\t' || c == '\r'; c = r.peek() {
+		r.at++
+	}
+}
+
+// parts goes over the parts of a list or an object, each by part, which says whether to go on.
+func (r *reader) parts(end byte, part func() bool) bool {
+	r.at++
+	r.blanks()
+	if r.peek() == end {
+		r.at++
+		return true
+	}
+	for part() {
+		r.blanks()
+		c := r.peek()
+		r.at++
+		if c != ',' {
+			return c == end
+		}
+		r.blanks()
+	}
+	return false
+}
+
+// scalar goes over a text, a number, or true, false or null, and gives it as it is written; nothing where it has an escape.
+func (r *reader) scalar() []byte {
+	start := r.at
+	if r.peek() == '"' {
+		end := bytes.IndexByte(r.text[start+1:], '"')
+		if end < 0 || bytes.IndexByte(r.text[start+1:start+1+end], '\\') >= 0 {
+			return nil
+		}
+		r.at = start + end + 2
+		return r.text[start:r.at]
+	}
+	for isOfWord(r.peek()) {
+		r.at++
+	}
+	return r.text[start:r.at]
+}
+
+// isOfWord says whether a byte may stand in a number, or in true, false or null.
+func isOfWord(c byte) bool {
+	return c >= '0' && c <= '9' || c|0x20 >= 'a' && c|0x20 <= 'z' || c == '-' || c == '+' || c == '.'
+}

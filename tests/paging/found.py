@@ -1,0 +1,171 @@
+"""What the page shows of `desk check --tables`: by a program that stands for the engine, and by the engine where it knows it."""
+
+from __future__ import annotations
+
+import json
+import subprocess
+from pathlib import Path
+
+TABLE = "/decisions/0/expr/table"
+# A program that stands for the engine: it tells of tables what stands in a file, and leaves all else to the engine.
+STAND_IN = """#!/bin/sh
+case "$*" in
+"help check") "{engine}" help check; echo "      --tables" ;;
+"check --json --tables") cat > "{folder}/asked"; "{engine}" check --json < "{folder}/asked"; cat "{folder}/told" ;;
+*) exec "{engine}" "$@" ;;
+esac
+"""
+NUMBERS = {"from": -9223372036854775807, "to": 9223372036854775807}
+OTHERS = [{"texts_but": []}, {"value": True}, {"value": False}, {"value": None}, {"else": {"kinds": ["list", "context"], "values": []}}]
+
+
+def table(policy: str, columns: list[str], rules: list[list[str]], output: dict | None = None) -> dict:
+    return {"table": {"hit": policy, "inputs": columns, "outputs": [output or {"name": "o"}],
+                      "rules": [{"when": tests, "then": [f'"{at + 1}"']} for at, tests in enumerate(rules)]}}
+
+
+def model(inputs: list[str], decisions: dict[str, tuple[list[str], dict]]) -> dict:
+    """A model with one service, which takes all inputs and gives the last decision."""
+    *inner, last = decisions
+    return {"inputs": inputs, "decisions": [{"name": name, "needs": needs, "expr": expr} for name, (needs, expr) in decisions.items()],
+            "services": [{"name": "s", "outputs": [last], "encapsulated": inner, "inputDecisions": [], "inputData": inputs}]}
+
+
+# Of whole numbers, no rule hits where a is 10 to 19 and b 6 or more. Rules 2 and 3 hit where a is 20 or more and b is 5.
+ONE_OF_EACH = model(["a", "b"], {"d": (["a", "b"], table("U", ["a", "b"], [["< 10", "-"], [">= 10", "<= 5"], [">= 20", ">= 5"]]))})
+TOLD_OF_EACH = [
+    {"table": TABLE, "complete": False, "asked": False, "words": False, "unique": False, "steps": 60},
+    {"finding": "overlap", "table": TABLE, "rules": [2, 3], "witness": [20, 5], "cells": [[{"from": 20}], [{"from": 5, "to": 5}]],
+     "inputs": {"a": 20, "b": 5}},
+    {"finding": "gap", "table": TABLE, "rules": [], "witness": [10, 6], "cells": [[{"from": 10, "to": 19}], [{"from": 6}]],
+     "inputs": {"a": 10, "b": 6}, "asked": True},
+    {"finding": "gap", "table": TABLE, "rules": [], "witness": [None, 0], "cells": [OTHERS, [NUMBERS, *OTHERS]],
+     "inputs": {"a": None, "b": 0}, "asked": False},
+]
+# A rule that never hits, one behind others, texts, a path into an input, and columns that are no inputs.
+SEVERAL = model(["a", "t"], {
+    "sum": (["a"], "a + 1"),
+    "first": (["a", "t"], table("F", ["a.b", "t"], [["< 5", "-"], [">= 5", '"x"'], ["< 9", '"x"'], ["[9..5]", "-"]])),
+    "last": (["first", "sum"], table("U", ["sum", "sum * 2"], [["< 3", "-"], ["> 3", "> 9"]], {"name": "o", "default": '"no"'})),
+})
+FIRST, LAST = "/decisions/1/expr/table", "/decisions/2/expr/table"
+TOLD_OF_SEVERAL = [
+    {"table": FIRST, "complete": False, "asked": None, "words": True, "unique": False, "steps": 9},
+    {"finding": "gap", "table": FIRST, "rules": [], "witness": [5, "y"], "cells": [[{"from": 5}, {"value": None}], [
+        {"texts_but": ["x", "w"]}, {"from": "a", "below": "c"}, {"from": "k", "below": "m\0"}]], "inputs": {"a": {"b": 5}, "t": "y"}, "asked": True},
+    {"finding": "gap", "table": FIRST, "more": 7},
+    {"finding": "never", "table": FIRST, "rules": [4]},
+    {"finding": "masked", "table": FIRST, "rules": [3, 1, 2]},
+    {"table": LAST, "complete": True, "asked": True, "words": True, "unique": True, "steps": 9},
+    {"finding": "overlap", "table": LAST, "rules": [1, 2], "witness": [2, 10], "cells": [[{"to": 2}, {"text": "z"}], [
+        {"from": 10, "to": 12}]], "sure": False},
+]
+
+
+class Found:
+    def __init__(self, suite) -> None:
+        self.suite, self.browser = suite, suite.browser
+
+    def stood_in(self, name: str, of: dict, told: list[dict]):
+        """A service whose engine tells this of tables."""
+        folder = self.suite.folder / name
+        folder.mkdir(exist_ok=True)
+        (folder / "told").write_text("".join(json.dumps(line, separators=(",", ":")) + "\n" for line in told))
+        engine = folder / "engine"
+        engine.write_text(STAND_IN.format(engine=self.suite.programs[1], folder=folder))
+        engine.chmod(0o755)
+        return self.suite.service(name, of, engine=engine)
+
+    def knows_tables(self) -> bool:
+        told = subprocess.run([self.suite.programs[1], "help", "check"], capture_output=True, check=True)
+        return b"--tables" in told.stdout
+
+    def verdicts(self) -> list[str]:
+        return self.browser.js("return [...document.querySelectorAll('.verdict')].map((it) => it.textContent)")
+
+    def marks(self, at: int = 0) -> dict[str, str]:
+        """What the marks at the rules of a table say."""
+        return self.browser.js("""return Object.fromEntries([...document.querySelectorAll(".table")[arguments[0]].querySelectorAll(
+            "tbody th .mark")].map((it) => [it.closest("tr").querySelector("[data-at]").textContent, it.title]))""", at)
+
+    def listed(self, at: int = 0) -> list[str]:
+        """What is listed under a table, without the buttons."""
+        return self.browser.js("""return [...document.querySelectorAll(".table")[arguments[0]].querySelectorAll(".found > ul > li")].map(
+            (it) => [...it.childNodes].filter((part) => part.nodeName === "#text").map((part) => part.textContent).join("").trim())""", at)
+
+    def press(self, label: str, at: int = 0) -> None:
+        self.browser.js("""[...document.querySelectorAll(".table")[arguments[1]].querySelectorAll(".found button")].find((it) =>
+            it.textContent.startsWith(arguments[0])).click()""", label, at)
+
+    def said(self, at: int = 0) -> str:
+        return self.browser.js("return document.querySelectorAll('.table')[arguments[0]].querySelector('.why').textContent", at)
+
+    def one_of_each(self, service) -> str:
+        """A gap and an overlap stand at their table, and their values are tried."""
+        self.browser.open(service)
+        self.browser.wait(self.verdicts, "what is found of the table")
+        assert self.verdicts() == ["not complete; rules overlap"], self.verdicts()
+        overlap = "rules 2 and 3 both hit, which gives null: a >= 20, b 5"
+        self.browser.wait(lambda: self.listed()[:2] == [overlap, "no rule hits: a [10..19], b >= 6"], f"the list, {self.listed()}")
+        assert self.marks() == {"2": overlap, "3": overlap}, self.marks()
+        tries = self.browser.js("""return [...document.querySelectorAll(".found > ul > li > button")].map((it) => it.textContent)""")
+        tries = [it.removeprefix("Try ") for it in tries if it.startswith("Try ")]
+        for values, is_inside, hits in ((tries[0], lambda a, b: a >= 20 and b == 5, [2, 3]),
+                                        (tries[1], lambda a, b: 10 <= a <= 19 and b >= 6, [])):
+            a, b = (int(it) for it in values.split(", "))
+            assert is_inside(a, b), values
+            self.press(f"Try {values}")
+            self.browser.wait(lambda: self.said().startswith(f"The form has a {a}, b {b}."), "that the form is filled")
+            assert self.browser.answer() is None and self.browser.lit()["d"] == {"hits": hits, "decided": []}, self.browser.lit()
+        assert self.browser.text("tables") == "What was found of 1 table:d: not complete; rules overlap Show", self.browser.text("tables")
+        return ""
+
+    def stand_in(self) -> str:
+        service = self.stood_in("each", ONE_OF_EACH, TOLD_OF_EACH)
+        self.one_of_each(service)
+        others = self.browser.js("return [...document.querySelectorAll('.found details li')].map((it) => it.firstChild.textContent)")
+        assert others == ["no rule hits: a any text or true or false or null or a list or a context, b any"], others
+        return ""
+
+    def engine(self) -> str:
+        if not self.knows_tables():
+            return "skipped, desk check has no --tables"
+        return self.one_of_each(self.suite.service("one of each", ONE_OF_EACH))
+
+    def several(self) -> str:
+        """Rules that never decide, texts, and values that the form has no fields for."""
+        self.browser.open(self.stood_in("several", SEVERAL, TOLD_OF_SEVERAL), {"a": {"b": 1, "c": 2}, "t": "old"})
+        self.browser.wait(lambda: len(self.verdicts()) == 2 and all(self.verdicts()), "what is found of the tables")
+        assert self.verdicts() == ["complete for the words that its rules ask for",
+                                   "complete: some rule hits, whatever the values; no two rules overlap"], self.verdicts()
+        assert self.listed() == ['no rule hits: a.b >= 5 or null, t any text but "x", "w" or ["a".."c") or ["k".."m"]',
+                                 "and 7 more gaps",
+                                 "rule 4 never hits", "rule 3 never decides: rules 1, 2 stand before it"], self.listed()
+        assert self.marks() == {"4": "rule 4 never hits", "3": "rule 3 never decides: rules 1, 2 stand before it"}, self.marks()
+        unsure = 'rules 1 and 2 both hit, which gives null: sum <= 2 or "z", sum * 2 [10..12], if the columns may take these values together'
+        assert self.listed(1) == [unsure], self.listed(1)
+        self.press("Try 2, 10", 1)
+        assert "no input stands in sum, sum * 2" in self.said(1), self.said(1)
+        self.press('Try 5, "y"')
+        self.browser.wait(lambda: self.said().startswith('The form has a.b 5, t "y".'), "that the form is filled")
+        got = json.loads(self.browser.js("return document.getElementById('json').value"))
+        assert got == {"a": {"b": 5, "c": 2}, "t": "y"}, got
+        self.press("to rule 3")
+        assert self.browser.js("return document.activeElement.dataset.at") == "2"
+        return ""
+
+    def changed(self) -> str:
+        """A changed model is checked for the same."""
+        self.browser.open(self.stood_in("each", ONE_OF_EACH, TOLD_OF_EACH))
+        self.browser.drop("changed.json", json.dumps(ONE_OF_EACH | {"inputs": ["b", "a"]}))
+        self.browser.wait(lambda: "the model has no fault" in self.browser.text("changed"), "that it is checked")
+        self.browser.wait(lambda: self.verdicts() == ["not complete; rules overlap"], "what is found of its table")
+        return ""
+
+
+def run(suite) -> None:
+    rows = Found(suite)
+    suite.row("a gap and an overlap, told by a stand-in", rows.stand_in)
+    suite.row("a gap and an overlap, told by the engine", rows.engine)
+    suite.row("rules that never decide, and other findings of tables", rows.several)
+    suite.row("findings of a changed model's table", rows.changed)

@@ -1,0 +1,76 @@
+"""Tests of null, truth values and lists, tests of other kinds, dashes, and tests that names decide."""
+
+from __future__ import annotations
+
+from .row import NO, NO_OR_OPEN, OPEN, YES, YES_OR_OPEN, Row
+
+ROWS = [
+    Row("both truth values: null and others have no rule", ["true", "false"], (NO, YES, YES, YES), gaps=[None, 0, 1, "true"], taken=[True, False]),
+    Row("one truth value", ["true"], (NO, NO, NO, YES), gaps=[False, None], taken=[True]),
+    Row("a truth value and not of it: all values", ["true", "not(true)"], (YES, YES, YES, YES), taken=[True, False, None, 1, "true", [True]]),
+    Row("not of the one and the other: they share false", ["not(true)", "false"], (NO, NO, NO, NO), gaps=[True], taken=[False, None], overlaps=[(1, 2)]),
+    Row("null, and not of null: null is equal to nothing else, and surely not", ["null", "not(null)"], (YES, YES, YES, YES), taken=[None, 0, "", False, []]),
+    Row("null alone: it is all that is asked", ["null"], (NO, YES, YES, YES), gaps=[0, "", False, []], taken=[None]),
+    Row("null beside numbers", ["null", "< 0", ">= 0"], (NO, YES, YES, YES), gaps=["", True], taken=[None, -1, 0]),
+    Row("null in a list of tests", ["null, < 0", ">= 0"], (NO, YES, YES, YES), gaps=["", True], taken=[None, -1, 0]),
+    Row("null asked, and a number left out", ["null", "< 0", "> 0"], (NO, NO, NO, YES), gaps=[0, ""], taken=[None, -1, 1]),
+    Row("not of null and of a number", ["not(null, 5)", "5"], (NO, NO, NO, YES), gaps=[None], taken=[5, 4, "", True]),
+    Row("nothing is less than null or above true", ["< null", "> true", "<= false"], (NO, NO, NO, YES), gaps=[None, False, True, 0], never=[1, 2, 3]),
+    Row("nor does not make it so: it stays unknown", ["not(< null)", "-"], (YES, YES, YES, YES), taken=[None, 1], never=[1]),
+    Row("an interval with an end of null has nothing", ["[null..5]", "-"], (YES, YES, YES, YES), taken=[3, None], never=[1]),
+    Row("an interval from a text to a number has nothing", ['["a"..3]', "-"], (YES, YES, YES, YES), taken=[3, "b"], never=[1]),
+    Row("a dash and a truth value", ["-", "true"], (YES, YES, YES, NO), taken=[True, None], overlaps=[(1, 2)]),
+    Row("three kinds in one column", ["true", "5", '"a"'], (NO, NO, NO, YES), gaps=[False, 4, "b", None], taken=[True, 5, "a"]),
+    Row("all kinds asked have a rule", ["not(5)", "5", "true, null"], (YES, YES, YES, NO), taken=[5, True, None, "a"], overlaps=[(1, 3)]),
+    Row("no rules: nothing has one", [], (NO, NO, NO, YES), columns=["a"], gaps=[0, None, "", []]),
+    Row("one rule of dashes", [["-", "-"]], (YES, YES, YES, YES), taken=[(None, 1), ("", [])]),
+    Row("two rules of dashes", ["-", "-"], (YES, YES, YES, NO), taken=[0], overlaps=[(1, 2)]),
+    Row("no columns and no rules", [], (NO, NO, NO, YES), gaps=[()]),
+    Row("no columns and one rule: it always hits", [[]], (YES, YES, YES, YES), taken=[()]),
+    Row("no columns and two rules: both always hit", [[], []], (YES, YES, YES, NO), taken=[()], overlaps=[(1, 2)]),
+    # Lists. A list stands for its members and for itself, so no class of lists has one answer: what they decide may be left open.
+    Row("a list, beside a dash that takes all", ["[1, 5]", "-"], (YES, YES, YES, NO_OR_OPEN), taken=[1, 5, [1, 5], None], overlaps=[(1, 2)]),
+    Row(
+        "a list beside not of its members: [1, 5] is in the list, and is neither 1 nor 5",
+        ["[1, 5]", "not(1, 5)"],
+        (YES_OR_OPEN, YES_OR_OPEN, YES_OR_OPEN, NO_OR_OPEN),
+        taken=[1, 5, [1, 5], 2, None, [1], [5, 1]],
+        overlaps=[(1, 2)],
+    ),
+    Row("a list alone: of lists, which are asked, it takes itself", ["[1, 5]"], (NO_OR_OPEN, NO_OR_OPEN, NO_OR_OPEN, YES), gaps=[2, None, [1], []], taken=[1, 5, [1, 5]]),
+    Row("a list of a list", ["[[1], 2]"], (NO_OR_OPEN, NO_OR_OPEN, NO_OR_OPEN, YES), gaps=[1, [2], []], taken=[[1], 2, [[1], 2]]),
+    Row("not of a list", ["[1, 5]", "not([1, 5])"], (YES_OR_OPEN,) * 4, taken=[1, 5, 2, [1, 5], [1], None]),
+    Row("the empty list has no member", ["[]", "not([])"], (YES_OR_OPEN,) * 4, taken=[[], [1], None, 0]),
+    Row(
+        "a list in one column, and a truth value without a rule in another: that is a gap whatever the list",
+        [["[1, 5]", "true"], ["-", "true"]],
+        (NO, NO, NO, NO_OR_OPEN),
+        gaps=[(1, False), ([1], False), (2, None)],
+        taken=[(1, True), ([], True)],
+        overlaps=[(1, 2)],
+    ),
+    # Names. What they stand for is known to a request alone, so what hangs on them is open; what doesn't is told all the same.
+    Row("a name alone: open, but for that one rule overlaps with none", ["x"], (NO_OR_OPEN,) * 3 + (YES,), names={"x": None}),
+    Row("a name beside a dash: complete whatever it stands for", ["x", "-"], (YES, YES, YES, NO_OR_OPEN), names={"x": None}, taken=[0], overlaps=[(1, 2)]),
+    Row("below a name, and not: where it is null no rule hits", ["< x", ">= x"], (NO_OR_OPEN,) * 3 + (YES_OR_OPEN,), names={"x": None}),
+    Row("a name and not of it: each value has one rule, which only a name tells", ["x", "not(x)"], (YES_OR_OPEN,) * 4, names={"x": None}),
+    Row("numbers beside a name: 5 has its rule", ["< 5", ">= 5", "x"], (NO_OR_OPEN, YES, YES, NO_OR_OPEN), names={"x": None}, taken=[5, 4]),
+    Row(
+        "a name in one column, and a truth value without a rule in another: that is a gap whatever the name stands for",
+        [["x", "true"], ["-", "true"]],
+        (NO, NO, NO, NO_OR_OPEN),
+        names={"x": None},
+        gaps=[(0, False), (None, None)],
+        taken=[(0, True)],
+        overlaps=[(1, 2)],
+    ),
+    Row("a name in an interval that nothing else leaves", ["[0..x]", "< 0, >= 0"], (NO_OR_OPEN, YES, YES, NO_OR_OPEN), names={"x": None}, taken=[0, -1]),
+    Row("a name in a list", ["[x, 1]", "-"], (YES, YES, YES, NO_OR_OPEN), names={"x": None}, taken=[0], overlaps=[(1, 2)]),
+    Row("a rule that a column makes never hit, whatever a name stands for", [["x", "[7..3]"], ["-", "-"]], (YES, YES, YES, YES), names={"x": None}, taken=[(0, 5)], never=[1]),
+    Row("a sum is no literal: right, or left open", ["< 2 + 3", ">= 5"], (NO_OR_OPEN, YES_OR_OPEN, YES_OR_OPEN, YES_OR_OPEN), gaps=[None], taken=[4, 5]),
+    Row(
+        "a test that breaks a limit: the table has no value then, so for no values it is said that no rule hits",
+        ["> 9223372036854775807 + 1", "5"],
+        (OPEN, OPEN, OPEN, YES_OR_OPEN),
+    ),
+]

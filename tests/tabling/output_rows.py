@@ -1,0 +1,162 @@
+"""What is written for people of whole tables. Four blanks part the parts of a line."""
+
+from __future__ import annotations
+
+import json
+
+from checking.program import Program, Result
+
+from .place_rows import model, table
+from .row import Json
+from .strict_rows import DEFAULT, EXAMPLES, LISTED, one
+
+
+def lines_of(program: Program, it: object) -> list[str]:
+    """What is told of the tables, line by line."""
+    lines = program.check(json.dumps(it), "--tables")[1].splitlines()
+    first = next((n for n, line in enumerate(lines) if line.startswith("table: ")), len(lines))
+    return lines[first:]
+
+
+def fee(second: str, third: str, fourth: str) -> Json:
+    """The model of docs/MODEL.md, with these ages."""
+    it = model(table(["< 25", "-"], [second, "< 3"], [third, "< 3"], [fourth, ">= 3"], columns=["age", "claims"]), inputs=("age", "claims"), needs=("age", "claims"))
+    return json.loads(json.dumps(it).replace('"d0"', '"fee"'))
+
+
+PARCEL: Json = json.loads((EXAMPLES / "parcel.json").read_text())
+PLACES = model({"list": ["1", table("-", columns=["a"])]}, {"context": [{"name": "p", "expr": table("-", columns=["a"])}], "result": table("-", columns=["b"])})
+
+# Why; the model; and the lines that are due.
+ROWS: list[tuple[str, object, list[str]]] = [
+    (
+        "the parcel",
+        PARCEL,
+        [
+            'table: decisions[0] "price": 4 rules, U: complete for numbers and truth values, no two rules overlap',
+            "  no rule for null and other kinds of weight, express",
+        ],
+    ),
+    (
+        "the fee of docs/MODEL.md",
+        fee("[25..60]", ">= 60", "[25..60)"),
+        [
+            'table: decisions[0] "fee": 4 rules, U: not complete, rules overlap',
+            "  rules 2 and 3 both apply: age 60, claims <= 2    U gives null",
+            "  no rule: age >= 60, claims >= 3    e.g. 60, 3    null",
+            "  no rule for null and other kinds of age, claims",
+        ],
+    ),
+    (
+        "the same, mended",
+        fee("[25..60]", "> 60", ">= 25"),
+        [
+            'table: decisions[0] "fee": 4 rules, U: complete for numbers, no two rules overlap',
+            "  no rule for null and other kinds of age, claims",
+        ],
+    ),
+    ("complete", one("5", "not(5)"), ['table: decisions[0] "d": 2 rules, U: complete, no two rules overlap']),
+    ("one rule, and a policy without a word on overlaps", one("-", hit="C"), ['table: decisions[0] "d": 1 rule, C: complete']),
+    (
+        "an overlap under U",
+        one("<= 2", ">= 2", "(5..6)"),
+        [
+            'table: decisions[0] "d": 3 rules, U: complete for numbers, rules overlap',
+            "  rules 1 and 2 both apply: a 2    U gives null",
+            "  no rule for null and other kinds of a",
+            "  rule 3 never hits",
+        ],
+    ),
+    (
+        "a gap, and no default",
+        one(">= 0"),
+        ['table: decisions[0] "d": 1 rule, U: not complete, no two rules overlap', "  no rule: a <= -1    e.g. -1    null", "  no rule for null and other kinds of a"],
+    ),
+    (
+        "a gap of two columns, and a default",
+        one([">= 25", "< 0"], ["< 25", "-"], outputs=DEFAULT),
+        [
+            'table: decisions[0] "d": 2 rules, U: not complete, no two rules overlap',
+            "  no rule: a >= 25, b >= 0    e.g. 25, 0    the default",
+            "  no rule for null and other kinds of a, b",
+        ],
+    ),
+    (
+        "two columns without a gap",
+        one([">= 25", "< 0"], ["< 25", "-"], [">= 25", ">= 0"], outputs=DEFAULT),
+        ['table: decisions[0] "d": 3 rules, U: complete for numbers, no two rules overlap', "  no rule for null and other kinds of a, b"],
+    ),
+    (
+        "words",
+        one('"a"', '"b"', hit="F", outputs=DEFAULT),
+        ['table: decisions[0] "d": 2 rules, F: complete for the words asked'],
+    ),
+    (
+        "masked by one, and by two together",
+        one("< 5", ">= 5", "[0..10]", "7", hit="F"),
+        [
+            'table: decisions[0] "d": 4 rules, F: complete for numbers',
+            "  rule 3 never decides: rules 1 and 2 stand before it",
+            "  rule 4 never decides: rule 2 stands before it",
+        ],
+    ),
+    (
+        "under P no rule is looked for that never decides",
+        one("5", "-", hit="P", outputs=LISTED, then=['"LOW"', '"HIGH"']),
+        ['table: decisions[0] "d": 2 rules, P: complete'],
+    ),
+    ("a rule that never hits", one("(5..6)", "-", hit="R"), ['table: decisions[0] "d": 2 rules, R: complete', "  rule 1 never hits"]),
+    (
+        "A: outputs that differ, and outputs that don't",
+        one("-", "5", "6", hit="A", then=["1", "2", "1"]),
+        ['table: decisions[0] "d": 3 rules, A: complete, rules overlap', "  rules 1 and 2 both apply: a 5    A gives null"],
+    ),
+    (
+        "A: outputs that names decide",
+        one("-", "5", hit="A", then=["a", "a + 1"]),
+        [
+            'table: decisions[0] "d": 2 rules, A: complete, rules overlap',
+            "  not decided: rules 1 and 2 both apply, and names decide what they give",
+        ],
+    ),
+    (
+        "a test that a name decides",
+        one("x", "-", names="x"),
+        ['table: decisions[0] "d": 2 rules, U: complete, overlaps not decided', "  not decided: rule 1 has tests that names or lists decide"],
+    ),
+    (
+        "an expression in a column",
+        one([">= 25", "-"], ["-", "true"], columns=["a + b", "a"], needs=["a", "b"], outputs=DEFAULT),
+        [
+            'table: decisions[0] "d": 2 rules, U: not complete, rules overlap',
+            '  rules 1 and 2 both apply: "a + b" >= 25, a true    if the columns can take these values together    U gives null',
+            '  no rule: "a + b" <= 24, a false    e.g. 0, false    if the columns can take these values together    the default',
+            '  no rule for null and other kinds of "a + b", a',
+        ],
+    ),
+    (
+        "tables in a list, an entry and a result",
+        PLACES,
+        [
+            'table: decisions[0] "d0", member 2: 1 rule, U: complete, no two rules overlap',
+            'table: decisions[1] "d1", entry "p": 1 rule, U: complete, no two rules overlap',
+            'table: decisions[1] "d1", result: 1 rule, U: complete, no two rules overlap',
+        ],
+    ),
+    ("no rules", one(columns=["a"]), ['table: decisions[0] "d": 0 rules, U: not complete, no two rules overlap']),
+    ("a model without tables", model("a + 1"), []),
+]
+# Of these only the first line is held against what is due, since what follows may be told in several ways.
+FIRST_ONLY = {"words", "no rules", "masked by one, and by two together"}
+
+
+def results_of(program: Program) -> list[Result]:
+    found = list[Result]()
+    for why, it, due in ROWS:
+        lines = lines_of(program, it)
+        is_right = lines[:1] == due[:1] and set(due[1:]) <= set(lines) if why in FIRST_ONLY else lines == due
+        if not is_right:
+            print(f"{why}: {lines}, and {due} is due")
+        found.append((f"for people: {why}", is_right))
+    return found
+
