@@ -5,9 +5,9 @@ from __future__ import annotations
 import collections
 import copy
 import json
-import os
 import random
 import re
+import statistics
 import time
 from hashlib import sha256
 from pathlib import Path
@@ -18,10 +18,8 @@ HERE = Path(__file__).resolve().parent.parent.parent
 DMN = HERE / "examples" / "dmn"
 LOAN = DMN / "loan.dmn"
 SERVICE = "Bureau Strategy Decision Service"
-# What 100,000 requests may take by the clock on a machine that does nothing else.
-MOST_SECONDS = 3
-# How long a slower or a busier machine may take: a gate that runs beside other work is to fail for mistakes alone.
-PATIENCE = max(2 * MOST_SECONDS, 24 / (os.cpu_count() or 1))
+# How many seconds a table of 2,000 rules, a step of scrolling in it, and 100,000 requests may take: see machine.py.
+TABLE, STEP, REQUESTS = 1, 0.05, 3
 # The second applicant of examples/dmn/README.md, who is declined.
 DECLINED = {"Applicant data": {"Age": 20, "Marital Status": "S", "Employment Status": "STUDENT", "Existing Customer": False,
                                "Monthly": {"Income": 1000, "Repayments": 0, "Expenses": 700}},
@@ -233,19 +231,14 @@ class Rows:
         some = applicants(1000)
         path = self.suite.folder / "many.jsonl"
         path.write_text(lines(some) * 100)
-        tries, usual = [], os.nice(0)
-        while not tries or len(tries) < 3 and tries[-1][0] >= MOST_SECONDS and machine.busy():
-            if tries:
-                machine.prefer(-10)
-            meter = machine.Meter()
+
+        def count() -> float:
             self.browser.file("coverage-file", path)
             self.browser.wait(lambda: self.browser.js("return document.getElementById('progress').value") > 0, "progress")
             due = "100,000 requests, 100,000 with a result"
             self.browser.wait(lambda: due in self.browser.text("counted"), "the counts", 300)
-            tries.append((float(re.search(r"in ([\d.]+) s", self.browser.text("counted"))[1]), meter.others()))
-        if len(tries) > 1:
-            machine.prefer(usual)
-        said, is_within = times_said(tries)
+            return float(re.search(r"in ([\d.]+) s", self.browser.text("counted"))[1])
+        is_within, said = machine.in_turn(machine.computes, count, REQUESTS)
         model = json.loads(self.suite.service("dmn/loan.dmn").get("/v1/model?whole=true")[1])["model"]
         hit = by_pointer(model, counted(self.suite.explained(LOAN, some))[0])
         for row in self.browser.saved("Rules as CSV"):
@@ -254,8 +247,8 @@ class Rows:
         self.browser.wait(lambda: self.browser.js("return document.getElementById('progress').value") > 0, "progress")
         self.browser.js("document.getElementById('stop').click()")
         self.browser.wait(lambda: "Stopped before the end" in self.browser.text("counted"), "that it was stopped")
-        assert is_within, said
-        return said
+        assert is_within, f"100,000 in {said}"
+        return f"100,000 in {said}"
 
     def markup(self) -> str:
         """Names and values that are markup are shown as texts, and run nothing."""
@@ -333,11 +326,12 @@ class Rows:
     def long(self) -> str:
         """A table of 2,000 rules is there within a second, and the rule that decided is in view."""
         service = self.suite.service("long", long_table())
-        seconds = []
-        for _ in range(3):
+
+        def show() -> float:
             self.browser.open(service, {"a": 1500, "b": "k7"})
             self.browser.answer()
-            seconds.append(self.browser.js("""return performance.getEntriesByName("shown")[0].startTime"""))
+            return self.browser.js("""return performance.getEntriesByName("shown")[0].startTime""") / 1000
+        is_shown, said = machine.in_turn(machine.begins, show, TABLE)
         assert self.browser.js("return document.querySelectorAll('.rules tbody tr').length") < 120
         lit = self.browser.lit()["d"]
         assert lit["hits"] == [1501], lit
@@ -347,11 +341,9 @@ class Rows:
         assert inside, "the rule is not in view"
         self.browser.js("document.querySelector('.table .scroll').scrollTop = 1e9")
         self.browser.wait(lambda: self.browser.js("return !!document.querySelector('[data-at=\"1999\"]')"), "the last rule")
-        steps = sorted(self.browser.js(SCROLL))
-        middle = steps[len(steps) // 2]
-        assert middle < (1000 if machine.busy() else 50), f"a step of scrolling takes {steps} ms"
-        assert min(seconds) < (10_000 if machine.busy() else 1000), f"it is shown after {seconds} ms"
-        return f"{min(seconds):.0f} ms, a step of scrolling {middle:.1f} ms"
+        is_scrolled, step = machine.in_turn(machine.begins, lambda: statistics.median(self.browser.js(SCROLL)) / 1000, STEP)
+        assert is_shown and is_scrolled, f"it is shown after {said}; a step of scrolling takes {step}"
+        return f"{said}; a step of scrolling {step}"
 
     def contrast(self) -> str:
         """Each text stands out by 4.5 or more, in the light and in the dark."""
@@ -519,19 +511,6 @@ class Rows:
         sizes = {it.name: it.stat().st_size for it in where.glob("*.png")}
         assert sizes and all(5_000 < size < 250_000 for size in sizes.values()), sizes
         return ", ".join(f"{name} {size // 1000} kB" for name, size in sizes.items())
-
-
-def times_said(tries: list[tuple[float, float]]) -> tuple[str, bool]:
-    """What is said of the seconds that some tries took, others having a part of the processors, and whether it is within the bound.
-
-    On a busy machine there are up to three tries, the later ones at a higher priority where this may be had; and what is asked
-    is asked of the part of the processors that others left.
-    """
-    least, part = min(tries)
-    said = f"100,000 in {least} s" + (f", the least of {len(tries)} tries on a busy machine" if len(tries) > 1 else "")
-    if least < MOST_SECONDS or part < 0.25:
-        return said, least < PATIENCE
-    return f"{said}; others had {part:.0%} of the processors, so it is as {least * (1 - part):.1f} s", least * (1 - part) < PATIENCE
 
 
 def worded(value: object) -> object:
