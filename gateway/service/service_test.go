@@ -434,7 +434,9 @@ func TestStopUnderLoad(t *testing.T) {
 			}
 		}()
 	}
-	time.Sleep(300 * time.Millisecond)
+	for until := time.Now().Add(time.Minute); answered.Load() < 8 && time.Now().Before(until); {
+		time.Sleep(100 * time.Millisecond)
+	}
 	r.stop(t)
 	callers.Wait()
 	if answered.Load() < 8 {

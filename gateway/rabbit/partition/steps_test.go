@@ -15,8 +15,8 @@ import (
 // Where nothing moves in a takeover it is late; where something does it isn't, however long it lasts.
 func TestATakeoverThatDoesNotMove(t *testing.T) {
 	late := make(chan struct{}, 10)
-	s := beginSteps(200*time.Millisecond, func() { late <- struct{}{} })
-	for range make([]int, 10) {
+	s := beginSteps(time.Second, func() { late <- struct{}{} })
+	for range make([]int, 30) {
 		time.Sleep(40 * time.Millisecond)
 		s.Moved()
 	}
@@ -26,11 +26,11 @@ func TestATakeoverThatDoesNotMove(t *testing.T) {
 	}
 	select {
 	case <-late:
-	case <-time.After(5 * time.Second):
+	case <-time.After(time.Minute):
 		t.Error("it is not late")
 	}
 	s.end()
-	if text := s.String(); !regexp.MustCompile(`^[\d.]+m?s \(the streams are there \d+ms\)$`).MatchString(text) {
+	if text := s.String(); !regexp.MustCompile(`^[\d.]+m?s \(the streams are there [\d.]+m?s\)$`).MatchString(text) {
 		t.Error(text)
 	}
 }
