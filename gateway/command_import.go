@@ -150,10 +150,11 @@ func wholeImport(result *profile.Result) ([]byte, error) {
 	err := encoder.Encode(struct {
 		Model  *model.Model               `json:"model"`
 		Names  map[string]string          `json:"names"`
+		Locals map[string]string          `json:"locals,omitempty"`
 		Types  map[string]json.RawMessage `json:"types"`
 		Places map[string]profile.Place   `json:"places"`
 		// Diagram stands where the file draws each input and decision.
 		Diagram map[string]dmn.Box `json:"diagram,omitempty"`
-	}{&result.Model, result.Names, result.Types, result.Places, result.Diagram})
+	}{&result.Model, result.Names, result.Locals, result.Types, result.Places, result.Diagram})
 	return bytes.TrimRight(text.Bytes(), "\n"), err
 }

@@ -21,7 +21,8 @@ type assembler struct {
 // assembled is the result of a graph that was translated without a refusal.
 func assembled(g *graph, services []service) *Result {
 	a := &assembler{places: map[string]Place{}}
-	result := &Result{Names: g.words.names, Types: map[string]json.RawMessage{}, Places: a.places, Diagram: drawn(g)}
+	result := &Result{Names: g.words.names, Locals: g.words.locals, Types: map[string]json.RawMessage{}, Places: a.places,
+		Diagram: drawn(g)}
 	result.Model = model.Model{Inputs: []string{}, Decisions: []model.Decision{}, Services: []model.Service{}}
 	for i, n := range g.inputs {
 		result.Model.Inputs = append(result.Model.Inputs, n.word)

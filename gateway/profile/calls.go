@@ -89,7 +89,7 @@ func (t *translator) callKnown(n *feel.Call, name *feel.Name, s *scope) phrase {
 	if made == nil {
 		return refused
 	}
-	return t.hoisted(found.function.name, made, of)
+	return t.inFront(t.words.local(found.function.name), made, of)
 }
 
 // arranged translates the arguments of a function of FEEL in the order of its parameters. It tells what is wrong with

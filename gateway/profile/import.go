@@ -23,6 +23,8 @@ type Result struct {
 	Model model.Model
 	// Names has the name of the file for each word of the model that stands for one.
 	Names map[string]string
+	// Locals has the same for each word that stands within one decision alone, where it stands for a name of the file.
+	Locals map[string]string
 	// Types has a JSON Schema for each input and decision of the model, by its word.
 	Types map[string]json.RawMessage
 	// Places has the element that a part of the model came from, by the part's JSON Pointer (RFC 6901).

@@ -80,7 +80,7 @@ func (t *translator) bound(k *knowledge, placed []argument, refuse func(why, ins
 				refuse(fmt.Sprintf("the argument for %s: %s", parameter.Name(), why), instead)
 			})
 		}
-		word := t.words.fresh(parameter.Name())
+		word := t.words.local(parameter.Name())
 		t.wrote(len(word) + bytesOfEntry)
 		entries[i] = boxEntry{word: word, value: a.value}
 		inside.bindWord(parameter.Name(), word, a.of)

@@ -52,7 +52,11 @@ func (t *translator) framed(translate func() *box) *box {
 
 // hoisted makes a box an entry in front of the expression, and gives its word.
 func (t *translator) hoisted(base string, b *box, of *valueType) phrase {
-	word := t.words.fresh(base)
+	return t.inFront(t.words.fresh(base), b, of)
+}
+
+// inFront makes a box the entry of a word in front of the expression.
+func (t *translator) inFront(word string, b *box, of *valueType) phrase {
 	t.frame.entries = append(t.frame.entries, boxEntry{word: word, value: b})
 	t.wrote(len(word) + bytesOfEntry)
 	return constant(word, of)

@@ -21,14 +21,16 @@ type words struct {
 	// byName has the word of each canonical name, names the name as the file spells it.
 	byName map[string]string
 	names  map[string]string
+	// locals has the name, as the file spells it, of each word that stands within one decision alone.
+	locals map[string]string
 	taken  map[string]bool
 	// next has the number to try next behind a word that was taken.
 	next map[string]int
 }
 
 func newWords() *words {
-	return &words{byName: map[string]string{}, names: map[string]string{}, taken: map[string]bool{},
-		next: map[string]int{}}
+	return &words{byName: map[string]string{}, names: map[string]string{}, locals: map[string]string{},
+		taken: map[string]bool{}, next: map[string]int{}}
 }
 
 // of is the word of a name; a name that is new gets one.
@@ -39,9 +41,12 @@ func (w *words) of(name string) string {
 	}
 	word := w.free(asWord(name))
 	w.byName[canonical] = word
-	w.names[word] = strings.Join(strings.Fields(name), " ")
+	w.names[word] = spelled(name)
 	return word
 }
+
+// spelled is a name as the file spells it, without blanks around it and with one within it at most.
+func spelled(name string) string { return strings.Join(strings.Fields(name), " ") }
 
 // declare gives words to names, those that are words already first, so that they keep their own.
 func (w *words) declare(names []string) {
@@ -57,6 +62,13 @@ func (w *words) declare(names []string) {
 
 // fresh is a word that no name has.
 func (w *words) fresh(base string) string { return w.free(asWord(base) + "_1") }
+
+// local is a fresh word for a name of the file that stands within one decision, as a parameter's.
+func (w *words) local(name string) string {
+	word := w.fresh(name)
+	w.locals[word] = spelled(name)
+	return word
+}
 
 // free takes the word, or the first of its successors that is not taken.
 func (w *words) free(word string) string {
@@ -77,7 +89,7 @@ func (w *words) free(word string) string {
 
 // forgetFresh gives the fresh words free, so that a second pass takes the same ones.
 func (w *words) forgetFresh() {
-	w.next = map[string]int{}
+	w.next, w.locals = map[string]int{}, map[string]string{}
 	w.taken = make(map[string]bool, len(w.names))
 	for word := range w.names {
 		w.taken[word] = true
@@ -97,7 +109,7 @@ var latin = strings.NewReplacer(
 // asWord spells a name by the letters, digits and underscores of a word.
 func asWord(name string) string {
 	var word strings.Builder
-	for _, r := range latin.Replace(strings.Join(strings.Fields(name), " ")) {
+	for _, r := range latin.Replace(spelled(name)) {
 		switch {
 		case r >= 'a' && r <= 'z', r >= 'A' && r <= 'Z', r == '_':
 			word.WriteRune(r)
@@ -110,12 +122,12 @@ func asWord(name string) string {
 			word.WriteByte('_')
 		}
 	}
-	spelled := word.String()
-	if spelled == "" {
+	made := word.String()
+	if made == "" {
 		return "_"
 	}
-	if len(spelled) > mostWord {
-		spelled = spelled[:mostWord]
+	if len(made) > mostWord {
+		made = made[:mostWord]
 	}
-	return spelled
+	return made
 }

@@ -96,6 +96,9 @@ func (m *served) nameOf(word string) string {
 	if name, is := m.source.Names[word]; is {
 		return name
 	}
+	if name, is := m.source.Locals[word]; is {
+		return name
+	}
 	return word
 }
 

@@ -16,6 +16,8 @@ type Source struct {
 	Text []byte
 	// Names has the name in the file for each word of the model that is another; empty where the words are the names.
 	Names map[string]string
+	// Locals has the same for words that stand within one decision alone.
+	Locals map[string]string
 	// Types has a JSON Schema for each input of which the file says the type.
 	Types map[string]json.RawMessage
 	// Places has what stands in the file at each JSON Pointer into the model.
@@ -31,6 +33,7 @@ var ErrNoModel = errors.New("it is no model: neither a model in JSON, nor {\"mod
 type imported struct {
 	Model   json.RawMessage            `json:"model"`
 	Names   map[string]string          `json:"names,omitempty"`
+	Locals  map[string]string          `json:"locals,omitempty"`
 	Types   map[string]json.RawMessage `json:"types,omitempty"`
 	Places  json.RawMessage            `json:"places,omitempty"`
 	Diagram json.RawMessage            `json:"diagram,omitempty"`
@@ -45,7 +48,7 @@ func ReadSource(text []byte) (*Source, error) {
 	if err := json.Unmarshal(text, &it); err != nil {
 		return nil, fmt.Errorf("%w: %v", ErrNoModel, err)
 	}
-	source := &Source{Names: it.Names, Types: it.Types, Places: it.Places, Diagram: it.Diagram}
+	source := &Source{Names: it.Names, Locals: it.Locals, Types: it.Types, Places: it.Places, Diagram: it.Diagram}
 	model := []byte(it.Model)
 	if model == nil {
 		model = text
@@ -63,7 +66,7 @@ func ReadSource(text []byte) (*Source, error) {
 }
 
 func (s *Source) imported() imported {
-	return imported{Model: s.Text, Names: s.Names, Types: s.Types, Places: s.Places, Diagram: s.Diagram}
+	return imported{Model: s.Text, Names: s.Names, Locals: s.Locals, Types: s.Types, Places: s.Places, Diagram: s.Diagram}
 }
 
 // text is the source as desk import writes it.

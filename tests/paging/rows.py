@@ -111,6 +111,9 @@ class Rows:
                             "Eligibility", "Strategy"], headings
         rules = js("return [...document.querySelectorAll('table.rules')].map((it) => it.querySelectorAll('tbody tr').length)")
         assert rules == [11, 8, 3, 3, 4, 3], rules
+        # The word of the age is another one than in the table of the score: each is a parameter of its own.
+        entries = js("return [...document.querySelectorAll('#decisions article')[4].querySelectorAll('dt')].map((it) => it.textContent)")
+        assert entries == ["Eligibility rules", "Pre-bureau Risk Category", "Pre-bureau Affordability", "Age", "result", "result"], entries
         first = js("return [...document.querySelectorAll('table.rules')[0].querySelectorAll('tbody tr')[5].children].map((it) => it.textContent)")
         assert first == ["6", "-", '"S"', "-", "25"], first
         return ""

@@ -26,6 +26,7 @@ export class Model {
     this.fault = whole.fault;
     const written = whole.model ?? {};
     this.names = new Map(Object.entries(whole.names ?? {}));
+    this.locals = new Map(Object.entries(whole.locals ?? {}));
     this.words = new Map([...this.names].map(([word, name]) => [name, word]));
     this.types = whole.types ?? {};
     this.places = whole.places ?? {};
@@ -39,9 +40,9 @@ export class Model {
     this.services = listOf(written.services).filter((part) => typeof part?.name === "string");
   }
 
-  /** The name in the file of a word. */
+  /** The name in the file of a word, which may be one that stands within a decision alone. */
   name(word) {
-    return this.names.get(word) ?? word;
+    return this.names.get(word) ?? this.locals.get(word) ?? word;
   }
 
   /** The word of a name; of a word the word itself. */
