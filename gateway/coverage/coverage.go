@@ -31,6 +31,9 @@ type Answer struct {
 // Counts are those of the tables of a model.
 type Counts struct {
 	decisions map[string]*part
+	// form is that of lines, and order has the decisions in their order on the last one.
+	form  form
+	order []*part
 }
 
 // A part is a decision or a boxed expression in it, with what was counted of it and of its own parts.
@@ -38,6 +41,10 @@ type part struct {
 	table            *Table
 	entries, members []*part
 	result           *part
+	// begin is how a decision begins, and name the name of an entry.
+	begin, name string
+	// What its table and the hits of that have for keys, beside its own.
+	form, ofTable, ofHits form
 }
 
 // New has counted nothing.
@@ -49,20 +56,21 @@ var errLine = errors.New("a line of an explanation cannot be read")
 
 // Add counts what a line tells of a request, and gives its answer.
 func (c *Counts) Add(line []byte) (answer Answer, err error) {
-	at := &cursor{text: line}
+	at, number := &cursor{text: line}, 0
 	for is := at.open('{', '}'); is; is = at.more('}') {
-		switch string(at.key()) {
-		case "decisions":
+		switch at.key(&c.form, number) {
+		case `"decisions":`:
 			c.readDecisions(at)
-		case "result":
+		case `"result":`:
 			answer.Result = at.value()
-		case "fault":
+		case `"fault":`:
 			answer.Fault = string(at.quoted())
-		case "refused":
+		case `"refused":`:
 			answer.Refused = string(at.quoted())
 		default:
 			at.value()
 		}
+		number++
 	}
 	if at.isBad || at.at != len(line) {
 		return Answer{}, errLine
@@ -71,21 +79,27 @@ func (c *Counts) Add(line []byte) (answer Answer, err error) {
 }
 
 func (c *Counts) readDecisions(at *cursor) {
+	number := 0
 	for is := at.open('[', ']'); is; is = at.more(']') {
-		c.decision(at)
+		it := c.begun(at, number)
+		it.rest(at, 0)
+		number++
 	}
 }
 
-// decision counts a decision. Its name stands first.
-func (c *Counts) decision(at *cursor) {
-	var it *part
-	for is := at.open('{', '}'); is; is = at.more('}') {
-		if key := at.key(); string(key) == "name" {
-			it = c.named(at.quoted())
-		} else {
-			it.member(at, key)
-		}
+// begun goes over the begin of a decision, which is its name, and gives the decision.
+func (c *Counts) begun(at *cursor, number int) *part {
+	if number < len(c.order) && at.goes(c.order[number].begin) {
+		return c.order[number]
 	}
+	start := at.at
+	at.isBad = !at.goes(`{"name":`) || at.isBad
+	it := c.named(at.quoted())
+	if !at.isBad {
+		it.begin = string(at.text[start:at.at])
+		c.order = append(c.order[:number], it)
+	}
+	return it
 }
 
 // named is the decision with a name.
@@ -99,22 +113,20 @@ func (c *Counts) named(name []byte) *part {
 }
 
 // member counts what stands under a key of a part.
-func (p *part) member(at *cursor, key []byte) {
-	if p == nil {
-		at.value()
-		return
-	}
-	switch string(key) {
-	case "table":
+func (p *part) member(at *cursor, key string) {
+	switch key {
+	case `"name":`:
+		at.name(&p.name)
+	case `"table":`:
 		if p.table == nil {
 			p.table = &Table{Hits: []int{}}
 		}
-		p.table.read(at)
-	case "entries":
+		p.readTable(at)
+	case `"entries":`:
 		p.entries = readParts(at, p.entries)
-	case "members":
+	case `"members":`:
 		p.members = readParts(at, p.members)
-	case "result":
+	case `"result":`:
 		if p.result == nil {
 			p.result = &part{}
 		}
@@ -125,8 +137,16 @@ func (p *part) member(at *cursor, key []byte) {
 }
 
 func (p *part) read(at *cursor) {
-	for is := at.open('{', '}'); is; is = at.more('}') {
-		p.member(at, at.key())
+	if at.open('{', '}') {
+		p.member(at, at.key(&p.form, 0))
+		p.rest(at, 1)
+	}
+}
+
+// rest counts what stands behind so many members of a part, or behind the name of a decision.
+func (p *part) rest(at *cursor, number int) {
+	for ; at.more('}'); number++ {
+		p.member(at, at.key(&p.form, number))
 	}
 }
 
@@ -142,21 +162,22 @@ func readParts(at *cursor, parts []*part) []*part {
 	return parts
 }
 
-// read counts what a line says of the table.
-func (t *Table) read(at *cursor) {
-	hits, isAsked, defaults := 0, false, false
+// readTable counts what a line says of the table.
+func (p *part) readTable(at *cursor) {
+	t, number, hits, isAsked, defaults := p.table, 0, 0, false, false
 	for is := at.open('{', '}'); is; is = at.more('}') {
-		switch string(at.key()) {
-		case "hits":
+		switch at.key(&p.ofTable, number) {
+		case `"hits":`:
 			isAsked = true
-			hits = t.readHits(at)
-		case "defaults":
+			hits = p.readHits(at)
+		case `"defaults":`:
 			defaults = string(at.value()) == "true"
-		case "decided":
+		case `"decided":`:
 			t.readDecided(at)
 		default:
 			at.value()
 		}
+		number++
 	}
 	switch {
 	case !isAsked:
@@ -171,9 +192,9 @@ func (t *Table) read(at *cursor) {
 }
 
 // readHits counts the rules of a list of hits, and says how many these are.
-func (t *Table) readHits(at *cursor) (hits int) {
+func (p *part) readHits(at *cursor) (hits int) {
 	for is := at.open('[', ']'); is; is = at.more(']') {
-		t.Hits = counted(t.Hits, hitRule(at))
+		p.table.Hits = counted(p.table.Hits, p.hitRule(at))
 		hits++
 	}
 	return hits
@@ -189,13 +210,15 @@ func (t *Table) readDecided(at *cursor) {
 }
 
 // hitRule is the number of the rule of a hit.
-func hitRule(at *cursor) (rule int) {
+func (p *part) hitRule(at *cursor) (rule int) {
+	number := 0
 	for is := at.open('{', '}'); is; is = at.more('}') {
-		if string(at.key()) == "rule" {
+		if at.key(&p.ofHits, number) == `"rule":` {
 			rule = at.number()
 		} else {
 			at.value()
 		}
+		number++
 	}
 	return rule
 }
@@ -212,6 +235,63 @@ func counted(counts []int, rule int) []int {
 		counts = append(counts, 0)
 	}
 	counts[rule-1]++
+	return counts
+}
+
+// Merge adds what others counted, which are not used any more.
+func (c *Counts) Merge(other *Counts) {
+	for name, it := range other.decisions {
+		c.decisions[name] = merged(c.decisions[name], it)
+	}
+}
+
+// merged is the sum of two parts, each of which may be nil.
+func merged(one, other *part) *part {
+	if one == nil || other == nil {
+		if one == nil {
+			return other
+		}
+		return one
+	}
+	one.table = mergedTables(one.table, other.table)
+	one.entries = mergedParts(one.entries, other.entries)
+	one.members = mergedParts(one.members, other.members)
+	one.result = merged(one.result, other.result)
+	return one
+}
+
+func mergedParts(parts, others []*part) []*part {
+	if len(parts) < len(others) {
+		parts, others = others, parts
+	}
+	for at, other := range others {
+		parts[at] = merged(parts[at], other)
+	}
+	return parts
+}
+
+func mergedTables(one, other *Table) *Table {
+	if one == nil {
+		return other
+	}
+	if other != nil {
+		one.Asked += other.Asked
+		one.Defaults += other.Defaults
+		one.None += other.None
+		one.Hits = sums(one.Hits, other.Hits)
+		one.Decided = sums(one.Decided, other.Decided)
+	}
+	return one
+}
+
+// sums adds counts, of which the longer list stays; a nil one is no list.
+func sums(counts, others []int) []int {
+	if counts == nil || others != nil && len(counts) < len(others) {
+		counts, others = others, counts
+	}
+	for at, count := range others {
+		counts[at] += count
+	}
 	return counts
 }
 

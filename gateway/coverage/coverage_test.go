@@ -37,6 +37,52 @@ func TestCounts(t *testing.T) {
 	}
 }
 
+// What several counted is what one counts over all lines, also where keys and decisions come otherwise than before.
+func TestMerge(t *testing.T) {
+	lines := []string{
+		`{"decisions":[{"name":"d","value":1,"table":{"hits":[{"rule":2,"value":1}],"defaults":false,"decided":[2]}}],"result":1}`,
+		`{"decisions":[{"name":"d","value":1,"table":{"hits":[{"rule":3,"value":1,"places":[1]},{"value":1,"rule":1}],"defaults":false}}]}`,
+		`{"decisions":[{"name":"e","entries":[{"name":"d","table":{"hits":[],"defaults":true,"decided":[]}}],"value":"\\"},` +
+			`{"name":"d","table":{"policy":"F","hits":[],"decided":[]}}],"result":1}`,
+		`{"result":1,"decisions":[{"name":"e","value":{"name":"d","table":{"hits":[{"rule":1}]}},"result":{"table":{"hits":[]}},` +
+			`"members":[{"value":1},{"table":{"decided":[4],"hits":[{"rule":4}]}}],"entries":[{},{"table":{"hits":[]}}]}]}`,
+		`{"decisions":[],"result":1}`,
+	}
+	for split := 0; split <= len(lines); split++ {
+		whole, one, other := New(), New(), New()
+		for at, line := range lines {
+			half := one
+			if at >= split {
+				half = other
+			}
+			for _, counts := range []*Counts{whole, half} {
+				if _, err := counts.Add([]byte(line)); err != nil {
+					t.Fatalf("%s: %v", line, err)
+				}
+			}
+		}
+		one.Merge(other)
+		names := []string{"d", "e"}
+		due, _ := json.Marshal(whole.Tables(names))
+		if text, err := json.Marshal(one.Tables(names)); err != nil || string(text) != string(due) {
+			t.Errorf("%d lines and the others: %s, and due is\n%s", split, text, due)
+		}
+	}
+	all := New()
+	for _, line := range lines {
+		_, _ = all.Add([]byte(line))
+	}
+	text, _ := json.Marshal(all.Tables([]string{"d", "e"}))
+	due := `{"/decisions/0/expr/table":{"asked":3,"defaults":0,"none":1,"hits":[1,1,1],"decided":[0,1]},` +
+		`"/decisions/1/expr/context/0/expr/table":{"asked":1,"defaults":1,"none":0,"hits":[],"decided":[]},` +
+		`"/decisions/1/expr/context/1/expr/table":{"asked":1,"defaults":0,"none":1,"hits":[],"decided":null},` +
+		`"/decisions/1/expr/list/1/table":{"asked":1,"defaults":0,"none":0,"hits":[0,0,0,1],"decided":[0,0,0,1]},` +
+		`"/decisions/1/expr/result/table":{"asked":1,"defaults":0,"none":1,"hits":[],"decided":null}}`
+	if string(text) != due {
+		t.Errorf("%s, and due is\n%s", text, due)
+	}
+}
+
 // A line that is cut anywhere is refused, and nothing panics.
 func TestHalfLines(t *testing.T) {
 	line := `{"client":"b","decisions":[{"name":"d","value":"\"","table":{"hits":[{"rule":2}],"decided":[2]}}],"result":5}`

@@ -1,7 +1,5 @@
 package coverage
 
-import "bytes"
-
 // A cursor goes through a compact JSON text that an engine wrote. It is lenient: a text that is none makes it bad.
 type cursor struct {
 	text  []byte
@@ -45,38 +43,57 @@ func (c *cursor) more(end byte) bool {
 	return false
 }
 
-// key goes over a key and its colon.
-func (c *cursor) key() []byte {
-	key := c.quoted()
+// goes says whether a text comes next, and goes over it then.
+func (c *cursor) goes(text string) bool {
+	if end := c.at + len(text); end <= len(c.text) && string(c.text[c.at:end]) == text {
+		c.at = end
+		return true
+	}
+	return false
+}
+
+// A form has the keys of an object as they came last, in their order, each with its quotes and its colon: most come so again.
+type form []string
+
+// key goes over the key that is number at in an object, and gives it with its quotes and its colon.
+func (c *cursor) key(f *form, at int) string {
+	if at < len(*f) && c.goes((*f)[at]) {
+		return (*f)[at]
+	}
+	start := c.at
+	c.quoted()
 	c.take(':')
+	if c.isBad {
+		return ""
+	}
+	key := string(c.text[start:c.at])
+	if at <= len(*f) {
+		*f = append((*f)[:at], key)
+	}
 	return key
 }
 
-// quoted is what stands within quotes, as it is written.
+// name goes over a text in quotes that is mostly the one that came last.
+func (c *cursor) name(last *string) {
+	if *last == "" || !c.goes(*last) {
+		*last = string(c.value())
+	}
+}
+
+// quoted is what stands within quotes, as it is written. Most are short: a loop is quicker with them than a search is.
 func (c *cursor) quoted() []byte {
 	c.take('"')
-	start := c.at
-	for !c.isBad {
-		next := bytes.IndexByte(c.text[c.at:], '"')
-		if next < 0 {
-			break
-		}
-		c.at += next + 1
-		if !isEscaped(c.text[start : c.at-1]) {
-			return c.text[start : c.at-1]
+	for start, at := c.at, c.at; at < len(c.text); at++ {
+		switch c.text[at] {
+		case '\\':
+			at++
+		case '"':
+			c.at = at + 1
+			return c.text[start:at]
 		}
 	}
 	c.isBad, c.at = true, len(c.text)
 	return nil
-}
-
-// isEscaped says whether a quote behind a text is part of it: an odd number of backslashes stands at its end.
-func isEscaped(text []byte) bool {
-	end := len(text)
-	for end > 0 && text[end-1] == '\\' {
-		end--
-	}
-	return (len(text)-end)%2 == 1
 }
 
 // number is a whole number that is not below 0.
@@ -90,38 +107,45 @@ func (c *cursor) number() int {
 	return n
 }
 
-// What a byte is to a value that is gone over.
-const (
-	inner = iota
-	quote
-	opens
-	closes
-	comma
-)
-
-var classes = [256]uint8{'"': quote, '{': opens, '[': opens, '}': closes, ']': closes, ',': comma}
-
 // value goes over a value, and gives its text.
 func (c *cursor) value() []byte {
-	start, depth := c.at, 0
-	for c.at < len(c.text) && !c.isBad {
-		class := classes[c.text[c.at]]
-		if depth == 0 && class >= closes {
-			break
-		}
-		switch class {
-		case quote:
-			c.quoted()
-			continue
-		case opens:
-			depth++
-		case closes:
-			depth--
-		}
-		if c.at++; depth == 0 && class == closes {
-			break
+	start := c.at
+	switch c.peek() {
+	case '{', '[':
+		c.nested()
+	case '"':
+		c.quoted()
+	default:
+		for c.at < len(c.text) && !isEnd[c.text[c.at]] {
+			c.at++
 		}
 	}
-	c.isBad = c.isBad || depth > 0 || start == c.at
+	c.isBad = c.isBad || start == c.at
 	return c.text[start:c.at]
+}
+
+// isEnd has what stands behind a number, or behind true, false or null.
+var isEnd = [256]bool{',': true, '}': true, ']': true}
+
+// nested goes over a list or an object.
+func (c *cursor) nested() {
+	depth := 0
+	for at := c.at; at < len(c.text); at++ {
+		switch c.text[at] {
+		case '{', '[':
+			depth++
+		case '}', ']':
+			if depth--; depth == 0 {
+				c.at = at + 1
+				return
+			}
+		case '"':
+			for at++; at < len(c.text) && c.text[at] != '"'; at++ {
+				if c.text[at] == '\\' {
+					at++
+				}
+			}
+		}
+	}
+	c.isBad, c.at = true, len(c.text)
 }

@@ -47,6 +47,11 @@ type scanner struct {
 	// nesting is how many more lists and objects may begin here.
 	nesting int
 	reason  string
+	// reader is nil, or is told of keys; outermost is the nesting within the outermost object then.
+	reader    *Reader
+	outermost int
+	// isInner says that the members of the value that is read next are taken.
+	isInner bool
 }
 
 // Members reads a text that is an object, of which the engine allows this much nesting, and gives its members in their
@@ -157,10 +162,16 @@ func (s *scanner) blanks() {
 
 func (s *scanner) value() (Span, bool) {
 	span := Span{Start: s.at, Nodes: 1, Depth: 1, Bad: -1}
-	ok := false
+	ok, isInner := false, s.isInner
+	s.isInner = false
 	switch c := s.peek(); {
 	case c == '{':
-		ok = s.object(func(_ []byte, value Span) { span.add(value) })
+		ok = s.object(func(key []byte, value Span) {
+			span.add(value)
+			if isInner {
+				s.reader.takeInner(key, value)
+			}
+		})
 	case c == '[':
 		ok = s.list(span.add)
 	case c == '"':
@@ -276,6 +287,10 @@ func (s *scanner) member() (key []byte, value Span, ok bool) {
 	}
 	s.at++
 	s.blanks()
+	if s.reader != nil {
+		s.reader.noteKey(key)
+		s.isInner = s.nesting == s.outermost && s.reader.takes(key)
+	}
 	value, ok = s.value()
 	return key, value, ok
 }

@@ -187,7 +187,7 @@ func (s *Service) readBody(w http.ResponseWriter, r *http.Request) ([]byte, *pro
 	body := make([]byte, 0, room)
 	for {
 		if len(body) == cap(body) {
-			body = append(body, 0)[:len(body)]
+			body = roomier(body, r.ContentLength)
 		}
 		n, err := r.Body.Read(body[len(body):cap(body)])
 		if !s.bodies.take(int64(n)) {
@@ -208,6 +208,15 @@ func (s *Service) readBody(w http.ResponseWriter, r *http.Request) ([]byte, *pro
 			return nil, problemSyntax.with("the body did not come whole: " + err.Error())
 		}
 	}
+}
+
+// roomier gives a full body room for more: as much as is to come, where this is not far more than what came.
+func roomier(body []byte, length int64) []byte {
+	room := 4 * int64(len(body))
+	if length < room && length >= int64(len(body)) {
+		room = length + 1
+	}
+	return append(make([]byte, 0, room), body...)
 }
 
 func (s *Service) tooLong(w http.ResponseWriter) *problem {

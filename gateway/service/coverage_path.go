@@ -26,11 +26,18 @@ type covering struct {
 	model *served
 	// service is that of lines which are inputs alone; nil where such lines are not taken.
 	service *decisionService
+	reader  lines.Reader
 	lines   []lineAsked
 	jobs    []*engine.Job
 	room    []byte
-	// mu guards what is below it.
+	// mu guards counts, to which each engine's are added in the end.
 	mu     sync.Mutex
+	counts *coverage.Counts
+}
+
+// A counting is what one engine tells of its lines.
+type counting struct {
+	*covering
 	counts *coverage.Counts
 	// renamed has results with the names of the file, by their texts: few differ, mostly.
 	renamed map[string][]byte
@@ -60,7 +67,7 @@ func (s *Service) covered(w http.ResponseWriter, r *http.Request) ([]byte, *prob
 		return nil, p
 	}
 	c := &covering{model: model, service: model.services[r.URL.Query().Get("service")], counts: coverage.New(),
-		renamed: map[string][]byte{}}
+		reader: lines.Reader{Within: "inputs", Names: model.words}}
 	c.read(body)
 	if p := c.ask(r.Context(), s); p != nil {
 		return nil, p
@@ -75,7 +82,8 @@ func (s *Service) covered(w http.ResponseWriter, r *http.Request) ([]byte, *prob
 
 // read makes a request of each line of a body.
 func (c *covering) read(body []byte) {
-	c.room = make([]byte, 0, len(body)+len(body)/4)
+	count := bytes.Count(body, []byte("\n")) + 1
+	c.room, c.lines, c.jobs = make([]byte, 0, len(body)+len(body)/4), make([]lineAsked, 0, count), make([]*engine.Job, 0, count)
 	for number := 1; len(body) > 0; number++ {
 		line, rest, _ := bytes.Cut(body, []byte("\n"))
 		body = rest
@@ -94,7 +102,7 @@ func (c *covering) read(body []byte) {
 // line reads one line: a request, the inputs of one, or one of the other lines that `desk serve` takes, which is skipped.
 func (c *covering) line(number int, text []byte) {
 	it := lineAsked{number: number}
-	members, other, fault := lines.Members(text, lines.MaxNesting)
+	object, other, fault := c.reader.Read(text, lines.MaxNesting)
 	if fault != nil || other {
 		it.problem = problemShape.with("it is no request: a JSON object is due")
 		if fault != nil {
@@ -103,22 +111,28 @@ func (c *covering) line(number int, text []byte) {
 		c.lines = append(c.lines, it)
 		return
 	}
-	found, isRequest := requestIn(text, members)
-	inputs, service := text, c.service
+	found, isRequest := requestIn(text, object.Members)
+	inputs, members, service := text, object.Members, c.service
 	switch {
 	case isRequest:
-		inputs, it.client, it.service = found.inputs, found.client, found.service
+		inputs, members, it.client, it.service = found.inputs, object.Inner, found.client, found.service
 		if service = c.serviceOf(found.service); service == nil {
 			it.problem = problemService.with("the model has no service " + lines.Brief(found.service, 60))
 		}
-	case isOther(text, members):
+	case isOther(text, object.Members):
 		return
 	case service == nil:
 		it.problem = problemShape.with("it is no request: it has not just client, service and inputs")
 	}
 	if it.problem == nil {
 		job := &engine.Job{}
-		if c.room, it.problem = c.model.request(service, inputs, job, c.room); it.problem == nil {
+		switch {
+		case inputs[0] != '{' || object.HasName || object.Depth >= lines.MaxNesting:
+			c.room, it.problem = c.model.request(service, inputs, job, c.room)
+		default:
+			c.room, it.problem = c.model.worded(service, inputs, text, members, job, c.room)
+		}
+		if it.problem == nil {
 			it.job = job
 		}
 	}
@@ -215,8 +229,8 @@ func (c *covering) ask(ctx context.Context, s *Service) (first *problem) {
 
 // explain asks one engine for some of the requests.
 func (c *covering) explain(ctx context.Context, explainer *engine.Explainer, jobs []*engine.Job) error {
-	at := 0
-	return explainer.Each(ctx, c.model.engine, jobs, func(text []byte, cut bool) error {
+	at, of := 0, &counting{covering: c, counts: coverage.New(), renamed: map[string][]byte{}}
+	err := explainer.Each(ctx, c.model.engine, jobs, func(text []byte, cut bool) error {
 		if at == len(jobs) {
 			return nil
 		}
@@ -226,14 +240,16 @@ func (c *covering) explain(ctx context.Context, explainer *engine.Explainer, job
 			it.problem = problemHuge.with("its explanation has over 16 MiB")
 			return nil
 		}
-		return c.told(it, text)
+		return of.told(it, text)
 	})
+	c.mu.Lock()
+	defer c.mu.Unlock()
+	c.counts.Merge(of.counts)
+	return err
 }
 
 // told counts what is told of a line, and keeps its answer.
-func (c *covering) told(it *lineAsked, text []byte) error {
-	c.mu.Lock()
-	defer c.mu.Unlock()
+func (c *counting) told(it *lineAsked, text []byte) error {
 	answer, err := c.counts.Add(text)
 	switch {
 	case err != nil:
@@ -252,7 +268,7 @@ func (c *covering) told(it *lineAsked, text []byte) error {
 const mostRenamed = 1000
 
 // named is a result with the names of the file.
-func (c *covering) named(result []byte) []byte {
+func (c *counting) named(result []byte) []byte {
 	if len(c.model.words) == 0 || bytes.IndexByte(result, '{') < 0 {
 		return append([]byte(nil), result...)
 	}
@@ -269,6 +285,9 @@ func (c *covering) named(result []byte) []byte {
 	return renamed
 }
 
+// aroundAnswers and aroundAnswer are about how many bytes stand around the lists of an answer, and around what is told of a line.
+const aroundAnswers, aroundAnswer = 64, 64
+
 // text is the answer: the counts of each table, and what became of each line.
 func (c *covering) text() ([]byte, error) {
 	var names []string
@@ -279,7 +298,12 @@ func (c *covering) text() ([]byte, error) {
 	if err != nil {
 		return nil, err
 	}
-	text := append(append([]byte(`{"tables":`), tables...), `,"answers":[`...)
+	room := len(tables) + aroundAnswers
+	for at := range c.lines {
+		it := &c.lines[at]
+		room += aroundAnswer + len(it.client) + len(it.service) + len(it.answer)
+	}
+	text := append(append(append(make([]byte, 0, room), `{"tables":`...), tables...), `,"answers":[`...)
 	for at := range c.lines {
 		if at > 0 {
 			text = append(text, ',')

@@ -25,16 +25,28 @@ func (m *served) request(service *decisionService, text []byte, job *engine.Job,
 		return room, syntaxProblem(fault)
 	}
 	if len(m.words) > 0 && lines.HasKey(text, m.words) {
-		renamed, err := lines.Rename(text, m.words)
-		if err != nil {
-			return room, problemInside.with(err.Error())
-		}
-		text = renamed
-		if members, _, fault = lines.Members(text, lines.MaxNesting-1); fault != nil {
-			return room, syntaxProblem(fault)
-		}
+		return m.renamed(service, text, job, room)
 	}
-	if p := m.values(service, text, members); p != nil {
+	return m.worded(service, text, text, members, job, room)
+}
+
+// renamed makes a request from inputs with names of the file.
+func (m *served) renamed(service *decisionService, text []byte, job *engine.Job, room []byte) ([]byte, *problem) {
+	text, err := lines.Rename(text, m.words)
+	if err != nil {
+		return room, problemInside.with(err.Error())
+	}
+	members, _, fault := lines.Members(text, lines.MaxNesting-1)
+	if fault != nil {
+		return room, syntaxProblem(fault)
+	}
+	return m.worded(service, text, text, members, job, room)
+}
+
+// worded makes a request from inputs with the model's words. Their members are bounded within whole, of which they are a part.
+func (m *served) worded(service *decisionService, text, whole []byte, members []lines.Member, job *engine.Job,
+	room []byte) ([]byte, *problem) {
+	if p := m.values(service, whole, members); p != nil {
 		return room, p
 	}
 	most := lines.MaxLine - lineOverhead - len(inputsKey) - len(service.tail)
