@@ -27,9 +27,11 @@ type covering struct {
 	// service is that of lines which are inputs alone; nil where such lines are not taken.
 	service *decisionService
 	reader  lines.Reader
-	lines   []lineAsked
-	jobs    []*engine.Job
-	room    []byte
+	// count is how many lines the body has, blank ones and others that are skipped among them.
+	count int
+	lines []lineAsked
+	jobs  []*engine.Job
+	room  []byte
 	// mu guards counts, to which each engine's are added in the end.
 	mu     sync.Mutex
 	counts *coverage.Counts
@@ -80,15 +82,18 @@ func (s *Service) covered(w http.ResponseWriter, r *http.Request) ([]byte, *prob
 	return text, nil
 }
 
+// fewBytes is how many bytes most requests have at least.
+const fewBytes = 100
+
 // read makes a request of each line of a body.
 func (c *covering) read(body []byte) {
-	count := bytes.Count(body, []byte("\n")) + 1
-	c.room, c.lines, c.jobs = make([]byte, 0, len(body)+len(body)/4), make([]lineAsked, 0, count), make([]*engine.Job, 0, count)
-	for number := 1; len(body) > 0; number++ {
+	requests := len(body)/fewBytes + 1
+	c.room, c.lines, c.jobs = make([]byte, 0, len(body)+len(body)/4), make([]lineAsked, 0, requests), make([]*engine.Job, 0, requests)
+	for ; len(body) > 0; c.count++ {
 		line, rest, _ := bytes.Cut(body, []byte("\n"))
 		body = rest
 		if len(bytes.TrimSpace(line)) > 0 {
-			c.line(number, line)
+			c.line(c.count+1, line)
 		}
 	}
 	for at := range c.lines {
@@ -303,7 +308,8 @@ func (c *covering) text() ([]byte, error) {
 		it := &c.lines[at]
 		room += aroundAnswer + len(it.client) + len(it.service) + len(it.answer)
 	}
-	text := append(append(append(make([]byte, 0, room), `{"tables":`...), tables...), `,"answers":[`...)
+	text := append(append(append(make([]byte, 0, room), `{"tables":`...), tables...), `,"lines":`...)
+	text = append(strconv.AppendInt(text, int64(c.count), 10), `,"answers":[`...)
 	for at := range c.lines {
 		if at > 0 {
 			text = append(text, ',')

@@ -138,6 +138,7 @@ func TestCoverage(t *testing.T) {
 			Asked, None int
 			Hits        []int
 		}
+		Lines   int
 		Answers []struct {
 			Line            int
 			Client, Problem string
@@ -148,8 +149,8 @@ func TestCoverage(t *testing.T) {
 		t.Fatalf("%d %s", status, text)
 	}
 	table := told.Tables["/decisions/0/expr/table"]
-	if len(told.Tables) != 1 || table.Asked != 3 || table.None != 1 || fmt.Sprint(table.Hits) != "[1 2 1]" {
-		t.Errorf("the tables are %+v", told.Tables)
+	if told.Lines != 10 || len(told.Tables) != 1 || table.Asked != 3 || table.None != 1 || fmt.Sprint(table.Hits) != "[1 2 1]" {
+		t.Errorf("%d lines, and the tables are %+v", told.Lines, told.Tables)
 	}
 	var said []string
 	for _, it := range told.Answers {
@@ -160,10 +161,10 @@ func TestCoverage(t *testing.T) {
 		t.Errorf("the answers are %s, and due is %s", got, due)
 	}
 	status, text, _ = send(t, "POST", r.url+"/v1/coverage", `{"a":9}`)
-	if status != 200 || !strings.Contains(text, `{"tables":{},"answers":[{"line":1,"problem":"shape"`) {
+	if status != 200 || !strings.Contains(text, `{"tables":{},"lines":1,"answers":[{"line":1,"problem":"shape"`) {
 		t.Errorf("inputs without a service: %d %s", status, text)
 	}
-	if status, text, _ = send(t, "POST", r.url+"/v1/coverage", ""); status != 200 || text != `{"tables":{},"answers":[]}` {
+	if status, text, _ = send(t, "POST", r.url+"/v1/coverage", ""); status != 200 || text != `{"tables":{},"lines":0,"answers":[]}` {
 		t.Errorf("nothing: %d %s", status, text)
 	}
 }

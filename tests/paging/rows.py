@@ -19,7 +19,7 @@ DMN = HERE / "examples" / "dmn"
 LOAN = DMN / "loan.dmn"
 SERVICE = "Bureau Strategy Decision Service"
 # How many seconds a table of 2,000 rules, a step of scrolling in it, and 100,000 requests may take: see machine.py.
-TABLE, STEP, REQUESTS = 1, 0.05, 3
+TABLE, STEP, REQUESTS = 1, 0.08, 3
 # The second applicant of examples/dmn/README.md, who is declined.
 DECLINED = {"Applicant data": {"Age": 20, "Marital Status": "S", "Employment Status": "STUDENT", "Existing Customer": False,
                                "Monthly": {"Income": 1000, "Repayments": 0, "Expenses": 700}},

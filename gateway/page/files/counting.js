@@ -68,7 +68,10 @@ function answersOf(coverage) {
   const kindOf = (it) => it.problem ?? show(it.result).slice(0, 60);
   const said = (it) => (it.problem === undefined ? show(it.result) : [it.problem, it.detail].filter(Boolean).join(": "));
   const kinds = new Map();
-  for (const it of coverage.answers) kinds.set(kindOf(it), (kinds.get(kindOf(it)) ?? 0) + 1);
+  for (const it of coverage.answers) {
+    const kind = kindOf(it);
+    kinds.set(kind, (kinds.get(kind) ?? 0) + 1);
+  }
   let shown = coverage.answers;
   const body = el("tbody");
   const scroller = framed("The answers",

@@ -5,6 +5,8 @@ import { listOf, tablesOf } from "./model.js";
 
 const PIECE = 512 * 1024;
 const LONGEST = 16 * 1024 * 1024;
+/** Where the end of a piece is looked for first: most lines are shorter. */
+const TAIL = 8 * 1024;
 /** A browser has six connections to a service at once: one is left for what is asked meanwhile. */
 const AT_ONCE = 5;
 const NEWLINE = 10;
@@ -32,7 +34,8 @@ export class Coverage {
       throw fault;
     }));
     const ends = await Promise.allSettled(workers);
-    this.answers = this.pieces.flatMap((piece) => piece?.answers ?? []);
+    await this.number();
+    this.answers = this.pieces.flatMap((piece) => piece.answers);
     this.isWhole = ends.every((end) => end.status === "fulfilled");
     const fault = ends.map((end) => end.reason).find((reason) => reason && reason.name !== "AbortError");
     if (fault) throw fault;
@@ -42,35 +45,53 @@ export class Coverage {
     this.abort.abort();
   }
 
-  /** The file in pieces of whole lines. */
+  /** The file in pieces of whole lines. They are hardly read here: the browser sends them, and the service counts their lines. */
   async* parts() {
-    let line = 1;
-    for (let start = 0, number = 0; start < this.file.size; number += 1) {
-      const bytes = await this.wholeLines(start);
-      const mark = start === 0 && bytes[0] === 0xef && bytes[1] === 0xbb && bytes[2] === 0xbf ? 3 : 0;
-      yield { number, start, line, size: bytes.length, body: this.file.slice(start + mark, start + bytes.length) };
-      start += bytes.length;
-      line += newlines(bytes);
+    const [one, two, three] = await this.bytes(0, 3);
+    let start = one === 0xef && two === 0xbb && three === 0xbf ? 3 : 0;
+    while (start < this.file.size) {
+      const end = await this.endOfLines(start);
+      const piece = { start, end, answers: [] };
+      this.pieces.push(piece);
+      yield piece;
+      start = end;
     }
   }
 
-  async wholeLines(start) {
+  async bytes(start, end) {
+    return new Uint8Array(await this.file.slice(start, end).arrayBuffer());
+  }
+
+  /** Where the whole lines end that begin here and fit into a piece; the first one may be longer. */
+  async endOfLines(start) {
     for (let size = PIECE; size <= LONGEST; size *= 2) {
-      this.abort.signal.throwIfAborted();
-      const bytes = new Uint8Array(await this.file.slice(start, start + size).arrayBuffer());
-      const end = start + size >= this.file.size ? bytes.length : bytes.lastIndexOf(NEWLINE) + 1;
-      if (end > 0) return bytes.subarray(0, end);
+      const end = start + size;
+      if (end >= this.file.size) return this.file.size;
+      for (const from of [end - TAIL, start]) {
+        this.abort.signal.throwIfAborted();
+        const last = (await this.bytes(from, end)).lastIndexOf(NEWLINE);
+        if (last >= 0) return from + last + 1;
+      }
     }
     throw new Problem({ title: "A line of the file is too long" });
   }
 
-  async ask({ number, start, line, size, body }) {
-    const told = await cover(this.model, this.service, body, this.abort.signal);
-    for (const answer of told.answers) answer.line += line - 1;
-    this.pieces[number] = { start, line, size, answers: told.answers };
+  async ask(piece) {
+    const told = await cover(this.model, this.service, this.file.slice(piece.start, piece.end), this.abort.signal);
+    Object.assign(piece, { lines: told.lines, answers: told.answers });
     for (const [pointer, counts] of Object.entries(told.tables)) this.add(pointer, counts);
-    this.done += size;
+    this.done += piece.end - piece.start;
     this.onprogress(this.done / this.file.size);
+  }
+
+  /** Numbers the lines of the whole file. Those of a piece that was not answered to are counted here. */
+  async number() {
+    let line = 1;
+    for (const piece of this.pieces) {
+      piece.line = line;
+      for (const answer of piece.answers) answer.line += line - 1;
+      line += piece.lines ?? newlines(await this.bytes(piece.start, piece.end));
+    }
   }
 
   add(pointer, counts) {
@@ -100,9 +121,8 @@ export class Coverage {
 
   /** The service and the inputs of a line. */
   async request(line) {
-    const piece = this.pieces.findLast((it) => it && it.line <= line);
-    const text = await this.file.slice(piece.start, piece.start + piece.size).text();
-    return text.replace(/^\uFEFF/, "").split("\n")[line - piece.line];
+    const piece = this.pieces.findLast((it) => it.line <= line);
+    return (await this.file.slice(piece.start, piece.end).text()).split("\n")[line - piece.line];
   }
 
   rulesCSV() {
