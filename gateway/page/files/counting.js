@@ -6,10 +6,17 @@ import { Rows } from "./rows.js";
 import { reveal } from "./show.js";
 import { model, state, tried } from "./state.js";
 
+/** How many milliseconds pass at least from one change of the progress to the next. */
+const PAUSE = 100;
+
 export async function takeRequests(file) {
   state.coverage?.stop();
   const progress = byID("progress");
+  let told = 0;
   const coverage = new Coverage(file, model(), model().name(state.service), (part) => {
+    // Each change is drawn, and may be read out.
+    if (performance.now() - told < PAUSE) return;
+    told = performance.now();
     progress.value = part;
     byID("counted").replaceChildren(`${file.name}: ${Math.floor(100 * part)} of 100 parts were counted.`);
   });
