@@ -19,9 +19,11 @@ var plain = func() (table [256]bool) {
 func (s *scanner) str() bool {
 	s.at++
 	for {
-		for s.at < len(s.text) && plain[s.text[s.at]] {
-			s.at++
+		at := s.at
+		for at < len(s.text) && plain[s.text[at]] {
+			at++
 		}
+		s.at = at
 		switch s.peek() {
 		case '"':
 			s.at++

@@ -150,12 +150,13 @@ func (r *reader) parts(end byte, part func() bool) bool {
 func (r *reader) scalar() []byte {
 	start := r.at
 	if r.peek() == '"' {
-		end := bytes.IndexByte(r.text[start+1:], '"')
-		if end < 0 || bytes.IndexByte(r.text[start+1:start+1+end], '\\') >= 0 {
-			return nil
+		for at := start + 1; at < len(r.text) && r.text[at] != '\\'; at++ {
+			if r.text[at] == '"' {
+				r.at = at + 1
+				return r.text[start:r.at]
+			}
 		}
-		r.at = start + end + 2
-		return r.text[start:r.at]
+		return nil
 	}
 	for isOfWord(r.peek()) {
 		r.at++
