@@ -19,7 +19,7 @@ class Program:
 
     def check(self, text: str, *options: str) -> tuple[int, str]:
         """The status of a check, and what it writes."""
-        ran = subprocess.run([self.path, "check", *options], input=text.encode(), capture_output=True, timeout=60)
+        ran = subprocess.run([self.path, "check", *options], input=text.encode(), capture_output=True, timeout=600)
         return ran.returncode, ran.stdout.decode()
 
     def lines(self, text: str) -> list[Json]:

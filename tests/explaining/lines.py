@@ -14,7 +14,7 @@ Json = dict[str, object]
 
 def run(program: str, *words: str, lines: bytes) -> list[bytes]:
     """The lines that the program writes for these; it has to end with status 0."""
-    done = subprocess.run([program, *words], input=lines, capture_output=True, check=False, timeout=120)
+    done = subprocess.run([program, *words], input=lines, capture_output=True, check=False, timeout=600)
     if done.returncode != 0:
         raise SystemExit(f"{' '.join(words)}: status {done.returncode}, {done.stderr.decode()}")
     return done.stdout.split(b"\n")[:-1]

@@ -3,7 +3,7 @@
 Each of these takes a time by the clock for work that has nothing of the service in it. Where the bounds of the rows were set, on
 four processors that had nothing else to do before it, the browser began in 0.7 s and showed the table of 2,000 rules in 0.5 s;
 eight processes read and wrote JSON in 0.8 s, and 100,000 requests were counted in 2.6 s. Where others had half of the processors,
-or there was one processor alone, the table took 0.6 to 0.8 times as long as the browser did to begin, and the requests 2.4 to 3.3
+or there was one processor alone, the table took 0.6 to 0.8 times as long as the browser did to begin, and the requests 2.4 to 3.9
 times as long as the processes.
 """
 
@@ -19,8 +19,8 @@ import time
 from collections.abc import Callable
 
 # A row has its bound as it is where a browser begins within so many seconds, or eight processes are done within so many; where
-# these take longer, it has as much longer. Both leave room: the machine above has 1.2 and 1.3 times the bounds.
-BEGINS, COMPUTES = 0.6, 0.6
+# these take longer, it has as much longer. Both leave room: the machine above has 1.2 and 1.6 times the bounds.
+BEGINS, COMPUTES = 0.6, 0.5
 # How often it is tried whether a row keeps its bound.
 MOST_TURNS = 5
 TEXT = json.dumps([{"a": number, "b": f"text {number}", "c": [number / 7, None, True, {"d": "x" * 20}]} for number in range(2000)])
