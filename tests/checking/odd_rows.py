@@ -148,6 +148,7 @@ VALUES: Rows = [
         [
             'decisions[1].expr.table.rules[0].then[0]: unlisted value: "HIHG" is not among the listed values',
             'decisions[1].expr.table.outputs[0].values[0]: ungiven value: no rule gives "HIGH"',
+            'decisions[2].expr.context[0].expr: never given: rate never is "HIGH"; is it "HIHG"?',
         ],
     ),
     (
@@ -185,7 +186,7 @@ KINDS: Rows = [
     ('\\"storm\\"', '\\"storm\\", 7', []),
 ]
 
-# Cells that no value meets.
+# Cells that no value meets, as FEEL.
 UNMET: list[str] = [
     "[7..5]",
     "(5..5]",
@@ -199,9 +200,21 @@ UNMET: list[str] = [
     "[7..5], (1..1)",
     "> 9223372036854775807",
     "< -9223372036854775807",
+    '< ""',
+    '("a".."a"]',
+    # Arithmetic of literals is reckoned.
+    "[5..2 * 2]",
+    "[5..(3)]",
+    "> 9223372036854775806 + 1",
+    "[2 - 4..-(1 + 2)]",
+    # Each number meets a test, and of no other value is it known that it is less than a number or isn't.
+    "not(< 5, >= 5)",
+    "not(> 8, 8, <= 7)",
+    "not([-5..5], < -5, (5..7), >= 6)",
+    'not(< 5, >= 5, "a", null)',
 ]
 
-# Cells that some value meets.
+# Cells that some value meets, as FEEL.
 MET: list[str] = [
     "[5..5]",
     "(5..7)",
@@ -217,6 +230,16 @@ MET: list[str] = [
     "(4..6]",
     ">= 9223372036854775807",
     "<= -9223372036854775807",
+    "> 9223372036854775806",
+    "[5..2 * 3]",
+    "[2 - 4..-(1 + 1)]",
+    "not(< 5, > 5)",
+    "not(< 5, (5..7), >= 6)",
+    "not([7..5], > 5)",
+    'not(< 5, > 6, "a")',
+    # What a name stands for isn't known, nor what breaks a limit.
+    "not(< age, >= age)",
+    "[5..9223372036854775807 + 1]",
 ]
 
 # A sound model whose tables go by several policies and look at each other, each text of which stands there first where a row replaces it.
@@ -273,6 +296,12 @@ ORDER: Rows = [
         [f"{RISK}.rules[1]: never decides: rule 1 has the same tests, so this one never decides"],
     ),
     (
+        '["[18..65)"]',
+        '["<18"]',
+        [f"{RISK}.rules[1]: never decides: rule 1 has the same tests, so this one never decides"],
+    ),
+    ('["[18..65)"]', '["<= 18"]', []),
+    (
         '["> 10"]',
         '["-"]',
         [f"{RANK}.rules[1]: two hits: it takes everything, so where another rule hits too the result is null"],
@@ -318,12 +347,24 @@ SLIPS: Rows = [
             f"{RANK}.rules[1].when[0]: truth in cell: amount > 10 is true or false, with which the input is compared; a test begins with its sign, as > 5",
         ],
     ),
+    (
+        '["> 10"]',
+        '["11, (amount between 12 and 20)"]',
+        [
+            f"{RANK}.rules[1].when[0]: truth in cell: 11, (amount between 12 and 20) is true or false, with which the input is compared; a test begins with its sign, as > 5",
+        ],
+    ),
     ('["> 10"]', '["if amount > 10 then 1 else 2"]', []),
     ('"> 1000"', '"parts.half > 1000"', []),
     (
         '["< 18"]',
         '["[1,5]"]',
         [f"{RISK}.rules[0].when[0]: list for interval: [1,5] is a list of two numbers; an interval has two dots, as [1..5]"],
+    ),
+    (
+        '["< 18"]',
+        '["[-1, 5]"]',
+        [f"{RISK}.rules[0].when[0]: list for interval: [-1, 5] is a list of two numbers; an interval has two dots, as [1..5]"],
     ),
     ('["> 10"]', '["[11, 12]"]', []),
     (
@@ -332,11 +373,23 @@ SLIPS: Rows = [
         [f"{RANK}.rules[1].when[0]: cut number: a comma parts two tests: > 1,000; a number has none"],
     ),
     ('["> 10"]', '["> 11, 000"]', []),
+    ('["> 10"]', '["11,0000"]', []),
+    (
+        '["> 10"]',
+        '["\\"1,000\\""]',
+        [f'{RANK}.rules[1].when[0]: other kind: "1,000" is for a text, and the other rules are for a number'],
+    ),
     (
         '{"name": "half", "expr": "amount"}',
         '{"name": "half", "expr": "amount + \\"1\\""}',
         ['decisions[1].expr.context[0].expr: added text: + adds numbers, and what it makes of a text is null: amount + "1"'],
     ),
+    (
+        '{"name": "half", "expr": "amount"}',
+        '{"name": "half", "expr": "[(\\"1\\") + amount * 2]"}',
+        ['decisions[1].expr.context[0].expr: added text: + adds numbers, and what it makes of a text is null: [("1") + amount * 2]'],
+    ),
+    ('{"name": "half", "expr": "amount"}', '{"name": "half", "expr": "[\\"1\\", amount + 1]"}', []),
 ]
 
 # What is asked for and never comes.
@@ -372,6 +425,21 @@ NEVER: Rows = [
     ),
     ('"fee + rank"', '"fee + rank.rank"', ["decisions[4].expr: no entry: rank has no entry rank, so it is null"]),
     ('"fee + rank"', '"fee.fee + rank"', []),
+    ('"fee + rank"', '"fee + (rank).rank"', ["decisions[4].expr: no entry: rank has no entry rank, so it is null"]),
+    ('"fee + rank"', '"if rank = 3 then fee else 0"', ["decisions[4].expr: never given: rank never is 3"]),
+    ('"fee + rank"', '"[fee, 2 + 2 != rank]"', ["decisions[4].expr: never given: rank never is 4"]),
+    ('"fee + rank"', '"if rank = 1 + 1 then fee else 0"', []),
+    ('"fee + rank"', '"if rank = null or rank = fee then fee else 0"', []),
+]
+
+# The same of an expression in the sound model: its literal is in other letters.
+NEVER_IN_TEXT: Rows = [
+    (
+        'rate = \\"HIGH\\"',
+        'rate = \\"high\\"',
+        ['decisions[2].expr.context[0].expr: never given: rate never is "high"; is it "HIGH"?'],
+    ),
+    ('rate = \\"HIGH\\"', 'rate != \\"LOW\\"', []),
 ]
 
 # Of a decision whose value a request may bring nothing is known.

@@ -25,68 +25,72 @@ services:
 JSON_SUMMARY = r"""{"lawful":true,"inputs":["age","score"],"decisions":[{"name":"risk","kind":"table"},{"name":"limit","kind":"expression"}],"services":[{"name":"limit_of","parameters":["age","score"]}]}
 """
 
+NO_JSON_LINES = r"""{"fault":"syntax"}
+{"fault":"syntax","line":2,"column":1,"said":"a key in quotes or \"}\" is due"}
+"""
+
 # A model of two inputs, with these decisions and services.
 MODEL = '{"inputs":["a","b"],"decisions":[%s],"services":[%s]}'
 
 NO_KEYS_TOLD = r"""shape: not the form of a model
 shape: 2 places
-  the key decisions is missing
-  the key services is missing
+  line 1, column 1: the key decisions is missing
+  line 1, column 1: the key services is missing
 """
 
 WRONG_KEYS = r"""{"inputs":[],"decisions":[{"nmae":"d","needs":[],"expr":7}],"services":[]}"""
 
 WRONG_KEYS_TOLD = r"""{"fault":"shape"}
-{"fault":"shape","pointer":"/decisions/0","place":"decisions[0]","said":"the key name is missing"}
-{"fault":"shape","pointer":"/decisions/0","place":"decisions[0]","said":"\"nmae\" is no key of it; is it name?"}
-{"fault":"shape","pointer":"/decisions/0/expr","place":"decisions[0], expr","said":"a text, or an object with list, with table, with context, or with context and result is due"}
+{"fault":"shape","pointer":"/decisions/0","place":"decisions[0]","said":"\"nmae\" is no key of it; is it name?","line":1,"column":27}
+{"fault":"shape","pointer":"/decisions/0/expr","place":"decisions[0], expr","said":"a number, where a text, or an object with list, with table, with context, or with context and result is due","line":1,"column":57}
 """
 
 TABLE = r"""{"name":"d","needs":["a"],"expr":{"table":{"hit":"F","inputs":["a","a +"],"outputs":[{"name":"x","values":["\"u\"","v"],"default":"1 2"}],"rules":[{"when":["1","-"],"then":["1"]},{"when":[">= 5 and < 7","-"],"then":["2"]}]}}}"""
 
 TABLE_TOLD = r"""expression: 4 places
-  decisions[0] "d", input 2 "a +": no expression
+  line 1, column 101: decisions[0] "d", input 2 "a +": no expression
     stops at the end: a value is due
-  decisions[0] "d", output 1 "x", value 2: no literal: "v"
+  line 1, column 149: decisions[0] "d", output 1 "x", value 2: no literal: "v"
     stops at "v" (character 1): a literal is due
     a text stands in quotes: "v"
-  decisions[0] "d", output 1 "x", default: no expression: "1 2"
+  line 1, column 164: decisions[0] "d", output 1 "x", default: no expression: "1 2"
     stops at "2" (character 3): the end is due
-  decisions[0] "d", rule 2, input 1 "a": no unary tests: ">= 5 and < 7"
+  line 1, column 222: decisions[0] "d", rule 2, input 1 "a": no unary tests: ">= 5 and < 7"
     stops at "and" (character 6): "," or the end is due
     write [5..7)
 """
 
 TABLE_LINES = r"""{"fault":"expression"}
-{"fault":"expression","pointer":"/decisions/0/expr/table/inputs/1","place":"decisions[0] \"d\", input 2 \"a +\"","said":"no expression","text":"a +","stop":3,"due":"a value"}
-{"fault":"expression","pointer":"/decisions/0/expr/table/outputs/0/values/1","place":"decisions[0] \"d\", output 1 \"x\", value 2","said":"no literal","text":"v","stop":0,"due":"a literal","hint":"a text stands in quotes: \"v\""}
-{"fault":"expression","pointer":"/decisions/0/expr/table/outputs/0/default","place":"decisions[0] \"d\", output 1 \"x\", default","said":"no expression","text":"1 2","stop":2,"due":"the end"}
-{"fault":"expression","pointer":"/decisions/0/expr/table/rules/1/when/0","place":"decisions[0] \"d\", rule 2, input 1 \"a\"","said":"no unary tests","text":">= 5 and < 7","stop":5,"due":"\",\" or the end","hint":"write [5..7)"}
+{"fault":"expression","pointer":"/decisions/0/expr/table/inputs/1","place":"decisions[0] \"d\", input 2 \"a +\"","said":"no expression","text":"a +","stop":3,"due":"a value","line":1,"column":101}
+{"fault":"expression","pointer":"/decisions/0/expr/table/outputs/0/values/1","place":"decisions[0] \"d\", output 1 \"x\", value 2","said":"no literal","text":"v","stop":0,"due":"a literal","hint":"a text stands in quotes: \"v\"","line":1,"column":149}
+{"fault":"expression","pointer":"/decisions/0/expr/table/outputs/0/default","place":"decisions[0] \"d\", output 1 \"x\", default","said":"no expression","text":"1 2","stop":2,"due":"the end","line":1,"column":164}
+{"fault":"expression","pointer":"/decisions/0/expr/table/rules/1/when/0","place":"decisions[0] \"d\", rule 2, input 1 \"a\"","said":"no unary tests","text":">= 5 and < 7","stop":5,"due":"\",\" or the end","hint":"write [5..7)","line":1,"column":222}
 """
 
 BOXES = r"""{"name":"d","needs":[],"expr":{"list":["1",{"context":[{"name":"p","expr":"1"},{"name":"q","expr":"("}],"result":"2 +"}]}}"""
 
 BOXES_TOLD = r"""expression: 2 places
-  decisions[0] "d", member 2, entry "q": no expression: "("
+  line 1, column 132: decisions[0] "d", member 2, entry "q": no expression: "("
     stops at the end: a value is due
-  decisions[0] "d", member 2, result: no expression: "2 +"
+  line 1, column 147: decisions[0] "d", member 2, result: no expression: "2 +"
     stops at the end: a value is due
 """
 
 LATER = r"""{"name":"d d","needs":["a","a","c"],"expr":"1 +"},{"name":"e","needs":[],"expr":{"table":{"hit":"X","inputs":[],"outputs":[{"name":"x"}],"rules":[]}}}"""
 
 LATER_TOLD = r"""name: 1 place
-  decisions[0] "d d": no name
+  line 1, column 42: decisions[0] "d d": no name
     a name has letters, digits and _ alone: d_d
 twice: 1 place
-  decisions[0] "d d", need 2 "a": a name that stands before in its list
+  line 1, column 61: decisions[0] "d d", need 2 "a": a name that stands before in its list
 expression: 1 place
-  decisions[0] "d d": no expression: "1 +"
+  line 1, column 77: decisions[0] "d d": no expression: "1 +"
     stops at the end: a value is due
 table: 1 place
-  decisions[1] "e", table: the hit policy is none
+  line 1, column 123: decisions[1] "e", table: the hit policy is none
+    "X" is none of U, A, P, F, R, O, C, C+, C<, C> and C#
 unknown: 1 place
-  decisions[0] "d d", need 3 "c": neither an input nor a decision
+  line 1, column 65: decisions[0] "d d", need 3 "c": neither an input nor a decision
 """
 
 RINGS = r"""{"name":"d","needs":["e"],"expr":"1"},{"name":"e","needs":["a","d"],"expr":{"table":{"hit":"U","inputs":["a"],"outputs":[{"name":"x"}],"rules":[{"when":["-","-"],"then":["1"]}]}}}"""
@@ -94,17 +98,15 @@ RINGS = r"""{"name":"d","needs":["e"],"expr":"1"},{"name":"e","needs":["a","d"],
 RINGS_SERVICE = r"""{"name":"s","outputs":["d"],"encapsulated":[],"inputDecisions":[],"inputData":[]}"""
 
 RINGS_TOLD = r"""table: 1 place
-  decisions[1] "e", table: no output column, one name twice, or a rule whose entries are not as many as the columns
-table: 1 place
-  decisions[1] "e", rule 1: not as many entries as the table has columns
+  line 1, column 178: decisions[1] "e", rule 1: not as many entries as the table has columns
     it has 2 input entries for 1 columns, and 1 output entries for 1
 cycle: 2 places
-  decisions[0] "d": needs itself, directly or through others
+  line 1, column 34: decisions[0] "d": needs itself, directly or through others
     each needs the next: d, e, d
-  decisions[1] "e": needs itself, directly or through others
+  line 1, column 72: decisions[1] "e": needs itself, directly or through others
     each needs the next: e, d, e
 service: 1 place
-  services[0] "s": it reaches a decision or an input that it doesn't list
+  line 1, column 227: services[0] "s": it reaches a decision or an input that it doesn't list
     reached, and not listed: e, a
 """
 
@@ -114,17 +116,72 @@ decisions:
   d: expression
 services:
   s(a)
-warning: inputs[1] "b": no decision needs it, and no service lists it
+warning: line 1, column 16: inputs[1] "b": no decision needs it, and no service lists it
 line 4: "x" is no parameter of s
 line 4: what stands under a is no value: a number in it has a point or an exponent, and numbers are whole
 """
 
 NOTE_LINES = r"""{"lawful":true,"inputs":["a","b"],"decisions":[],"services":[]}
-{"warning":"unneeded","pointer":"/inputs/0","place":"inputs[0] \"a\"","said":"no decision needs it, and no service lists it"}
-{"warning":"unneeded","pointer":"/inputs/1","place":"inputs[1] \"b\"","said":"no decision needs it, and no service lists it"}
+{"warning":"unneeded","pointer":"/inputs/0","place":"inputs[0] \"a\"","said":"no decision needs it, and no service lists it","line":1,"column":12}
+{"warning":"unneeded","pointer":"/inputs/1","place":"inputs[1] \"b\"","said":"no decision needs it, and no service lists it","line":1,"column":16}
 {"line":2,"note":"service","name":"sum","said":"\"sum\" is no service"}
 {"line":3,"note":"syntax","said":"no JSON text"}
 """
+
+# A model over several lines, with faults at the beginnings of values, and a key that stands twice, of which the last counts.
+LINES = """{
+  "inputs": ["a", "a"],
+  "decisions": [
+    {"name": "d", "needs": [], "expr": "1 +"}],
+  "services": [ ],
+  "decisions": [
+    {"name": "\\u00e9", "needs": ["b"],
+     "expr":
+       "("},
+\t{"n\\u0061me": "e", "needs": [], "expr": {"list": ["\\"é\\"",  "1 1", "2 2"]}}]
+}
+"""
+
+LINES_TOLD = """name: 1 place
+  line 7, column 14: decisions[0] "é": no name
+    a name has the letters A-Z and a-z, digits and _ alone, and begins with no digit
+twice: 1 place
+  line 2, column 19: inputs[1] "a": a name that stands before in its list
+expression: 3 places
+  line 9, column 8: decisions[0] "é": no expression: "("
+    stops at the end: a value is due
+  line 10, column 63: decisions[1] "e", member 2: no expression: "1 1"
+    stops at "1" (character 3): the end is due
+  line 10, column 70: decisions[1] "e", member 3: no expression: "2 2"
+    stops at "2" (character 3): the end is due
+unknown: 1 place
+  line 7, column 34: decisions[0] "é", need 1 "b": neither an input nor a decision
+"""
+
+# Texts that are no JSON, where their reading stops, why, and what helps. Columns count bytes.
+NO_JSON: list[tuple[bytes, int, int, str, str]] = [
+    (b"", 1, 0, "a value is due", ""),
+    (b"{\n}}", 2, 2, "the end is due", ""),
+    (b"{\n]", 2, 1, 'a key in quotes or "}" is due', ""),
+    (b'{"inputs":[1,]}', 1, 14, "a value is due", ""),
+    (b'{"inputs":[1 2]}', 1, 14, '"," or "]" is due', ""),
+    (b'{"inputs":[]\n"decisions":[]}', 2, 1, '"," or "}" is due', ""),
+    (b'{"inputs" []}', 1, 11, '":" is due', ""),
+    (b'{"inputs":[],}', 1, 14, "a key in quotes is due", ""),
+    (b'{"inputs":["a","\xc3\xa9" b', 1, 21, '"," or "]" is due', ""),
+    (b'{"inputs":["a', 1, 12, "the quote that ends the string is due", ""),
+    (b'["a\tb"]', 1, 2, 'a string has no line end and no control character, and behind \\ one of " \\ / b f n r t u', ""),
+    (b"[01]", 1, 2, "a number has no sign but - and no 0 before its digits, and digits on both sides of a point", ""),
+    (b"[1e400]", 1, 7, "the number before it is over 1.8e308", ""),
+    (b"[" * 130 + b"]" * 130, 1, 129, "over 127 lists and objects stand in each other", ""),
+    (b"<?xml version='1.0'?>", 1, 1, "a value is due", "this is XML: a file of DMN is read by desk import"),
+    (b"\xef\xbb\xbf<a/>", 1, 1, "a value is due", "this is XML: a file of DMN is read by desk import"),
+    (b"\xef\xbb\xbf{}", 1, 1, "a value is due", "it begins with a byte order mark: save it without one"),
+    (b"\xff\xfe{\0}\0", 1, 1, "a value is due", "this is UTF-16: save it as UTF-8"),
+    (b"\xfe\xff\0<\0a", 1, 1, "a value is due", "this is XML: a file of DMN is read by desk import"),
+    (b"{\0}\0", 1, 2, 'a key in quotes or "}" is due', "this is UTF-16: save it as UTF-8"),
+    (b'{"a":"\xe9"}', 1, 7, "it is no UTF-8 from here on", "save it as UTF-8"),
+]
 
 # A model of requests.
 ASKED = r"""{"inputs":["requested","age"],"decisions":[{"name":"d","needs":["age"],"expr":"1"}], "services":[{"name":"limit","outputs":["d"],"encapsulated":[],"inputDecisions":[],"inputData":["requested","age"]}]}"""

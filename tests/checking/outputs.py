@@ -18,20 +18,20 @@ def model(decisions: str, services: str = "") -> str:
 
 def wholes() -> list[tuple[str, list[str], str, int, str]]:
     """Inputs with their options, and the status and the whole output that are due."""
-    syntax = "syntax: no JSON text\n  line %d, column %d\n"
+    syntax = "syntax: no JSON text\n  line %d, column %d: %s\n"
     asked = f'{model(ONE, ITS_SERVICE)}\n{{"client":"c","service":"s","inputs":{{"a":1}}}}\n\n'
     asked += '{"client":"c","service":"s","inputs":{"x":1,"a":1.5}}\n'
     return [
         ("a lawful model", [], rows.LAWFUL, 0, rows.SUMMARY),
         ("a model on a line", [], f'{{"model":{rows.LAWFUL}}}', 0, rows.SUMMARY),
         ("a lawful model as JSON", ["--json"], rows.LAWFUL, 0, rows.JSON_SUMMARY),
-        ("no JSON", [], "{\n}}", 3, syntax % (2, 2)),
-        ("no JSON as JSON", ["--json"], "{\n]", 3, '{"fault":"syntax"}\n{"fault":"syntax","line":2,"column":1}\n'),
+        ("no JSON", [], "{\n}}", 3, syntax % (2, 2, "the end is due")),
+        ("no JSON as JSON", ["--json"], "{\n]", 3, rows.NO_JSON_LINES),
         ("no keys", [], '{"inputs":[]}', 3, rows.NO_KEYS_TOLD),
         ("wrong keys as JSON", ["--json"], rows.WRONG_KEYS, 3, rows.WRONG_KEYS_TOLD),
         ("a table as JSON", ["--json"], model(rows.TABLE), 3, rows.TABLE_LINES),
         ("requests", ["--requests"], asked, 0, rows.NOTES_TOLD),
-        ("no JSON before requests", ["--requests"], "{\n}", 3, syntax % (1, 1)),
+        ("no JSON before requests", ["--requests"], "{\n}", 3, syntax % (1, 1, 'a key in quotes or "}" is due')),
         ("requests as JSON", ["--requests", "--json"], f'{model("")}\n{{"service":"sum","inputs":{{}}}}\nx', 0, rows.NOTE_LINES),
     ]
 
@@ -41,6 +41,7 @@ BEHIND = [
     ("texts without a reading", model(rows.TABLE), "expression", rows.TABLE_TOLD),
     ("texts within boxes", model(rows.BOXES), "expression", rows.BOXES_TOLD),
     ("later faults", model(rows.LATER), "name", rows.LATER_TOLD),
+    ("places on several lines", rows.LINES, "name", rows.LINES_TOLD),
     ("rings, rules and services", model(rows.RINGS, rows.RINGS_SERVICE), "table", rows.RINGS_TOLD),
 ]
 
@@ -55,6 +56,15 @@ def ends_with(program: Program, end: str, lines: int, *options: str) -> bool:
     """Where there are too many places, a hundred are told and the others counted."""
     status, said = program.check(model(MANY), *options)
     return status == 3 and said.endswith(end) and len(said.splitlines()) == lines
+
+
+def is_no_json(program: Program, text: bytes, line: int, column: int, said: str, hint: str) -> bool:
+    """Whether of a text that is no JSON is told where it breaks off, and why, for people and as JSON."""
+    status, words = program.check_bytes(text)
+    due = f"syntax: no JSON text\n  line {line}, column {column}: {said}\n" + (f"    {hint}\n" if hint else "")
+    it: dict[str, object] = {"fault": "syntax", "line": line, "column": column, "said": said}
+    lines = [json.loads(it) for it in program.check_bytes(text, "--json")[1].splitlines()]
+    return (status, words) == (3, due) and lines == [{"fault": "syntax"}, it | ({"hint": hint} if hint else {})]
 
 
 def notes(program: Program, line: str) -> list[str]:
@@ -88,6 +98,7 @@ def all_rows(program: Program) -> list[Result]:
     found += [(name, is_behind(program, text, fault, due)) for name, text, fault, due in BEHIND]
     found.append(("many places", ends_with(program, "\n  and 50 more\n", 203)))
     found.append(("many places as JSON", ends_with(program, '\n{"fault":"expression","more":50}\n', 102, "--json")))
+    found += [(f"no JSON {row[0]!r}", is_no_json(program, *row)) for row in rows.NO_JSON]
     found += [(f"notes on {line}", notes(program, line) == due) for line, due in rows.NOTES]
     found += [(f"name {name!r}", name_hint(program, name) == [hint]) for name, hint in rows.NAMES]
     found += [(f"need {name!r}", need_hint(program, name) == [hint]) for name, hint in rows.NEAR]

@@ -17,14 +17,33 @@ Result = tuple[str, bool]
 class Program:
     path: str
 
-    def check(self, text: str, *options: str) -> tuple[int, str]:
+    def check_bytes(self, text: bytes, *options: str) -> tuple[int, str]:
         """The status of a check, and what it writes."""
-        ran = subprocess.run([self.path, "check", *options], input=text.encode(), capture_output=True, timeout=600)
+        ran = subprocess.run([self.path, "check", *options], input=text, capture_output=True, timeout=600)
         return ran.returncode, ran.stdout.decode()
+
+    def check(self, text: str, *options: str) -> tuple[int, str]:
+        """The same of a text."""
+        return self.check_bytes(text.encode(), *options)
 
     def lines(self, text: str) -> list[Json]:
         """What a check tells as lines of JSON."""
         return [json.loads(line) for line in self.check(text, "--json")[1].splitlines()]
+
+
+# Where a place begins, before its words.
+POSITION = re.compile(r"^((?:  |warning: |table: )?)line (\d+), column (\d+): ")
+
+
+def unplaced(line: str) -> str:
+    """A line for people without where its place begins."""
+    return POSITION.sub(r"\1", line, count=1)
+
+
+def position(line: str) -> tuple[int, int] | None:
+    """Where the place of a line for people begins."""
+    found = POSITION.match(line)
+    return (int(found[2]), int(found[3])) if found else None
 
 
 def path_of(place: Json) -> str:

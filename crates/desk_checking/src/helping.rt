@@ -1,7 +1,10 @@
 //! What helps at a finding.
 
+use crate::file_places::FilePlaces;
+use crate::policy_help::policy_help;
 use dmn_check::{Finding, Key, Mistake, Place, ServiceFault, Step, TextKind};
 use dmn_form::{WrittenModel, WrittenService};
+use dmn_table::TableFault;
 use feel_hints::{Kind, Stop, hint_of, stop_of};
 use model_hints::{
     ModelHint, name_hint, near_hint, ring_hint, rule_hint, shared_hint, stranger_hint,
@@ -17,6 +20,8 @@ pub(crate) struct Subject<'a> {
     pub json: &'a Value,
     /// The same by its parts.
     pub model: &'a WrittenModel,
+    /// Where its parts stand in the file.
+    pub places: &'a FilePlaces<'a>,
 }
 
 /// What helps at a finding.
@@ -97,6 +102,15 @@ fn help_of_text(alloc: Global, kind: Kind, text: &str) -> Result<Help, AllocErro
     })
 }
 
+/// What helps where the hit policy of a table is none.
+fn help_of_policy(alloc: Global, table: Option<&Value>) -> Result<Help, AllocError> {
+    let hint = match table {
+        Some(table) => policy_help(alloc, table)?,
+        None => None,
+    };
+    Ok(Help { stop: None, hint })
+}
+
 /// What helps where a rule has not as many entries as the table has columns.
 fn rule_help(json: &Value, place: &Place) -> Option<ModelHint> {
     Some(rule_hint(table_of(json, place)?, part_at(json, place)?))
@@ -162,6 +176,9 @@ pub(crate) fn help_of(
     if let Mistake::Expression(kind) = finding.mistake {
         let text = text_at(subject.json, &finding.place).unwrap_or("");
         return help_of_text(alloc, kind_of(kind), text);
+    }
+    if let Mistake::Table(TableFault::Hit) = finding.mistake {
+        return help_of_policy(alloc, part_at(subject.json, &finding.place));
     }
     let hint = model_help(alloc, subject, finding)?;
     Ok(Help {

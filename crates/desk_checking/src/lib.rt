@@ -4,13 +4,17 @@
 
 mod cut;
 mod faults;
+mod file_places;
 mod findings;
 mod helping;
 mod input;
 mod lines;
 mod model_check;
+mod no_json;
+mod once;
 mod options;
 mod place_words;
+mod policy_help;
 mod quoted;
 mod report;
 mod requests;

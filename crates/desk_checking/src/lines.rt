@@ -13,6 +13,7 @@ use crate::sentence::sentence;
 use desk_wire::Word;
 use dmn_check::{Finding, Told};
 use dmn_plan::ModelFault;
+use json_places::Position;
 use std::alloc::{AllocError, Global};
 
 /// How the line of a place begins.
@@ -57,6 +58,26 @@ fn add_some(
     add_text(alloc, line, key, text)
 }
 
+/// Adds a number behind other members.
+fn add_number(line: &mut String, key: &str, number: usize) -> Result<(), AllocError>
+    requires { IsOneLine key.now }
+    ensures { (head : List ℕ) → GoesOn head (string_bytes line.old) → OnOk result (GoesOn head (string_bytes line.new)) }
+{
+    line.push_str(",\"")?;
+    line.push_str(key)?;
+    line.push_str("\":")?;
+    write!(line, "{number}")?;
+    Ok(())
+}
+
+/// Adds where a place begins in the file.
+fn add_position(line: &mut String, position: Position) -> Result<(), AllocError>
+    ensures { (head : List ℕ) → GoesOn head (string_bytes line.old) → OnOk result (GoesOn head (string_bytes line.new)) }
+{
+    add_number(line, "line", position.line)?;
+    add_number(line, "column", position.column)
+}
+
 /// Adds where the reading of a text stops, and what is due there.
 fn add_stop(alloc: Global, line: &mut String, help: &Help) -> Result<(), AllocError>
     ensures { (head : List ℕ) → GoesOn head (string_bytes line.old) → OnOk result (GoesOn head (string_bytes line.new)) }
@@ -91,7 +112,8 @@ fn add_rest(
         line,
         "hint",
         help.hint.as_ref().map(|hint| hint.as_str()),
-    )
+    )?;
+    add_position(line, subject.places.position(&finding.place))
 }
 
 /// The line of a place.

@@ -12,11 +12,12 @@ ghost use Rattle.desk_checking.specs.Told.{head};
 
 use crate::cut::model_and_rest;
 use crate::faults::tell_faults;
+use crate::file_places::FilePlaces;
 use crate::findings::CheckFindings;
 use crate::helping::Subject;
 use crate::input::read_whole;
+use crate::no_json::add_stop;
 use crate::options::CheckOptions;
-use crate::quoted::Members;
 use crate::requests::request_notes;
 use crate::shaped::shape_lines;
 use crate::subject::subject;
@@ -49,24 +50,27 @@ fn behind_word(alloc: Global, is_json: bool, fault: ModelFault) -> Result<String
     format!(in alloc; "{fault}\n")
 }
 
-/// What is told of a model with this fault, behind its word.
+/// What is told of the model of this file with this fault, behind its word.
 fn said_of_fault(
     alloc: Global,
     is_json: bool,
     json: &Value,
+    file: &[u8],
     fault: ModelFault,
 ) -> Result<String, AllocError>
     ensures { IsTrue is_json → IfOk result (λ text. TellsPlaces (view json.now) (Some fault) (string_bytes text)) }
 {
     let mut text = behind_word(alloc, is_json, fault)?;
     let Some(model) = read_form(alloc, json)? else {
-        let lines = shape_lines(alloc, is_json, json)?;
+        let lines = shape_lines(alloc, is_json, json, file)?;
         text.push_str(&lines)?;
         return Ok(text);
     };
+    let places = FilePlaces::of(alloc, file)?;
     let subject = Subject {
         json,
         model: &model,
+        places: &places,
     };
     tell_faults(alloc, is_json, subject, &mut text)?;
     Ok(text)
@@ -77,10 +81,11 @@ fn said_of_tables(
     alloc: Global,
     options: CheckOptions,
     json: &Value,
+    file: &[u8],
     model: &WrittenModel,
 ) -> Result<ToldTables, AllocError> {
     if options.tables {
-        return told_tables(alloc, options.json, json, model);
+        return told_tables(alloc, options.json, json, file, model);
     }
     Ok(ToldTables::none(alloc))
 }
@@ -90,6 +95,7 @@ fn said_of_model(
     alloc: Global,
     options: CheckOptions,
     json: &Value,
+    file: &[u8],
     model: &WrittenModel,
     lines: &[u8],
 ) -> Result<ToldTables, AllocError> {
@@ -98,9 +104,9 @@ fn said_of_model(
     } else {
         summary(alloc, model)?
     };
-    let warnings = warning_lines(alloc, options.json, json, model)?;
+    let warnings = warning_lines(alloc, options.json, json, file, model)?;
     text.push_str(&warnings)?;
-    let tables = said_of_tables(alloc, options, json, model)?;
+    let tables = said_of_tables(alloc, options, json, file, model)?;
     text.push_str(&tables.text)?;
     let notes = request_notes(alloc, options.json, model, lines)?;
     text.push_str(&notes)?;
@@ -115,39 +121,33 @@ fn said_of_lawful(
     alloc: Global,
     options: CheckOptions,
     json: &Value,
+    file: &[u8],
     lines: &[u8],
 ) -> Result<ToldTables, AllocError> {
     match read_form(alloc, json)? {
-        Some(model) => said_of_model(alloc, options, json, &model, lines),
+        Some(model) => said_of_model(alloc, options, json, file, &model, lines),
         None => Ok(ToldTables::none(alloc)),
     }
 }
 
-/// What is told of a text that is no JSON, behind the fault's word: the line and the column at which it stops.
-fn said_of_syntax(alloc: Global, is_json: bool, error: &Error) -> Result<String, AllocError> {
+/// What is told of a file that is no JSON, behind the fault's word: where its reading stops, and what is due there.
+fn said_of_syntax(
+    alloc: Global,
+    is_json: bool,
+    file: &[u8],
+    error: &Error,
+) -> Result<String, AllocError> {
     let mut text = behind_word(alloc, is_json, ModelFault::Syntax)?;
-    let (line, column) = (error.line(), error.column());
-    if line == 0 {
-        return Ok(text);
-    }
-    if !is_json {
-        write!(text, "  line {line}, column {column}\n")?;
-        return Ok(text);
-    }
-    let mut members = Members::new(alloc);
-    members.add_text("fault", "syntax")?;
-    members.add_number("line", line)?;
-    members.add_number("column", column)?;
-    let line = members.into_line()?;
-    text.push_str(&line)?;
+    add_stop(alloc, is_json, file, error, &mut text)?;
     Ok(text)
 }
 
-/// What the model of a JSON value is, with these lines of requests behind it.
+/// What the model of a JSON value is, that of this file, with these lines of requests behind it.
 fn check_json(
     alloc: Global,
     options: CheckOptions,
     json: &Value,
+    file: &[u8],
     lines: &[u8],
 ) -> Result<Verdict, AllocError>
     ensures fault { IfOk result (λ verdict. verdict.fault ≡ fault_in (read_model (view json.now))) }
@@ -155,7 +155,7 @@ fn check_json(
 {
     match Plan::of(alloc, json) {
         Ok(_) => {
-            let said = said_of_lawful(alloc, options, json, lines)?;
+            let said = said_of_lawful(alloc, options, json, file, lines)?;
             Ok(Verdict {
                 fault: None,
                 rest: said.text,
@@ -165,7 +165,7 @@ fn check_json(
         Err(ModelFault::Memory) => Err(AllocError),
         Err(fault) => Ok(Verdict {
             fault: Some(fault),
-            rest: said_of_fault(alloc, options.json, json, fault)?,
+            rest: said_of_fault(alloc, options.json, json, file, fault)?,
             are_tables_refused: false,
         }),
     }
@@ -184,11 +184,11 @@ fn check_text(
         TellsPlaces (subject_of d) verdict.fault (string_bytes verdict.rest)) }
 {
     match Value::from_slice(alloc, text) {
-        Ok(json) => check_json(alloc, options, subject(&json), lines),
+        Ok(json) => check_json(alloc, options, subject(&json), text, lines),
         Err(error) if error.is_memory() => Err(AllocError),
         Err(error) => Ok(Verdict {
             fault: Some(ModelFault::Syntax),
-            rest: said_of_syntax(alloc, options.json, &error)?,
+            rest: said_of_syntax(alloc, options.json, text, &error)?,
             are_tables_refused: false,
         }),
     }

@@ -2,6 +2,7 @@
 ghost use Rattle.std.specs.Prelude.{◌≡◌, IfOk, string_bytes};
 ghost use Rattle.json.specs.Print.{quoted as in_quotes};
 
+use json_places::Position;
 use serde_json::Value;
 use std::alloc::{AllocError, Global};
 
@@ -57,6 +58,12 @@ impl Members {
         self.begin(key)?;
         write!(self.text, "{number}")?;
         Ok(())
+    }
+
+    /// Adds a line and a column.
+    pub(crate) fn add_position(&mut self, position: Position) -> Result<(), AllocError> {
+        self.add_number("line", position.line)?;
+        self.add_number("column", position.column)
     }
 
     /// Adds what is JSON already.

@@ -1,6 +1,7 @@
 //! What is said of a model that is wrong, for people to read.
 
 use crate::helping::{Help, Subject, help_of, text_at};
+use crate::once::told_findings;
 use crate::place_words::{names_text, place_words};
 use crate::quoted::quoted;
 use crate::sentence::sentence;
@@ -49,6 +50,7 @@ fn add_text(
     help: &Help,
 ) -> Result<(), AllocError> {
     text.push_str("  ")?;
+    subject.places.add_words(&finding.place, text)?;
     let words = place_words(alloc, subject.json, &finding.place)?;
     if !words.is_empty() {
         write!(text, "{words}: ")?;
@@ -65,7 +67,8 @@ fn add_text(
     add_help(alloc, text, feel.unwrap_or(""), help)
 }
 
-/// Adds how many places have a fault, and the first 100, for people.
+/// Adds how many places have a fault, and the first 100, for people. A table that is refused for a name twice among its columns or for its rules
+/// is none of them, since these are told.
 pub(crate) fn add_for_people(
     alloc: Global,
     subject: Subject<'_>,
@@ -73,17 +76,19 @@ pub(crate) fn add_for_people(
     told: &Told,
     text: &mut String,
 ) -> Result<(), AllocError> {
-    if told.count == 0 {
+    let more = told.count.saturating_sub(told.findings.len());
+    let findings = told_findings(alloc, subject, &told.findings)?;
+    let count = findings.len().saturating_add(more);
+    if count == 0 {
         return Ok(());
     }
-    let places = if told.count == 1 { "place" } else { "places" };
-    let (word, count) = (Word::of_fault(fault).text(), told.count);
+    let places = if count == 1 { "place" } else { "places" };
+    let word = Word::of_fault(fault).text();
     write!(text, "{word}: {count} {places}\n")?;
-    for (before, finding) in told.findings.iter().enumerate() {
+    for (before, finding) in findings.iter().enumerate() {
         let help = help_of(alloc, subject, finding, before)?;
         add_text(alloc, text, subject, finding, &help)?;
     }
-    let more = told.count.saturating_sub(told.findings.len());
     if more > 0 {
         write!(text, "  and {more} more\n")?;
     }

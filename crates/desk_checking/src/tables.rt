@@ -1,5 +1,6 @@
 //! The decision tables of a model, one after another, with what is found of each.
 
+use crate::file_places::FilePlaces;
 use crate::helping::part_at;
 use crate::place_words::place_words;
 use crate::quoted::quoted;
@@ -7,6 +8,7 @@ use dmn_check::{Key, Place, Step};
 use dmn_form::WrittenModel;
 use dmn_logic::{Logic, LogicFault, read_decision_logic};
 use dmn_table::Table;
+use json_places::Position;
 use serde_json::Value;
 use std::alloc::{AllocError, Global};
 use std::collections::BTreeSet;
@@ -24,6 +26,7 @@ struct Walk<'m> {
     alloc: Global,
     is_json: bool,
     json: &'m Value,
+    places: FilePlaces<'m>,
     /// Where it is.
     place: Place,
     standing: Standing<'m>,
@@ -36,13 +39,24 @@ struct Walk<'m> {
 }
 
 impl<'m> Walk<'m> {
-    /// Where the table is that the walk is at: in words, or as a JSON Pointer in quotes.
-    fn place_text(&self, is_json: bool) -> Result<String, AllocError> {
-        if !is_json {
-            return place_words(self.alloc, self.json, &self.place);
+    /// Where the decision or the part of it is that the walk is at, in words; nothing as JSON.
+    fn owner_words(&self) -> Result<String, AllocError> {
+        if self.is_json {
+            return Ok(String::new(self.alloc));
+        }
+        place_words(self.alloc, self.json, &self.place)
+    }
+
+    /// Where the table is that the walk is at, which belongs to what these words tell: its line and column and these words, or, as JSON,
+    /// its JSON Pointer in quotes, and behind it members that tell its line and column.
+    fn place_text(&self, owner: &str) -> Result<String, AllocError> {
+        let Position { line, column } = self.places.position(&self.place);
+        if !self.is_json {
+            return format!(in self.alloc; "line {line}, column {column}: {owner}");
         }
         let pointer = self.place.pointer(self.alloc)?;
-        quoted(self.alloc, &pointer)
+        let pointer = quoted(self.alloc, &pointer)?;
+        format!(in self.alloc; "{pointer},\"line\":{line},\"column\":{column}")
     }
 
     /// Tells what is found of a table.
@@ -70,9 +84,9 @@ impl<'m> Walk<'m> {
 
     /// Looks at a table, which lies under the key `table` of the place where the walk is. People are told the place without the key.
     fn look_at_table(&mut self, table: &Table) -> Result<(), AllocError> {
-        let words = self.place_text(false)?;
+        let owner = self.owner_words()?;
         self.place.steps.push(Step::Key(Key::Table))?;
-        let pointer = self.place_text(true)?;
+        let place = self.place_text(&owner)?;
         let json = part_at(self.json, &self.place);
         self.place.steps.pop();
         let answers = Answers::of(self.alloc, table, json)?;
@@ -82,8 +96,7 @@ impl<'m> Walk<'m> {
             return Ok(());
         }
         let columns = Columns::of(self.alloc, table.inputs(), &self.standing)?;
-        let place = if self.is_json { &pointer } else { &words };
-        self.tell(table, json, &columns, &answers, place)
+        self.tell(table, json, &columns, &answers, &place)
     }
 
     /// The entries of a context hide nothing any more.
@@ -208,11 +221,12 @@ impl ToldTables {
     }
 }
 
-/// What is found of the decision tables of a lawful model, in their order in its text.
+/// What is found of the decision tables of a lawful model, that of this file, in their order in its text.
 pub(crate) fn told_tables(
     alloc: Global,
     is_json: bool,
     json: &Value,
+    file: &[u8],
     model: &WrittenModel,
 ) -> Result<ToldTables, AllocError> {
     let inputs = names_of(alloc, &model.inputs)?;
@@ -221,6 +235,7 @@ pub(crate) fn told_tables(
         alloc,
         is_json,
         json,
+        places: FilePlaces::of(alloc, file)?,
         place: Place {
             steps: Vec::new(alloc),
         },

@@ -1,5 +1,6 @@
 //! What is told of a lawful model that is mostly a mistake.
 
+use crate::file_places::FilePlaces;
 use crate::place_words::place_words;
 use crate::quoted::{Members, quoted};
 use dmn_form::WrittenModel;
@@ -183,12 +184,16 @@ fn line_of(
     alloc: Global,
     is_json: bool,
     json: &Value,
+    places: &FilePlaces<'_>,
     warning: &Warning,
 ) -> Result<String, AllocError> {
     let words = place_words(alloc, json, &warning.place)?;
     let said = sentence(alloc, &warning.oddity)?;
     if !is_json {
-        return format!(in alloc; "warning: {words}: {said}\n");
+        let mut text = String::from_str(alloc, "warning: ")?;
+        places.add_words(&warning.place, &mut text)?;
+        write!(text, "{words}: {said}\n")?;
+        return Ok(text);
     }
     let pointer = warning.place.pointer(alloc)?;
     let mut members = Members::new(alloc);
@@ -196,6 +201,7 @@ fn line_of(
     members.add_text("pointer", &pointer)?;
     members.add_text("place", &words)?;
     members.add_text("said", &said)?;
+    members.add_position(places.position(&warning.place))?;
     members.into_line()
 }
 
@@ -211,19 +217,36 @@ fn more_line(alloc: Global, is_json: bool, more: &More) -> Result<String, AllocE
     members.into_line()
 }
 
-/// The lines of all warnings of a lawful model, at most 100 of each kind.
+/// The lines of these warnings.
+fn lines_of(
+    alloc: Global,
+    is_json: bool,
+    json: &Value,
+    file: &[u8],
+    found: &[Warning],
+) -> Result<String, AllocError> {
+    let mut text = String::new(alloc);
+    if found.is_empty() {
+        return Ok(text);
+    }
+    let places = FilePlaces::of(alloc, file)?;
+    for warning in found {
+        let line = line_of(alloc, is_json, json, &places, warning)?;
+        text.push_str(&line)?;
+    }
+    Ok(text)
+}
+
+/// The lines of all warnings of a lawful model, that of this file, at most 100 of each kind.
 pub(crate) fn warning_lines(
     alloc: Global,
     is_json: bool,
     json: &Value,
+    file: &[u8],
     model: &WrittenModel,
 ) -> Result<String, AllocError> {
-    let mut text = String::new(alloc);
     let odd = warnings(alloc, model)?;
-    for warning in &odd.found {
-        let line = line_of(alloc, is_json, json, warning)?;
-        text.push_str(&line)?;
-    }
+    let mut text = lines_of(alloc, is_json, json, file, &odd.found)?;
     let more = more_lines(alloc, is_json, &odd.more)?;
     text.push_str(&more)?;
     Ok(text)

@@ -2,10 +2,12 @@
 
 use crate::book::Book;
 use crate::literal_tests::literal_tests;
+use crate::reading::Cells;
 use crate::slips::{Compared, has_interval, look_at_slips};
 use crate::warning::{LiteralKind, Oddity, OddityKind};
 use dmn_check::{Key, Step};
 use dmn_form::{WrittenRule, WrittenTable};
+use feel_text::TestsTree;
 use std::alloc::AllocError;
 
 /// The cells of an input that compare with literals of a kind and that some value meets.
@@ -91,11 +93,11 @@ fn cell_steps(rule: usize, input: usize) -> [Step; 4] {
 fn look_at_cell(
     book: &mut Book,
     tallies: &mut Tallies,
-    rule: usize,
-    input: usize,
+    (rule, input): (usize, usize),
     text: &str,
+    tests: &TestsTree,
 ) -> Result<(), AllocError> {
-    let Some(tests) = literal_tests(book.alloc, text)? else {
+    let Some(tests) = literal_tests(book.alloc, tests)? else {
         return Ok(());
     };
     if tests.are_met {
@@ -114,12 +116,17 @@ fn look_at_input(
     book: &mut Book,
     input: usize,
     rules: &[WrittenRule],
+    cells: &Cells,
 ) -> Result<Tallies, AllocError> {
     let mut tallies = Tallies::new();
     for (index, rule) in rules.iter().enumerate() {
-        if let Some(text) = rule.tests.get(input) {
-            look_at_cell(book, &mut tallies, index, input, text.as_str())?;
-        }
+        let Some(text) = rule.tests.get(input) else {
+            continue;
+        };
+        let Some(tests) = cells.tests(index, input) else {
+            continue;
+        };
+        look_at_cell(book, &mut tallies, (index, input), text.as_str(), tests)?;
     }
     Ok(tallies)
 }
@@ -151,29 +158,33 @@ fn note_odd_one(
     book.keep(&cell_steps(odd.last, input), oddity)
 }
 
-/// Whether some cell of an input has an interval.
-fn have_interval(book: &Book, input: usize, rules: &[WrittenRule]) -> Result<bool, AllocError> {
-    for rule in rules {
-        let Some(text) = rule.tests.get(input) else {
+/// Whether some cell of an input, of so many rules, has an interval.
+fn have_interval(input: usize, rules: usize, cells: &Cells) -> bool {
+    for rule in 0..rules {
+        let Some(tests) = cells.tests(rule, input) else {
             continue;
         };
-        if has_interval(book, text.as_str())? {
-            return Ok(true);
+        if has_interval(tests) {
+            return true;
         }
     }
-    Ok(false)
+    false
 }
 
 /// Looks at the input entries of the table that the walk is at.
-pub(crate) fn look_at_cells(book: &mut Book, table: &WrittenTable) -> Result<(), AllocError> {
+pub(crate) fn look_at_cells(
+    book: &mut Book,
+    table: &WrittenTable,
+    cells: &Cells,
+) -> Result<(), AllocError> {
     for input in 0..table.inputs.len() {
-        let tallies = look_at_input(book, input, &table.rules)?;
+        let tallies = look_at_input(book, input, &table.rules, cells)?;
         note_odd_one(book, input, &table.rules, &tallies)?;
         let compared = Compared {
-            with_intervals: have_interval(book, input, &table.rules)?,
+            with_intervals: have_interval(input, table.rules.len(), cells),
             with_numbers_or_texts: tallies.numbers.count > 0 || tallies.texts.count > 0,
         };
-        look_at_slips(book, input, &table.rules, compared)?;
+        look_at_slips(book, input, &table.rules, cells, compared)?;
     }
     Ok(())
 }

@@ -1,8 +1,8 @@
 //! What decisions give: the entries of their values, and which literals stand under them.
 
 use crate::literal::literal_text;
-use crate::near::is_near;
 use dmn_form::{WrittenColumn, WrittenDecision, WrittenLogic, WrittenModel, WrittenTable};
+use feel_hints::is_near;
 use std::alloc::{AllocError, Global};
 use std::collections::{BTreeMap, BTreeSet};
 

@@ -1,7 +1,7 @@
 //! Literals.
 
 use crate::warning::LiteralKind;
-use feel_lang::{ReadFault, read_literal};
+use feel_text::{ReadFault, read_literal};
 use feel_value::{Feel, Value};
 use std::alloc::{AllocError, Global};
 
@@ -14,13 +14,19 @@ pub(crate) fn literal(alloc: Global, text: &str) -> Result<Option<Feel>, AllocEr
     }
 }
 
+/// The JSON text of a value.
+pub(crate) fn json_text(alloc: Global, value: &Feel) -> Result<String, AllocError> {
+    let json = value.to_json(alloc)?;
+    let text = json.to_string(alloc)?;
+    Ok(text)
+}
+
 /// The JSON text of a literal, which is the same for those of one value; None of any other text.
 pub(crate) fn literal_text(alloc: Global, text: &str) -> Result<Option<String>, AllocError> {
     let Some(value) = literal(alloc, text)? else {
         return Ok(None);
     };
-    let json = value.to_json(alloc)?;
-    let text = json.to_string(alloc)?;
+    let text = json_text(alloc, &value)?;
     Ok(Some(text))
 }
 

@@ -2,30 +2,36 @@
 
 use crate::book::Book;
 use crate::literal::{literal, literal_text};
+use crate::reading::Cells;
 use crate::warning::{Oddity, OddityKind};
 use dmn_check::{Key, Step};
 use dmn_form::{WrittenColumn, WrittenRule, WrittenTable};
+use feel_text::{Tests, TestsTree};
 use feel_value::Value;
 use std::alloc::{AllocError, Global};
 use std::collections::BTreeMap;
 
 /// Whether a rule hits whatever the inputs are.
-fn takes_all(rule: &WrittenRule) -> bool {
-    for test in &rule.tests {
-        if test.as_str().trim_ascii() != "-" {
+fn takes_all(cells: &[Option<Tests>]) -> bool {
+    for cell in cells {
+        let Some(tests) = cell else {
+            return false;
+        };
+        if !matches!(tests.tree(), TestsTree::Any) {
             return false;
         }
     }
     true
 }
 
-/// The tests of a rule as one text: the same for rules whose tests differ in blanks round them alone.
-fn tests_text(alloc: Global, rule: &WrittenRule) -> Result<String, AllocError> {
+/// The trees of a rule's tests as one text: the same for rules whose tests differ in blanks alone.
+fn tests_text(alloc: Global, cells: &[Option<Tests>]) -> Result<String, AllocError> {
     let mut text = String::new(alloc);
-    for test in &rule.tests {
-        let test = test.as_str().trim_ascii();
-        let length = test.len();
-        write!(text, "{length} {test}")?;
+    for cell in cells {
+        if let Some(tests) = cell {
+            let tree = tests.tree();
+            write!(text, "{tree:?},")?;
+        }
     }
     Ok(text)
 }
@@ -62,10 +68,14 @@ fn gives_the_highest(
 }
 
 /// The first rule that hits whatever the inputs are; under `P` only one of the highest priority.
-fn first_to_take_all(alloc: Global, table: &WrittenTable) -> Result<Option<usize>, AllocError> {
+fn first_to_take_all(
+    alloc: Global,
+    table: &WrittenTable,
+    cells: &Cells,
+) -> Result<Option<usize>, AllocError> {
     let by_priority = table.hit.as_str() == "P";
     for (index, rule) in table.rules.iter().enumerate() {
-        if !takes_all(rule) {
+        if !takes_all(cells.of_rule(index)) {
             continue;
         }
         if !by_priority || gives_the_highest(alloc, &table.outputs, rule)? {
@@ -92,15 +102,16 @@ fn note_those_behind(book: &mut Book, first: usize, count: usize) -> Result<(), 
     Ok(())
 }
 
-/// Notes the rules with the tests of an earlier one: under `U` both hit, otherwise the earlier one decides.
+/// Notes of so many rules those with the tests of an earlier one: under `U` both hit, otherwise the earlier one decides.
 fn note_same_tests(
     book: &mut Book,
-    rules: &[WrittenRule],
+    rules: usize,
+    cells: &Cells,
     is_unique: bool,
 ) -> Result<(), AllocError> {
     let mut seen: BTreeMap<String, usize> = BTreeMap::new(book.alloc);
-    for (index, rule) in rules.iter().enumerate() {
-        let text = tests_text(book.alloc, rule)?;
+    for index in 0..rules {
+        let text = tests_text(book.alloc, cells.of_rule(index))?;
         let Some(first) = seen.get(&text).copied() else {
             seen.insert(text, index)?;
             continue;
@@ -117,27 +128,27 @@ fn note_same_tests(
 }
 
 /// Looks at the rules of a table under `U`: of two that hit none decides.
-fn look_at_unique(book: &mut Book, table: &WrittenTable) -> Result<(), AllocError> {
+fn look_at_unique(book: &mut Book, table: &WrittenTable, cells: &Cells) -> Result<(), AllocError> {
     if table.rules.len() < 2 {
         return Ok(());
     }
-    if let Some(rule) = first_to_take_all(book.alloc, table)? {
+    if let Some(rule) = first_to_take_all(book.alloc, table, cells)? {
         note(book, rule, Oddity::TwoHits { first: None })?;
     }
-    note_same_tests(book, &table.rules, true)
+    note_same_tests(book, table.rules.len(), cells, true)
 }
 
 /// Looks at the rules of a table under `F` or `P`.
 fn look_at_ordered(
     book: &mut Book,
     table: &WrittenTable,
+    cells: &Cells,
     by_priority: bool,
 ) -> Result<(), AllocError> {
     let count = table.rules.len();
-    let first = first_to_take_all(book.alloc, table)?.unwrap_or(count);
+    let first = first_to_take_all(book.alloc, table, cells)?.unwrap_or(count);
     if !by_priority {
-        let before = table.rules.get(..first).unwrap_or(&[]);
-        note_same_tests(book, before, false)?;
+        note_same_tests(book, first, cells, false)?;
     }
     note_those_behind(book, first, count)
 }
@@ -161,13 +172,17 @@ fn look_at_priority(book: &mut Book, table: &WrittenTable) -> Result<(), AllocEr
 }
 
 /// Looks at the rules of the table that the walk is at, by its hit policy.
-pub(crate) fn look_at_order(book: &mut Book, table: &WrittenTable) -> Result<(), AllocError> {
+pub(crate) fn look_at_order(
+    book: &mut Book,
+    table: &WrittenTable,
+    cells: &Cells,
+) -> Result<(), AllocError> {
     match table.hit.as_str() {
-        "U" => look_at_unique(book, table),
-        "F" => look_at_ordered(book, table, false),
+        "U" => look_at_unique(book, table, cells),
+        "F" => look_at_ordered(book, table, cells, false),
         "P" => {
             look_at_priority(book, table)?;
-            look_at_ordered(book, table, true)
+            look_at_ordered(book, table, cells, true)
         }
         "O" => look_at_priority(book, table),
         "C+" | "C<" | "C>" => look_at_numbers(book, table),

@@ -1,6 +1,6 @@
 //! The names that are bound where a text stands.
 
-use crate::near::is_near;
+use feel_hints::is_near;
 use std::alloc::{AllocError, Global};
 use std::collections::BTreeMap;
 

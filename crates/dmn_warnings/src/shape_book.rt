@@ -1,9 +1,9 @@
 //! Where a JSON value is not the form of a model.
 
 use crate::form::Form;
-use crate::near::is_near;
 use crate::trail::Trail;
 use dmn_check::{Key, Place, Step};
+use feel_hints::is_near;
 use serde_json::{Map, Value};
 use std::alloc::{AllocError, Global};
 

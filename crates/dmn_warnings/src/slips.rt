@@ -1,10 +1,12 @@
 //! Cells that mean another thing than they look like.
 
 use crate::book::Book;
-use crate::lexeme::{Lexeme, LexemeKind, lexemes};
+use crate::reading::{Cells, each_test};
 use crate::warning::{Oddity, OddityKind};
 use dmn_check::{Key, Step};
 use dmn_form::WrittenRule;
+use feel_text::{Operator, Test, TestsTree, Tree};
+use feel_value::Value;
 use std::alloc::AllocError;
 
 /// What the cells of an input compare with.
@@ -16,101 +18,134 @@ pub(crate) struct Compared {
     pub(crate) with_numbers_or_texts: bool,
 }
 
-/// Whether a sign compares what stands before it with what stands behind.
-fn is_comparison(sign: &str) -> bool {
-    matches!(sign, "<" | "<=" | ">" | ">=" | "=" | "!=")
-}
-
-/// How deep a lexeme leads into parentheses and brackets, from a depth.
-fn depth_behind(depth: usize, sign: &str) -> usize {
-    match sign {
-        "(" | "[" => depth.saturating_add(1),
-        ")" | "]" => depth.saturating_sub(1),
-        _ => depth,
-    }
-}
-
-/// Whether some test of a cell is an expression that compares: what stands before the sign belongs to the test.
-fn is_truth(lexemes: &[Lexeme<'_>]) -> bool {
-    let mut depth = 0_usize;
-    let mut is_first = true;
-    for lexeme in lexemes {
-        if lexeme.kind == LexemeKind::Dots || lexeme.text == "if" {
-            return false;
-        }
-        if depth == 0 && !is_first && is_comparison(lexeme.text) {
-            return true;
-        }
-        depth = depth_behind(depth, lexeme.text);
-        is_first = depth == 0 && lexeme.kind == LexemeKind::Comma;
-    }
-    false
-}
-
-/// Whether a lexeme is a number of so many digits at least and at most.
-fn is_number(lexeme: &Lexeme<'_>, least: usize, most: usize) -> bool {
-    for byte in lexeme.text.as_bytes() {
-        if !byte.is_ascii_digit() {
-            return false;
-        }
-    }
-    least <= lexeme.text.len() && lexeme.text.len() <= most
-}
-
-/// Whether a number of three digits stands right behind a comma that stands right behind a number: `1,000`.
-fn is_cut(lexemes: &[Lexeme<'_>]) -> bool {
-    for (index, lexeme) in lexemes.iter().enumerate() {
-        let Some([comma, thousands, ..]) = lexemes.get(index.saturating_add(1)..) else {
-            return false;
-        };
-        let stand_close = lexeme.end == comma.start && comma.end == thousands.start;
-        if stand_close
-            && comma.kind == LexemeKind::Comma
-            && is_number(lexeme, 1, 3)
-            && is_number(thousands, 3, 3)
-        {
-            return true;
-        }
-    }
-    false
-}
-
-/// Whether a cell is a list of two numbers, which looks like an interval: `[1,5]`.
-fn is_pair(lexemes: &[Lexeme<'_>]) -> bool {
-    match lexemes {
-        [open, low, comma, high, close] => {
-            open.text == "["
-                && is_number(low, 1, 19)
-                && comma.kind == LexemeKind::Comma
-                && is_number(high, 1, 19)
-                && close.text == "]"
+/// Whether an expression gives true or false, and isn't one of them.
+fn gives_truth(tree: &Tree) -> bool {
+    match tree {
+        Tree::Group(inner) => gives_truth(inner),
+        Tree::Not(_) | Tree::Between(..) => true,
+        Tree::Binary(operator, _, _) => {
+            !matches!(
+                operator,
+                Operator::Add | Operator::Subtract | Operator::Multiply
+            )
         }
         _ => false,
     }
 }
 
+/// Whether some test of a cell is an expression that gives true or false.
+fn is_truth(tests: &TestsTree) -> bool {
+    for test in each_test(tests) {
+        if let Test::Equals(tree) = test {
+            if gives_truth(tree) {
+                return true;
+            }
+        }
+    }
+    false
+}
+
+/// Whether an expression is a number, with a `-` or without.
+fn is_number(tree: &Tree) -> bool {
+    match tree {
+        Tree::Constant(constant) => matches!(constant.value().value(), Value::Number(_)),
+        Tree::Negate(inner) => is_number(inner),
+        _ => false,
+    }
+}
+
+/// Whether a cell is a list of two numbers, which looks like an interval: `[1,5]`.
+fn is_pair(tests: &TestsTree) -> bool {
+    let [Test::Equals(Tree::List(members))] = each_test(tests) else {
+        return false;
+    };
+    let [low, high] = members.as_slice() else {
+        return false;
+    };
+    is_number(low) && is_number(high)
+}
+
+/// Whether a test ends with a number, before the comma behind it.
+fn ends_with_number(test: &Test) -> bool {
+    match test {
+        Test::Compares(_, tree) | Test::Equals(tree) => is_number(tree),
+        Test::Interval(..) => false,
+    }
+}
+
+/// Whether a test begins with a number, behind the comma before it.
+fn begins_with_number(test: &Test) -> bool {
+    match test {
+        Test::Equals(tree) => is_number(tree),
+        Test::Compares(..) | Test::Interval(..) => false,
+    }
+}
+
+/// Whether a number stands behind a comma that stands behind a number.
+fn has_numbers_in_a_row(tests: &TestsTree) -> bool {
+    let mut is_behind_number = false;
+    for test in each_test(tests) {
+        if is_behind_number && begins_with_number(test) {
+            return true;
+        }
+        is_behind_number = ends_with_number(test);
+    }
+    false
+}
+
+/// How many digits stand at the start.
+fn digits_at_start(bytes: &[u8]) -> usize {
+    for (index, byte) in bytes.iter().enumerate() {
+        if !byte.is_ascii_digit() {
+            return index;
+        }
+    }
+    bytes.len()
+}
+
+/// Whether a comma cuts the last three digits off a number, as in `1,000`.
+fn is_cut(text: &str) -> bool {
+    let bytes = text.as_bytes();
+    // How many digits stand right before.
+    let mut digits: usize = 0;
+    for (index, byte) in bytes.iter().enumerate() {
+        if *byte == b',' && 0 < digits && digits < 4 {
+            let after = bytes.get(index.saturating_add(1)..).unwrap_or(&[]);
+            if digits_at_start(after.get(..4).unwrap_or(after)) == 3 {
+                return true;
+            }
+        }
+        digits = if byte.is_ascii_digit() {
+            digits.saturating_add(1)
+        } else {
+            0
+        };
+    }
+    false
+}
+
 /// What a cell seems to say and doesn't, if it is known.
-fn slip(lexemes: &[Lexeme<'_>], compared: Compared) -> Option<OddityKind> {
-    if compared.with_numbers_or_texts && is_truth(lexemes) {
+fn slip(text: &str, tests: &TestsTree, compared: Compared) -> Option<OddityKind> {
+    if compared.with_numbers_or_texts && is_truth(tests) {
         return Some(OddityKind::TruthInCell);
     }
-    if compared.with_intervals && is_pair(lexemes) {
+    if compared.with_intervals && is_pair(tests) {
         return Some(OddityKind::ListForInterval);
     }
-    if is_cut(lexemes) {
+    if has_numbers_in_a_row(tests) && is_cut(text) {
         return Some(OddityKind::CutNumber);
     }
     None
 }
 
 /// Whether a cell has an interval.
-pub(crate) fn has_interval(book: &Book, text: &str) -> Result<bool, AllocError> {
-    for lexeme in &lexemes(book.alloc, text)? {
-        if lexeme.kind == LexemeKind::Dots {
-            return Ok(true);
+pub(crate) fn has_interval(tests: &TestsTree) -> bool {
+    for test in each_test(tests) {
+        if let Test::Interval(..) = test {
+            return true;
         }
     }
-    Ok(false)
+    false
 }
 
 /// Notes what the cell of a rule seems to say and doesn't.
@@ -119,9 +154,9 @@ fn look_at_cell(
     compared: Compared,
     (rule, input): (usize, usize),
     text: &str,
+    tests: &TestsTree,
 ) -> Result<(), AllocError> {
-    let found = slip(&lexemes(book.alloc, text)?, compared);
-    let Some(kind) = found else {
+    let Some(kind) = slip(text, tests, compared) else {
         return Ok(());
     };
     if !book.is_wanted(kind) {
@@ -147,12 +182,17 @@ pub(crate) fn look_at_slips(
     book: &mut Book,
     input: usize,
     rules: &[WrittenRule],
+    cells: &Cells,
     compared: Compared,
 ) -> Result<(), AllocError> {
     for (index, rule) in rules.iter().enumerate() {
-        if let Some(text) = rule.tests.get(input) {
-            look_at_cell(book, compared, (index, input), text.as_str())?;
-        }
+        let Some(text) = rule.tests.get(input) else {
+            continue;
+        };
+        let Some(tests) = cells.tests(index, input) else {
+            continue;
+        };
+        look_at_cell(book, compared, (index, input), text.as_str(), tests)?;
     }
     Ok(())
 }

@@ -1,78 +1,72 @@
-//! Values that a table asks for and the decision that it looks at never gives.
+//! Literals that a table or an expression asks for and that the decision it looks at never gives.
 
 use crate::given::near_literal;
-use crate::lexeme::{Lexeme, LexemeKind, lexemes};
-use crate::literal::literal_text;
-use crate::literal_tests::compared_literals;
+use crate::known::known;
+use crate::literal::json_text;
+use crate::reading::{Cells, each_test, expression};
+use crate::seen::{Asked, ValueName, subject_of};
 use crate::walk::Walk;
 use crate::warning::{Oddity, OddityKind};
 use dmn_check::{Key, Step};
 use dmn_form::WrittenTable;
-use std::alloc::{AllocError, Global};
-use std::collections::BTreeSet;
+use feel_text::{Test, TestsTree, Tree};
+use std::alloc::AllocError;
 
-/// The name, and the entry of its value, that an input expression consists of.
-fn subject_of<'a>(lexemes: &[Lexeme<'a>]) -> Option<(&'a str, Option<&'a str>)> {
-    match lexemes {
-        [name] if name.kind == LexemeKind::Word => Some((name.text, None)),
-        [name, dot, entry]
-            if name.kind == LexemeKind::Word
-                && dot.kind == LexemeKind::Dot
-                && entry.kind == LexemeKind::Word => { Some((name.text, Some(entry.text))) }
-        _ => None,
-    }
-}
-
-/// The literals of a cell that none of these is, each as it stands and as JSON.
-fn strangers<'a>(
-    alloc: Global,
-    given: &BTreeSet<String>,
-    text: &'a str,
-) -> Result<Vec<(&'a str, String)>, AllocError> {
-    let mut found = Vec::new(alloc);
-    for part in compared_literals(alloc, text)? {
-        let Some(literal) = literal_text(alloc, part)? else {
-            continue;
-        };
-        if literal.as_str() != "null" && !given.contains(literal.as_str()) {
-            found.push((part, literal))?;
-        }
-    }
-    Ok(found)
+/// The steps from a table to the cell of a rule and an input.
+fn cell_steps(rule: usize, input: usize) -> [Step; 4] {
+    [
+        Step::Key(Key::Rules),
+        Step::Index(rule),
+        Step::Key(Key::When),
+        Step::Index(input),
+    ]
 }
 
 impl<'m> Walk<'m> {
+    /// Notes a literal in the text that these steps lead to, if the value that it is compared with never is it.
+    fn look_at_literal(
+        &mut self,
+        steps: &[Step],
+        subject: ValueName<'_>,
+        tree: &Tree,
+    ) -> Result<(), AllocError> {
+        let Some(given) = self.given.literals(subject.name, subject.entry) else {
+            return Ok(());
+        };
+        let Some(value) = known(tree)? else {
+            return Ok(());
+        };
+        let text = json_text(self.book.alloc, &value)?;
+        if text.as_str() == "null"
+            || given.contains(text.as_str())
+            || !self.book.is_wanted(OddityKind::NeverGiven)
+        {
+            return Ok(());
+        }
+        let near = match near_literal(given, text.as_str()) {
+            Some(near) => Some(self.book.copy(near)?),
+            None => None,
+        };
+        let oddity = Oddity::NeverGiven {
+            text,
+            decision: self.book.copy(subject.name)?,
+            near,
+        };
+        self.book.keep(steps, oddity)
+    }
+
     /// Notes the literals of a cell that its input never is.
     fn look_at_tested(
         &mut self,
-        subject: (&str, Option<&str>),
+        subject: ValueName<'_>,
         (rule, input): (usize, usize),
-        text: &str,
+        tests: &TestsTree,
     ) -> Result<(), AllocError> {
-        let alloc = self.book.alloc;
-        let Some(given) = self.given.literals(subject.0, subject.1) else {
-            return Ok(());
-        };
-        for (part, literal) in &strangers(alloc, given, text)? {
-            if !self.book.is_wanted(OddityKind::NeverGiven) {
-                continue;
+        let steps = cell_steps(rule, input);
+        for test in each_test(tests) {
+            if let Test::Equals(tree) = test {
+                self.look_at_literal(&steps, subject, tree)?;
             }
-            let near = match near_literal(given, literal.as_str()) {
-                Some(near) => Some(self.book.copy(near)?),
-                None => None,
-            };
-            let oddity = Oddity::NeverGiven {
-                text: self.book.copy(part)?,
-                decision: self.book.copy(subject.0)?,
-                near,
-            };
-            let steps = [
-                Step::Key(Key::Rules),
-                Step::Index(rule),
-                Step::Key(Key::When),
-                Step::Index(input),
-            ];
-            self.book.keep(&steps, oddity)?;
         }
         Ok(())
     }
@@ -81,28 +75,49 @@ impl<'m> Walk<'m> {
     fn look_at_asked(
         &mut self,
         table: &WrittenTable,
+        cells: &Cells,
         input: usize,
         text: &str,
     ) -> Result<(), AllocError> {
-        let lexemes = lexemes(self.book.alloc, text)?;
-        let Some((name, entry)) = subject_of(&lexemes) else {
+        let Some(read) = expression(self.book.alloc, text)? else {
             return Ok(());
         };
-        if !self.is_need(name) {
+        let Some(subject) = subject_of(read.tree()) else {
+            return Ok(());
+        };
+        if !self.is_need(subject.name) {
             return Ok(());
         }
-        for (index, rule) in table.rules.iter().enumerate() {
-            if let Some(cell) = rule.tests.get(input) {
-                self.look_at_tested((name, entry), (index, input), cell.as_str())?;
+        for rule in 0..table.rules.len() {
+            if let Some(tests) = cells.tests(rule, input) {
+                self.look_at_tested(subject, (rule, input), tests)?;
             }
         }
         Ok(())
     }
 
     /// Looks at the inputs of the table that the walk is at for what they never are.
-    pub(crate) fn look_at_all_asked(&mut self, table: &WrittenTable) -> Result<(), AllocError> {
+    pub(crate) fn look_at_all_asked(
+        &mut self,
+        table: &WrittenTable,
+        cells: &Cells,
+    ) -> Result<(), AllocError> {
         for (index, text) in table.inputs.iter().enumerate() {
-            self.look_at_asked(table, index, text.as_str())?;
+            self.look_at_asked(table, cells, index, text.as_str())?;
+        }
+        Ok(())
+    }
+
+    /// Notes the literals that the text compares needed values with and that these never are.
+    pub(crate) fn look_at_compared(
+        &mut self,
+        steps: &[Step],
+        asked: &[Asked<'_>],
+    ) -> Result<(), AllocError> {
+        for comparison in asked {
+            if self.is_need(comparison.subject.name) {
+                self.look_at_literal(steps, comparison.subject, comparison.with)?;
+            }
         }
         Ok(())
     }

@@ -1,13 +1,12 @@
 //! Names in FEEL texts that nothing binds, entries that a needed decision doesn't give, and texts that are added.
 
 use crate::book::Book;
-use crate::lexeme::{Lexeme, LexemeKind, lexemes};
-use crate::near::is_near;
-use crate::value_names::{ValueName, value_names};
+use crate::seen::{Seen, ValueName};
 use crate::walk::Walk;
 use crate::warning::{Oddity, OddityKind};
 use dmn_check::Step;
 use dmn_form::WrittenModel;
+use feel_hints::is_near;
 use std::alloc::AllocError;
 use std::collections::BTreeSet;
 
@@ -81,50 +80,34 @@ fn look_at_entry(
     walk.book.keep(steps, oddity)
 }
 
-/// Whether a text in quotes stands beside a `+`.
-fn adds_a_text(lexemes: &[Lexeme<'_>]) -> bool {
-    for (index, lexeme) in lexemes.iter().enumerate() {
-        let Some(next) = lexemes.get(index.saturating_add(1)) else {
-            return false;
-        };
-        let is_added = lexeme.kind == LexemeKind::Quoted && next.text == "+"
-            || lexeme.text == "+" && next.kind == LexemeKind::Quoted;
-        if is_added {
-            return true;
-        }
-    }
-    false
-}
-
 /// Notes that a text is added, in the text that these steps lead to.
-fn look_at_sum(
-    book: &mut Book,
-    steps: &[Step],
-    text: &str,
-    lexemes: &[Lexeme<'_>],
-) -> Result<(), AllocError> {
-    if !adds_a_text(lexemes) || !book.is_wanted(OddityKind::AddedText) {
+fn note_added(book: &mut Book, steps: &[Step], text: &str) -> Result<(), AllocError> {
+    if !book.is_wanted(OddityKind::AddedText) {
         return Ok(());
     }
     let text = book.copy(text)?;
     book.keep(steps, Oddity::AddedText { text })
 }
 
-/// Looks at the names and sums in the text that these steps lead to. Each name that nothing binds is noted once.
+/// Looks at what stands in the text that these steps lead to. Each name that nothing binds is noted once.
 pub(crate) fn look_at_text(
     walk: &mut Walk<'_>,
     steps: &[Step],
     text: &str,
+    seen: &Seen<'_>,
     is_cell: bool,
 ) -> Result<(), AllocError> {
-    let lexemes = lexemes(walk.book.alloc, text)?;
     let mut noted = BTreeSet::new(walk.book.alloc);
-    for used in value_names(walk.book.alloc, &lexemes)? {
+    for used in &seen.names {
         if walk.scope.use_name(used.name) {
-            look_at_entry(walk, steps, used)?;
+            look_at_entry(walk, steps, *used)?;
         } else if noted.insert(used.name)? {
             note_unbound(walk, steps, used.name, is_cell)?;
         }
     }
-    look_at_sum(&mut walk.book, steps, text, &lexemes)
+    walk.look_at_compared(steps, &seen.asked)?;
+    if seen.adds_a_text {
+        note_added(&mut walk.book, steps, text)?;
+    }
+    Ok(())
 }

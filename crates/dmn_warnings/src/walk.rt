@@ -4,14 +4,17 @@ use crate::book::Book;
 use crate::cells::look_at_cells;
 use crate::given::Given;
 use crate::outputs::look_at_outputs;
+use crate::reading::{Cells, each_test, expression};
 use crate::rules::look_at_order;
 use crate::scope::Scope;
+use crate::seen::Seen;
 use crate::unbound::look_at_text;
 use crate::warning::{Oddity, OddityKind};
 use dmn_check::{Key, Step};
 use dmn_form::{
     WrittenColumn, WrittenDecision, WrittenLogic, WrittenModel, WrittenRule, WrittenTable,
 };
+use feel_text::Tests;
 use std::alloc::AllocError;
 
 /// A walk through a model.
@@ -26,8 +29,22 @@ pub(crate) struct Walk<'m> {
 }
 
 impl<'m> Walk<'m> {
-    /// Looks at the texts under a key, each a cell or an input of a table.
-    fn look_at_texts(
+    /// Looks at the expression that these steps lead to.
+    fn look_at_expression(
+        &mut self,
+        steps: &[Step],
+        text: &str,
+        is_cell: bool,
+    ) -> Result<(), AllocError> {
+        let Some(read) = expression(self.book.alloc, text)? else {
+            return Ok(());
+        };
+        let seen = Seen::in_expression(self.book.alloc, read.tree())?;
+        look_at_text(self, steps, text, &seen, is_cell)
+    }
+
+    /// Looks at the expressions under a key of a table.
+    fn look_at_expressions(
         &mut self,
         key: Key,
         texts: &[String],
@@ -35,7 +52,25 @@ impl<'m> Walk<'m> {
     ) -> Result<(), AllocError> {
         self.book.enter(Step::Key(key))?;
         for (index, text) in texts.iter().enumerate() {
-            look_at_text(self, &[Step::Index(index)], text.as_str(), is_cell)?;
+            self.look_at_expression(&[Step::Index(index)], text.as_str(), is_cell)?;
+        }
+        self.book.leave();
+        Ok(())
+    }
+
+    /// Looks at the input entries of a rule.
+    fn look_at_tests(
+        &mut self,
+        texts: &[String],
+        cells: &[Option<Tests>],
+    ) -> Result<(), AllocError> {
+        self.book.enter(Step::Key(Key::When))?;
+        for (index, text) in texts.iter().enumerate() {
+            let Some(Some(tests)) = cells.get(index) else {
+                continue;
+            };
+            let seen = Seen::in_tests(self.book.alloc, each_test(tests.tree()))?;
+            look_at_text(self, &[Step::Index(index)], text.as_str(), &seen, true)?;
         }
         self.book.leave();
         Ok(())
@@ -46,19 +81,19 @@ impl<'m> Walk<'m> {
         for (index, column) in columns.iter().enumerate() {
             if let Some(text) = &column.fallback {
                 let steps = [Step::Index(index), Step::Key(Key::Default)];
-                look_at_text(self, &steps, text.as_str(), true)?;
+                self.look_at_expression(&steps, text.as_str(), true)?;
             }
         }
         self.book.leave();
         Ok(())
     }
 
-    fn look_at_rules(&mut self, rules: &[WrittenRule]) -> Result<(), AllocError> {
+    fn look_at_rules(&mut self, rules: &[WrittenRule], cells: &Cells) -> Result<(), AllocError> {
         self.book.enter(Step::Key(Key::Rules))?;
         for (index, rule) in rules.iter().enumerate() {
             self.book.enter(Step::Index(index))?;
-            self.look_at_texts(Key::When, &rule.tests, true)?;
-            self.look_at_texts(Key::Then, &rule.gives, true)?;
+            self.look_at_tests(&rule.tests, cells.of_rule(index))?;
+            self.look_at_expressions(Key::Then, &rule.gives, true)?;
             self.book.leave();
         }
         self.book.leave();
@@ -66,14 +101,15 @@ impl<'m> Walk<'m> {
     }
 
     fn look_at_table(&mut self, table: &WrittenTable) -> Result<(), AllocError> {
+        let cells = Cells::of(self.book.alloc, &table.rules)?;
         self.book.enter(Step::Key(Key::Table))?;
-        self.look_at_texts(Key::Inputs, &table.inputs, false)?;
+        self.look_at_expressions(Key::Inputs, &table.inputs, false)?;
         self.look_at_defaults(&table.outputs)?;
-        self.look_at_rules(&table.rules)?;
+        self.look_at_rules(&table.rules, &cells)?;
         look_at_outputs(&mut self.book, table)?;
-        look_at_cells(&mut self.book, table)?;
-        self.look_at_all_asked(table)?;
-        look_at_order(&mut self.book, table)?;
+        look_at_cells(&mut self.book, table, &cells)?;
+        self.look_at_all_asked(table, &cells)?;
+        look_at_order(&mut self.book, table, &cells)?;
         self.book.leave();
         Ok(())
     }
@@ -128,7 +164,7 @@ impl<'m> Walk<'m> {
     #[cycle(walk)]
     fn look_at_logic(&mut self, logic: &'m WrittenLogic) -> Result<(), AllocError> {
         match logic {
-            WrittenLogic::Expression(text) => look_at_text(self, &[], text.as_str(), false),
+            WrittenLogic::Expression(text) => self.look_at_expression(&[], text.as_str(), false),
             WrittenLogic::Table(table) => self.look_at_table(table),
             WrittenLogic::List(members) => self.look_at_members(members),
             WrittenLogic::Context(entries) => {

@@ -112,9 +112,9 @@ pub enum Oddity {
         /// The expression or the tests.
         text: String,
     },
-    /// A literal that is asked for and that the decision under the input never gives.
+    /// A literal that a table or an expression asks for and that the decision it looks at never gives.
     NeverGiven {
-        /// The literal.
+        /// Its value, as JSON writes it.
         text: String,
         /// The decision.
         decision: String,

@@ -1,42 +1,56 @@
-//! Names that are nearly alike.
+//! Names that differ by one letter: the one rule for what may be meant in the place of a name.
+ghost use Rattle.std.specs.Prelude.{◌≡◌};
+ghost use Rattle.feel_hints.specs.Near.{have_swapped as have_swapped_letters, differ_at_start as do_differ_at_start, differ_by_one as do_differ_by_one};
 
-/// The fewest letters of a name that another one may be near to: too many of the shorter ones are.
+/// The fewest letters of a name that another is near to: of shorter ones too many are.
 const FEWEST_LETTERS: usize = 3;
 
-/// How many bytes the two have in common at their starts.
-fn common_length(first: &[u8], second: &[u8]) -> usize {
-    for (index, (one, other)) in first.iter().zip(second.iter()).enumerate() {
-        if one != other {
-            return index;
+/// Whether two texts begin with two letters that changed places, and are one from there on.
+fn have_swapped(one: &[u8], other: &[u8]) -> bool
+    ensures { result ≡ have_swapped_letters one.now other.now }
+{
+    match (one, other) {
+        ([a, b, rest @ ..], [c, d, others @ ..]) => *a == *d && *b == *c && rest == others,
+        _ => false,
+    }
+}
+
+/// Whether two texts of which the first letters, if there are, differ become one by a letter that is put in, left out or replaced,
+/// or by two neighbours that change places.
+fn differ_at_start(one: &[u8], other: &[u8]) -> bool
+    ensures { result ≡ do_differ_at_start one.now other.now }
+{
+    match (one.split_first(), other.split_first()) {
+        (None, None) => false,
+        (None, Some((_, others))) => others.is_empty(),
+        (Some((_, rest)), None) => rest.is_empty(),
+        (Some((_, rest)), Some((_, others))) => {
+            rest == others || rest == other || one == others || have_swapped(one, other)
         }
     }
-    first.len().min(second.len())
 }
 
-/// The bytes from this one on.
-fn from(bytes: &[u8], begin: usize) -> &[u8] {
-    bytes.get(begin..).unwrap_or(&[])
-}
-
-/// Whether the two begin with the same two letters, one swapped with the other, and go on alike.
-fn is_swapped(first: &[u8], second: &[u8]) -> bool {
-    let (Some(one), Some(two)) = (first.first(), first.get(1)) else {
-        return false;
+/// Whether two texts become one by a letter that is put in, left out or replaced, or by two neighbours that change places.
+fn differ_by_one(one: &[u8], other: &[u8]) -> bool
+    ensures { result ≡ do_differ_by_one one.now other.now }
+{
+    let Some((first, rest)) = one.split_first() else {
+        return differ_at_start(one, other);
     };
-    second.first() == Some(two) && second.get(1) == Some(one) && from(first, 2) == from(second, 2)
+    let Some((second, others)) = other.split_first() else {
+        return differ_at_start(one, other);
+    };
+    if *first == *second {
+        return differ_by_one(rest, others);
+    }
+    differ_at_start(one, other)
 }
 
-/// Whether two names differ by one letter: one more, one less, another one, or two neighbours swapped. Names of one or two letters
-/// alone are never near.
-pub fn is_near(name: &str, other: &str) -> bool {
-    let (first, second) = (name.as_bytes(), other.as_bytes());
-    if first.len().abs_diff(second.len()) > 1 || first.len().max(second.len()) < FEWEST_LETTERS {
+/// Whether two names, of which one has three letters at least, differ by one letter: put in, left out, replaced, or two neighbours
+/// that changed places.
+pub fn is_near(one: &str, other: &str) -> bool {
+    if one.len().abs_diff(other.len()) > 1 || one.len().max(other.len()) < FEWEST_LETTERS {
         return false;
     }
-    let common = common_length(first, second);
-    let (first, second) = (from(first, common), from(second, common));
-    from(first, 1) == from(second, 1)
-        || from(first, 1) == second
-        || first == from(second, 1)
-        || is_swapped(first, second)
+    differ_by_one(one.as_bytes(), other.as_bytes())
 }
