@@ -78,8 +78,7 @@ def wrong_overlaps(row: Row, scan: Scan, told: Told) -> Iterator[str]:
 
 def wrong_masked(row: Row, scan: Scan, told: Told) -> Iterator[str]:
     found = {it.rules[0]: it.rules[1:] for it in told.of("masked") if it.rules[0] not in row.never}
-    # Under P none is looked for.
-    due = set(row.masked) if row.hit == "F" else set()
+    due = set(row.masked) if row.hit in ("F", "P") else set()
     if row.is_decided and set(found) != due or not set(found) <= due:
         yield f"masked: {found}"
     for rule, before in found.items():

@@ -4,7 +4,7 @@ from __future__ import annotations
 
 import json
 
-from checking.program import Program, Result
+from checking.program import Program, Result, unplaced
 
 from .place_rows import model, table
 from .row import Json
@@ -12,10 +12,10 @@ from .strict_rows import DEFAULT, EXAMPLES, LISTED, one
 
 
 def lines_of(program: Program, it: object) -> list[str]:
-    """What is told of the tables, line by line."""
+    """What is told of the tables, line by line, without their lines and columns."""
     lines = program.check(json.dumps(it), "--tables")[1].splitlines()
     first = next((n for n, line in enumerate(lines) if line.startswith("table: ")), len(lines))
-    return lines[first:]
+    return [unplaced(line) for line in lines[first:]]
 
 
 def fee(second: str, third: str, fourth: str) -> Json:
@@ -101,9 +101,19 @@ ROWS: list[tuple[str, object, list[str]]] = [
         ],
     ),
     (
-        "under P no rule is looked for that never decides",
+        "under P one that gives a higher output goes before",
         one("5", "-", hit="P", outputs=LISTED, then=['"LOW"', '"HIGH"']),
-        ['table: decisions[0] "d": 2 rules, P: complete'],
+        ['table: decisions[0] "d": 2 rules, P: complete', "  rule 1 never decides: rule 2 goes before it"],
+    ),
+    (
+        "and so do two together",
+        one("[0..10]", "< 5", ">= 5", "-", hit="P", outputs=LISTED, then=['"LOW"', '"HIGH"', '"HIGH"', '"LOW"']),
+        ['table: decisions[0] "d": 4 rules, P: complete', "  rule 1 never decides: rules 2 and 3 go before it"],
+    ),
+    (
+        "under P names may decide what a rule gives",
+        one("5", "-", hit="P", outputs=LISTED, then=['"LOW"', "x"], names="x"),
+        ['table: decisions[0] "d": 2 rules, P: complete', "  not decided: names decide what rule 2 gives, and so which rules go before others"],
     ),
     ("a rule that never hits", one("(5..6)", "-", hit="R"), ['table: decisions[0] "d": 2 rules, R: complete', "  rule 1 never hits"]),
     (
@@ -123,6 +133,11 @@ ROWS: list[tuple[str, object, list[str]]] = [
         "a test that a name decides",
         one("x", "-", names="x"),
         ['table: decisions[0] "d": 2 rules, U: complete, overlaps not decided', "  not decided: rule 1 has tests that names or lists decide"],
+    ),
+    (
+        "a test that compares texts by order",
+        one('< "m"', "-"),
+        ['table: decisions[0] "d": 2 rules, U: complete, overlaps not decided', "  not decided: rule 1 has tests that compare texts by order"],
     ),
     (
         "an expression in a column",
@@ -146,12 +161,27 @@ ROWS: list[tuple[str, object, list[str]]] = [
     ("no rules", one(columns=["a"]), ['table: decisions[0] "d": 0 rules, U: not complete, no two rules overlap']),
     ("a model without tables", model("a + 1"), []),
 ]
+# A table over several lines, and where it begins.
+PLACED = """{"inputs":["a"],
+ "decisions":[{"name":"d","needs":["a"],"expr":
+  {"table":{"hit":"U","inputs":["a"],"outputs":[{"name":"o"}],"rules":[{"when":["5"],"then":["1"]}]}}}],
+ "services":[]}"""
+PLACED_WORDS = 'table: line 3, column 12: decisions[0] "d": 1 rule, U: not complete, no two rules overlap'
+
 # Of these only the first line is held against what is due, since what follows may be told in several ways.
 FIRST_ONLY = {"words", "no rules", "masked by one, and by two together"}
 
 
+def is_placed(program: Program) -> bool:
+    """Whether people are told the line and the column of a table, and each line of JSON about it has them."""
+    words = program.check(PLACED, "--tables")[1].splitlines()
+    lines = [json.loads(it) for it in program.check(PLACED, "--tables", "--json")[1].splitlines()]
+    places = [(it["line"], it["column"]) for it in lines if "table" in it]
+    return PLACED_WORDS in words and len(places) > 1 and set(places) == {(3, 12)}
+
+
 def results_of(program: Program) -> list[Result]:
-    found = list[Result]()
+    found = [("the line and the column of a table", is_placed(program))]
     for why, it, due in ROWS:
         lines = lines_of(program, it)
         is_right = lines[:1] == due[:1] and set(due[1:]) <= set(lines) if why in FIRST_ONLY else lines == due

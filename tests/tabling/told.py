@@ -60,7 +60,7 @@ class Finding:
     def fault(self, columns: int) -> str | None:
         """What is wrong with its form, if anything is."""
         has_values = self.kind in ("gap", "overlap")
-        keys = {"finding", "table", "rules"} | ({"witness", "cells"} if has_values else set()) | ({"asked"} if self.kind == "gap" else set())
+        keys = {"finding", "table", "line", "column", "rules"} | ({"witness", "cells"} if has_values else set()) | ({"asked"} if self.kind == "gap" else set())
         most = keys | ({"inputs", "sure"} if has_values else set())
         if not keys <= set(self.line) <= most:
             return f"the keys {sorted(self.line)}"
@@ -89,7 +89,7 @@ class Told:
 
     def fault(self, columns: int) -> str | None:
         """What is wrong with the form of its lines, if anything is."""
-        if set(self.line) != {"table", "complete", "asked", "words", "unique", "steps"}:
+        if set(self.line) != {"table", "line", "column", "complete", "asked", "words", "unique", "steps"}:
             return f"the keys {sorted(self.line)}"
         if any(kind(self.line[it]) not in ("bool", "NoneType") for it in ("complete", "asked", "words", "unique")):
             return f"an answer that is none: {self.line}"

@@ -10,10 +10,10 @@ use Rattle.dmn_table.specs.Hits.{does_hit}
 use Rattle.dmn_table.specs.Table.{Rule, Table}
 use Rattle.dmn_analysis.specs.Asked.{is_asked}
 use Rattle.dmn_analysis.specs.Cells.{AreIn}
-use Rattle.dmn_analysis.specs.Claims.{AreAsked, AreInputs, HasHit, HitsBehind, IsInGap, NeverHits, NeverTwo, TellsGap, TellsGaps}
+use Rattle.dmn_analysis.specs.Claims.{AreAsked, AreInputs, GoesBefore, HasHit, IsInGap, IsMasked, NeverHits, NeverTwo, TellsGap, TellsGaps}
 use Rattle.dmn_analysis.specs.Joining.{AreCovered}
 use Rattle.dmn_analysis.specs.Searching.{IsAmong, IsInSome, Knows, KnowsPairs, Scene, cells_of}
-use Rattle.dmn_analysis.specs.Telling.{HasGapOf, IsBehind, IsToldGap}
+use Rattle.dmn_analysis.specs.Telling.{HasGapOf, HasHitAmong, IsBehind, IsMaskedOn, IsToldGap}
 use Rattle.dmn_analysis.specs.Whole.{AreWhole}
 use Rattle.dmn_analysis.specs.declared.asked.Asked.{Asked}
 use Rattle.dmn_analysis.specs.declared.cell.Cell.{Cell}
@@ -92,30 +92,31 @@ never_two t words asked cells first search long whole all each knows none unopen
 
 -- ---- single rules
 
-pub behind_from : (s : Scene) (search : Search) (below : ℕ) → Knows s search → search.pending.items ≡ [] → search.open.items ≡ [] → search.bare.items ≡ [] → All (λ r. r < below) s.first
-    → IsBehind s.words s.rules s.whole s.chosen below
-behind_from s search below knows none unopened covered all m values long inside chosen =
+pub behind_from : (s : Scene) (search : Search) → Knows s search → search.pending.items ≡ [] → search.open.items ≡ [] → search.bare.items ≡ [] → IsBehind s.words s.rules s.whole s.chosen s.first
+behind_from s search knows none unopened covered m values long inside chosen =
     elim (knows.parted unopened m values (record { long = long; inside = inside; chosen = chosen })) [
-      | inl hit ↦ record { number = hit.number; less = All-at (λ r. r < below) s.first hit.among.place hit.number all hit.among.there; rule = hit.rule; there = hit.there; hits = hit.hits }
+      | inl hit ↦ record { number = hit.number; among = hit.among; rule = hit.rule; there = hit.there; hits = hit.hits }
       | inr rest ↦ elim rest [
         | inl b ↦ absurd (nowhere s.words values (subst (λ bs. IsInSome s.words (map (λ (b : Bare). b.cells.items) bs) values) covered b))
         | inr p ↦ absurd (nowhere s.words values (subst (λ ps. IsInSome s.words (cells_of ps) values) none p))
       ]
     ]
 
-pub never_hits : (words : List Words) (rules : List Rule) (asked : List Asked) (cells : List Cell) (count i : ℕ) → length cells ≡ count → AreWhole words asked cells → All (λ a. (v : Datum) → is_asked a v ≡ true) asked
-    → IsBehind words rules cells i 0 → NeverHits count rules i
-never_hits words rules asked cells count i long whole all behind m values inputs r there hits =
-    let found = behind m values (inputs.one_each ∙ sym long) (in_whole words asked cells values whole inputs.lawful (everything asked values all))
-    (λ q here. subst (λ x. does_hit m values x ≡ Some true) (same_Some r q (sym there ∙ here)) hits) in
-    absurd (omega (arith, found.less))
+nobody : (rules : List Rule) (m : Bindings) (values : List Datum) → HasHitAmong rules [] m values → ⊥
+nobody rules m values h = let e : None ≡ Some h.number = h.among.there in cc
 
-pub hits_behind : (words : List Words) (rules : List Rule) (asked : List Asked) (cells : List Cell) (count i : ℕ) → length cells ≡ count → AreWhole words asked cells → All (λ a. (v : Datum) → is_asked a v ≡ true) asked
-    → IsBehind words rules cells i i → HitsBehind count rules i
-hits_behind words rules asked cells count i long whole all behind m values inputs r there hits =
-    let found = behind m values (inputs.one_each ∙ sym long) (in_whole words asked cells values whole inputs.lawful (everything asked values all))
+pub never_hits : (words : List Words) (rules : List Rule) (asked : List Asked) (cells : List Cell) (count i : ℕ) → length cells ≡ count → AreWhole words asked cells → All (λ a. (v : Datum) → is_asked a v ≡ true) asked
+    → IsBehind words rules cells i [] → NeverHits count rules i
+never_hits words rules asked cells count i long whole all behind m values inputs r there hits =
+    nobody rules m values (behind m values (inputs.one_each ∙ sym long) (in_whole words asked cells values whole inputs.lawful (everything asked values all))
+    (λ q here. subst (λ x. does_hit m values x ≡ Some true) (same_Some r q (sym there ∙ here)) hits))
+
+pub masked : (t : Table) (words : List Words) (asked : List Asked) (cells : List Cell) (i : ℕ) → length cells ≡ length t.inputs → AreWhole words asked cells → All (λ a. (v : Datum) → is_asked a v ≡ true) asked
+    → IsMaskedOn t words cells i → IsMasked t i
+masked t words asked cells i long whole all on m values inputs r there hits =
+    let found = on.behind m values (inputs.one_each ∙ sym long) (in_whole words asked cells values whole inputs.lawful (everything asked values all))
     (λ q here. subst (λ x. does_hit m values x ≡ Some true) (same_Some r q (sym there ∙ here)) hits) in
-    record { place = found.number; before = found.less; rule = found.rule; there = found.there; hits = found.hits }
+    record { place = found.number; before = All-at (λ j. GoesBefore t j i) on.first found.among.place found.number on.before found.among.there; rule = found.rule; there = found.there; hits = found.hits }
 
 -- ---- gaps of cells that were joined
 

@@ -1,10 +1,12 @@
 mod Answering
+mod Constants
 mod Halves
 mod HitRules
 mod Joins
 mod OnClasses
 mod PairSearches
 mod Places
+mod Ranks
 mod Results
 mod RulesOn
 mod Searches

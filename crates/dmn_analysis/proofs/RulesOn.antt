@@ -1,5 +1,5 @@
 -- Rules on cells.
-use Rattle.std.proofs.Common.{◌≡◌, ℕ, List, Bool, true, false, Some, arith}
+use Rattle.std.proofs.Common.{◌≡◌, ◌<◌, ℕ, List, length, Bool, true, false, Some, arith}
 use Rattle.std.specs.List.{slice_get}
 use Rattle.std.proofs.lemmas.Option.{slice_get_within}
 use Rattle.feel_text.specs.Tests.{Tests}
@@ -18,9 +18,9 @@ pub record IsSettled (met : Bool) (words : List Words) (cells : List Cell) (k : 
   pub cell_there : slice_get cells k ≡ Some cell
   pub settles : SettlesIn met ws cell tests
 
-pub must : (words : List Words) (cells : List Cell) (rule : Rule) → ((k : ℕ) (t : Tests) → slice_get rule.tests k ≡ Some t → IsSettled true words cells k t) → MustHit words cells rule
+pub must : (words : List Words) (cells : List Cell) (rule : Rule) → ((k : ℕ) (t : Tests) → k < length cells → slice_get rule.tests k ≡ Some t → IsSettled true words cells k t) → MustHit words cells rule
 must words cells rule each m values long in_cells =
-    met_hits m rule.tests values (λ k t v here has. let s = each k t here in s.settles v m (in_cells k s.ws s.cell v s.words_there s.cell_there has))
+    met_hits m rule.tests values (λ k t v here has. let s = each k t (omega (arith, long, slice_get_within values k v has)) here in s.settles v m (in_cells k s.ws s.cell v s.words_there s.cell_there has))
 
 pub cannot : (words : List Words) (cells : List Cell) (rule : Rule) (k : ℕ) (t : Tests) → slice_get rule.tests k ≡ Some t → IsSettled false words cells k t → CannotHit words cells rule
 cannot words cells rule k t here s m values long in_cells hits =

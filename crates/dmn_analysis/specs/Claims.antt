@@ -4,8 +4,11 @@ use Rattle.std.specs.List.{slice_get, All}
 use Rattle.feel_value.specs.Datum.{Datum}
 use Rattle.feel_value.specs.Limits.{is_value}
 use Rattle.feel_text.specs.Meaning.{Bindings}
-use Rattle.dmn_table.specs.Hits.{does_hit}
-use Rattle.dmn_table.specs.Table.{Rule, Table}
+use Rattle.dmn_table.specs.declared.hit_policy.HitPolicy.{HitPolicy}
+use Rattle.dmn_table.specs.declared.hit_policy.HitPolicy.TheVariants.{First, Priority}
+use Rattle.dmn_table.specs.Hits.{does_hit, hit_of}
+use Rattle.dmn_table.specs.Priority.{Hit, is_higher}
+use Rattle.dmn_table.specs.Table.{Column, Rule, Table}
 use Rattle.dmn_analysis.specs.Asked.{is_asked}
 use Rattle.dmn_analysis.specs.declared.asked.Asked.{Asked}
 use Rattle.dmn_analysis.specs.Cells.{AreIn}
@@ -78,20 +81,34 @@ NeverHits count rules i = (m : Bindings) (values : List Datum) → AreInputs cou
 abbrev pub IsNeverMet : Table → ℕ → Type 0
 IsNeverMet t i = NeverHits (length t.inputs) t.rules i
 
--- a rule before this one hits
-pub record HasHitBefore (m : Bindings) (values : List Datum) (rules : List Rule) (i : ℕ) : Type 0 where
+-- Whatever the names stand for, where both rules hit, the first one's output has the higher priority; or the other one's hasn't, and
+-- the first stands before it.
+abbrev pub IsAhead : List Column → List Rule → ℕ → ℕ → Type 0
+IsAhead columns rules j i =
+    (m : Bindings) (r s : Rule) (h k : Hit) → slice_get rules j ≡ Some r → slice_get rules i ≡ Some s → hit_of columns m r ≡ Some h → hit_of columns m s ≡ Some k
+    → (is_higher h.places k.places ≡ true) ⊎ ((j < i) × (is_higher k.places h.places ≡ false))
+
+-- Where both rules hit, the first goes before the other: under `F` as they stand, under `P` by the priority of their outputs. Under the
+-- other policies none does.
+abbrev pub GoesBeforeUnder : HitPolicy → List Column → List Rule → ℕ → ℕ → Type 0
+GoesBeforeUnder First columns rules j i = j < i
+GoesBeforeUnder Priority columns rules j i = IsAhead columns rules j i
+GoesBeforeUnder p columns rules j i = ⊥
+
+abbrev pub GoesBefore : Table → ℕ → ℕ → Type 0
+GoesBefore t j i = GoesBeforeUnder t.policy t.outputs t.rules j i
+
+-- a rule that goes before this one hits
+pub record HasHitBefore (m : Bindings) (values : List Datum) (t : Table) (i : ℕ) : Type 0 where
   pub place : ℕ
-  pub before : place < i
+  pub before : GoesBefore t place i
   pub rule : Rule
-  pub there : slice_get rules place ≡ Some rule
+  pub there : slice_get t.rules place ≡ Some rule
   pub hits : does_hit m values rule ≡ Some true
 
--- Whatever the values, and whatever the names stand for, where the rule hits, so does one before it.
-abbrev pub HitsBehind : ℕ → List Rule → ℕ → Type 0
-HitsBehind count rules i = (m : Bindings) (values : List Datum) → AreInputs count values → (r : Rule) → slice_get rules i ≡ Some r → does_hit m values r ≡ Some true → HasHitBefore m values rules i
-
+-- Whatever the values, and whatever the names stand for, where the rule hits, so does one that goes before it.
 abbrev pub IsMasked : Table → ℕ → Type 0
-IsMasked t i = HitsBehind (length t.inputs) t.rules i
+IsMasked t i = (m : Bindings) (values : List Datum) → AreInputs (length t.inputs) values → (r : Rule) → slice_get t.rules i ≡ Some r → does_hit m values r ≡ Some true → HasHitBefore m values t i
 
 -- for none of the values of these cells a rule hits, whatever the names stand for
 abbrev pub IsBareOf : List Words → List Rule → List Cell → Type 0

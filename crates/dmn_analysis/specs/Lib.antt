@@ -3,7 +3,9 @@ pub mod Asked
 pub mod Cells
 pub mod Cutting
 pub mod Whole
+pub mod Constant
 pub mod Claims
 pub mod Searching
 pub mod Telling
 pub mod Joining
+pub mod Ranking

@@ -9,6 +9,7 @@ use Rattle.feel_text.specs.Tests.{Tests}
 use Rattle.dmn_table.specs.Hits.{does_hit}
 use Rattle.dmn_table.specs.Table.{Rule}
 use Rattle.dmn_analysis.specs.Cells.{AreIn, is_in}
+use Rattle.dmn_analysis.specs.Constant.{AreConstant}
 use Rattle.dmn_analysis.specs.Cutting.{AreHalves}
 use Rattle.dmn_analysis.specs.declared.cell.Cell.{Cell}
 use Rattle.dmn_analysis.specs.declared.cell.Words.{Words}
@@ -18,6 +19,9 @@ use Rattle.dmn_analysis.specs.declared.gaps.Chosen.TheVariants as does
 use Rattle.dmn_analysis.specs.declared.gaps.Pending.{Pending}
 use Rattle.dmn_analysis.specs.declared.gaps.Search.{Search}
 use Rattle.dmn_analysis.specs.declared.pairs.PairSearch.{PairSearch}
+use Rattle.dmn_analysis.specs.declared.searching.Outlook.{Outlook}
+use Rattle.dmn_analysis.specs.declared.searching.Outlook.TheVariants as outlook
+use Rattle.dmn_analysis.specs.declared.searching.Unsure.{Unsure}
 
 -- the answer is that the tests are met, or it is any other
 abbrev pub Settles : Bool → Answer → Type 0
@@ -63,6 +67,19 @@ pub record IsSure (words : List Words) (rules : List Rule) (cells : List Cell) (
   pub rule : Rule
   pub there : slice_get rules r ≡ Some rule
   pub must : MustHit words cells rule
+
+-- an entry of one of the rules, in a column that has a cell
+pub record HasEntry (rules : List Rule) (cells : List Cell) (unsure : Unsure) : Type 0 where
+  pub rule : Rule
+  pub there : slice_get rules unsure.rule ≡ Some rule
+  pub entry : unsure.place < length rule.tests
+  pub cell : unsure.place < length cells
+
+-- no rule is left, one that is left hits for all values of the cells, or of one that is left it isn't known
+abbrev pub TellsOutlook : List Words → List Rule → List Cell → List ℕ → Outlook → Type 0
+TellsOutlook words rules cells left outlook.Nothing = left ≡ []
+TellsOutlook words rules cells left (outlook.Sure r) = IsSure words rules cells left r
+TellsOutlook words rules cells left (outlook.Unsure unsure) = HasEntry rules cells unsure
 
 -- cells that are still to be looked at
 pub record IsPending (s : Scene) (pending : Pending) : Type 0 where
@@ -153,9 +170,9 @@ pub record KnowsPairsBut (s : Scene) (cells : List Cell) (search : PairSearch) :
 
 -- ---- what the chosen rule does for the values of cells
 
--- it hits for none, the cells were cut in two, or nothing is said
+-- it hits for none, the cells were cut in two, or not all entries are constant
 abbrev pub TellsChosen : List Words → List Rule → ℕ → List Cell → Chosen → Type 0
 TellsChosen words rules chosen cells does.Misses = HasMissing words rules chosen cells
 TellsChosen words rules chosen cells does.Hits = ⊤
 TellsChosen words rules chosen cells (does.Cut lower upper) = AreHalves cells lower.items upper.items
-TellsChosen words rules chosen cells does.Open = ⊤
+TellsChosen words rules chosen cells does.Open = AreConstant rules → ⊥

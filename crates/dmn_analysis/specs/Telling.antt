@@ -1,13 +1,13 @@
 -- Internal: no public contract cites these words. How what a search has found is told.
-use Rattle.std.specs.Prelude.{◌≡◌, ◌<◌, ℕ, List, length, Some, true}
-use Rattle.std.specs.List.{slice_get}
+use Rattle.std.specs.Prelude.{◌≡◌, ℕ, List, length, Some, true}
+use Rattle.std.specs.List.{slice_get, All}
 use Rattle.feel_value.specs.Datum.{Datum}
 use Rattle.feel_text.specs.Meaning.{Bindings}
 use Rattle.dmn_table.specs.Hits.{does_hit}
-use Rattle.dmn_table.specs.Table.{Rule}
+use Rattle.dmn_table.specs.Table.{Rule, Table}
 use Rattle.dmn_analysis.specs.Cells.{AreIn}
-use Rattle.dmn_analysis.specs.Claims.{IsGapIn}
-use Rattle.dmn_analysis.specs.Searching.{AreBare, Scene}
+use Rattle.dmn_analysis.specs.Claims.{GoesBefore, IsGapIn}
+use Rattle.dmn_analysis.specs.Searching.{AreBare, IsAmong, Scene}
 use Rattle.dmn_analysis.specs.declared.cell.Cell.{Cell}
 use Rattle.dmn_analysis.specs.declared.cell.Words.{Words}
 use Rattle.dmn_analysis.specs.declared.found.Gap.{Gap}
@@ -24,15 +24,21 @@ pub record HasGapOf (gaps : List Gap) (cells : List Cell) : Type 0 where
   pub there : slice_get gaps place ≡ Some gap
   pub same : gap.cells.items ≡ cells
 
--- one of the rules below a number hits
-pub record HasHitBelow (rules : List Rule) (below : ℕ) (m : Bindings) (values : List Datum) : Type 0 where
+-- one of the rules of these numbers hits
+pub record HasHitAmong (rules : List Rule) (first : List ℕ) (m : Bindings) (values : List Datum) : Type 0 where
   pub number : ℕ
-  pub less : number < below
+  pub among : IsAmong first number
   pub rule : Rule
   pub there : slice_get rules number ≡ Some rule
   pub hits : does_hit m values rule ≡ Some true
 
--- wherever a rule hits for values of the cells, so does one below a number
-abbrev pub IsBehind : List Words → List Rule → List Cell → ℕ → ℕ → Type 0
-IsBehind words rules cells rule below =
-    (m : Bindings) (values : List Datum) → length values ≡ length cells → AreIn words cells values → ((r : Rule) → slice_get rules rule ≡ Some r → does_hit m values r ≡ Some true) → HasHitBelow rules below m values
+-- wherever a rule hits for values of the cells, so does one of these numbers
+abbrev pub IsBehind : List Words → List Rule → List Cell → ℕ → List ℕ → Type 0
+IsBehind words rules cells rule first =
+    (m : Bindings) (values : List Datum) → length values ≡ length cells → AreIn words cells values → ((r : Rule) → slice_get rules rule ≡ Some r → does_hit m values r ≡ Some true) → HasHitAmong rules first m values
+
+-- the same of some that go before it
+pub record IsMaskedOn (t : Table) (words : List Words) (cells : List Cell) (rule : ℕ) : Type 0 where
+  pub first : List ℕ
+  pub before : All (λ j. GoesBefore t j rule) first
+  pub behind : IsBehind words t.rules cells rule first

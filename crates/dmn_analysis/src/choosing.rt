@@ -90,7 +90,8 @@ impl Mixed {
     }
 }
 
-const NO_KINDS: Kinds = Kinds {
+/// None of the kinds.
+pub(crate) const NO_KINDS: Kinds = Kinds {
     null: false,
     yes: false,
     no: false,
@@ -101,7 +102,7 @@ const NO_KINDS: Kinds = Kinds {
 };
 
 /// Each kind by itself.
-const EACH_KIND: [Kinds; 7] = [
+pub(crate) const EACH_KIND: [Kinds; 7] = [
     Kinds {
         null: true,
         ..NO_KINDS
@@ -144,7 +145,8 @@ fn joined(a: Kinds, b: Kinds) -> Kinds {
     }
 }
 
-fn is_empty(cell: Cell) -> bool {
+/// Whether the cell has no value.
+pub(crate) fn is_empty(cell: Cell) -> bool {
     let kinds = cell.null || cell.yes || cell.no || cell.others || cell.parted;
     !kinds && cell.low > cell.high && cell.from >= cell.to
 }

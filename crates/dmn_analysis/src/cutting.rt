@@ -149,7 +149,7 @@ pub(crate) fn cut_cell(cell: Cell, cut: Cut) -> Option<(Cell, Cell)>
 }
 
 /// The cells with another one at a place.
-fn with_cell(
+pub(crate) fn with_cell(
     alloc: Global,
     cells: &[Cell],
     place: usize,

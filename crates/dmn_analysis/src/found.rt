@@ -57,7 +57,7 @@ pub struct Overlaps {
     pub steps: u64,
 }
 
-/// A rule, counted from 0, and those before it of which one hits wherever it does.
+/// A rule, counted from 0, and those that go before it of which one hits wherever it does.
 #[derive(Drop)]
 pub struct Mask {
     pub rule: usize,
@@ -71,6 +71,8 @@ pub struct Masks {
     pub found: Vec<Mask>,
     /// Whether there are no others.
     pub is_all: bool,
+    /// Rules, counted from 0, of which it isn't known which go before them: names decide what they give.
+    pub unranked: Vec<usize>,
     /// How many steps were taken.
     pub steps: u64,
 }

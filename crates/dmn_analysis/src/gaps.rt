@@ -1,13 +1,14 @@
 //! A search for values for which no rule hits.
-ghost use Rattle.std.specs.Prelude.{◌≡◌, List, OnOk, IfOk, map};
+ghost use Rattle.std.specs.Prelude.{◌≡◌, ◌<◌, List, [], OnOk, IfOk, false, map};
 ghost use Rattle.dmn_table.specs.Parts.{rule_view};
+ghost use Rattle.dmn_analysis.specs.Constant.{AreConstant};
 ghost use Rattle.dmn_analysis.specs.Cutting.{AreHalves};
-ghost use Rattle.dmn_analysis.specs.Searching.{AreLeft, Knows, KnowsBut, Scene, TellsChosen};
+ghost use Rattle.dmn_analysis.specs.Searching.{AreLeft, HasEntry, Knows, KnowsBut, Scene, TellsChosen};
 ghost use Rattle.dmn_analysis.specs.declared.cell.Cell.{Cell as CellData};
 
 use crate::cell::{Cell, Words};
-use crate::rule_on::{cannot_hit, must_hit};
-use crate::searching::{first_of, first_sure, halves, possible};
+use crate::rule_on::{cannot_hit, first_unsettled};
+use crate::searching::{Outlook, Unsure, halves, outlook_for, possible};
 use dmn_table::Rule;
 use std::alloc::{AllocError, Global};
 
@@ -60,10 +61,14 @@ fn chosen_in(
     if cannot_hit(words, cells, &rules[chosen], steps) {
         return Ok(Chosen::Misses);
     }
-    if must_hit(words, cells, &rules[chosen], steps) {
+    let Some(place) = first_unsettled(words, cells, &rules[chosen], steps) else {
         return Ok(Chosen::Hits);
-    }
-    match halves(alloc, words, rules, cells, &[chosen], steps)? {
+    };
+    let unsure = Unsure {
+        rule: chosen,
+        place,
+    };
+    match halves(alloc, words, rules, cells, &[chosen], unsure, steps)? {
         Some((lower, upper)) => Ok(Chosen::Cut(lower, upper)),
         None => Ok(Chosen::Open),
     }
@@ -78,7 +83,8 @@ impl Search {
         upper: Vec<Cell>,
         left: Vec<usize>,
     ) -> Result<(), AllocError>
-        ensures { OnOk result ((s : Scene) (cells : List CellData) → KnowsBut s cells self.old → AreHalves cells lower.items upper.items → AreLeft s cells left.items → Knows s self.new) }
+        ensures known { OnOk result ((s : Scene) (cells : List CellData) → KnowsBut s cells self.old → AreHalves cells lower.items upper.items → AreLeft s cells left.items → Knows s self.new) }
+        ensures opened { OnOk result (self.new.open.items ≡ self.old.open.items) }
     {
         let copy = Vec::from_slice(alloc, &left)?;
         self.pending.push(Pending {
@@ -86,6 +92,29 @@ impl Search {
             left: copy,
         })?;
         self.pending.push(Pending { cells: lower, left })?;
+        Ok(())
+    }
+
+    // Cells of which it isn't known for all values whether one of the rules hits: they are cut in two.
+    fn part(
+        &mut self,
+        alloc: Global,
+        words: &[Words],
+        rules: &[Rule],
+        cells: &[Cell],
+        left: Vec<usize>,
+        unsure: Unsure,
+        steps: &mut u64,
+    ) -> Result<(), AllocError>
+        requires { HasEntry (map rule_view rules.now) cells.now unsure }
+        ensures known { OnOk result ((s : Scene) → KnowsBut s cells.now self.old → AreLeft s cells.now left.items → Knows s self.new) }
+        ensures decided { OnOk result (AreConstant (map rule_view rules.now) → self.old.open.items ≡ [] → self.new.open.items ≡ []) }
+    {
+        let Some((lower, upper)) = halves(alloc, words, rules, cells, &left, unsure, steps)? else {
+            self.open.push(unsure.rule)?;
+            return Ok(());
+        };
+        self.put(alloc, lower, upper, left)?;
         Ok(())
     }
 
@@ -98,24 +127,25 @@ impl Search {
         next: Pending,
         steps: &mut u64,
     ) -> Result<(), AllocError>
-        ensures { OnOk result ((s : Scene) → s.words ≡ words.now → s.rules ≡ map rule_view rules.now → KnowsBut s next.cells.items self.old → AreLeft s next.cells.items next.left.items → Knows s self.new) }
+        ensures known { OnOk result ((s : Scene) → s.words ≡ words.now → s.rules ≡ map rule_view rules.now → KnowsBut s next.cells.items self.old → AreLeft s next.cells.items next.left.items → Knows s self.new) }
+        ensures decided { OnOk result (AreConstant (map rule_view rules.now) → self.old.open.items ≡ [] → self.new.open.items ≡ []) }
     {
         let left = possible(alloc, words, rules, &next.cells, &next.left, steps)?;
-        if let Some(rule) = first_sure(words, rules, &next.cells, &left, steps) {
-            self.sure.push(rule)?;
-            return Ok(());
+        match outlook_for(words, rules, &next.cells, &left, steps) {
+            Outlook::Nothing => {
+                let Pending { cells, left: _ } = next;
+                self.bare.push(Bare { cells })?;
+                Ok(())
+            }
+            Outlook::Sure(rule) => {
+                self.sure.push(rule)?;
+                Ok(())
+            }
+            Outlook::Unsure(unsure) => {
+                self.part(alloc, words, rules, &next.cells, left, unsure, steps)?;
+                Ok(())
+            }
         }
-        let Some(one) = first_of(&left) else {
-            let Pending { cells, left: _ } = next;
-            self.bare.push(Bare { cells })?;
-            return Ok(());
-        };
-        let Some((lower, upper)) = halves(alloc, words, rules, &next.cells, &left, steps)? else {
-            self.open.push(one)?;
-            return Ok(());
-        };
-        self.put(alloc, lower, upper, left)?;
-        Ok(())
     }
 
     // One turn of the search.
@@ -128,7 +158,8 @@ impl Search {
         next: Pending,
         steps: &mut u64,
     ) -> Result<(), AllocError>
-        ensures { OnOk result ((s : Scene) → s.words ≡ words.now → s.rules ≡ map rule_view rules.now → s.chosen ≡ chosen → KnowsBut s next.cells.items self.old → AreLeft s next.cells.items next.left.items → Knows s self.new) }
+        ensures known { OnOk result ((s : Scene) → s.words ≡ words.now → s.rules ≡ map rule_view rules.now → s.chosen ≡ chosen → KnowsBut s next.cells.items self.old → AreLeft s next.cells.items next.left.items → Knows s self.new) }
+        ensures decided { OnOk result (AreConstant (map rule_view rules.now) → self.old.open.items ≡ [] → self.new.open.items ≡ []) }
     {
         match chosen_in(alloc, words, rules, chosen, &next.cells, steps)? {
             Chosen::Misses => Ok(()),
@@ -149,8 +180,16 @@ impl Search {
     }
 }
 
+/// Whether as many are found as are wanted, where that is not all of them.
+fn is_enough(found: usize, most: usize) -> bool
+    ensures { most ≡ 18446744073709551615 → result ≡ false }
+{
+    most < usize::MAX && found >= most
+}
+
 /// Searches these cells for values for which the chosen rule hits, if there is one of this number, and none of the rules that are
-/// left. It ends where nothing is pending, where the steps ran out, or where as many were found as are wanted.
+/// left. It ends where nothing is pending, where the steps ran out, or where as many were found as are wanted, unless that is
+/// `usize::MAX`.
 pub(crate) fn go_through(
     alloc: Global,
     words: &[Words],
@@ -160,7 +199,9 @@ pub(crate) fn go_through(
     most: usize,
     steps: &mut u64,
 ) -> Result<Search, AllocError>
-    ensures { IfOk result (λ search. (s : Scene) → s.words ≡ words.now → s.rules ≡ map rule_view rules.now → s.chosen ≡ chosen → s.first ≡ first.left.items → s.whole ≡ first.cells.items → Knows s search) }
+    ensures known { IfOk result (λ search. (s : Scene) → s.words ≡ words.now → s.rules ≡ map rule_view rules.now → s.chosen ≡ chosen → s.first ≡ first.left.items → s.whole ≡ first.cells.items → Knows s search) }
+    ensures decided { IfOk result (λ search. AreConstant (map rule_view rules.now) → search.open.items ≡ []) }
+    ensures ended { IfOk result (λ search. most ≡ 18446744073709551615 → 0 < steps.new → search.pending.items ≡ []) }
 {
     let mut search = Search {
         pending: Vec::new(alloc),
@@ -171,7 +212,10 @@ pub(crate) fn go_through(
     search.pending.push(first)?;
     let turns = *steps;
     for _turn in 0..turns {
-        if *steps == 0 || search.bare.len() >= most {
+        if *steps == 0 {
+            return Ok(search);
+        }
+        if is_enough(search.bare.len(), most) {
             return Ok(search);
         }
         let Some(next) = search.pending.pop() else {
@@ -179,5 +223,7 @@ pub(crate) fn go_through(
         };
         search.turn(alloc, words, rules, chosen, next, steps)?;
     }
+    // So many turns have taken all of the steps.
+    *steps = 0;
     Ok(search)
 }

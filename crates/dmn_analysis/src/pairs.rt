@@ -67,8 +67,9 @@ impl PairSearch {
             self.shared.push(Shared { cells, rules: left })?;
             return Ok(());
         };
-        let Some((lower, upper)) = halves(alloc, words, rules, &next.cells, &left, steps)? else {
-            self.open.push(unsure)?;
+        let Some((lower, upper)) = halves(alloc, words, rules, &next.cells, &left, unsure, steps)?
+        else {
+            self.open.push(unsure.rule)?;
             return Ok(());
         };
         self.put(alloc, lower, upper, left)?;

@@ -1,5 +1,5 @@
 //! Whether a rule hits for all values of some cells, or for none, whatever the names stand for.
-ghost use Rattle.std.specs.Prelude.{◌≡◌, true, IsTrue};
+ghost use Rattle.std.specs.Prelude.{◌≡◌, ◌<◌, true, IfSome, IsTrue, None, length};
 ghost use Rattle.dmn_table.specs.Parts.{rule_view};
 ghost use Rattle.dmn_analysis.specs.Searching.{CannotHit, MustHit, SettlesIn};
 
@@ -9,7 +9,7 @@ use dmn_table::Rule;
 use feel_text::Tests;
 
 /// So many words cost one step more to look through.
-const WORDS_A_STEP: usize = 16;
+const WORDS_A_STEP: usize = 64;
 
 // What it costs to ask tests of a cell.
 fn cost(cell: Cell) -> u64 {
@@ -24,19 +24,37 @@ pub(crate) fn asked(words: &Words, cell: Cell, tests: &Tests, met: bool, steps: 
     are_sure(&words.texts, cell, tests, met)
 }
 
+/// The first column for which it isn't known that all values of its cell meet the rule's entry; None where the rule hits for all
+/// values of the cells.
+pub(crate) fn first_unsettled(
+    words: &[Words],
+    cells: &[Cell],
+    rule: &Rule,
+    steps: &mut u64,
+) -> Option<usize>
+    ensures must { result ≡ None → MustHit words.now cells.now (rule_view rule.now) }
+    ensures entry { IfSome result (λ place. place < length rule.now.tests.items) }
+    ensures cell { IfSome result (λ place. place < length cells.now) }
+{
+    for (place, tests) in rule.tests.iter().enumerate() {
+        if place >= cells.len() {
+            return None;
+        }
+        if place >= words.len() {
+            return Some(place);
+        }
+        if !asked(&words[place], cells[place], tests, true, steps) {
+            return Some(place);
+        }
+    }
+    None
+}
+
 /// Whether the rule is known to hit for all values of the cells.
 pub(crate) fn must_hit(words: &[Words], cells: &[Cell], rule: &Rule, steps: &mut u64) -> bool
     ensures { IsTrue result → MustHit words.now cells.now (rule_view rule.now) }
 {
-    for (place, tests) in rule.tests.iter().enumerate() {
-        if place >= words.len() || place >= cells.len() {
-            return false;
-        }
-        if !asked(&words[place], cells[place], tests, true, steps) {
-            return false;
-        }
-    }
-    true
+    first_unsettled(words, cells, rule, steps).is_none()
 }
 
 /// Whether the rule is known to hit for none of the values of the cells.

@@ -1,13 +1,17 @@
 //! What a search through the cells of a table does at each turn.
 ghost use Rattle.std.specs.Prelude.{◌≡◌, ◌<◌, [], IsTrue, IfOk, IfSome, None, length, map};
 ghost use Rattle.dmn_table.specs.Parts.{rule_view};
+ghost use Rattle.std.specs.List.{All};
+ghost use Rattle.dmn_analysis.specs.Constant.{AreConstant};
 ghost use Rattle.dmn_analysis.specs.Cutting.{AreHalves};
-ghost use Rattle.dmn_analysis.specs.Searching.{AreLeft, IsSure, Scene};
+ghost use Rattle.dmn_analysis.specs.Searching.{AreLeft, HasEntry, Scene, TellsOutlook};
 
 use crate::cell::{Cell, Words};
 use crate::choosing::choose;
+use crate::constant::are_constant;
 use crate::cutting::cut_cells;
-use crate::rule_on::{cannot_hit, must_hit};
+use crate::halving::cells_in_two;
+use crate::rule_on::{cannot_hit, first_unsettled, must_hit};
 use dmn_table::Rule;
 use std::alloc::{AllocError, Global};
 
@@ -34,7 +38,8 @@ pub(crate) fn possible(
     left: &[usize],
     steps: &mut u64,
 ) -> Result<Vec<usize>, AllocError>
-    ensures { IfOk result (λ kept. (s : Scene) → s.words ≡ words.now → s.rules ≡ map rule_view rules.now → AreLeft s cells.now left.now → AreLeft s cells.now kept.items) }
+    ensures left { IfOk result (λ kept. (s : Scene) → s.words ≡ words.now → s.rules ≡ map rule_view rules.now → AreLeft s cells.now left.now → AreLeft s cells.now kept.items) }
+    ensures there { IfOk result (λ kept. All (λ r. r < length rules.now) kept.items) }
 {
     let mut kept = Vec::with_capacity(alloc, left.len())?;
     for number in left {
@@ -49,45 +54,73 @@ pub(crate) fn possible(
     Ok(kept)
 }
 
-/// The first of these rules that is known to hit for all values of the cells.
-pub(crate) fn first_sure(
+/// An entry of a rule of which it isn't known whether the values of the cell meet it.
+#[derive(Clone, Copy)]
+pub(crate) struct Unsure {
+    pub(crate) rule: usize,
+    /// The place of the entry's column.
+    pub(crate) place: usize,
+}
+
+/// What is known of the rules that may hit for values of some cells.
+pub(crate) enum Outlook {
+    /// There is none.
+    Nothing,
+    /// This one hits for all of the values.
+    Sure(usize),
+    /// None is known to.
+    Unsure(Unsure),
+}
+
+/// What is known of the rules that are left.
+pub(crate) fn outlook_for(
     words: &[Words],
     rules: &[Rule],
     cells: &[Cell],
     left: &[usize],
     steps: &mut u64,
-) -> Option<usize>
-    ensures { IfSome result (λ r. IsSure words.now (map rule_view rules.now) cells.now left.now r) }
+) -> Outlook
+    requires { All (λ r. r < length rules.now) left.now }
+    ensures { TellsOutlook words.now (map rule_view rules.now) cells.now left.now result }
 {
-    for number in left {
-        if *number >= rules.len() {
-            continue;
-        }
-        if must_hit(words, cells, &rules[*number], steps) {
-            return Some(*number);
+    if left.is_empty() {
+        return Outlook::Nothing;
+    }
+    let rule = left[0];
+    let Some(place) = first_unsettled(words, cells, &rules[rule], steps) else {
+        return Outlook::Sure(rule);
+    };
+    for other in 1..left.len() {
+        let rule = left[other];
+        if must_hit(words, cells, &rules[rule], steps) {
+            return Outlook::Sure(rule);
         }
     }
-    None
+    Outlook::Unsure(Unsure { rule, place })
 }
 
-/// The first of these rules that isn't known to hit for all values of the cells.
+/// An entry of the first of these rules that isn't known to hit for all values of the cells; None where each of them hits for all.
 pub(crate) fn first_unsure(
     words: &[Words],
     rules: &[Rule],
     cells: &[Cell],
     left: &[usize],
     steps: &mut u64,
-) -> Option<usize> {
+) -> Option<Unsure>
+    requires { All (λ r. r < length rules.now) left.now }
+    ensures { IfSome result (HasEntry (map rule_view rules.now) cells.now) }
+{
     for number in left {
-        if *number >= rules.len() || !must_hit(words, cells, &rules[*number], steps) {
-            return Some(*number);
+        let rule = *number;
+        if let Some(place) = first_unsettled(words, cells, &rules[rule], steps) {
+            return Some(Unsure { rule, place });
         }
     }
     None
 }
 
-/// The cells cut in two where that parts the rules that are left best.
-pub(crate) fn halves(
+/// The cells cut in two where that parts the rules that are left best; None where nothing is known to part them.
+fn best_halves(
     alloc: Global,
     words: &[Words],
     rules: &[Rule],
@@ -101,5 +134,46 @@ pub(crate) fn halves(
         return Ok(None);
     };
     let found = cut_cells(alloc, cells, choice.place, choice.cut)?;
+    Ok(found)
+}
+
+/// The cells cut in two at this entry's column, where the entry is constant.
+fn plain_halves(
+    alloc: Global,
+    rules: &[Rule],
+    cells: &[Cell],
+    unsure: Unsure,
+) -> Result<Option<(Vec<Cell>, Vec<Cell>)>, AllocError>
+    requires { HasEntry (map rule_view rules.now) cells.now unsure }
+    ensures halves { IfOk result (λ found. IfSome found (λ halves. AreHalves cells.now halves.0.items halves.1.items)) }
+    ensures unless { IfOk result (λ found. found ≡ None → AreConstant (map rule_view rules.now) → ⊥) }
+{
+    let tests = &rules[unsure.rule].tests;
+    if !are_constant(&tests[unsure.place]) {
+        return Ok(None);
+    }
+    let halves = cells_in_two(alloc, cells, unsure.place)?;
+    Ok(Some(halves))
+}
+
+/// The cells cut in two where that parts the rules that are left best, or else at the column of an entry of which it isn't known
+/// whether the values meet it. None where the entry isn't constant.
+pub(crate) fn halves(
+    alloc: Global,
+    words: &[Words],
+    rules: &[Rule],
+    cells: &[Cell],
+    left: &[usize],
+    unsure: Unsure,
+    steps: &mut u64,
+) -> Result<Option<(Vec<Cell>, Vec<Cell>)>, AllocError>
+    requires { HasEntry (map rule_view rules.now) cells.now unsure }
+    ensures halves { IfOk result (λ found. IfSome found (λ halves. AreHalves cells.now halves.0.items halves.1.items)) }
+    ensures unless { IfOk result (λ found. found ≡ None → AreConstant (map rule_view rules.now) → ⊥) }
+{
+    if let Some(halves) = best_halves(alloc, words, rules, cells, left, steps)? {
+        return Ok(Some(halves));
+    }
+    let found = plain_halves(alloc, rules, cells, unsure)?;
     Ok(found)
 }

@@ -2,17 +2,19 @@
 ghost use Rattle.std.specs.Prelude.{◌≡◌, [], IsTrue, IfOk, IfSome, map};
 ghost use Rattle.std.specs.List.{All};
 ghost use Rattle.dmn_table.specs.Parts.{rule_view};
-ghost use Rattle.dmn_analysis.specs.Claims.{IsMasked, IsNeverMet};
-ghost use Rattle.dmn_analysis.specs.Telling.{IsBehind};
+ghost use Rattle.dmn_analysis.specs.Claims.{GoesBefore, IsMasked, IsNeverMet};
+ghost use Rattle.dmn_analysis.specs.Ranking.{AreRanks};
+ghost use Rattle.dmn_analysis.specs.Telling.{IsBehind, IsMaskedOn};
 
 use crate::cell::{Cell, Words};
 use crate::found::{Mask, Masks};
 use crate::gap_answers::{distinct, is_done, places};
 use crate::gaps::{Bare, Pending, go_through};
 use crate::pair_answers::every;
+use crate::ranking::{Rank, ranks, rules_ahead, unranked};
 use crate::whole::whole;
 use crate::words::all_words;
-use dmn_table::{Rule, Table};
+use dmn_table::{HitPolicy, Rule, Table};
 use std::alloc::{AllocError, Global};
 
 /// How many steps it takes at most to find whether a rule ever hits.
@@ -24,22 +26,24 @@ fn are_covered(bare: &[Bare]) -> bool
     bare.first().is_none()
 }
 
-/// Whether wherever a rule hits for values of these cells one of those before it does, from a place on; and which of them. Of none it
-/// is told that it never hits. Otherwise None, or where that isn't known.
+/// Whether wherever a rule hits for values of these cells one of some others does; and which of them. Where there are no others, it is
+/// told that it never hits. Otherwise None, or where that isn't known.
 fn behind(
     alloc: Global,
     words: &[Words],
     rules: &[Rule],
     cells: &[Cell],
     rule: usize,
-    before: usize,
+    others: Vec<usize>,
     steps: &mut u64,
 ) -> Result<Option<Vec<usize>>, AllocError>
-    ensures { IfOk result (λ found. IfSome found (λ sure. IsBehind words.now (map rule_view rules.now) cells.now rule before)) }
+    ensures { IfOk result (λ found. IfSome found (λ sure. IsBehind words.now (map rule_view rules.now) cells.now rule others.items)) }
 {
     let copy = Vec::from_slice(alloc, cells)?;
-    let left = places(alloc, before)?;
-    let first = Pending { cells: copy, left };
+    let first = Pending {
+        cells: copy,
+        left: others,
+    };
     let search = go_through(alloc, words, rules, rule, first, 1, steps)?;
     if !are_covered(&search.bare) {
         return Ok(None);
@@ -56,12 +60,13 @@ fn rules_out(
     rules: &[Rule],
     cells: &[Cell],
 ) -> Result<Vec<usize>, AllocError>
-    ensures { IfOk result (λ out. All (λ i. IsBehind words.now (map rule_view rules.now) cells.now i 0) out.items) }
+    ensures { IfOk result (λ out. All (λ i. IsBehind words.now (map rule_view rules.now) cells.now i []) out.items) }
 {
     let mut out = Vec::new(alloc);
     for rule in 0..rules.len() {
         let mut steps = STEPS_A_RULE;
-        let Some(_) = behind(alloc, words, rules, cells, rule, 0, &mut steps)? else {
+        let none = Vec::new(alloc);
+        let Some(_) = behind(alloc, words, rules, cells, rule, none, &mut steps)? else {
             continue;
         };
         out.push(rule)?;
@@ -85,18 +90,63 @@ pub fn never_met(alloc: Global, table: &Table) -> Result<Vec<usize>, AllocError>
     Ok(out)
 }
 
+// The ranks of the rules, where these decide which goes before another.
+fn ranks_under_policy(alloc: Global, table: &Table) -> Result<Vec<Rank>, AllocError>
+    ensures { IfOk result (λ found. AreRanks table.now.outputs table.now.rules found.items) }
+{
+    let HitPolicy::Priority = table.policy() else {
+        return Ok(Vec::new(alloc));
+    };
+    let found = ranks(alloc, table)?;
+    Ok(found)
+}
+
+// The rules that are known to go before this one under the table's hit policy.
+fn rules_before(
+    alloc: Global,
+    table: &Table,
+    ranks: &[Rank],
+    rule: usize,
+    steps: &mut u64,
+) -> Result<Vec<usize>, AllocError>
+    requires { AreRanks table.now.outputs table.now.rules ranks.now }
+    ensures { IfOk result (λ first. All (λ j. GoesBefore table.now j rule) first.items) }
+{
+    match table.policy() {
+        HitPolicy::First => {
+            let first = places(alloc, rule)?;
+            Ok(first)
+        }
+        HitPolicy::Priority => {
+            let first = rules_ahead(alloc, table, ranks, rule, steps)?;
+            Ok(first)
+        }
+        _ => Ok(Vec::new(alloc)),
+    }
+}
+
 fn masks(
     alloc: Global,
+    table: &Table,
+    ranks: &[Rank],
     words: &[Words],
-    rules: &[Rule],
     cells: &[Cell],
     steps: &mut u64,
 ) -> Result<Vec<Mask>, AllocError>
-    ensures { IfOk result (λ found. All (λ k. IsBehind words.now (map rule_view rules.now) cells.now k.rule k.rule) found.items) }
+    requires { AreRanks table.now.outputs table.now.rules ranks.now }
+    ensures { IfOk result (λ found. All (λ k. IsMaskedOn table.now words.now cells.now k.rule) found.items) }
 {
+    let rules = table.rules();
     let mut found = Vec::new(alloc);
-    for rule in 1..rules.len() {
-        let Some(behind) = behind(alloc, words, rules, cells, rule, rule, steps)? else {
+    for rule in 0..rules.len() {
+        if *steps == 0 {
+            return Ok(found);
+        }
+        let others = rules_before(alloc, table, ranks, rule, steps)?;
+        if others.is_empty() {
+            continue;
+        }
+        let Some(behind) = behind(alloc, words, rules, cells, rule, others, steps)? else {
             continue;
         };
         if behind.is_empty() {
@@ -107,27 +157,32 @@ fn masks(
     Ok(found)
 }
 
-/// The rules of which it is known that wherever they hit a rule before them hits, whatever the values of the input columns and
-/// whatever the names stand for; but not those that never hit. The search takes at most so many steps.
+/// The rules of which it is known that wherever they hit a rule hits that goes before them, whatever the values of the input columns and
+/// whatever the names stand for; but not those that never hit. Under `F` the rules go as they stand, under `P` by the priority of
+/// their outputs, where no names decide these, and then as they stand; under the other policies none is found. The search takes at most so
+/// many steps.
 pub fn find_masked(alloc: Global, table: &Table, steps: u64) -> Result<Masks, AllocError>
     ensures { IfOk result (λ masks. All (λ m. IsMasked table.now m.rule) masks.found.items) }
 {
-    let rules = table.rules();
     let count = table.inputs().len();
     let asked = every(alloc, count)?;
-    let words = all_words(alloc, rules, count)?;
+    let words = all_words(alloc, table.rules(), count)?;
+    let ranks = ranks_under_policy(alloc, table)?;
     let mut rest = steps;
     let Some(cells) = whole(alloc, &words, &asked, count)? else {
         return Ok(Masks {
             found: Vec::new(alloc),
             is_all: false,
+            unranked: Vec::new(alloc),
             steps: 0,
         });
     };
-    let found = masks(alloc, &words, rules, &cells, &mut rest)?;
+    let found = masks(alloc, table, &ranks, &words, &cells, &mut rest)?;
+    let unranked = unranked(alloc, &ranks)?;
     Ok(Masks {
         found,
-        is_all: rest > 0,
+        is_all: rest > 0 && unranked.is_empty(),
+        unranked,
         steps: steps.saturating_sub(rest),
     })
 }

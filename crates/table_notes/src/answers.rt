@@ -42,7 +42,7 @@ pub struct Answers {
     pub(crate) faults: Faults,
     /// The rules that never hit.
     pub(crate) never: Vec<usize>,
-    /// The masked rules, under `F`.
+    /// The masked rules, under `F` and `P`.
     pub(crate) masks: Option<Masks>,
 }
 
@@ -149,13 +149,15 @@ fn faults_of(
     Ok(Faults { places, open })
 }
 
-/// The masked rules, where the hit policy is one under which the first decides.
+/// The masked rules, where the hit policy is one under which one of several hits decides.
 fn masks_of(alloc: Global, table: &Table) -> Result<Option<Masks>, AllocError> {
-    if !matches!(table.policy(), HitPolicy::First) {
-        return Ok(None);
+    match table.policy() {
+        HitPolicy::First | HitPolicy::Priority => {
+            let masks = find_masked(alloc, table, STEPS)?;
+            Ok(Some(masks))
+        }
+        _ => Ok(None),
     }
-    let masks = find_masked(alloc, table, STEPS)?;
-    Ok(Some(masks))
 }
 
 impl Answers {

@@ -9,6 +9,7 @@ mod cells;
 mod columns;
 mod lines;
 mod not_decided;
+mod order;
 mod quoted;
 mod same_outputs;
 mod standing;

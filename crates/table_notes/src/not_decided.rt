@@ -1,15 +1,17 @@
 //! What of a decision table wasn't decided, and why, for people to read.
 
 use crate::answers::Answers;
+use crate::order::has_order_of_texts;
 use crate::words::add_rule_numbers;
 use dmn_analysis::Gaps;
+use dmn_table::Table;
 use std::alloc::{AllocError, Global};
 use std::collections::BTreeSet;
 
 /// Why something wasn't decided.
 #[derive(Drop)]
 struct Reasons {
-    /// Rules with tests that aren't constant.
+    /// Rules with tests of which it isn't known where they are met.
     rules: BTreeSet<usize>,
     /// Whether the steps of a search ran out.
     ran_out: bool,
@@ -75,26 +77,66 @@ fn add_open_outputs(text: &mut String, answers: &Answers) -> Result<(), AllocErr
 pub(crate) fn add_not_decided(
     alloc: Global,
     text: &mut String,
+    table: &Table,
     answers: &Answers,
 ) -> Result<(), AllocError> {
     add_open_outputs(text, answers)?;
     let reasons = Reasons::of(alloc, answers)?;
-    let rules: Vec<usize> = reasons.rules.iter().copied().collect(alloc)?;
-    add_open_rules(text, &rules)?;
-    let masks_ran_out = answers.masks.as_ref().is_some_and(|masks| !masks.is_all);
+    add_open_rules(alloc, text, table, &reasons)?;
+    let masks_ran_out = add_unranked(text, answers)?;
     if reasons.ran_out || masks_ran_out {
         text.push_str("  not decided: 2,000,000 steps were not enough\n")?;
     }
     Ok(())
 }
 
-fn add_open_rules(text: &mut String, rules: &[usize]) -> Result<(), AllocError> {
+/// Adds the rules of which it isn't known which go before them, where there are some; and whether the search for masked rules ran out
+/// of steps.
+fn add_unranked(text: &mut String, answers: &Answers) -> Result<bool, AllocError> {
+    let Some(masks) = &answers.masks else {
+        return Ok(false);
+    };
+    if masks.unranked.is_empty() {
+        return Ok(!masks.is_all);
+    }
+    text.push_str("  not decided: names decide what ")?;
+    add_rule_numbers(text, &masks.unranked)?;
+    let give = if masks.unranked.len() == 1 {
+        "gives"
+    } else {
+        "give"
+    };
+    write!(text, " {give}, and so which rules go before others\n")?;
+    Ok(false)
+}
+
+/// Adds the rules of which it wasn't decided where they hit, by what their tests are.
+fn add_open_rules(
+    alloc: Global,
+    text: &mut String,
+    table: &Table,
+    reasons: &Reasons,
+) -> Result<(), AllocError> {
+    let mut by_order = Vec::new(alloc);
+    let mut by_names = Vec::new(alloc);
+    for number in &reasons.rules {
+        match table.rules().get(*number) {
+            Some(rule) if has_order_of_texts(rule) => by_order.push(*number)?,
+            _ => by_names.push(*number)?,
+        }
+    }
+    add_rules(text, &by_names, "tests that names or lists decide")?;
+    add_rules(text, &by_order, "tests that compare texts by order")
+}
+
+/// Adds that rules have such tests, where there are some.
+fn add_rules(text: &mut String, rules: &[usize], tests: &str) -> Result<(), AllocError> {
     if rules.is_empty() {
         return Ok(());
     }
     text.push_str("  not decided: ")?;
     add_rule_numbers(text, rules)?;
     let have = if rules.len() == 1 { "has" } else { "have" };
-    write!(text, " {have} tests that names or lists decide\n")?;
+    write!(text, " {have} {tests}\n")?;
     Ok(())
 }

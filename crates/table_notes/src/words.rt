@@ -6,7 +6,7 @@ use crate::cells::{Cell, has_other_kinds};
 use crate::not_decided::add_not_decided;
 use crate::subject::TableSubject;
 use dmn_analysis::{Asked, Gap, Overlap, Part, Texts};
-use dmn_table::has_no_default;
+use dmn_table::{HitPolicy, Table, has_no_default};
 use feel_value::Feel;
 use std::alloc::{AllocError, Global};
 
@@ -270,21 +270,27 @@ fn add_never(text: &mut String, answers: &Answers) -> Result<(), AllocError> {
     Ok(())
 }
 
+/// How so many rules that go before another one are told to, under the table's hit policy.
+fn before_words(table: &Table, rules: usize) -> &'static str {
+    match (table.policy(), rules) {
+        (HitPolicy::Priority, 1) => "goes before it",
+        (HitPolicy::Priority, _) => "go before it",
+        (_, 1) => "stands before it",
+        _ => "stand before it",
+    }
+}
+
 /// Adds which rules never decide.
-fn add_masks(text: &mut String, answers: &Answers) -> Result<(), AllocError> {
-    let Some(masks) = &answers.masks else {
+fn add_masks(text: &mut String, subject: TableSubject<'_>) -> Result<(), AllocError> {
+    let Some(masks) = &subject.answers.masks else {
         return Ok(());
     };
     for mask in masks.found.iter().take(MOST_FINDINGS) {
         let rule = mask.rule.saturating_add(1);
         write!(text, "  rule {rule} never decides: ")?;
         add_rule_numbers(text, &mask.behind)?;
-        let stand = if mask.behind.len() == 1 {
-            "stands"
-        } else {
-            "stand"
-        };
-        write!(text, " {stand} before it\n")?;
+        let before = before_words(subject.table, mask.behind.len());
+        write!(text, " {before}\n")?;
     }
     Ok(())
 }
@@ -345,7 +351,7 @@ pub fn add_table_words(
     add_overlaps(alloc, text, subject)?;
     add_gaps(alloc, text, subject)?;
     add_never(text, answers)?;
-    add_masks(text, answers)?;
+    add_masks(text, subject)?;
     add_all_more(text, answers)?;
-    add_not_decided(alloc, text, answers)
+    add_not_decided(alloc, text, subject.table, answers)
 }

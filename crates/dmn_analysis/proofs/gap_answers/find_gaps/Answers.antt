@@ -31,7 +31,7 @@ returns c =
     let long = rw c.in-Some.is at c.in_ok-cells.ensures.long in
     let whole = rw c.in-Some.is at c.in_ok-cells.ensures.all in
     let same_count : length t.rules ≡ length c.rules-rules.result.now = ap length (sym rules) ∙ length-map c.rules-rules.result.now rule_view in
-    let knows = c.in_ok-search.ensures s (sym c.deref-2.ensures.value) (sym rules) same_count refl refl in
+    let knows = c.in_ok-search.ensures.known s (sym c.deref-2.ensures.value) (sym rules) same_count refl refl in
     let bare = c.in_ok-all.ensures.bare s (sym c.deref-3.ensures.value) (sym rules) long knows.bare in
     let told = c.in_ok-told.ensures.each s (sym rules) (subst (All (IsBare s)) (sym c.deref-5.ensures.value) bare) in
     tells_gaps t asked cells first search gaps (long ∙ ap length inputs) (subst (λ ws. AreWhole ws asked cells) c.deref.ensures.value whole)

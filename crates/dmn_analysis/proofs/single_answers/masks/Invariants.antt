@@ -1,9 +1,7 @@
-use Rattle.std.proofs.Common.{map}
 use Rattle.std.specs.List.{All}
-use Rattle.dmn_table.specs.Parts.{rule_view}
-use Rattle.dmn_analysis.specs.Telling.{IsBehind}
+use Rattle.dmn_analysis.specs.Telling.{IsMaskedOn}
 use Rattle.dmn_analysis.specs.declared.found.Mask.{Mask}
 use Rattle.dmn_analysis.proofs.single_answers.masks.Given as goal
 
 abbrev pub invariant-loop-rule : goal.invariant-loop-rule
-invariant-loop-rule l = All (λ (k : Mask). IsBehind l.words (map rule_view l.rules) l.cells k.rule k.rule) l.found.items
+invariant-loop-rule l = All (λ (k : Mask). IsMaskedOn l.table l.words l.cells k.rule) l.found.items

@@ -5,8 +5,8 @@ use Rattle.dmn_analysis.specs.declared.gaps.Search.{Search}
 use Rattle.dmn_analysis.proofs.Searches.{known_cut}
 use Rattle.dmn_analysis.proofs.gaps.Search.put.Goals as goal
 
-pub returns : goal.returns
-returns c = λ s cells knows halves left.
+pub returns-clause-known : goal.returns-clause-known
+returns-clause-known c = λ s cells knows halves left.
     let old = c.args.self.now in
     let new : Search = record { pending = c.push-2.new.self; bare = old.bare; «open» = old.open; sure = old.sure } in
     let upper : Pending = record { cells = c.args.upper; left = c.in_ok-copy.copy } in

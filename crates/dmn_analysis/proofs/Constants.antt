@@ -1,0 +1,156 @@
+-- Tests in which literals alone stand break no limit.
+use Rattle.std.proofs.Common.{◌≡◌, ◌∙◌, sym, ap, refl, ℕ, suc, ℤ, pos, List, [], ◌∷◌, map, Bool, true, false, ◌&&◌, if◌then◌else◌, Option, None, Some, arith}
+use Rattle.std.specs.Prelude.{nat_le, unsigned_abs, ◌-ℤ◌, ◌≢◌}
+use Rattle.std.specs.List.{list_all, slice_get, zip}
+use Rattle.std.proofs.lemmas.Int.{ints}
+use Rattle.feel_value.specs.Datum.{Datum, null, boolean, number, text}
+use Rattle.feel_value.specs.Found.{each, ◌>>=◌}
+use Rattle.feel_value.specs.Limits.{greatest_number, in_range, keeps_size, names_distinct}
+use Rattle.feel_value.specs.Logic.{and_of, or_of, not_of, decided, is_yes}
+use Rattle.feel_value.specs.Outcome.{held}
+use Rattle.feel_value.specs.declared.feel.Outcome.{Outcome}
+use Rattle.feel_value.specs.declared.feel.Outcome.TheVariants.{Is, Limit}
+use Rattle.feel_value.specs.declared.logic.Truth.{Truth}
+use Rattle.feel_value.specs.declared.logic.Truth.TheVariants.{Yes, No}
+use Rattle.feel_text.specs.Expr as expr
+use Rattle.feel_text.specs.Expr.{Expr}
+use Rattle.feel_text.specs.Meaning.{Bindings, den, with_value, of_number}
+use Rattle.feel_text.specs.Satisfied.{Answer, Told, answer, high_bound, is_in, joined, low_bound, opposite_answer, satisfied, stands_to, tested, tested_any}
+use Rattle.feel_text.specs.TestsView.{test_view}
+use Rattle.feel_text.specs.declared.unary.Test as code
+use Rattle.feel_text.specs.Tests.{Test, Compares, Interval, Equals, Tests, Any, OneOf, NoneOf}
+use Rattle.dmn_table.specs.Hits.{does_hit, is_satisfied}
+use Rattle.dmn_table.specs.Table.{Rule}
+use Rattle.dmn_analysis.specs.Constant.{is_constant, is_constant_test, is_literal, is_number, is_short}
+
+-- ---- truth values
+
+both : (a b : Bool) → (a && b) ≡ true → (a ≡ true) × (b ≡ true)
+both true true e = (refl, refl)
+both true false e = cc
+both false b e = cc
+
+-- ---- literals
+
+held_number : (z : ℤ) → in_range z ≡ true → held (number z) ≡ Is (number z)
+held_number z e = ap (λ b. if (b && keeps_size (number z)) && names_distinct (number z) then Is (number z) else Limit) e
+
+same_size : (n : ℕ) → unsigned_abs (pos 0 -ℤ pos n) ≡ n
+same_size n = omega (arith, ints)
+
+opposite_in_range : (n : ℕ) → nat_le n greatest_number ≡ true → in_range (pos 0 -ℤ pos n) ≡ true
+opposite_in_range n h = rw same_size h
+
+-- an expression that has this value whatever the names stand for
+abbrev pub HasValue : Expr → Type 0
+HasValue e = (d : Datum) × ((m : Bindings) → den e m ≡ Is d)
+
+negated : (e : Expr) → is_number e ≡ true → HasValue (expr.Negate e)
+negated (expr.Number n) h =
+    (number (pos 0 -ℤ pos n), λ m. ap (λ o. with_value o (λ d. held (of_number (λ x. number (pos 0 -ℤ x)) d))) (held_number (pos n) h) ∙ held_number (pos 0 -ℤ pos n) (opposite_in_range n h))
+negated expr.Null h = cc
+negated (expr.Boolean b) h = cc
+negated (expr.Text s) h = cc
+negated (expr.Name n) h = cc
+negated (expr.Group e) h = cc
+negated (expr.Members es) h = cc
+negated (expr.Call f e) h = cc
+negated (expr.Modulo a b) h = cc
+negated (expr.Not e) h = cc
+negated (expr.Negate e) h = cc
+negated (expr.Path e n) h = cc
+negated (expr.Binary op a b) h = cc
+negated (expr.Between e a b) h = cc
+negated (expr.If t a b) h = cc
+
+short_value : (e : Expr) → is_short e ≡ true → HasValue e
+short_value expr.Null h = (null, λ m. refl)
+short_value (expr.Boolean b) h = (boolean b, λ m. refl)
+short_value (expr.Number n) h = (number (pos n), λ m. held_number (pos n) h)
+short_value (expr.Negate e) h = negated e h
+short_value (expr.Text s) h = cc
+short_value (expr.Name n) h = cc
+short_value (expr.Group e) h = cc
+short_value (expr.Members es) h = cc
+short_value (expr.Call f e) h = cc
+short_value (expr.Modulo a b) h = cc
+short_value (expr.Not e) h = cc
+short_value (expr.Path e n) h = cc
+short_value (expr.Binary op a b) h = cc
+short_value (expr.Between e a b) h = cc
+short_value (expr.If t a b) h = cc
+
+literal_value : (e : Expr) → is_literal e ≡ true → HasValue e
+literal_value (expr.Text s) h = (text s, λ m. refl)
+literal_value expr.Null h = short_value expr.Null h
+literal_value (expr.Boolean b) h = short_value (expr.Boolean b) h
+literal_value (expr.Number n) h = short_value (expr.Number n) h
+literal_value (expr.Negate e) h = short_value (expr.Negate e) h
+literal_value (expr.Name n) h = cc
+literal_value (expr.Group e) h = cc
+literal_value (expr.Members es) h = cc
+literal_value (expr.Call f e) h = cc
+literal_value (expr.Modulo a b) h = cc
+literal_value (expr.Not e) h = cc
+literal_value (expr.Path e n) h = cc
+literal_value (expr.Binary op a b) h = cc
+literal_value (expr.Between e a b) h = cc
+literal_value (expr.If t a b) h = cc
+
+-- ---- tests
+
+pub views_constant : (tests : List code.Test) → list_all is_constant_test (map test_view tests) ≡ list_all (λ t. is_constant_test (test_view t)) tests
+views_constant [] = refl
+views_constant (t ∷ ts) = ap (λ b. is_constant_test (test_view t) && b) (views_constant ts)
+
+abbrev pub IsTold : Answer → Type 0
+IsTold a = (t : Truth) × (a ≡ Told t)
+
+answered : (e : Expr) (f : Datum → Truth) (m : Bindings) → HasValue e → IsTold (answer (den e m) f)
+answered e f m h = (f h.0, ap (λ o. answer o f) (h.1 m))
+
+joined_told : (f : Truth → Truth → Truth) (a b : Answer) → IsTold a → IsTold b → IsTold (joined f a b)
+joined_told f a b h k = (f h.0 k.0, ap (λ x. joined f x b) h.1 ∙ ap (joined f (Told h.0)) k.1)
+
+test_told : (t : Test) (v : Datum) (m : Bindings) → is_constant_test t ≡ true → IsTold (tested t v m)
+test_told (Compares bound e) v m h = answered e (stands_to bound v) m (short_value e h)
+test_told (Interval c low high d) v m h =
+    let parts = both (is_short low) (is_short high) h in
+    joined_told and_of (answer (den low m) (stands_to (low_bound c) v)) (answer (den high m) (stands_to (high_bound d) v)) (answered low (stands_to (low_bound c) v) m (short_value low parts.0))
+    (answered high (stands_to (high_bound d) v) m (short_value high parts.1))
+test_told (Equals e) v m h = answered e (λ d. decided (is_in v d)) m (literal_value e h)
+
+any_told : (ts : List Test) (v : Datum) (m : Bindings) → list_all is_constant_test ts ≡ true → IsTold (tested_any ts v m)
+any_told [] v m h = (No, refl)
+any_told (t ∷ ts) v m h =
+    let parts = both (is_constant_test t) (list_all is_constant_test ts) h in
+    joined_told or_of (tested t v m) (tested_any ts v m) (test_told t v m parts.0) (any_told ts v m parts.1)
+
+told : (t : Tests) (v : Datum) (m : Bindings) → is_constant t ≡ true → IsTold (satisfied t v m)
+told Any v m h = (Yes, refl)
+told (OneOf ts) v m h = any_told ts v m h
+told (NoneOf ts) v m h = let a = any_told ts v m h in (not_of a.0, ap opposite_answer a.1)
+
+-- ---- rules
+
+all_told : (m : Bindings) (tests : List Tests) (values : List Datum) → ((k : ℕ) (t : Tests) → slice_get tests k ≡ Some t → is_constant t ≡ true)
+    → (ys : List Bool) × (each (λ p. is_satisfied (satisfied p.0 p.1 m)) (zip tests values) ≡ Some ys)
+all_told m [] values h = ([], refl)
+all_told m (t ∷ ts) [] h = ([], refl)
+all_told m (t ∷ ts) (v ∷ vs) h =
+    let a = told t v m (h 0 t refl) in
+    let rest = all_told m ts vs (λ k u here. h (suc k) u here) in
+    let answer : is_satisfied (satisfied t v m) ≡ Some (is_yes a.0) = ap is_satisfied a.1 in (
+      is_yes a.0 ∷ rest.0,
+      ap (λ o. o >>= λ y. each (λ p. is_satisfied (satisfied p.0 p.1 m)) (zip ts vs) >>= λ ys. Some (y ∷ ys)) answer ∙ ap (λ o. o >>= λ ys. Some (is_yes a.0 ∷ ys)) rest.1,
+    )
+
+answers_not_yes : (o : Option Bool) → (b : Bool) → o ≡ Some b → o ≢ Some true → o ≡ Some false
+answers_not_yes o true e h = absurd (h e)
+answers_not_yes o false e h = e
+
+-- a rule of constant tests that doesn't hit misses
+pub misses : (m : Bindings) (values : List Datum) (r : Rule) → ((k : ℕ) (t : Tests) → slice_get r.tests k ≡ Some t → is_constant t ≡ true) → does_hit m values r ≢ Some true → does_hit m values r ≡ Some false
+misses m values r constant h =
+    let a = all_told m r.tests values constant in
+    answers_not_yes (does_hit m values r) (list_all (λ yes. yes) a.0) (ap (λ o. o >>= λ answers. Some (list_all (λ yes. yes) answers)) a.1) h
