@@ -140,8 +140,8 @@ class Found:
                                    "complete: some rule hits, whatever the values; no two rules overlap"], self.verdicts()
         assert self.listed() == ['no rule hits: a.b >= 5 or null, t any text but "x", "w" or ["a".."c") or ["k".."m"]',
                                  "and 7 more gaps",
-                                 "rule 4 never hits", "rule 3 never decides: rules 1, 2 stand before it"], self.listed()
-        assert self.marks() == {"4": "rule 4 never hits", "3": "rule 3 never decides: rules 1, 2 stand before it"}, self.marks()
+                                 "rule 4 never hits", "rule 3 never decides: rules 1, 2 go before it"], self.listed()
+        assert self.marks() == {"4": "rule 4 never hits", "3": "rule 3 never decides: rules 1, 2 go before it"}, self.marks()
         unsure = 'rules 1 and 2 both hit, which gives null: sum <= 2 or "z", sum * 2 [10..12], if the columns may take these values together'
         assert self.listed(1) == [unsure], self.listed(1)
         self.press("Try 2, 10", 1)

@@ -85,7 +85,7 @@ export function said(view, finding) {
     case "overlap": return `rules ${rule} and ${others[0]} both hit, which gives null: ${box(view, finding)}${unsure}`;
     case "gap": return `no rule hits: ${box(view, finding)}${unsure}`;
     case "never": return `rule ${rule} never hits`;
-    case "masked": return `rule ${rule} never decides: ${named(others)} ${others.length === 1 ? "stands" : "stand"} before it`;
+    case "masked": return `rule ${rule} never decides: ${named(others)} ${others.length === 1 ? "goes" : "go"} before it`;
     default: return show(finding);
   }
 }
