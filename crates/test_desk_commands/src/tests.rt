@@ -161,7 +161,8 @@ fn checks_its_model(rt: HostRuntime) -> Result<(), Fail> {
         words,
         b"{\"inputs\":[],\"decisions\":[]}".as_slice(),
     )?;
-    let said = b"shape: not the form of a model\nshape: 1 place\n  the key services is missing\n";
+    let said =
+        b"shape: not the form of a model\nshape: 1 place\n  line 1, column 1: the key services is missing\n";
     assert!(rt; left.is(3, said.as_slice(), b"".as_slice()));
     let left = run(&rt, alloc, words, Broken)?;
     assert!(rt; left.is(1, b"".as_slice(), b"read\n".as_slice()));
@@ -189,7 +190,8 @@ fn checks_as_its_options_say(rt: HostRuntime) -> Result<(), Fail> {
         b"{\"lawful\":true,\"inputs\":[],\"decisions\":[],\"services\":[]}\n{\"line\":2,\"note\":\"service\",\"name\":\"s\",\"said\":\"\\\"s\\\" is no service\"}\n";
     assert!(rt; left.is(0, said.as_slice(), b"".as_slice()));
     let left = run(&rt, alloc, &["desk", "check", "--json"], lines)?;
-    let said = b"{\"fault\":\"syntax\"}\n{\"fault\":\"syntax\",\"line\":2,\"column\":1}\n";
+    let said =
+        b"{\"fault\":\"syntax\"}\n{\"fault\":\"syntax\",\"line\":2,\"column\":1,\"said\":\"the end is due\"}\n";
     assert!(rt; left.is(3, said.as_slice(), b"".as_slice()));
     assert!(rt; run(&rt, alloc, &["desk", "check", "--json=1"], lines)?.is_refused());
     Ok(())
@@ -203,7 +205,10 @@ fn strict_tables_have_a_status(rt: HostRuntime) -> Result<(), Fail> {
     let left = run(&rt, alloc, &["desk", "check", "--strict"], table)?;
     assert!(rt; left.status == 0 && !left.shows("\ntable: "));
     let left = run(&rt, alloc, &["desk", "check", "--tables"], table)?;
-    assert!(rt; left.status == 0 && left.shows("\ntable: decisions[0] \"d\": 1 rule, U: "));
+    assert!(rt;
+        left.status == 0
+            && left.shows("\ntable: line 1, column 86: decisions[0] \"d\": 1 rule, U: ")
+    );
     let words = &["desk", "check", "--tables", "--strict"];
     let left = run(&rt, alloc, words, table)?;
     assert!(rt; left.status == 4 && left.shows("\n  no rule: a <= 5 "));
