@@ -125,7 +125,7 @@ NOTE_LINES = r"""{"lawful":true,"inputs":["a","b"],"decisions":[],"services":[]}
 {"warning":"unneeded","pointer":"/inputs/0","place":"inputs[0] \"a\"","said":"no decision needs it, and no service lists it","line":1,"column":12}
 {"warning":"unneeded","pointer":"/inputs/1","place":"inputs[1] \"b\"","said":"no decision needs it, and no service lists it","line":1,"column":16}
 {"line":2,"note":"service","name":"sum","said":"\"sum\" is no service"}
-{"line":3,"note":"syntax","said":"no JSON text"}
+{"line":3,"note":"syntax","said":"no JSON text: column 1: a value is due"}
 """
 
 # A model over several lines, with faults at the beginnings of values, and a key that stands twice, of which the last counts.
@@ -214,8 +214,43 @@ NOTES: list[tuple[str, list[str]]] = [
             "what stands under requested is no value: a number in it has a point or an exponent, and numbers are whole",
         ],
     ),
-    ('{"service":"limit"}', ["no request: it has a service and an object of inputs"]),
-    ("{", ["no JSON text"]),
+    ("{", ['no JSON text: column 1: a key in quotes or "}" is due']),
+    ('{"client":"a"} {}', ["no JSON text: column 16: the end is due"]),
+    (" \t", []),
+    ("[]", ["an object with client, service and inputs alone is due"]),
+    ('{"client":"a","service":"limit","inputs":{},"x":1}', ['no line has the key "x"']),
+    ('{"service":"limit","inputs":{}}', ["the key client is missing"]),
+    ('{"client":"","service":"limit","inputs":{}}', ["under client a text of 1 to 64 bytes is due"]),
+    (f'{{"client":"{"x" * 65}","service":"limit","inputs":{{}}}}', ["under client a text of 1 to 64 bytes is due"]),
+    ('{"client":"a"}', ["the key service is missing"]),
+    ('{"client":"a","service":"limit"}', ["the key inputs is missing"]),
+    ('{"client":"a","service":1,"inputs":{}}', ["under service a text is due"]),
+    ('{"client":"a","service":"limit","inputs":[]}', ["under inputs an object is due"]),
+    ('{"client":"a","close":false}', ["under close true is due"]),
+    ('{"client":"a","close":true,"capacity":1}', ["beside close stands client alone"]),
+    ('{"resize":"a"}', ["beside resize stands capacity alone, a number from 1 to 4096"]),
+    ('{"resize":5,"capacity":1}', ["under resize the name of a client is due, a text of 1 to 64 bytes"]),
+    ('{"resize":"a","capacity":0}', ["a capacity is from 1 to 4096"]),
+    ('{"resize":"a","capacity":4097}', ["a capacity is from 1 to 4096"]),
+    ('{"model":{},"x":1}', ['no line has the key "x"']),
+    ('{"client":"a","model":{}}', ["beside model stands no other key"]),
+    ('{"model":{}}', ["a model with the fault shape; the one before stays in force"]),
+]
+
+# Lines behind that model, and what is said of them: closed clients, and a second model, which counts from its line on.
+ASKED_IN_TURN: list[tuple[str, list[str]]] = [
+    ('{"client":"a","service":"limit","inputs":{"requested":1,"age":2}}', []),
+    ('{"client":"a","close":true}', []),
+    ('{"client":"a","service":"limit","inputs":{"requested":1,"age":2}}', ["the client is closed"]),
+    ('{"client":"a","service":"limit","inputs":{"requested":1}}', ["the client is closed"]),
+    ('{"client":"a","service":"limits","inputs":{}}', ['"limits" is no service: limit?']),
+    ('{"client":"a","close":true}', ["the client is closed"]),
+    ('{"resize":"a","capacity":0}', ["the client is closed"]),
+    ('{"client":"b","service":"limit","inputs":{"requested":1,"age":2}}', []),
+    ('{"model":{"inputs":["x"],"decisions":[],"services":[]}}', []),
+    ('{"client":"b","service":"limit","inputs":{"requested":1,"age":2}}', ['"limit" is no service']),
+    ('{"model":{"inputs":["x","x"],"decisions":[],"services":[]}}', ["a model with the fault twice; the one before stays in force"]),
+    ('{"client":"b","service":"limit","inputs":{"requested":1,"age":2}}', ['"limit" is no service']),
 ]
 
 # A model of rings, and of services that do not fit.

@@ -32,7 +32,7 @@ def wholes() -> list[tuple[str, list[str], str, int, str]]:
         ("a table as JSON", ["--json"], model(rows.TABLE), 3, rows.TABLE_LINES),
         ("requests", ["--requests"], asked, 0, rows.NOTES_TOLD),
         ("no JSON before requests", ["--requests"], "{\n}", 3, syntax % (1, 1, 'a key in quotes or "}" is due')),
-        ("requests as JSON", ["--requests", "--json"], f'{model("")}\n{{"service":"sum","inputs":{{}}}}\nx', 0, rows.NOTE_LINES),
+        ("requests as JSON", ["--requests", "--json"], f'{model("")}\n{{"client":"c","service":"sum","inputs":{{}}}}\nx', 0, rows.NOTE_LINES),
     ]
 
 
@@ -67,10 +67,42 @@ def is_no_json(program: Program, text: bytes, line: int, column: int, said: str,
     return (status, words) == (3, due) and lines == [{"fault": "syntax"}, it | ({"hint": hint} if hint else {})]
 
 
+def with_line_of(length: int) -> str:
+    """A lawful model whose line of compact text has so many bytes."""
+    whole = '{"decisions":[{"expr":"\\"%s\\"","name":"d","needs":[]}],"inputs":[],"services":[]}'
+    return whole % ("x" * (length - len(whole % "") - len('{"model":}')))
+
+
+def is_long_from_its_line_on(program: Program) -> bool:
+    """A model whose line has 1,048,576 bytes is taken, also in a file with more blanks, and one of a byte more is not."""
+    most = with_line_of(1_048_576)
+    if len(f'{{"model":{most}}}') != 1_048_576 or any(program.check(it)[0] != 0 for it in (most, most.replace(",", " ,\n"))):
+        return False
+    longer = with_line_of(1_048_577)
+    words = 'long: lawful, and too long for a line\n  its line {"model":..} has 1048577 bytes, and a line may have 1048576\n'
+    return program.check(longer) == (3, words) and program.check(longer, "--json") == (3, '{"fault":"long"}\n{"fault":"long","length":1048577}\n')
+
+
 def notes(program: Program, line: str) -> list[str]:
     """What is said of a line of requests."""
     said = program.check(f"{rows.ASKED}\n{line}", "--requests")[1].splitlines()
     return [it[len("line 2: ") :] for it in said if it.startswith("line 2: ")]
+
+
+def are_told_in_turn(program: Program) -> bool:
+    """Whether of lines that follow each other is told what is due, by their numbers."""
+    asked = "\n".join([rows.ASKED, *(line for line, _ in rows.ASKED_IN_TURN)])
+    said = program.check(asked, "--requests")[1].splitlines()
+    due = [f"line {number}: {it}" for number, (_, told) in enumerate(rows.ASKED_IN_TURN, 2) for it in told]
+    return [it for it in said if it.startswith("line ")] == due
+
+
+def has_long_line(program: Program) -> bool:
+    """Whether a line of more bytes than a line may have is told, and the one behind it is looked at."""
+    request = '{"client":"a","service":"limit","inputs":{"requested":"%s","age":1}}'
+    most = request % ("x" * (1_048_576 - len(request) + 2))
+    said = program.check("\n".join([rows.ASKED, most, most.replace("x", "xx", 1), "{"]), "--requests")[1].splitlines()
+    return [it for it in said if it.startswith("line ")] == ["line 3: the line has over 1048576 bytes", 'line 4: no JSON text: column 1: a key in quotes or "}" is due']
 
 
 def name_hint(program: Program, name: str) -> list[object]:
@@ -98,8 +130,10 @@ def all_rows(program: Program) -> list[Result]:
     found += [(name, is_behind(program, text, fault, due)) for name, text, fault, due in BEHIND]
     found.append(("many places", ends_with(program, "\n  and 50 more\n", 203)))
     found.append(("many places as JSON", ends_with(program, '\n{"fault":"expression","more":50}\n', 102, "--json")))
+    found.append(("a model that is too long for a line", is_long_from_its_line_on(program)))
     found += [(f"no JSON {row[0]!r}", is_no_json(program, *row)) for row in rows.NO_JSON]
     found += [(f"notes on {line}", notes(program, line) == due) for line, due in rows.NOTES]
+    found += [("requests in turn", are_told_in_turn(program)), ("a request that is too long", has_long_line(program))]
     found += [(f"name {name!r}", name_hint(program, name) == [hint]) for name, hint in rows.NAMES]
     found += [(f"need {name!r}", need_hint(program, name) == [hint]) for name, hint in rows.NEAR]
     return found + helped(program)

@@ -9,8 +9,6 @@ from dataclasses import dataclass, field
 from .sources import Item, Key, Sources
 from .specs import SpecFile
 
-# What is internal without a mark: it is to be named by public contracts.
-UNMARKED = {"crates/dmn_analysis/specs/Constant.antt"}
 # The fixed form of a mark: a first line, or one further down that marks what stands below it.
 MARK = re.compile(r"\s*-- Internal( but for [^:]*| behind [^:]*| from here on| to this crate)?[:,.]")
 QUOTED = re.compile(r"`([\w']+)`")
@@ -131,7 +129,7 @@ class Reach:
     def faults_in(self, file: str) -> Iterator[str]:
         mark, definitions = self.marks.get(file), self.definitions(file)
         if not mark:
-            if file not in UNMARKED and not any(item.key in self.public for item in definitions):
+            if not any(item.key in self.public for item in definitions):
                 is_behind = any(item.key in self.public_all for item in definitions)
                 form = "-- Internal behind ..: .." if is_behind else "-- Internal: .."
                 yield f"{file}: no public contract reaches it, and its first line doesn't say '{form}'"

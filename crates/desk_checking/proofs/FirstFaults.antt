@@ -1,28 +1,44 @@
 -- The first fault of the model in a text.
-use Rattle.std.proofs.Common.{◌≡◌, ◌∙◌, ℕ, List, Option, None, Some, option_map, IsUtf8, sym, ap, refl}
+use Rattle.std.proofs.Common.{◌≡◌, ◌∙◌, ℕ, List, Option, None, Some, option_map, is_ok, IsUtf8, true, false, sym, ap, subst, refl}
 use Rattle.serde_json.specs.Data.{Data}
 use Rattle.serde_json.specs.Read.{read}
 use Rattle.dmn_plan.specs.declared.fault.ModelFault.{ModelFault}
 use Rattle.dmn_plan.specs.declared.fault.ModelFault.TheVariants as fault
-use Rattle.dmn_plan.specs.ReadModel.{of_data, read_model}
-use Rattle.desk_checking.specs.FirstFault.{subject, fault_in, first_fault_of, IsFirstFault}
+use Rattle.dmn_form.specs.Draft.{draft_of}
+use Rattle.dmn_plan.specs.ReadModel.{checked, of_data, read_model}
+use Rattle.desk_checking.specs.FirstFault.{subject, fault_in, first_fault_of, IsFirstFault, IsTakenBy, model_fault}
+use Rattle.desk_checking.specs.declared.findings.CheckFault.{CheckFault}
+use Rattle.desk_checking.specs.declared.findings.CheckFault.TheVariants as found
 
-of_text : (s : List ℕ) (d : Data) (f : Option ModelFault) → read s ≡ Some d → f ≡ fault_in (read_model (subject d)) → first_fault_of s ≡ f
-of_text s d f r e = ap (λ o. fault_in (of_data (option_map subject o))) r ∙ sym e
+of_text : (s : List ℕ) (d e : Data) (f : Option ModelFault) → read s ≡ Some d → e ≡ subject d → f ≡ fault_in (read_model e) → first_fault_of s ≡ f
+of_text s d e f r is h = ap (λ o. fault_in (of_data (option_map subject o))) r ∙ ap (λ (x : Data). fault_in (read_model x)) (sym is) ∙ sym h
 
-pub first_of_value : (s : List ℕ) (d : Data) (f : Option ModelFault) → IsUtf8 s → read s ≡ Some d → f ≡ fault_in (read_model (subject d)) → IsFirstFault s f
-first_of_value s d None u r e = (u, of_text s d None r e)
-first_of_value s d (Some fault.Syntax) u r e = λ v. of_text s d (Some fault.Syntax) r e
-first_of_value s d (Some fault.Shape) u r e = (u, of_text s d (Some fault.Shape) r e)
-first_of_value s d (Some fault.Name) u r e = (u, of_text s d (Some fault.Name) r e)
-first_of_value s d (Some fault.Twice) u r e = (u, of_text s d (Some fault.Twice) r e)
-first_of_value s d (Some fault.Expression) u r e = (u, of_text s d (Some fault.Expression) r e)
-first_of_value s d (Some fault.Table) u r e = (u, of_text s d (Some fault.Table) r e)
-first_of_value s d (Some fault.Unknown) u r e = (u, of_text s d (Some fault.Unknown) r e)
-first_of_value s d (Some fault.Cycle) u r e = (u, of_text s d (Some fault.Cycle) r e)
-first_of_value s d (Some fault.Service) u r e = (u, of_text s d (Some fault.Service) r e)
-first_of_value s d (Some fault.Large) u r e = (u, of_text s d (Some fault.Large) r e)
-first_of_value s d (Some fault.Memory) u r e = (u, of_text s d (Some fault.Memory) r e)
+same_value : (a b : Data) → Some a ≡ Some b → a ≡ b
+same_value a b e = cc
 
-pub none_of_text : (s : List ℕ) → (IsUtf8 s → read s ≡ None) → IsFirstFault s (Some fault.Syntax)
+-- the value of a text is taken as the one that was read
+of_value : (s : List ℕ) (d e : Data) (f : Option CheckFault) → read s ≡ Some d → e ≡ subject d → IsTakenBy f e → (x : Data) → read s ≡ Some x → IsTakenBy f (subject x)
+of_value s d e f r is h x y = subst (λ (v : Data). IsTakenBy f v) (is ∙ ap subject (same_value d x (sym r ∙ y))) h
+
+pub first_of_value : (s : List ℕ) (d e : Data) (f : Option CheckFault) → IsUtf8 s → read s ≡ Some d → e ≡ subject d → model_fault f ≡ fault_in (read_model e) → IsTakenBy f e → IsFirstFault s f
+first_of_value s d e None u r is h t = (u, of_text s d e None r is h, of_value s d e None r is t)
+first_of_value s d e (Some found.Long) u r is h t = (u, of_text s d e None r is h, of_value s d e (Some found.Long) r is t)
+first_of_value s d e (Some (found.Model fault.Syntax)) u r is h t = λ v. of_text s d e (Some fault.Syntax) r is h
+first_of_value s d e (Some (found.Model fault.Shape)) u r is h t = (u, of_text s d e (Some fault.Shape) r is h, of_value s d e (Some (found.Model fault.Shape)) r is t)
+first_of_value s d e (Some (found.Model fault.Name)) u r is h t = (u, of_text s d e (Some fault.Name) r is h, of_value s d e (Some (found.Model fault.Name)) r is t)
+first_of_value s d e (Some (found.Model fault.Twice)) u r is h t = (u, of_text s d e (Some fault.Twice) r is h, of_value s d e (Some (found.Model fault.Twice)) r is t)
+first_of_value s d e (Some (found.Model fault.Expression)) u r is h t = (u, of_text s d e (Some fault.Expression) r is h, of_value s d e (Some (found.Model fault.Expression)) r is t)
+first_of_value s d e (Some (found.Model fault.Table)) u r is h t = (u, of_text s d e (Some fault.Table) r is h, of_value s d e (Some (found.Model fault.Table)) r is t)
+first_of_value s d e (Some (found.Model fault.Unknown)) u r is h t = (u, of_text s d e (Some fault.Unknown) r is h, of_value s d e (Some (found.Model fault.Unknown)) r is t)
+first_of_value s d e (Some (found.Model fault.Cycle)) u r is h t = (u, of_text s d e (Some fault.Cycle) r is h, of_value s d e (Some (found.Model fault.Cycle)) r is t)
+first_of_value s d e (Some (found.Model fault.Service)) u r is h t = (u, of_text s d e (Some fault.Service) r is h, of_value s d e (Some (found.Model fault.Service)) r is t)
+first_of_value s d e (Some (found.Model fault.Large)) u r is h t = (u, of_text s d e (Some fault.Large) r is h, of_value s d e (Some (found.Model fault.Large)) r is t)
+first_of_value s d e (Some (found.Model fault.Memory)) u r is h t = (u, of_text s d e (Some fault.Memory) r is h, of_value s d e (Some (found.Model fault.Memory)) r is t)
+
+pub none_of_text : (s : List ℕ) → (IsUtf8 s → read s ≡ None) → IsFirstFault s (Some (found.Model fault.Syntax))
 none_of_text s h = λ u. ap (λ o. fault_in (of_data (option_map subject o))) (h u)
+
+-- a lawful model has the form of one
+pub no_form : (d : Data) → is_ok (read_model d) ≡ true → draft_of d ≡ None → ⊥
+unfolding read_model
+no_form d lawful none = let wrong : false ≡ true = subst (λ draft. is_ok (checked draft) ≡ true) none lawful in cc

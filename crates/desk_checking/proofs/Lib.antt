@@ -1,2 +1,3 @@
 pub mod FirstFaults
 pub mod Placing
+pub mod Requesting

@@ -6,37 +6,44 @@ use Rattle.serde_json.specs.Read as json
 use Rattle.desk_lines.specs.Device.{Reader, Writer}
 use Rattle.desk_lines.specs.declared.fault.FrontFault.{FrontFault}
 use Rattle.desk_lines.specs.declared.fault.FrontFault.TheVariants.{Long, Read, Write}
-use Rattle.dmn_plan.specs.declared.fault.ModelFault.{ModelFault}
 use Rattle.desk_checking.specs.FirstFault.{IsFirstFault, subject}
-use Rattle.desk_checking.specs.Input.{model_text, most_bytes}
+use Rattle.desk_checking.specs.Input.{model_text, most_bytes, request_lines}
 use Rattle.desk_checking.specs.Placed.{TellsPlaces}
+use Rattle.desk_checking.specs.Requests.{Refuses}
 use Rattle.desk_checking.specs.Told.{Begins, head}
+use Rattle.desk_checking.specs.declared.findings.CheckFault.{CheckFault}
 use Rattle.desk_checking.specs.declared.findings.CheckFindings.{CheckFindings}
 use Rattle.desk_checking.specs.declared.options.CheckOptions.{CheckOptions}
 
--- the reader was read to its end, and what it gave has a model with this first fault, or with none
-pub record Finds (options : CheckOptions) (reader reader' : Reader) (fault : Option ModelFault) : Type 0 where
+-- the reader was read to its end, and what it gave has a model with this first fault, or with none, or it is too long for a line
+pub record Finds (options : CheckOptions) (reader reader' : Reader) (fault : Option CheckFault) : Type 0 where
   pub text : List ℕ
   pub read : Consumes reader.remaining reader'.remaining text
   pub at_end : IsAtEnd reader'.remaining
   pub first : IsFirstFault (model_text options text) fault
 
 -- what was written begins with the word of this fault, or with that there is none
-pub record Tells (options : CheckOptions) (writer writer' : Writer) (fault : Option ModelFault) : Type 0 where
+pub record Tells (options : CheckOptions) (writer writer' : Writer) (fault : Option CheckFault) : Type 0 where
   pub told : List ℕ
   pub written : Appends writer.contents writer'.contents told
   pub begins : Begins options.json fault told
 
 -- as lines of JSON: the model's fault was written, and behind it the lines of all its places
-pub record TellsAll (options : CheckOptions) (reader reader' : Reader) (writer writer' : Writer) (fault : Option ModelFault) : Type 0 where
+pub record TellsAll (options : CheckOptions) (reader reader' : Reader) (writer writer' : Writer) (fault : Option CheckFault) : Type 0 where
   pub text : List ℕ
   pub read : Consumes reader.remaining reader'.remaining text
   pub rest : List ℕ
   pub written : Appends writer.contents writer'.contents (head options.json fault ++ rest)
   pub places : (d : Data) → IsUtf8 (model_text options text) → json.read (model_text options text) ≡ Some d → TellsPlaces (subject d) fault rest
 
+-- of the lines of requests behind a model without a fault the first that `serve` refuses; of a text that is no JSON nothing is said
+pub record RefusesLines (options : CheckOptions) (reader reader' : Reader) (findings : CheckFindings) : Type 0 where
+  pub text : List ℕ
+  pub read : Consumes reader.remaining reader'.remaining text
+  pub refuses : (d : Data) → json.read (model_text options text) ≡ Some d → Refuses findings.fault (subject d) (request_lines options text) findings.refused.items
+
 -- a beginning of such a text was written, up to any byte
-pub record TellsInPart (options : CheckOptions) (writer writer' : Writer) (fault : Option ModelFault) : Type 0 where
+pub record TellsInPart (options : CheckOptions) (writer writer' : Writer) (fault : Option CheckFault) : Type 0 where
   pub told : List ℕ
   pub untold : List ℕ
   pub begins : Begins options.json fault (told ++ untold)
@@ -44,7 +51,7 @@ pub record TellsInPart (options : CheckOptions) (writer writer' : Writer) (fault
 
 -- the writer failed: the model was read and checked, and a beginning of what it is was written
 pub record Breaks (options : CheckOptions) (reader reader' : Reader) (writer writer' : Writer) : Type 0 where
-  pub fault : Option ModelFault
+  pub fault : Option CheckFault
   pub finds : Finds options reader reader' fault
   pub tells : TellsInPart options writer writer' fault
 
@@ -59,6 +66,7 @@ pub record Checked (options : CheckOptions) (reader reader' : Reader) (writer wr
   pub finds : IfOk found (λ findings. Finds options reader reader' findings.fault)
   pub tells : IfOk found (λ findings. Tells options writer writer' findings.fault)
   pub places : IfOk found (λ findings. options.json ≡ true → TellsAll options reader reader' writer writer' findings.fault)
+  pub refused : IfOk found (λ findings. RefusesLines options reader reader' findings)
   -- Tables are refused only where the options ask for that, and the model is lawful. Which ones are is not said here.
   pub strict : IfOk found (λ findings. findings.is_strict_failure ≡ true → (options.tables ≡ true) × (options.strict ≡ true) × (findings.fault ≡ None))
   pub long : (found ≡ Err Long) → Overflows reader reader'

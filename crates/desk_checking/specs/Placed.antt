@@ -20,6 +20,9 @@ use Rattle.dmn_check.specs.Services.{bad_services}
 use Rattle.dmn_check.specs.Told.{Told, first_of}
 use Rattle.dmn_check.specs.Unknown.{unknown_names}
 use Rattle.dmn_check.specs.Unread.{unread_texts}
+use Rattle.desk_checking.specs.FirstFault.{model_line}
+use Rattle.desk_checking.specs.declared.findings.CheckFault.{CheckFault}
+use Rattle.desk_checking.specs.declared.findings.CheckFault.TheVariants as found
 
 -- what is due of a line: how it begins, or all of it
 pub data Due : Type 0 where
@@ -84,8 +87,13 @@ pub record Adds (due : List Due) (text text' : List ℕ) : Type 0 where
   pub are : AreAsDue due lines
   pub is : text' ≡ text ++ flat_map ended lines
 
+-- `{"fault":"long","length":n}`: how many bytes the line of a model has
+abbrev pub long_line : ℕ → List ℕ
+long_line n = (codes "{\"fault\":\"long\",\"length\":" ++ decimal n) ++ codes "}"
+
 -- What is told behind the fault's word of a value with this first fault: a newline, and the lines of all places where the value has the
--- form of a model.
-abbrev pub TellsPlaces : Data → Option ModelFault → List ℕ → Type 0
+-- form of a model; or how long its line is.
+abbrev pub TellsPlaces : Data → Option CheckFault → List ℕ → Type 0
 TellsPlaces d None rest = Unit {0}
-TellsPlaces d (Some f) rest = (m : Draft) → draft_of d ≡ Some m → Adds (all_due m) (codes "\n") rest
+TellsPlaces d (Some found.Long) rest = rest ≡ codes "\n" ++ ended (long_line (length (model_line d)))
+TellsPlaces d (Some (found.Model f)) rest = (m : Draft) → draft_of d ≡ Some m → Adds (all_due m) (codes "\n") rest

@@ -1,7 +1,7 @@
 //! Where the places of a model stand in the file that it is read from.
 
 use dmn_check::{Place, Step};
-use json_places::{JsonPlaces, Part, Position};
+use json_places::{JsonPlaces, Part, Position, RepeatedKeys};
 use serde_json::Value;
 use std::alloc::{AllocError, Global};
 
@@ -28,6 +28,30 @@ impl<'a> FilePlaces<'a> {
         let whole = places.whole();
         let model = places.member(whole, "model").unwrap_or(whole);
         Ok(FilePlaces { places, model })
+    }
+
+    /// Whether a part of the text is this key.
+    pub(crate) fn is_key(&self, part: Part, key: &str) -> bool {
+        self.places.is_key(part, key)
+    }
+
+    /// Where the key `model` stands for the second time, if it does.
+    pub(crate) fn second_model(&self) -> Option<Part> {
+        self.places.second_key(self.places.whole(), "model")
+    }
+
+    /// The keys that stand more than once in an object of the model; so many are kept.
+    pub(crate) fn repeated_keys(
+        &self,
+        alloc: Global,
+        most: usize,
+    ) -> Result<RepeatedKeys, AllocError> {
+        self.places.repeated_keys(alloc, self.model, most)
+    }
+
+    /// Where a part of the text begins.
+    pub(crate) fn position_of(&self, part: Part) -> Position {
+        self.places.position(part)
     }
 
     /// Where a place begins; where its last steps lead to nothing, what the others lead to.

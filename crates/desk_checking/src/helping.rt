@@ -2,14 +2,14 @@
 
 use crate::file_places::FilePlaces;
 use crate::policy_help::policy_help;
+use dmn_advice::{
+    ModelHint, name_hint, near_hint, ring_hint, rule_hint, shared_hint, stranger_hint,
+    unlisted_hint,
+};
 use dmn_check::{Finding, Key, Mistake, Place, ServiceFault, Step, TextKind};
 use dmn_form::{WrittenModel, WrittenService};
 use dmn_table::TableFault;
 use feel_hints::{Kind, Stop, hint_of, stop_of};
-use model_hints::{
-    ModelHint, name_hint, near_hint, ring_hint, rule_hint, shared_hint, stranger_hint,
-    unlisted_hint,
-};
 use serde_json::Value;
 use std::alloc::{AllocError, Global};
 

@@ -134,7 +134,7 @@ fn place_line(
 }
 
 /// Adds a line with its end.
-fn add_line(line: &str, text: &mut String) -> Result<(), AllocError>
+pub(crate) fn add_line(line: &str, text: &mut String) -> Result<(), AllocError>
     ensures { OnOk result (string_bytes text.new ≡ string_bytes text.old ++ ended line.now) }
 {
     text.push_str(line)?;

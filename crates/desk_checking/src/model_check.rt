@@ -1,24 +1,29 @@
 //! Checks one model.
-ghost use Rattle.std.specs.Prelude.{◌≡◌, ◌≢◌, ◌++◌, ◌<◌, ◌-◌, ◌^◌, true, None, Some, Err, OnOk, IfOk, IfErr, IsTrue, IsUtf8, codes, string_bytes};
+ghost use Rattle.std.specs.Prelude.{◌≡◌, ◌≢◌, ◌++◌, ◌<◌, ◌-◌, ◌^◌, true, None, Some, Err, OnOk, IfOk, IfErr, IsTrue, IsUtf8, codes, is_ok, string_bytes};
 ghost use Rattle.std.specs.Io.KnownBytes.{Appends};
 ghost use Rattle.serde_json.specs.Data.{Data};
 ghost use Rattle.serde_json.specs.Read.{read};
 ghost use Rattle.serde_json.specs.View.{view};
+ghost use Rattle.serde_json.specs.Written.{compact_text};
+ghost use Rattle.desk_lines.specs.Lines.{lines_of};
 ghost use Rattle.dmn_plan.specs.ReadModel.{read_model};
 ghost use Rattle.desk_checking.specs.Checked.{Checked, Tells, TellsInPart};
-ghost use Rattle.desk_checking.specs.FirstFault.{IsFirstFault, fault_in, subject as subject_of};
+ghost use Rattle.desk_checking.specs.FirstFault.{IsFirstFault, IsTakenBy, fault_in, model_fault, subject as subject_of};
 ghost use Rattle.desk_checking.specs.Placed.{TellsPlaces};
+ghost use Rattle.desk_checking.specs.Requests.{AreRefused, Refuses};
 ghost use Rattle.desk_checking.specs.Told.{head};
+ghost use Rattle.desk_checking.specs.declared.findings.CheckFault.TheVariants as found;
 
-use crate::cut::model_and_rest;
+use crate::cut::model_and_requests;
 use crate::faults::tell_faults;
 use crate::file_places::FilePlaces;
-use crate::findings::CheckFindings;
+use crate::findings::{CheckFault, CheckFindings};
 use crate::helping::Subject;
 use crate::input::read_whole;
+use crate::long::{MOST_LINE, line_length, said_of_long};
 use crate::no_json::add_stop;
 use crate::options::CheckOptions;
-use crate::requests::request_notes;
+use crate::requests::told_requests;
 use crate::shaped::shape_lines;
 use crate::subject::subject;
 use crate::summary::{json_summary, summary};
@@ -26,6 +31,7 @@ use crate::tables::{ToldTables, told_tables};
 use crate::told::told_of;
 use crate::warned::warning_lines;
 use desk_lines::{FrontFault, Sink, Source, write_all};
+use desk_requests::RefusedLine;
 use dmn_form::{WrittenModel, read_form};
 use dmn_plan::{ModelFault, Plan};
 use serde_json::{Error, Value};
@@ -34,10 +40,20 @@ use std::alloc::{AllocError, Global};
 /// What a model was found to be, and what is told of it behind how that begins.
 #[derive(Drop)]
 struct Verdict {
-    fault: Option<ModelFault>,
+    fault: Option<CheckFault>,
     rest: String,
     /// Whether `strict` refuses one of its tables, where these were looked through.
     are_tables_refused: bool,
+    /// The first lines of requests behind it that `serve` refuses.
+    refused: Vec<RefusedLine>,
+}
+
+/// What is told of a lawful model, whether `strict` refuses one of its tables, and the first lines of requests that `serve` refuses.
+#[derive(Drop)]
+struct Said {
+    text: String,
+    are_tables_refused: bool,
+    refused: Vec<RefusedLine>,
 }
 
 /// The rest of the line that has the fault's word.
@@ -58,7 +74,7 @@ fn said_of_fault(
     file: &[u8],
     fault: ModelFault,
 ) -> Result<String, AllocError>
-    ensures { IsTrue is_json → IfOk result (λ text. TellsPlaces (view json.now) (Some fault) (string_bytes text)) }
+    ensures { IsTrue is_json → IfOk result (λ text. TellsPlaces (view json.now) (Some (found.Model fault)) (string_bytes text)) }
 {
     let mut text = behind_word(alloc, is_json, fault)?;
     let Some(model) = read_form(alloc, json)? else {
@@ -95,10 +111,13 @@ fn said_of_model(
     alloc: Global,
     options: CheckOptions,
     json: &Value,
-    file: &[u8],
+    plan: Plan,
     model: &WrittenModel,
-    lines: &[u8],
-) -> Result<ToldTables, AllocError> {
+    file: &[u8],
+    requests: &[u8],
+) -> Result<Said, AllocError>
+    ensures { IfOk result (λ said. (d : Data) → is_ok (read_model d) ≡ true → plan ≡ compact_text d → AreRefused d (lines_of requests.now) said.refused.items) }
+{
     let mut text = if options.json {
         json_summary(alloc, model)?
     } else {
@@ -108,26 +127,13 @@ fn said_of_model(
     text.push_str(&warnings)?;
     let tables = said_of_tables(alloc, options, json, file, model)?;
     text.push_str(&tables.text)?;
-    let notes = request_notes(alloc, options.json, model, lines)?;
-    text.push_str(&notes)?;
-    Ok(ToldTables {
+    let told = told_requests(alloc, options.json, plan, model, requests)?;
+    text.push_str(&told.text)?;
+    Ok(Said {
         text,
-        are_refused: tables.are_refused,
+        are_tables_refused: tables.are_refused,
+        refused: told.refused,
     })
-}
-
-/// What is told of a lawful model, behind that it is lawful, and whether `strict` refuses one of its tables.
-fn said_of_lawful(
-    alloc: Global,
-    options: CheckOptions,
-    json: &Value,
-    file: &[u8],
-    lines: &[u8],
-) -> Result<ToldTables, AllocError> {
-    match read_form(alloc, json)? {
-        Some(model) => said_of_model(alloc, options, json, file, &model, lines),
-        None => Ok(ToldTables::none(alloc)),
-    }
 }
 
 /// What is told of a file that is no JSON, behind the fault's word: where its reading stops, and what is due there.
@@ -142,31 +148,67 @@ fn said_of_syntax(
     Ok(text)
 }
 
+/// What a model without a fault is, that of this file, with these lines of requests behind it.
+fn lawful_verdict(
+    alloc: Global,
+    options: CheckOptions,
+    json: &Value,
+    plan: Plan,
+    model: &WrittenModel,
+    file: &[u8],
+    requests: &[u8],
+) -> Result<Verdict, AllocError>
+    ensures lawful { IfOk result (λ verdict. model_fault verdict.fault ≡ None) }
+    ensures taken { (d : Data) → plan ≡ compact_text d → IfOk result (λ verdict. IsTakenBy verdict.fault d) }
+    ensures places { IsTrue options.json → (d : Data) → plan ≡ compact_text d → IfOk result (λ verdict. TellsPlaces d verdict.fault (string_bytes verdict.rest)) }
+    ensures refused { (d : Data) → is_ok (read_model d) ≡ true → plan ≡ compact_text d → IfOk result (λ verdict. Refuses verdict.fault d (lines_of requests.now) verdict.refused.items) }
+{
+    let length = line_length(plan.text());
+    if length > MOST_LINE {
+        let rest = said_of_long(alloc, options.json, length)?;
+        return Ok(Verdict {
+            fault: Some(CheckFault::Long),
+            rest,
+            are_tables_refused: false,
+            refused: Vec::new(alloc),
+        });
+    }
+    let said = said_of_model(alloc, options, json, plan, model, file, requests)?;
+    Ok(Verdict {
+        fault: None,
+        rest: said.text,
+        are_tables_refused: said.are_tables_refused,
+        refused: said.refused,
+    })
+}
+
 /// What the model of a JSON value is, that of this file, with these lines of requests behind it.
 fn check_json(
     alloc: Global,
     options: CheckOptions,
     json: &Value,
     file: &[u8],
-    lines: &[u8],
+    requests: &[u8],
 ) -> Result<Verdict, AllocError>
-    ensures fault { IfOk result (λ verdict. verdict.fault ≡ fault_in (read_model (view json.now))) }
+    ensures fault { IfOk result (λ verdict. model_fault verdict.fault ≡ fault_in (read_model (view json.now))) }
+    ensures taken { IfOk result (λ verdict. IsTakenBy verdict.fault (view json.now)) }
     ensures places { IsTrue options.json → IfOk result (λ verdict. TellsPlaces (view json.now) verdict.fault (string_bytes verdict.rest)) }
+    ensures refused { IfOk result (λ verdict. Refuses verdict.fault (view json.now) (lines_of requests.now) verdict.refused.items) }
 {
     match Plan::of(alloc, json) {
-        Ok(_) => {
-            let said = said_of_lawful(alloc, options, json, file, lines)?;
-            Ok(Verdict {
-                fault: None,
-                rest: said.text,
-                are_tables_refused: said.are_refused,
-            })
+        Ok(plan) => {
+            let Some(model) = read_form(alloc, json)? else {
+                unreachable!();
+            };
+            let verdict = lawful_verdict(alloc, options, json, plan, &model, file, requests)?;
+            Ok(verdict)
         }
         Err(ModelFault::Memory) => Err(AllocError),
         Err(fault) => Ok(Verdict {
-            fault: Some(fault),
+            fault: Some(CheckFault::Model(fault)),
             rest: said_of_fault(alloc, options.json, json, file, fault)?,
             are_tables_refused: false,
+            refused: Vec::new(alloc),
         }),
     }
 }
@@ -177,19 +219,21 @@ fn check_text(
     alloc: Global,
     options: CheckOptions,
     text: &[u8],
-    lines: &[u8],
+    requests: &[u8],
 ) -> Result<Verdict, AllocError>
     ensures first { IfOk result (λ verdict. IsFirstFault text.now verdict.fault) }
     ensures places { IsTrue options.json → IfOk result (λ verdict. (d : Data) → IsUtf8 text.now → read text.now ≡ Some d →
         TellsPlaces (subject_of d) verdict.fault (string_bytes verdict.rest)) }
+    ensures refused { IfOk result (λ verdict. (d : Data) → read text.now ≡ Some d → Refuses verdict.fault (subject_of d) (lines_of requests.now) verdict.refused.items) }
 {
     match Value::from_slice(alloc, text) {
-        Ok(json) => check_json(alloc, options, subject(&json), text, lines),
+        Ok(json) => check_json(alloc, options, subject(&json), text, requests),
         Err(error) if error.is_memory() => Err(AllocError),
         Err(error) => Ok(Verdict {
-            fault: Some(ModelFault::Syntax),
+            fault: Some(CheckFault::Model(ModelFault::Syntax)),
             rest: said_of_syntax(alloc, options.json, text, &error)?,
             are_tables_refused: false,
+            refused: Vec::new(alloc),
         }),
     }
 }
@@ -239,7 +283,9 @@ fn is_strict_failure(options: CheckOptions, verdict: &Verdict) -> bool
 /// tables and 100 rules), as far as they are looked for; behind that it is lawful its inputs, decisions and services, what is mostly a
 /// mistake, where the options say so what is found of its decision tables, and what is odd in the lines of requests.
 ///
-/// The result has the first fault, none where the model is lawful, and whether the options are strict and a table of a lawful model isn't
+/// A lawful model whose line of compact text `serve` would refuse as too long is told as `long`, with its length.
+///
+/// The result has the first fault, none where `serve` takes the model, and whether the options are strict and a table of a lawful model isn't
 /// as they want it: for a gap among the kinds of values that its tests ask for and no default, for rules that overlap against the hit
 /// policy, never hit or never decide, and where one of these isn't known. The faults of the run are those of `replay`, but that `Long`
 /// comes once more than 64 MiB came.
@@ -254,12 +300,13 @@ pub fn check<R: Source, W: Sink>(
     ensures { Checked options (R.seen reader.old) (R.seen reader.new) (W.seen writer.old) (W.seen writer.new) result }
 {
     let text = read_whole(alloc, reader)?;
-    let (model, lines) = model_and_rest(options, &text);
-    let verdict = check_text(alloc, options, model, lines)?;
+    let (model, requests) = model_and_requests(options, &text);
+    let verdict = check_text(alloc, options, model, requests)?;
     write_told(alloc, options, &verdict, writer)?;
     let is_strict_failure = is_strict_failure(options, &verdict);
     Ok(CheckFindings {
         fault: verdict.fault,
         is_strict_failure,
+        refused: verdict.refused,
     })
 }

@@ -11,6 +11,14 @@ fn is_out_of_range(alloc: Global, error: &Error) -> Result<bool, AllocError> {
     Ok(message.starts_with("number out of range"))
 }
 
+/// Where the reading of a text stops.
+pub(crate) fn position_of(error: &Error) -> Position {
+    Position {
+        line: error.line(),
+        column: error.column(),
+    }
+}
+
 /// Why a text breaks off, in words.
 fn sentence(alloc: Global, stop: Stop) -> Result<String, AllocError> {
     let text = stop.text();
@@ -21,7 +29,7 @@ fn sentence(alloc: Global, stop: Stop) -> Result<String, AllocError> {
 }
 
 /// Why a text is no JSON from where its reading stops.
-fn said_of(
+pub(crate) fn said_of(
     alloc: Global,
     file: &[u8],
     error: &Error,
@@ -86,10 +94,7 @@ pub(crate) fn add_stop(
     error: &Error,
     text: &mut String,
 ) -> Result<(), AllocError> {
-    let position = Position {
-        line: error.line(),
-        column: error.column(),
-    };
+    let position = position_of(error);
     if position.line == 0 {
         return Ok(());
     }

@@ -4,8 +4,8 @@ use crate::file_places::FilePlaces;
 use crate::helping::part_at;
 use crate::place_words::place_words;
 use crate::quoted::{Members, quoted};
+use dmn_advice::{Form, Misshape, ShapeFault, ShapeFaults, shape_faults};
 use dmn_check::{Key, Place, Step};
-use dmn_warnings::{Form, Misshape, ShapeFault, ShapeFaults, shape_faults};
 use serde_json::Value;
 use std::alloc::{AllocError, Global};
 

@@ -1,23 +1,33 @@
 //! What is told of a model: how it begins, and the rest.
 ghost use Rattle.std.specs.Prelude.{◌≡◌, ◌++◌, Some, None, OnOk, IfOk, string_bytes};
-ghost use Rattle.desk_checking.specs.Told.{head};
+ghost use Rattle.desk_checking.specs.Told.{found_word, head};
 
+use crate::findings::CheckFault;
 use desk_wire::Word;
-use dmn_plan::ModelFault;
 use std::alloc::{AllocError, Global};
 
+/// The word of a fault.
+fn word_of(fault: CheckFault) -> Word
+    ensures { result ≡ found_word fault }
+{
+    match fault {
+        CheckFault::Model(fault) => Word::of_fault(fault),
+        CheckFault::Long => Word::Long,
+    }
+}
+
 /// How what is told of a model with a fault begins.
-fn fault_head(alloc: Global, is_json: bool, fault: ModelFault) -> Result<String, AllocError>
+fn fault_head(alloc: Global, is_json: bool, fault: CheckFault) -> Result<String, AllocError>
     ensures { IfOk result (λ s. string_bytes s ≡ head is_json (Some fault)) }
 {
     let mut text = String::new(alloc);
     if is_json {
         text.push_str("{\"fault\":\"")?;
-        text.push_str(Word::of_fault(fault).text())?;
+        text.push_str(word_of(fault).text())?;
         text.push_str("\"}")?;
         return Ok(text);
     }
-    text.push_str(Word::of_fault(fault).text())?;
+    text.push_str(word_of(fault).text())?;
     text.push_str(": ")?;
     Ok(text)
 }
@@ -33,7 +43,7 @@ fn lawful_head(alloc: Global, is_json: bool) -> Result<String, AllocError>
 }
 
 /// How what is told of a model begins.
-fn head_of(alloc: Global, is_json: bool, fault: Option<ModelFault>) -> Result<String, AllocError>
+fn head_of(alloc: Global, is_json: bool, fault: Option<CheckFault>) -> Result<String, AllocError>
     ensures { IfOk result (λ s. string_bytes s ≡ head is_json fault) }
 {
     match fault {
@@ -46,7 +56,7 @@ fn head_of(alloc: Global, is_json: bool, fault: Option<ModelFault>) -> Result<St
 pub(crate) fn told_of(
     alloc: Global,
     is_json: bool,
-    fault: Option<ModelFault>,
+    fault: Option<CheckFault>,
     rest: &str,
 ) -> Result<String, AllocError>
     ensures { IfOk result (λ s. string_bytes s ≡ head is_json fault ++ rest.now) }

@@ -1,10 +1,11 @@
 //! What is told of a lawful model that is mostly a mistake.
 
 use crate::file_places::FilePlaces;
-use crate::place_words::place_words;
-use crate::quoted::{Members, quoted};
+use crate::keys_twice::lines_of_keys_twice;
+use crate::quoted::quoted;
+use crate::warning_line::{WarningLine, add_more};
+use dmn_advice::{LiteralKind, More, Oddity, OddityKind, warnings};
 use dmn_form::WrittenModel;
-use dmn_warnings::{LiteralKind, More, Oddity, OddityKind, Warning, warnings};
 use serde_json::Value;
 use std::alloc::{AllocError, Global};
 
@@ -179,64 +180,6 @@ fn sentence(alloc: Global, oddity: &Oddity) -> Result<String, AllocError> {
     }
 }
 
-/// The line of a warning.
-fn line_of(
-    alloc: Global,
-    is_json: bool,
-    json: &Value,
-    places: &FilePlaces<'_>,
-    warning: &Warning,
-) -> Result<String, AllocError> {
-    let words = place_words(alloc, json, &warning.place)?;
-    let said = sentence(alloc, &warning.oddity)?;
-    if !is_json {
-        let mut text = String::from_str(alloc, "warning: ")?;
-        places.add_words(&warning.place, &mut text)?;
-        write!(text, "{words}: {said}\n")?;
-        return Ok(text);
-    }
-    let pointer = warning.place.pointer(alloc)?;
-    let mut members = Members::new(alloc);
-    members.add_text("warning", kind_word(warning.oddity.kind()))?;
-    members.add_text("pointer", &pointer)?;
-    members.add_text("place", &words)?;
-    members.add_text("said", &said)?;
-    members.add_position(places.position(&warning.place))?;
-    members.into_line()
-}
-
-/// The line about how many warnings of a kind are not told.
-fn more_line(alloc: Global, is_json: bool, more: &More) -> Result<String, AllocError> {
-    let (word, count) = (kind_word(more.kind), more.count);
-    if !is_json {
-        return format!(in alloc; "warning: and {count} more: {word}\n");
-    }
-    let mut members = Members::new(alloc);
-    members.add_text("warning", word)?;
-    members.add_number("more", count)?;
-    members.into_line()
-}
-
-/// The lines of these warnings.
-fn lines_of(
-    alloc: Global,
-    is_json: bool,
-    json: &Value,
-    file: &[u8],
-    found: &[Warning],
-) -> Result<String, AllocError> {
-    let mut text = String::new(alloc);
-    if found.is_empty() {
-        return Ok(text);
-    }
-    let places = FilePlaces::of(alloc, file)?;
-    for warning in found {
-        let line = line_of(alloc, is_json, json, &places, warning)?;
-        text.push_str(&line)?;
-    }
-    Ok(text)
-}
-
 /// The lines of all warnings of a lawful model, that of this file, at most 100 of each kind.
 pub(crate) fn warning_lines(
     alloc: Global,
@@ -245,18 +188,31 @@ pub(crate) fn warning_lines(
     file: &[u8],
     model: &WrittenModel,
 ) -> Result<String, AllocError> {
+    let places = FilePlaces::of(alloc, file)?;
+    let mut text = lines_of_keys_twice(alloc, is_json, json, &places)?;
     let odd = warnings(alloc, model)?;
-    let mut text = lines_of(alloc, is_json, json, file, &odd.found)?;
-    let more = more_lines(alloc, is_json, &odd.more)?;
-    text.push_str(&more)?;
+    for warning in &odd.found {
+        let said = sentence(alloc, &warning.oddity)?;
+        let line = WarningLine {
+            kind: kind_word(warning.oddity.kind()),
+            place: &warning.place,
+            position: places.position(&warning.place),
+            said: &said,
+        };
+        line.add_to(alloc, is_json, json, &mut text)?;
+    }
+    add_all_more(alloc, is_json, &odd.more, &mut text)?;
     Ok(text)
 }
 
-fn more_lines(alloc: Global, is_json: bool, more: &[More]) -> Result<String, AllocError> {
-    let mut text = String::new(alloc);
+fn add_all_more(
+    alloc: Global,
+    is_json: bool,
+    more: &[More],
+    text: &mut String,
+) -> Result<(), AllocError> {
     for more in more {
-        let line = more_line(alloc, is_json, more)?;
-        text.push_str(&line)?;
+        add_more(alloc, is_json, kind_word(more.kind), more.count, text)?;
     }
-    Ok(text)
+    Ok(())
 }

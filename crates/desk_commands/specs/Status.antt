@@ -4,7 +4,6 @@ use Rattle.clap.specs.Kinds.{Kinds, IsAmong}
 use Rattle.clap.specs.Words.{first_of}
 use Rattle.clap.specs.declared.error.kind.ErrorKind.{ErrorKind}
 use Rattle.clap.specs.declared.error.kind.ErrorKind.TheVariants as kind
-use Rattle.dmn_plan.specs.declared.fault.ModelFault.{ModelFault}
 use Rattle.desk_lines.specs.Device.{Reader, Writer}
 use Rattle.desk_lines.specs.Fault.{fault_word}
 use Rattle.desk_lines.specs.Lines.{ended}
@@ -13,6 +12,7 @@ use Rattle.desk_lines.specs.Told.{IsTold}
 use Rattle.desk_lines.specs.declared.fault.FrontFault.{FrontFault}
 use Rattle.desk_lines.specs.declared.fault.FrontFault.TheVariants.{Memory}
 use Rattle.desk_checking.specs.Checked.{Checked}
+use Rattle.desk_checking.specs.declared.findings.CheckFault.{CheckFault}
 use Rattle.desk_checking.specs.declared.findings.CheckFindings.{CheckFindings}
 use Rattle.desk_checking.specs.declared.options.CheckOptions.{CheckOptions}
 use Rattle.desk_explaining.specs.Printed.{AnyLines}
@@ -37,7 +37,7 @@ stopped = 1
 abbrev pub wrong_words : ℕ
 wrong_words = 2
 
--- the model that was checked has a fault
+-- the model that was checked has a fault, or is too long for a line
 abbrev pub wrong_model : ℕ
 wrong_model = 3
 
@@ -50,8 +50,8 @@ abbrev pub status_of : {X : Type 0} → Result X FrontFault → ℕ
 status_of (Ok x) = done
 status_of (Err why) = stopped
 
--- of a model, by its first fault, and by whether a table of it is refused
-abbrev pub status_of_model : Option ModelFault → Bool → ℕ
+-- of a model, by why it isn't taken, and by whether a table of it is refused
+abbrev pub status_of_model : Option CheckFault → Bool → ℕ
 status_of_model (Some fault) is_refused = wrong_model
 status_of_model None true = refused_table
 status_of_model None false = done

@@ -7,7 +7,7 @@ ghost use Rattle.desk_explaining.specs.Printed.{AnyLines};
 use crate::options::ExplainOptions;
 use crate::run::first_state;
 use crate::state::State;
-use crate::text::{Model, text_of, visible};
+use crate::text::{Model, Told, text_of, text_of_part};
 use desk_lines::{FrontFault, Sink, Source, answer_at_once};
 use desk_wire::{Heard, Listener, Session};
 use serde_json::Value;
@@ -20,8 +20,16 @@ struct Printer {
     model: Option<Model>,
 }
 
-/// An answer as a text for people, without the end of its last line. It follows from the answers' lines of JSON alone. One that
-/// nests too deep to be read stays such a line.
+/// The model of a line of JSON, if it is one.
+fn model_of(alloc: Global, read: &[u8]) -> Result<Option<Model>, AllocError> {
+    match Value::from_str(alloc, text_of_part(read)) {
+        Ok(read) => Model::of(alloc, &read),
+        Err(error) if error.is_memory() => Err(AllocError),
+        Err(_) => Ok(None),
+    }
+}
+
+/// An answer as a text for people, without the end of its last line. It follows from the answers' lines of JSON alone.
 fn printed(
     alloc: Global,
     model: &mut Option<Model>,
@@ -31,16 +39,11 @@ fn printed(
         return Ok(String::new(alloc));
     };
     let line = answer.as_str().trim_end();
-    match Value::from_str(alloc, line) {
-        Ok(told) => {
-            if let Some(read) = told.get("read") {
-                *model = Model::of(alloc, read)?;
-            }
-            text_of(alloc, model, &told, line)
-        }
-        Err(error) if error.is_memory() => Err(AllocError),
-        Err(_) => visible(alloc, line),
+    let told = Told::of(alloc, line.as_bytes())?;
+    if let Some(read) = told.get("read") {
+        *model = model_of(alloc, read)?;
     }
+    text_of(alloc, model, &told, line)
 }
 
 /// Adds a text to others, with the end of its last line.

@@ -2,7 +2,7 @@
 //! program calls of the crates below: the devices and faults of `desk_lines`, `check`, `explain`, `replay` and `serve`.
 #![tactic(auto)]
 
-pub use desk_checking::{CheckFindings, CheckOptions, check};
+pub use desk_checking::{CheckFault, CheckFindings, CheckOptions, RefusedLine, Word, check};
 pub use desk_explaining::{ExplainOptions, explain, explain_in_text};
 pub use desk_lines::{Counted, FrontFault, Sink, Source, write_all};
 pub use desk_replaying::replay;

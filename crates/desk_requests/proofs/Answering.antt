@@ -141,7 +141,7 @@ due_without_lane lanes earlier n s text i some lane =
     ap (λ b. request_answer (number_after earlier) n (in_force earlier) b (is_closed n earlier) (length (requests n earlier)) s i) lane
     ∙ ap (λ m. request_answer (number_after earlier) n m false (is_closed n earlier) (length (requests n earlier)) s i) some
 
-due_with_lane : (lanes : ℕ) (earlier : List (Reading Line)) (n s text : List ℕ) (i : Data) (r : Result plan.Request TaskFault) → in_force earlier ≡ Some text
+pub due_with_lane : (lanes : ℕ) (earlier : List (Reading Line)) (n s text : List ℕ) (i : Data) (r : Result plan.Request TaskFault) → in_force earlier ≡ Some text
     → has_lane lanes (Says (Request n s i) ∷ earlier) n ≡ true → plan.request_of text s i ≡ r
     → line_answer lanes earlier (Request n s i) ≡ task_answer (number_after earlier) n (is_closed n earlier) (length (requests n earlier)) r
 due_with_lane lanes earlier n s text i r some lane is =
@@ -167,7 +167,7 @@ ask_no_model old k n s i answer none view = λ lanes earlier st num.
     )
 
 -- a request's name asks for a lane where a model is in force
-asks : (n s text : List ℕ) (i : Data) (earlier : List (Reading Line)) → in_force earlier ≡ Some text → callers (Says (Request n s i) ∷ earlier) ≡ with_one n (callers earlier)
+pub asks : (n s text : List ℕ) (i : Data) (earlier : List (Reading Line)) → in_force earlier ≡ Some text → callers (Says (Request n s i) ∷ earlier) ≡ with_one n (callers earlier)
 asks n s text i earlier some = rw some refl
 
 pub ask_no_lane : (old new : Register) (k : ℕ) (n s text : List ℕ) (i : Data) (answer : Answer) → force_of old ≡ Some text → clients_of new ≡ with_client old.lanes n (clients_of old)

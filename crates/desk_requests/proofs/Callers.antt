@@ -80,7 +80,7 @@ requests-few m (Says (Resize n k) ∷ earlier) = let h = requests-few m earlier 
 
 -- ## The names
 
-is_among-append : (n m : List ℕ) (names : List (List ℕ)) → is_among (names ++ m ∷ []) n ≡ (is_among names n || (bytes_eq n m || false))
+pub is_among-append : (n m : List ℕ) (names : List (List ℕ)) → is_among (names ++ m ∷ []) n ≡ (is_among names n || (bytes_eq n m || false))
 is_among-append n m names = list_any-append (bytes_eq n) names (m ∷ [])
 
 or_nothing : (b : Bool) → (b || false) ≡ b

@@ -6,3 +6,4 @@ pub mod Readings
 pub mod Listening
 pub mod Booking
 pub mod Answering
+pub mod Passing

@@ -4,3 +4,5 @@ pub mod LineHeard
 pub mod State
 pub mod Due
 pub mod Register
+pub mod Refused
+pub mod Gate

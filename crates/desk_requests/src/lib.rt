@@ -3,8 +3,12 @@
 //! `serve` and `explain` stand on it, and `check` reads requests by it, so that all three take the same lines and refuse the same.
 #![tactic(auto)]
 
+mod gate;
 mod line;
+mod refused;
 mod register;
 
+pub use gate::Gate;
 pub use line::{Line, line_heard};
+pub use refused::RefusedLine;
 pub use register::{Answer, Asked, Register};

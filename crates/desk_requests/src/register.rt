@@ -21,7 +21,7 @@ use std::alloc::{AllocError, Global};
 use std::sync::Arc;
 
 /// The most requests that a lane may have outstanding.
-const MOST_OUTSTANDING: u32 = 4096;
+pub(crate) const MOST_OUTSTANDING: u32 = 4096;
 
 /// A client that has a lane: how many of its requests were accepted, and whether it is closed.
 #[derive(Drop)]

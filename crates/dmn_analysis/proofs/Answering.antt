@@ -1,5 +1,5 @@
 -- What a search has found, as it is told of a table.
-use Rattle.std.proofs.Common.{◌≡◌, ◌∙◌, sym, ap, subst, ℕ, ◌<◌, ◌⊎◌, inl, inr, List, [], length, map, true, IsTrue, Some, None, arith}
+use Rattle.std.proofs.Common.{◌≡◌, ◌∙◌, sym, ap, subst, ℕ, ◌<◌, ◌⊎◌, inl, inr, List, [], length, map, true, false, IsTrue, Some, None, arith}
 use Rattle.std.specs.List.{slice_get, All}
 use Rattle.std.proofs.lemmas.List.Elements.{All-weaker}
 use Rattle.std.proofs.lemmas.Option.{same_Some, slice_get_past, slice_get_within}
@@ -10,10 +10,11 @@ use Rattle.dmn_table.specs.Hits.{does_hit}
 use Rattle.dmn_table.specs.Table.{Rule, Table}
 use Rattle.dmn_analysis.specs.Asked.{is_asked}
 use Rattle.dmn_analysis.specs.Cells.{AreIn}
-use Rattle.dmn_analysis.specs.Claims.{AreAsked, AreInputs, GoesBefore, HasHit, IsInGap, IsMasked, NeverHits, NeverTwo, TellsGap, TellsGaps}
-use Rattle.dmn_analysis.specs.Joining.{AreCovered}
-use Rattle.dmn_analysis.specs.Searching.{IsAmong, IsInSome, Knows, KnowsPairs, Scene, cells_of}
-use Rattle.dmn_analysis.specs.Telling.{HasGapOf, HasHitAmong, IsBehind, IsMaskedOn, IsToldGap}
+use Rattle.dmn_analysis.specs.Claims.{AreAsked, AreInputs, GoesBefore, HasHit, IsGapIn, IsInGap, IsMasked, NeverHits, NeverTwo, TellsGap, TellsGaps}
+use Rattle.dmn_analysis.specs.Constant.{AreConstant, is_constant}
+use Rattle.dmn_analysis.specs.Joining.{AreCovered, AreMissed}
+use Rattle.dmn_analysis.specs.Searching.{CannotHit, IsAmong, IsBare, IsInSome, Knows, KnowsPairs, Scene, cells_of}
+use Rattle.dmn_analysis.specs.Telling.{HasHitAmong, IsBehind, IsDealtWith, IsMaskedOn, IsToldGap}
 use Rattle.dmn_analysis.specs.Whole.{AreWhole}
 use Rattle.dmn_analysis.specs.declared.asked.Asked.{Asked}
 use Rattle.dmn_analysis.specs.declared.cell.Cell.{Cell}
@@ -24,7 +25,8 @@ use Rattle.dmn_analysis.specs.declared.gaps.Bare.{Bare}
 use Rattle.dmn_analysis.specs.declared.gaps.Search.{Search}
 use Rattle.dmn_analysis.specs.declared.pairs.PairSearch.{PairSearch}
 use Rattle.dmn_analysis.proofs.HitRules.{everything, mapped}
-use Rattle.dmn_analysis.proofs.Places.{All-at}
+use Rattle.dmn_analysis.proofs.Constants.{misses}
+use Rattle.dmn_analysis.proofs.Places.{All-at, All-from_places}
 
 nowhere : (words : List Words) (values : List Datum) → IsInSome words [] values → ⊥
 nowhere words values h = let e : None ≡ Some h.cells = h.there in cc
@@ -40,7 +42,7 @@ in_whole words asked cells values whole lawful all = λ k ws c v of there has.
 pub tells_gaps : (t : Table) (asked : List Asked) (cells : List Cell) (first : List ℕ) (search : Search) (gaps : Gaps) → length cells ≡ length t.inputs → AreWhole gaps.words.items asked cells
     → ((r : ℕ) → r < length t.rules → IsAmong first r) → Knows (record { words = gaps.words.items; rules = t.rules; chosen = length t.rules; first = first; whole = cells }) search
     → All (IsToldGap (record { words = gaps.words.items; rules = t.rules; chosen = length t.rules; first = first; whole = cells }) (length t.inputs)) gaps.found.items
-    → (IsTrue gaps.is_all → gaps.more ≡ 0 → All (λ (b : Bare). (values : List Datum) → AreIn gaps.words.items b.cells.items values → IsInGap gaps.words.items gaps.found.items values) search.bare.items)
+    → (IsTrue gaps.is_all → gaps.more ≡ 0 → All (λ (b : Bare). (values : List Datum) → length values ≡ length cells → All (λ v. is_value v ≡ true) values → AreIn gaps.words.items b.cells.items values → IsInGap gaps.words.items gaps.found.items values) search.bare.items)
     → (IsTrue gaps.is_all → (search.pending.items ≡ []) × (search.open.items ≡ [])) → TellsGaps t asked gaps
 tells_gaps t asked cells first search gaps long whole each knows told covers done = record {
   each = All-weaker (IsToldGap s (length t.inputs)) (TellsGap t gaps.words.items) (λ gap is. record {
@@ -72,8 +74,8 @@ tells_gaps t asked cells first search gaps long whole each knows told covers don
           | inr rest ↦ elim rest [
             | inl b ↦
                 let one = mapped (λ (b : Bare). b.cells.items) search.bare.items b.place b.cells b.there in
-                inr (All-at (λ (b : Bare). (values : List Datum) → AreIn gaps.words.items b.cells.items values → IsInGap gaps.words.items gaps.found.items values) search.bare.items b.place one.0 (covers sure zero) one.1
-                values (subst (λ cs. AreIn gaps.words.items cs values) (sym one.2) b.inside))
+                inr (All-at (λ (b : Bare). (values : List Datum) → length values ≡ length cells → All (λ v. is_value v ≡ true) values → AreIn gaps.words.items b.cells.items values → IsInGap gaps.words.items gaps.found.items values) search.bare.items b.place one.0 (covers sure zero) one.1
+                values (inputs.one_each ∙ sym long) inputs.lawful (subst (λ cs. AreIn gaps.words.items cs values) (sym one.2) b.inside))
             | inr p ↦ absurd (nowhere gaps.words.items values (subst (λ ps. IsInSome gaps.words.items (cells_of ps) values) (done sure).0 p))
           ]
         ]
@@ -120,10 +122,32 @@ masked t words asked cells i long whole all on m values inputs r there hits =
 
 -- ---- gaps of cells that were joined
 
-pub in_told : (words : List Words) (found : List Gap) (all : List Bare) (cells : List Cell) → AreCovered cells all → All (λ (b : Bare). HasGapOf found b.cells.items) all
-    → (values : List Datum) → AreIn words cells values → IsInGap words found values
-in_told words found all cells covered told values inside =
+pub in_told : (s : Scene) (words : List Words) (found : List Gap) (all : List Bare) (cells : List Cell) → AreCovered cells all → All (IsBare s) all → All (λ (b : Bare). IsDealtWith words found b.cells.items) all
+    → (values : List Datum) → length values ≡ length s.whole → All (λ v. is_value v ≡ true) values → AreIn words cells values → IsInGap words found values
+in_told s words found all cells covered bare told values long lawful inside =
     let b = covered words values inside in
     let one = mapped (λ (b : Bare). b.cells.items) all b.place b.cells b.there in
-    let gap = All-at (λ (b : Bare). HasGapOf found b.cells.items) all b.place one.0 told one.1 in
-    record { place = gap.place; gap = gap.gap; there = gap.there; inside = subst (λ cs. AreIn words cs values) (sym (gap.same ∙ one.2)) b.inside }
+    let here = subst (λ cs. AreIn words cs values) (sym one.2) b.inside in
+    elim (All-at (λ (b : Bare). IsDealtWith words found b.cells.items) all b.place one.0 told one.1) [
+      | inl gap ↦ record { place = gap.place; gap = gap.gap; there = gap.there; inside = subst (λ cs. AreIn words cs values) (sym gap.same) here }
+      | inr void ↦ absurd (void values (long ∙ sym (All-at (IsBare s) all b.place one.0 bare one.1).long) lawful here)
+    ]
+
+-- ---- gaps that are decided
+
+pub missed_from_bare : (s : Scene) (count : ℕ) (all : List Bare) → length s.whole ≡ count → ((r : ℕ) → r < length s.rules → IsAmong s.first r) → All (IsBare s) all → All (AreMissed s.words s.rules count) all
+missed_from_bare s count all long each bare =
+    All-weaker (IsBare s) (AreMissed s.words s.rules count) (λ b is. record {
+      long = is.long ∙ long;
+      none = All-from_places (CannotHit s.words b.cells.items) s.rules (λ k r there. is.none k r (each k (slice_get_within s.rules k r there)) there);
+    }) all bare
+
+-- values of cells for which no rule hits, where each entry is constant
+pub gap_from : (words : List Words) (rules : List Rule) (count : ℕ) (bare : Bare) (values : List Datum) → AreConstant rules → AreMissed words rules count bare → length values ≡ length bare.cells.items
+    → AreIn words bare.cells.items values → IsGapIn count rules values
+gap_from words rules count bare values constant missed long inside = record {
+  one_each = long ∙ missed.long;
+  misses = All-from_places (λ r. does_hit [] values r ≡ Some false) rules (λ k r there.
+      misses [] values r (λ j ts here. All-at (λ ts. is_constant ts ≡ true) r.tests j ts (All-at (λ r. All (λ ts. is_constant ts ≡ true) r.tests) rules k r constant there) here)
+      (All-at (CannotHit words bare.cells.items) rules k r missed.none there [] values long inside));
+}

@@ -1,5 +1,5 @@
 -- Tests in which literals alone stand break no limit.
-use Rattle.std.proofs.Common.{◌≡◌, ◌∙◌, sym, ap, refl, ℕ, suc, ℤ, pos, List, [], ◌∷◌, map, Bool, true, false, ◌&&◌, if◌then◌else◌, Option, None, Some, arith}
+use Rattle.std.proofs.Common.{◌≡◌, ◌∙◌, ap, refl, ℕ, suc, ℤ, pos, List, [], ◌∷◌, map, Bool, true, false, ◌&&◌, if◌then◌else◌, Option, Some, arith}
 use Rattle.std.specs.Prelude.{nat_le, unsigned_abs, ◌-ℤ◌, ◌≢◌}
 use Rattle.std.specs.List.{list_all, slice_get, zip}
 use Rattle.std.proofs.lemmas.Int.{ints}
@@ -8,7 +8,6 @@ use Rattle.feel_value.specs.Found.{each, ◌>>=◌}
 use Rattle.feel_value.specs.Limits.{greatest_number, in_range, keeps_size, names_distinct}
 use Rattle.feel_value.specs.Logic.{and_of, or_of, not_of, decided, is_yes}
 use Rattle.feel_value.specs.Outcome.{held}
-use Rattle.feel_value.specs.declared.feel.Outcome.{Outcome}
 use Rattle.feel_value.specs.declared.feel.Outcome.TheVariants.{Is, Limit}
 use Rattle.feel_value.specs.declared.logic.Truth.{Truth}
 use Rattle.feel_value.specs.declared.logic.Truth.TheVariants.{Yes, No}
@@ -21,7 +20,7 @@ use Rattle.feel_text.specs.declared.unary.Test as code
 use Rattle.feel_text.specs.Tests.{Test, Compares, Interval, Equals, Tests, Any, OneOf, NoneOf}
 use Rattle.dmn_table.specs.Hits.{does_hit, is_satisfied}
 use Rattle.dmn_table.specs.Table.{Rule}
-use Rattle.dmn_analysis.specs.Constant.{is_constant, is_constant_test, is_literal, is_number, is_short}
+use Rattle.dmn_analysis.specs.Constant.{is_constant, is_constant_test, is_literal, is_number}
 
 -- ---- truth values
 
@@ -29,6 +28,10 @@ both : (a b : Bool) → (a && b) ≡ true → (a ≡ true) × (b ≡ true)
 both true true e = (refl, refl)
 both true false e = cc
 both false b e = cc
+
+pub not_both : (b : Bool) → b ≡ false → b ≡ true → ⊥
+not_both true e f = cc
+not_both false e f = cc
 
 -- ---- literals
 
@@ -63,39 +66,22 @@ negated (expr.Binary op a b) h = cc
 negated (expr.Between e a b) h = cc
 negated (expr.If t a b) h = cc
 
-short_value : (e : Expr) → is_short e ≡ true → HasValue e
-short_value expr.Null h = (null, λ m. refl)
-short_value (expr.Boolean b) h = (boolean b, λ m. refl)
-short_value (expr.Number n) h = (number (pos n), λ m. held_number (pos n) h)
-short_value (expr.Negate e) h = negated e h
-short_value (expr.Text s) h = cc
-short_value (expr.Name n) h = cc
-short_value (expr.Group e) h = cc
-short_value (expr.Members es) h = cc
-short_value (expr.Call f e) h = cc
-short_value (expr.Modulo a b) h = cc
-short_value (expr.Not e) h = cc
-short_value (expr.Path e n) h = cc
-short_value (expr.Binary op a b) h = cc
-short_value (expr.Between e a b) h = cc
-short_value (expr.If t a b) h = cc
-
-literal_value : (e : Expr) → is_literal e ≡ true → HasValue e
-literal_value (expr.Text s) h = (text s, λ m. refl)
-literal_value expr.Null h = short_value expr.Null h
-literal_value (expr.Boolean b) h = short_value (expr.Boolean b) h
-literal_value (expr.Number n) h = short_value (expr.Number n) h
-literal_value (expr.Negate e) h = short_value (expr.Negate e) h
-literal_value (expr.Name n) h = cc
-literal_value (expr.Group e) h = cc
-literal_value (expr.Members es) h = cc
-literal_value (expr.Call f e) h = cc
-literal_value (expr.Modulo a b) h = cc
-literal_value (expr.Not e) h = cc
-literal_value (expr.Path e n) h = cc
-literal_value (expr.Binary op a b) h = cc
-literal_value (expr.Between e a b) h = cc
-literal_value (expr.If t a b) h = cc
+literal_value : (texts : Bool) (e : Expr) → is_literal texts e ≡ true → HasValue e
+literal_value texts expr.Null h = (null, λ m. refl)
+literal_value texts (expr.Boolean b) h = (boolean b, λ m. refl)
+literal_value texts (expr.Text s) h = (text s, λ m. refl)
+literal_value texts (expr.Number n) h = (number (pos n), λ m. held_number (pos n) h)
+literal_value texts (expr.Negate e) h = negated e h
+literal_value texts (expr.Name n) h = cc
+literal_value texts (expr.Group e) h = cc
+literal_value texts (expr.Members es) h = cc
+literal_value texts (expr.Call f e) h = cc
+literal_value texts (expr.Modulo a b) h = cc
+literal_value texts (expr.Not e) h = cc
+literal_value texts (expr.Path e n) h = cc
+literal_value texts (expr.Binary op a b) h = cc
+literal_value texts (expr.Between e a b) h = cc
+literal_value texts (expr.If t a b) h = cc
 
 -- ---- tests
 
@@ -113,12 +99,12 @@ joined_told : (f : Truth → Truth → Truth) (a b : Answer) → IsTold a → Is
 joined_told f a b h k = (f h.0 k.0, ap (λ x. joined f x b) h.1 ∙ ap (joined f (Told h.0)) k.1)
 
 test_told : (t : Test) (v : Datum) (m : Bindings) → is_constant_test t ≡ true → IsTold (tested t v m)
-test_told (Compares bound e) v m h = answered e (stands_to bound v) m (short_value e h)
+test_told (Compares bound e) v m h = answered e (stands_to bound v) m (literal_value false e h)
 test_told (Interval c low high d) v m h =
-    let parts = both (is_short low) (is_short high) h in
-    joined_told and_of (answer (den low m) (stands_to (low_bound c) v)) (answer (den high m) (stands_to (high_bound d) v)) (answered low (stands_to (low_bound c) v) m (short_value low parts.0))
-    (answered high (stands_to (high_bound d) v) m (short_value high parts.1))
-test_told (Equals e) v m h = answered e (λ d. decided (is_in v d)) m (literal_value e h)
+    let parts = both (is_literal false low) (is_literal false high) h in
+    joined_told and_of (answer (den low m) (stands_to (low_bound c) v)) (answer (den high m) (stands_to (high_bound d) v)) (answered low (stands_to (low_bound c) v) m (literal_value false low parts.0))
+    (answered high (stands_to (high_bound d) v) m (literal_value false high parts.1))
+test_told (Equals e) v m h = answered e (λ d. decided (is_in v d)) m (literal_value true e h)
 
 any_told : (ts : List Test) (v : Datum) (m : Bindings) → list_all is_constant_test ts ≡ true → IsTold (tested_any ts v m)
 any_told [] v m h = (No, refl)

@@ -12,3 +12,4 @@ mod RulesOn
 mod Searches
 mod Turning
 mod Wholes
+mod Witnesses

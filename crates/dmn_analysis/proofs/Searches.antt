@@ -1,5 +1,5 @@
 -- Searches through cells.
-use Rattle.std.proofs.Common.{◌≡◌, ◌∙◌, sym, ap, subst, refl, ℕ, zero, suc, ◌+◌, ◌<◌, ◌⊎◌, inl, inr, List, [], ◌∷◌, ◌++◌, length, Some, None, arith}
+use Rattle.std.proofs.Common.{◌≡◌, ◌∙◌, sym, ap, subst, refl, ℕ, zero, suc, ◌+◌, ◌-◌, ◌<◌, ◌⊎◌, inl, inr, List, [], ◌∷◌, ◌++◌, length, Some, None, arith}
 use Rattle.std.specs.List.{slice_get, All}
 use Rattle.std.proofs.lemmas.List.Elements.{All-cons, All-nil, All-push}
 use Rattle.std.proofs.lemmas.Option.{same_Some, slice_get_within}
@@ -322,3 +322,10 @@ known_same s old new is bare_is open_is knows = record {
 
 pub cell_at : (words : List Words) (all : List Pending) (k : ℕ) (p : Pending) (values : List Datum) → slice_get all k ≡ Some p → AreIn words p.cells.items values → IsInSome words (cells_of all) values
 cell_at words all k p values there inside = record { place = k; cells = p.cells.items; there = map_at (λ (p : Pending). p.cells.items) all k p there; inside = inside }
+
+-- ---- steps
+
+-- where fewer steps were taken than there are, some are left
+pub steps_left : (all rest : ℕ) → all - rest < all → 0 < rest
+steps_left all zero h = absurd (omega (arith, h))
+steps_left all (suc rest) h = omega arith

@@ -6,7 +6,7 @@ use Rattle.std.specs.List.{list_any, slice_get}
 use Rattle.std.specs.declared.alloc.Global.{Global}
 use Rattle.std.specs.declared.sync.ArcStr.{ArcStr}
 use Rattle.std.proofs.lemmas.Int.{ints}
-use Rattle.std.proofs.lemmas.List.{take_all}
+use Rattle.std.proofs.lemmas.List.{length-map, take_all}
 use Rattle.std.proofs.lemmas.Option.{same_Some}
 use Rattle.feel_value.specs.Datum.{null, boolean, number, text, list, context}
 use Rattle.feel_value.specs.Limits.{in_range, is_value}
@@ -16,7 +16,7 @@ use Rattle.dmn_analysis.specs.declared.asked.Asked.{Asked}
 use Rattle.dmn_analysis.specs.declared.asked.Texts.TheVariants as texts
 use Rattle.dmn_analysis.specs.declared.cell.Cell.{Cell}
 use Rattle.dmn_analysis.specs.declared.cell.Words.{Words}
-use Rattle.dmn_analysis.proofs.Places.{pushed}
+use Rattle.dmn_analysis.proofs.Places.{map_at, pushed}
 
 pub same_texts : (a b : List (ArcStr Global)) → length a ≡ length b
     → ((k : ℕ) (x y : ArcStr Global) → slice_get a k ≡ Some x → slice_get b k ≡ Some y → arc_str_bytes x ≡ arc_str_bytes y) → map arc_str_bytes a ≡ map arc_str_bytes b
@@ -24,6 +24,13 @@ same_texts [] [] e h = refl
 same_texts [] (y ∷ b) e h = absurd (omega (arith, e))
 same_texts (x ∷ a) [] e h = absurd (omega (arith, e))
 same_texts (x ∷ a) (y ∷ b) e h = ap₂ (λ t ts. t ∷ ts) (h 0 x y refl refl) (same_texts a b (omega (arith, e)) (λ k u v here there. h (suc k) u v here there))
+
+pub same_lengths : (a b : List (ArcStr Global)) → map arc_str_bytes a ≡ map arc_str_bytes b → length a ≡ length b
+same_lengths a b e = sym (length-map a arc_str_bytes) ∙ ap length e ∙ length-map b arc_str_bytes
+
+pub same_at : (a b : List (ArcStr Global)) (k : ℕ) (x y : ArcStr Global) → map arc_str_bytes a ≡ map arc_str_bytes b → slice_get a k ≡ Some x → slice_get b k ≡ Some y → arc_str_bytes x ≡ arc_str_bytes y
+same_at a b k x y e here there =
+    same_Some (arc_str_bytes x) (arc_str_bytes y) (sym (map_at arc_str_bytes a k x here) ∙ ap (λ ts. slice_get ts k) e ∙ map_at arc_str_bytes b k y there)
 
 among_same : (a b : List (ArcStr Global)) (s : List ℕ) → map arc_str_bytes a ≡ map arc_str_bytes b → is_text_among a s ≡ is_text_among b s
 among_same a b s e = by_bytes a ∙ ap (list_any (λ t. bytes_eq s t)) e ∙ sym (by_bytes b)
@@ -56,7 +63,7 @@ first_of : (a b : Bool) → (a && b) ≡ true → a ≡ true
 first_of true b e = refl
 first_of false b e = cc
 
-number_in_range : (z : ℤ) → is_value (number z) ≡ true → in_range z ≡ true
+pub number_in_range : (z : ℤ) → is_value (number z) ≡ true → in_range z ≡ true
 number_in_range z e = first_of (in_range z) _ (first_of _ _ e)
 
 number_in_whole : (z : ℤ) (b : Bool) → in_range z ≡ true → b ≡ true → (int_le (if b then (pos 0 -ℤ pos 9223372036854775807) else pos 1) z && int_le z (if b then pos 9223372036854775807 else pos 0)) ≡ true

@@ -1,6 +1,9 @@
 -- What is claimed of a decision table.
-use Rattle.std.specs.Prelude.{◌≡◌, ◌≢◌, ◌<◌, ◌⊎◌, IsTrue, ℕ, List, [], length, true, false, Some}
+use Rattle.std.specs.Prelude.{◌≡◌, ◌≢◌, ◌<◌, ◌≤◌, ◌⊎◌, ⊤, IsTrue, ℕ, List, [], length, map, true, false, Some}
+use Rattle.std.specs.Arc.{arc_str_bytes}
 use Rattle.std.specs.List.{slice_get, All}
+use Rattle.std.specs.declared.alloc.Global.{Global}
+use Rattle.std.specs.declared.sync.ArcStr.{ArcStr}
 use Rattle.feel_value.specs.Datum.{Datum}
 use Rattle.feel_value.specs.Limits.{is_value}
 use Rattle.feel_text.specs.Meaning.{Bindings}
@@ -11,6 +14,8 @@ use Rattle.dmn_table.specs.Priority.{Hit, is_higher}
 use Rattle.dmn_table.specs.Table.{Column, Rule, Table}
 use Rattle.dmn_analysis.specs.Asked.{is_asked}
 use Rattle.dmn_analysis.specs.declared.asked.Asked.{Asked}
+use Rattle.dmn_analysis.specs.declared.asked.Texts.{Texts}
+use Rattle.dmn_analysis.specs.declared.asked.Texts.TheVariants as texts
 use Rattle.dmn_analysis.specs.Cells.{AreIn}
 use Rattle.dmn_analysis.specs.declared.cell.Cell.{Cell}
 use Rattle.dmn_analysis.specs.declared.cell.Words.{Words}
@@ -137,3 +142,21 @@ pub record TellsGaps (t : Table) (asked : List Asked) (gaps : Gaps) : Type 0 whe
 pub record TellsOverlaps (t : Table) (overlaps : Overlaps) : Type 0 where
   pub each : All (λ o. AreOverlapping t o.first o.second o.values.items) overlaps.found.items
   pub unique : IsTrue overlaps.is_all → overlaps.found.items ≡ [] → IsUnique t
+
+-- ---- what is decided
+
+-- the texts that are asked about in a column of these words are all, none, or the words
+abbrev pub AreTextsKnown : List (ArcStr Global) → Texts → Type 0
+AreTextsKnown words texts.None = ⊤
+AreTextsKnown words texts.All = ⊤
+AreTextsKnown words (texts.These ts) = map arc_str_bytes ts.items ≡ map arc_str_bytes words
+
+-- that of each of so many columns
+pub record AreKnown (count : ℕ) (words : List Words) (asked : List Asked) : Type 0 where
+  pub each_asked : count ≤ length asked
+  pub known : (k : ℕ) (ws : Words) (a : Asked) → slice_get words k ≡ Some ws → slice_get asked k ≡ Some a → AreTextsKnown ws.texts.items a.texts
+
+-- Each gap is told, or counted; and where there is any, one is told. So it is told that the table is complete, or a gap.
+pub record DecidesGaps (gaps : Gaps) : Type 0 where
+  pub all : IsTrue gaps.is_all
+  pub one : gaps.found.items ≡ [] → gaps.more ≡ 0

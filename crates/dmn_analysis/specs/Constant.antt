@@ -11,23 +11,19 @@ abbrev pub is_number : Expr → Bool
 is_number (Number n) = nat_le n greatest_number
 is_number e = false
 
--- a number, which may have a `-`, a truth value or null
-abbrev pub is_short : Expr → Bool
-is_short Null = true
-is_short (Boolean b) = true
-is_short (Negate e) = is_number e
-is_short e = is_number e
-
--- the same, or a text
-abbrev pub is_literal : Expr → Bool
-is_literal (Text s) = true
-is_literal e = is_short e
+-- a number, which may have a `-`, a truth value, null, or where texts count too a text
+abbrev pub is_literal : Bool → Expr → Bool
+is_literal texts Null = true
+is_literal texts (Boolean b) = true
+is_literal texts (Text s) = texts
+is_literal texts (Negate e) = is_number e
+is_literal texts e = is_number e
 
 -- a test against literals, which compares no text by order
 abbrev pub is_constant_test : Test → Bool
-is_constant_test (Compares bound e) = is_short e
-is_constant_test (Interval closed_low low high closed_high) = is_short low && is_short high
-is_constant_test (Equals e) = is_literal e
+is_constant_test (Compares bound e) = is_literal false e
+is_constant_test (Interval closed_low low high closed_high) = is_literal false low && is_literal false high
+is_constant_test (Equals e) = is_literal true e
 
 abbrev pub is_constant : Tests → Bool
 is_constant Any = true

@@ -30,7 +30,8 @@ fn does_hit(
 
 /// Whether none of the rules hits for these values, where no name stands for anything.
 pub(crate) fn all_miss(alloc: Global, rules: &[Rule], values: &[Feel]) -> Result<bool, AllocError>
-    ensures { IfOk result (λ all. IsTrue all → All (λ r. does_hit_of [] values.now (rule_view r) ≡ Some false) rules.now) }
+    ensures each { IfOk result (λ all. IsTrue all → All (λ r. does_hit_of [] values.now (rule_view r) ≡ Some false) rules.now) }
+    ensures all { IfOk result (λ all. All (λ r. does_hit_of [] values.now (rule_view r) ≡ Some false) rules.now → IsTrue all) }
 {
     let env = Env::new(alloc);
     for rule in rules {

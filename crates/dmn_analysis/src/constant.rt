@@ -4,7 +4,7 @@ ghost use Rattle.feel_text.specs.Constants.{expr_of_constant};
 ghost use Rattle.feel_text.specs.TestsView.{test_view, tests_view};
 ghost use Rattle.feel_text.specs.View.{view};
 ghost use Rattle.std.specs.List.{list_all};
-ghost use Rattle.dmn_analysis.specs.Constant.{is_constant, is_constant_test, is_literal as is_literal_expr, is_number as is_number_expr, is_short as is_short_expr};
+ghost use Rattle.dmn_analysis.specs.Constant.{is_constant, is_constant_test, is_literal as is_literal_expr, is_number as is_number_expr};
 
 use feel_text::{Constant, Test, Tests, TestsTree, Tree};
 use feel_value::Value;
@@ -38,43 +38,23 @@ fn is_number(expr: &Tree) -> bool
     }
 }
 
-fn has_no_text(constant: &Constant) -> bool
-    ensures { is_short_expr (expr_of_constant constant.now) ≡ true → IsTrue result }
+// Whether the constant is no text, or texts count too.
+fn is_one_of(constant: &Constant, texts: bool) -> bool
+    ensures { is_literal_expr texts (expr_of_constant constant.now) ≡ true → IsTrue result }
 {
     match constant.value().value() {
-        Value::Text(_) => false,
+        Value::Text(_) => texts,
         Value::Null | Value::Bool(_) | Value::Number(_) | Value::List(_) | Value::Context(_) =>
             true,
     }
 }
 
-// A number, which may have a `-`, a truth value or null.
-fn is_short(expr: &Tree) -> bool
-    ensures { is_short_expr (view expr.now) ≡ true → IsTrue result }
+// A number, which may have a `-`, a truth value, null, or a text where these count too.
+fn is_literal(expr: &Tree, texts: bool) -> bool
+    ensures { is_literal_expr texts (view expr.now) ≡ true → IsTrue result }
 {
     match expr {
-        Tree::Constant(constant) => has_no_text(constant),
-        Tree::Number(_) => true,
-        Tree::Negate(inner) => is_number(inner),
-        Tree::Name(_)
-        | Tree::Group(_)
-        | Tree::List(_)
-        | Tree::Call(_, _)
-        | Tree::Modulo(_, _)
-        | Tree::Not(_)
-        | Tree::Path(_, _)
-        | Tree::Binary(_, _, _)
-        | Tree::Between(_, _, _)
-        | Tree::If(_, _, _) => false,
-    }
-}
-
-// The same, or a text.
-fn is_literal(expr: &Tree) -> bool
-    ensures { is_literal_expr (view expr.now) ≡ true → IsTrue result }
-{
-    match expr {
-        Tree::Constant(_) => true,
+        Tree::Constant(constant) => is_one_of(constant, texts),
         Tree::Number(_) => true,
         Tree::Negate(inner) => is_number(inner),
         Tree::Name(_)
@@ -94,14 +74,14 @@ fn is_constant_one(test: &Test) -> bool
     ensures { is_constant_test (test_view test.now) ≡ true → IsTrue result }
 {
     match test {
-        Test::Compares(_, expr) => is_short(expr),
+        Test::Compares(_, expr) => is_literal(expr, false),
         Test::Interval(_, low, high, _) => {
-            if !is_short(low) {
+            if !is_literal(low, false) {
                 return false;
             }
-            is_short(high)
+            is_literal(high, false)
         }
-        Test::Equals(expr) => is_literal(expr),
+        Test::Equals(expr) => is_literal(expr, true),
     }
 }
 

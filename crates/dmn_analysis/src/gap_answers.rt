@@ -1,11 +1,12 @@
 //! Whether some rule hits whatever the values are, or for which values none does.
-ghost use Rattle.std.specs.Prelude.{◌≡◌, ◌<◌, ℕ, [], IsTrue, IfOk, IfSome, Some, false, length, map};
+ghost use Rattle.std.specs.Prelude.{◌≡◌, ◌<◌, ℕ, [], IsTrue, IfOk, IfSome, None, false, length, map};
 ghost use Rattle.std.specs.List.{All};
-ghost use Rattle.dmn_table.specs.Hits.{does_hit as does_hit_of};
 ghost use Rattle.dmn_table.specs.Parts.{rule_view};
-ghost use Rattle.dmn_analysis.specs.Claims.{IsGapIn, TellsGaps};
+ghost use Rattle.dmn_analysis.specs.Claims.{AreKnown, DecidesGaps, IsGapIn, TellsGaps};
+ghost use Rattle.dmn_analysis.specs.Constant.{AreConstant, IsConstant};
+ghost use Rattle.dmn_analysis.specs.Joining.{AreMissed};
 ghost use Rattle.dmn_analysis.specs.Searching.{IsAmong, IsBare, Scene};
-ghost use Rattle.dmn_analysis.specs.Telling.{HasGapOf, IsToldGap};
+ghost use Rattle.dmn_analysis.specs.Telling.{IsDealtWith, IsToldGap};
 
 use crate::asked::Asked;
 use crate::asking::all_miss;
@@ -14,7 +15,6 @@ use crate::found::{Gap, Gaps};
 use crate::gaps::{Bare, Pending, Search, go_through};
 use crate::joined::joined_where_right;
 use crate::pieces::parts_of;
-use crate::searching::first_of;
 use crate::whole::whole;
 use crate::witness::values_of;
 use crate::words::all_words;
@@ -34,43 +34,26 @@ pub(crate) fn places(alloc: Global, count: usize) -> Result<Vec<usize>, AllocErr
     Ok(places)
 }
 
-// Values of the cells for which no rule hits where no name stands for anything; None where the rules don't say so.
-fn witness(
+// The gap of these cells with some of their values; None where the rules don't say that none hits for these where no name stands for
+// anything.
+fn gap_of(
     alloc: Global,
     words: &[Words],
     rules: &[Rule],
     cells: &[Cell],
+    values: Vec<Feel>,
     count: usize,
-) -> Result<Option<Vec<Feel>>, AllocError>
-    ensures one_each { IfOk result (λ found. IfSome found (λ values. length values.items ≡ count)) }
-    ensures misses { IfOk result (λ found. IfSome found (λ values. All (λ r. does_hit_of [] values.items (rule_view r) ≡ Some false) rules.now)) }
+) -> Result<Option<Gap>, AllocError>
+    ensures cells { IfOk result (λ found. IfSome found (λ gap. gap.cells.items ≡ cells.now)) }
+    ensures witness { IfOk result (λ found. IfSome found (λ gap. IsGapIn count (map rule_view rules.now) gap.values.items)) }
+    ensures unless { IfOk result (λ found. found ≡ None → IsGapIn count (map rule_view rules.now) values.items → ⊥) }
 {
-    let Some(values) = values_of(alloc, words, cells)? else {
-        return Ok(None);
-    };
     if values.len() != count {
         return Ok(None);
     }
     if !all_miss(alloc, rules, &values)? {
         return Ok(None);
     }
-    Ok(Some(values))
-}
-
-// The gap of these cells, with a witness; None where the rules don't bear it out.
-fn gap_of(
-    alloc: Global,
-    words: &[Words],
-    rules: &[Rule],
-    cells: &[Cell],
-    count: usize,
-) -> Result<Option<Gap>, AllocError>
-    ensures cells { IfOk result (λ found. IfSome found (λ gap. gap.cells.items ≡ cells.now)) }
-    ensures witness { IfOk result (λ found. IfSome found (λ gap. IsGapIn count (map rule_view rules.now) gap.values.items)) }
-{
-    let Some(values) = witness(alloc, words, rules, cells, count)? else {
-        return Ok(None);
-    };
     let parts = parts_of(alloc, words, cells)?;
     let copy = Vec::from_slice(alloc, cells)?;
     Ok(Some(Gap {
@@ -89,7 +72,7 @@ struct Told {
     is_all: bool,
 }
 
-// A gap for each of these cells, at most so many.
+// A gap for each of these cells that have values, at most so many.
 fn tell(
     alloc: Global,
     words: &[Words],
@@ -99,12 +82,14 @@ fn tell(
     most: usize,
 ) -> Result<Told, AllocError>
     ensures each { IfOk result (λ told. (s : Scene) → s.rules ≡ map rule_view rules.now → All (IsBare s) bare.now → All (IsToldGap s count) told.found.items) }
-    ensures all { IfOk result (λ told. IsTrue told.is_all → told.more ≡ 0 → All (λ b. HasGapOf told.found.items b.cells.items) bare.now) }
+    ensures all { IfOk result (λ told. IsTrue told.is_all → told.more ≡ 0 → All (λ b. IsDealtWith words.now told.found.items b.cells.items) bare.now) }
+    ensures one { IfOk result (λ told. 0 < most → told.found.items ≡ [] → told.more ≡ 0) }
+    ensures decided { IfOk result (λ told. AreConstant (map rule_view rules.now) → All (AreMissed words.now (map rule_view rules.now) count) bare.now → IsTrue told.is_all) }
 {
     let mut found = Vec::new(alloc);
     let mut is_all = true;
     for place in 0..bare.len() {
-        if place >= most {
+        if found.len() >= most {
             let more = bare.len() - place;
             return Ok(Told {
                 found,
@@ -112,7 +97,11 @@ fn tell(
                 is_all,
             });
         }
-        let Some(gap) = gap_of(alloc, words, rules, &bare[place].cells, count)? else {
+        let cells = &bare[place].cells;
+        let Some(values) = values_of(alloc, words, cells)? else {
+            continue;
+        };
+        let Some(gap) = gap_of(alloc, words, rules, cells, values, count)? else {
             is_all = false;
             continue;
         };
@@ -127,25 +116,28 @@ fn tell(
 
 // Whether nothing is pending.
 fn are_none(pending: &[Pending]) -> bool
-    ensures { IsTrue result → pending.now ≡ [] }
+    ensures none { IsTrue result → pending.now ≡ [] }
+    ensures all { pending.now ≡ [] → IsTrue result }
 {
-    pending.first().is_none()
+    pending.is_empty()
 }
 
 // Whether a search went through all, and met no rule of which it isn't known whether it hits.
 pub(crate) fn is_done(pending: &[Pending], unsure: &[usize]) -> bool
-    ensures { IsTrue result → (pending.now ≡ []) × (unsure.now ≡ []) }
+    ensures done { IsTrue result → (pending.now ≡ []) × (unsure.now ≡ []) }
+    ensures all { pending.now ≡ [] → unsure.now ≡ [] → IsTrue result }
 {
     if !are_none(pending) {
         return false;
     }
-    first_of(unsure).is_none()
+    unsure.is_empty()
 }
 
 // Whether each gap is told, or counted among the others.
 fn are_all(told: &Told, pending: &[Pending], unsure: &[usize]) -> bool
     ensures done { IsTrue result → (pending.now ≡ []) × (unsure.now ≡ []) }
     ensures told { IsTrue result → IsTrue told.now.is_all }
+    ensures all { IsTrue told.now.is_all → pending.now ≡ [] → unsure.now ≡ [] → IsTrue result }
 {
     if !told.is_all {
         return false;
@@ -162,6 +154,7 @@ pub(crate) fn distinct(numbers: Vec<usize>) -> Vec<usize> {
 }
 
 fn nothing_told(alloc: Global, words: Vec<Words>) -> Gaps
+    ensures words { result.words.items ≡ words.items }
     ensures found { result.found.items ≡ [] }
     ensures undecided { result.is_all ≡ false }
 {
@@ -186,7 +179,8 @@ pub fn find_gaps(
     most: usize,
     steps: u64,
 ) -> Result<Gaps, AllocError>
-    ensures { IfOk result (TellsGaps table.now asked.now) }
+    ensures tells { IfOk result (TellsGaps table.now asked.now) }
+    ensures decides { IfOk result (λ gaps. IsConstant table.now → AreKnown (length table.now.inputs) gaps.words.items asked.now → 0 < most → gaps.steps < steps → DecidesGaps gaps) }
 {
     let rules = table.rules();
     let count = table.inputs().len();

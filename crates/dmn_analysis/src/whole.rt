@@ -1,6 +1,7 @@
 //! The cells of all values that are asked about.
-ghost use Rattle.std.specs.Prelude.{◌≡◌, IfOk, IfSome, IsTrue, length, map};
+ghost use Rattle.std.specs.Prelude.{◌≡◌, ◌≤◌, IfOk, IfSome, IsTrue, None, length, map};
 ghost use Rattle.std.specs.Arc.{arc_str_bytes};
+ghost use Rattle.dmn_analysis.specs.Claims.{AreKnown, AreTextsKnown};
 ghost use Rattle.dmn_analysis.specs.Whole.{AreWhole, AreWholeTexts, IsWhole, whole_of};
 
 use crate::asked::{Asked, Texts};
@@ -9,14 +10,16 @@ use std::alloc::{AllocError, Global};
 use std::sync::ArcStr;
 
 fn is_same(a: &ArcStr, b: &ArcStr) -> bool
-    ensures { IsTrue result → arc_str_bytes a.now ≡ arc_str_bytes b.now }
+    ensures same { IsTrue result → arc_str_bytes a.now ≡ arc_str_bytes b.now }
+    ensures all { arc_str_bytes a.now ≡ arc_str_bytes b.now → IsTrue result }
 {
     a.as_str() == b.as_str()
 }
 
 // Whether these are the same texts, one after another.
 fn are_same(a: &[ArcStr], b: &[ArcStr]) -> bool
-    ensures { IsTrue result → map arc_str_bytes a.now ≡ map arc_str_bytes b.now }
+    ensures same { IsTrue result → map arc_str_bytes a.now ≡ map arc_str_bytes b.now }
+    ensures all { map arc_str_bytes a.now ≡ map arc_str_bytes b.now → IsTrue result }
 {
     if a.len() != b.len() {
         return false;
@@ -38,7 +41,8 @@ struct WholeTexts {
 
 // The texts that are asked about, where they are all, none or the words.
 fn whole_texts(words: &[ArcStr], texts: &Texts) -> Option<WholeTexts>
-    ensures { IfSome result (λ all. AreWholeTexts words.now texts.now all.to all.others) }
+    ensures all { IfSome result (λ all. AreWholeTexts words.now texts.now all.to all.others) }
+    ensures none { result ≡ None → AreTextsKnown words.now texts.now → ⊥ }
 {
     match texts {
         Texts::None => Some(WholeTexts {
@@ -80,7 +84,8 @@ fn with_texts(asked: &Asked, texts: WholeTexts) -> Cell
 
 /// The values of a column that are asked about; None where those of its texts are neither all, none nor its words.
 fn whole_cell(words: &Words, asked: &Asked) -> Option<Cell>
-    ensures { IfSome result (λ cell. IsWhole words.now asked.now cell) }
+    ensures whole { IfSome result (λ cell. IsWhole words.now asked.now cell) }
+    ensures none { result ≡ None → AreTextsKnown words.now.texts.items asked.now.texts → ⊥ }
 {
     let texts = whole_texts(&words.texts, &asked.texts)?;
     let cell = with_texts(asked, texts);
@@ -97,6 +102,7 @@ pub(crate) fn whole(
 ) -> Result<Option<Vec<Cell>>, AllocError>
     ensures long { IfOk result (λ found. IfSome found (λ cells. length cells.items ≡ count)) }
     ensures all { IfOk result (λ found. IfSome found (λ cells. AreWhole words.now asked.now cells.items)) }
+    ensures none { IfOk result (λ found. found ≡ None → count ≤ length words.now → AreKnown count words.now asked.now → ⊥) }
 {
     let mut cells = Vec::with_capacity(alloc, count)?;
     for place in 0..count {

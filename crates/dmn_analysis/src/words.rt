@@ -1,4 +1,6 @@
 //! The texts that stand in the tests of a table's columns.
+ghost use Rattle.std.specs.Prelude.{◌≡◌, IfOk, length};
+
 use crate::cell::Words;
 use crate::on_class::literal;
 use dmn_table::Rule;
@@ -62,7 +64,9 @@ pub(crate) fn all_words(
     alloc: Global,
     rules: &[Rule],
     count: usize,
-) -> Result<Vec<Words>, AllocError> {
+) -> Result<Vec<Words>, AllocError>
+    ensures { IfOk result (λ all. length all.items ≡ count) }
+{
     let mut all = Vec::with_capacity(alloc, count)?;
     for place in 0..count {
         all.push(words_of(alloc, rules, place)?)?;

@@ -5,3 +5,6 @@ pub mod Placing
 pub mod Marking
 pub mod GivenInputs
 pub mod EachGiven
+pub mod ByName
+pub mod Naming
+pub mod EndsAtMiss

@@ -1,6 +1,7 @@
 -- The pieces of the text of an explanation, put together.
-use Rattle.std.proofs.Common.{◌≡◌, ℕ, Bool, true, false, List, [], ◌∷◌, ◌++◌, refl, ap, sym, ◌∙◌, Option, None, Some}
+use Rattle.std.proofs.Common.{◌≡◌, ℕ, Bool, true, false, List, [], ◌∷◌, ◌++◌, refl, ap, sym, ◌∙◌, Option, None, Some, option_map}
 use Rattle.std.specs.Prelude.{codes}
+use Rattle.std.proofs.lemmas.Option.{same_Some}
 use Rattle.json.specs.Print.{quoted}
 use Rattle.serde_json.specs.Data.{Data, string, object, array, Items, Members, no_members, member}
 use Rattle.serde_json.specs.Written.{comma_if, compact_text, items_text, members_text}
@@ -96,6 +97,14 @@ entries_begun t t1 t2 es key begin =
 pub valued_ended_by : (t t1 t2 : Text) (later : Bool) (k : List ℕ) (o : Option Datum) → t1 ≡ longer t (valued_text later k o) → t2 ≡ longer t1 (125 ∷ [])
     → t2 ≡ longer t (members_text later (valued k o no_members))
 valued_ended_by t t1 t2 later k o value end = end ∙ ap (λ s. longer s (125 ∷ [])) value ∙ valued_added t later k o no_members
+
+-- a member of a value whose JSON is known
+pub valued_as : (t t1 t2 : Text) (later : Bool) (k : List ℕ) (o : Option Datum) (x : Data) → option_map json_of o ≡ Some x → t1 ≡ longer t (key_text later k) → t2 ≡ longer t1 (compact_text x)
+    → t2 ≡ longer t (valued_text later k o)
+valued_as t t1 t2 later k None x e key value = cc
+valued_as t t1 t2 later k (Some d) x e key value =
+    value ∙ ap (λ s. longer s (compact_text x)) key ∙ longer_again t (key_text later k) (compact_text x)
+    ∙ ap (λ y. longer t (key_text later k ++ compact_text y)) (sym (same_Some (json_of d) x e))
 
 -- from the brace on
 pub object_begun : (t t1 t2 : Text) (ms : Members) → t1 ≡ longer t (123 ∷ []) → t2 ≡ longer t1 (members_text false ms) → t2 ≡ longer t (compact_text (object ms))

@@ -3,3 +3,5 @@ pub mod Explanation
 pub mod Text
 pub mod Numbered
 pub mod Placed
+pub mod ByName
+pub mod NamedOutputs

@@ -1,12 +1,14 @@
 //! Which rules of a table hit, and by which column the others miss.
 ghost use Rattle.std.specs.Prelude.{◌≡◌, OnOk, IfOk, map, option_map};
+ghost use Rattle.dmn_table.specs.Hits.{first_miss as first_miss_of};
 ghost use Rattle.dmn_table.specs.Parts.{rule_view, rules_view};
 ghost use Rattle.dmn_explain.specs.Numbered.{asked_view, found_from, hit_view, one_more};
 
 use dmn_table::{Rule, first_miss};
-use feel_lang::Env;
+use feel_lang::{Env, Held, holds};
 use feel_value::Feel;
 use std::alloc::{AllocError, Global};
+use table_classes::keep_limits;
 
 /// A rule that hits, with its number, which counts from 1 on.
 #[derive(Clone, Copy)]
@@ -52,6 +54,29 @@ impl<'a> Asked<'a> {
     }
 }
 
+/// The first input column, from 1 on, whose entry in the rule is not met: none where the rule hits. None alone where an entry breaks
+/// a limit. It ends at the first miss, unless an entry behind that may break one.
+fn miss_of(
+    alloc: Global,
+    rule: &Rule,
+    values: &[Feel],
+    env: &Env,
+) -> Result<Option<Option<usize>>, AllocError>
+    ensures { IfOk result (λ found. found ≡ first_miss_of env.now values.now (rule_view rule.now)) }
+{
+    for (i, tests) in rule.tests.iter().enumerate() {
+        let Some(value) = values.get(i) else {
+            return Ok(Some(None));
+        };
+        match holds(alloc, tests, value, env)? {
+            Held::Yes => {}
+            Held::No if keep_limits(&rule.tests[i + 1..]) => return Ok(Some(Some(i + 1))),
+            Held::No | Held::Limit => return first_miss(alloc, rule, values, env),
+        }
+    }
+    Ok(Some(None))
+}
+
 /// The rules that hit, in their order and with their numbers, and those that miss, where these are asked for; None where an entry
 /// breaks a limit. Each rule is asked once.
 pub(crate) fn ask_rules<'a>(
@@ -68,7 +93,7 @@ pub(crate) fn ask_rules<'a>(
         misses: Vec::new(alloc),
     };
     for (i, rule) in rules.iter().enumerate() {
-        let Some(miss) = first_miss(alloc, rule, values, env)? else {
+        let Some(miss) = miss_of(alloc, rule, values, env)? else {
             return Ok(None);
         };
         asked.add(i + 1, rule, miss, with_misses)?;

@@ -3,6 +3,7 @@
 
 mod asking;
 mod boxed;
+mod columns;
 mod decisions;
 mod hit;
 mod inputs;
@@ -11,6 +12,7 @@ mod misses;
 mod named;
 mod needed;
 mod table;
+mod under_names;
 mod value;
 
 pub use decisions::add_decisions;

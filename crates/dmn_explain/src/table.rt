@@ -11,7 +11,8 @@ ghost use Rattle.dmn_explain.specs.Numbered.{hit_view, asked_view};
 ghost use Rattle.dmn_explain.specs.Text.{decided_text};
 
 use crate::asking::{Asked, Hit, ask_rules, numbers_of, rules_of};
-use crate::hit::{add_hit, lists_for};
+use crate::columns::columns_for;
+use crate::hit::add_hit;
 use crate::key::{Key, add_comma, add_key};
 use crate::misses::add_misses;
 use dmn_table::{Table, deciding, evaluated, has_no_default};
@@ -48,7 +49,7 @@ fn add_hits(
 ) -> Result<(), AllocError>
     ensures { OnOk result (text.new ≡ longer text.old (compact_text (array (hits_told table.now env.now (map hit_view hits.now))))) }
 {
-    let lists = lists_for(alloc, table, hits.len())?;
+    let columns = columns_for(alloc, table, hits.len())?;
     let mut later = false;
     text.push(b'[')?;
     for hit in hits {
@@ -56,7 +57,7 @@ fn add_hits(
             return Ok(());
         }
         add_comma(later, text)?;
-        add_hit(alloc, hit, table, &lists, env, text)?;
+        add_hit(alloc, hit, table, &columns, env, text)?;
         later = true;
     }
     text.push(b']')?;

@@ -1,5 +1,8 @@
 //! Keys as they stand in a JSON text.
 
+use serde_json::Value;
+use std::alloc::{AllocError, Global};
+
 /// What a hexadecimal digit stands for.
 fn digit(byte: Option<&u8>) -> Option<u8> {
     match *byte? {
@@ -61,4 +64,75 @@ pub(crate) fn begins_with_key(text: &[u8], key: &str) -> bool {
         at = length.saturating_add(at);
     }
     text.get(at) == Some(&b'"')
+}
+
+/// A key as it stands in a text.
+#[derive(Drop)]
+pub(crate) struct WrittenKey<'a> {
+    /// What stands between its quotes.
+    written: &'a [u8],
+    /// What it stands for, where it has an escape.
+    meant: Option<String>,
+}
+
+impl<'a> WrittenKey<'a> {
+    /// The letters that it stands for.
+    pub(crate) fn letters(&self) -> &[u8] {
+        match &self.meant {
+            Some(meant) => meant.as_bytes(),
+            None => self.written,
+        }
+    }
+}
+
+/// How many bytes of a string stand between its quotes, of which this stands behind the first, and whether one of them is a `\`.
+fn written_length(behind: &[u8]) -> (usize, bool) {
+    let mut has_escape = false;
+    let mut is_escaped = false;
+    for (at, byte) in behind.iter().enumerate() {
+        if is_escaped {
+            is_escaped = false;
+        } else if *byte == b'"' {
+            return (at, has_escape);
+        } else if *byte == b'\\' {
+            is_escaped = true;
+            has_escape = true;
+        }
+    }
+    (behind.len(), has_escape)
+}
+
+/// The text of a JSON value that is one.
+fn text_of(json: Value) -> Option<String> {
+    match json {
+        Value::String(text) => Some(text),
+        _other => None,
+    }
+}
+
+/// What a string stands for; None of what is no string.
+fn meant(alloc: Global, string: &[u8]) -> Result<Option<String>, AllocError> {
+    match Value::from_slice(alloc, string) {
+        Ok(json) => Ok(text_of(json)),
+        Err(error) if error.is_memory() => Err(AllocError),
+        Err(_error) => Ok(None),
+    }
+}
+
+/// The key that a text goes on with.
+pub(crate) fn written_key<'a>(alloc: Global, text: &'a [u8]) -> Result<WrittenKey<'a>, AllocError> {
+    let behind = text.get(1..).unwrap_or(&[]);
+    let (length, has_escape) = written_length(behind);
+    let written = behind.get(..length).unwrap_or(behind);
+    if !has_escape {
+        return Ok(WrittenKey {
+            written,
+            meant: None,
+        });
+    }
+    let string = text.get(..length.saturating_add(2)).unwrap_or(text);
+    Ok(WrittenKey {
+        written,
+        meant: meant(alloc, string)?,
+    })
 }

@@ -54,8 +54,14 @@ impl<'a> JsonPlaces<'a> {
         self.whole
     }
 
+    /// How many arrays and objects there are, with all parts of them and the whole value.
+    pub(crate) fn size(&self) -> usize {
+        let parts = self.parts.len().saturating_add(1);
+        parts.saturating_add(self.runs.len())
+    }
+
     /// The text from a part on.
-    fn text_from(&self, part: Part) -> &'a [u8] {
+    pub(crate) fn text_from(&self, part: Part) -> &'a [u8] {
         let text = self.text;
         let Some(behind) = text.get(part.at as usize..) else {
             return &[];
@@ -64,7 +70,7 @@ impl<'a> JsonPlaces<'a> {
     }
 
     /// The parts of an array or an object: of an object each key, and behind it its value.
-    fn within(&self, part: Part) -> Option<&[Part]> {
+    pub(crate) fn within(&self, part: Part) -> Option<&[Part]> {
         let number = (part.run as usize).checked_sub(1)?;
         let run = self.runs.get(number)?;
         let behind = self.parts.get(run.first as usize..)?;
@@ -79,10 +85,37 @@ impl<'a> JsonPlaces<'a> {
         self.within(array)?.get(index).copied()
     }
 
+    pub(crate) fn is_object(&self, part: Part) -> bool {
+        self.text_from(part).first() == Some(&b'{')
+    }
+
+    /// Whether a part is this key. A key of other letters than those of ASCII is none where it is written by escapes.
+    pub fn is_key(&self, part: Part, key: &str) -> bool {
+        begins_with_key(self.text_from(part), key)
+    }
+
+    /// Where a key, as of `is_key`, stands in an object for the second time.
+    pub fn second_key(&self, object: Part, key: &str) -> Option<Part> {
+        if !self.is_object(object) {
+            return None;
+        }
+        let mut is_found = false;
+        for part in self.within(object)?.iter().step_by(2) {
+            if !self.is_key(*part, key) {
+                continue;
+            }
+            if is_found {
+                return Some(*part);
+            }
+            is_found = true;
+        }
+        None
+    }
+
     /// What stands under a key of an object, if something does: the last of it, as `serde_json` reads it. A key of other letters
     /// than those of ASCII is not found where it is written by escapes.
     pub fn member(&self, object: Part, key: &str) -> Option<Part> {
-        if self.text_from(object).first() != Some(&b'{') {
+        if !self.is_object(object) {
             return None;
         }
         let mut found = None;
@@ -90,7 +123,7 @@ impl<'a> JsonPlaces<'a> {
         let mut is_found = false;
         for part in self.within(object)? {
             if !is_value {
-                is_found = begins_with_key(self.text_from(*part), key);
+                is_found = self.is_key(*part, key);
             } else if is_found {
                 found = Some(*part);
             }

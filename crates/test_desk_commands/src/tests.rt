@@ -174,7 +174,7 @@ fn checks_its_model(rt: HostRuntime) -> Result<(), Fail> {
 fn checks_as_its_options_say(rt: HostRuntime) -> Result<(), Fail> {
     let alloc = rt.alloc();
     let lines =
-        b"{\"inputs\":[],\"decisions\":[],\"services\":[]}\n{\"service\":\"s\",\"inputs\":{}}\n".as_slice();
+        b"{\"inputs\":[],\"decisions\":[],\"services\":[]}\n{\"client\":\"c\",\"service\":\"s\",\"inputs\":{}}\n".as_slice();
     let left = run(&rt, alloc, &["desk", "check"], lines)?;
     assert!(rt; left.status == 3 && left.shows("syntax: no JSON text\n"));
     let left = run(&rt, alloc, &["desk", "check", "--requests"], lines)?;
@@ -308,7 +308,7 @@ fn the_version_is_told(rt: HostRuntime) -> Result<(), Fail> {
     assert!(rt; long.is_help());
     assert!(rt;
         long.output
-            .starts_with(b"desk 0.16.0\nlicence MIT OR Apache-2.0\nproved with ")
+            .starts_with(b"desk 0.17.0\nlicence MIT OR Apache-2.0\nproved with ")
     );
     assert!(rt; long.shows("\nsources "));
     let short = run(&rt, alloc, &["desk", "-V"], input)?;

@@ -1,5 +1,5 @@
+use dmn_advice::shape_faults;
 use dmn_form::{WrittenDecision, WrittenLogic, WrittenModel, read_form};
-use dmn_warnings::shape_faults;
 use serde_json::Value;
 use std::alloc::{AllocError, Global};
 use std::test::Fail;

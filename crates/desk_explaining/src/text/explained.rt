@@ -2,9 +2,11 @@
 use super::letters::{add_quoted, visible};
 use super::logic::{add_line, add_part};
 use super::model::Model;
-use super::shown::{add_name, add_shown};
-use serde_json::Value;
+use super::part::{between_quotes, parts_of};
+use super::shown::{add_name, add_shown, is_long};
+use super::told::Told;
 use std::alloc::{AllocError, Global};
+use std::collections::BTreeMap;
 
 /// The blanks before a decision.
 const DECISION: usize = 2;
@@ -12,41 +14,40 @@ const DECISION: usize = 2;
 /// The most letters of a client's name.
 const LONGEST_NAME: usize = 64;
 
-/// The text under a key; an empty one where none stands there.
-fn text_under<'a>(told: &'a Value, key: &str) -> &'a str {
-    match told.get(key) {
-        Some(Value::String(text)) => text.as_str(),
-        _ => "",
-    }
-}
-
-/// The number under a key.
-fn number_under(told: &Value, key: &str) -> u64 {
-    match told.get(key) {
-        Some(number) => number.as_u64().unwrap_or(0),
-        None => 0,
-    }
-}
-
 /// Adds who asks for what, on which line, and by which model that is answered.
-fn add_head(told: &Value, text: &mut String) -> Result<(), AllocError> {
-    write!(text, "line {}: client ", number_under(told, "line"))?;
-    add_quoted(text_under(told, "client"), LONGEST_NAME, text)?;
-    write!(text, ", ticket {}, asks for ", number_under(told, "ticket"))?;
-    add_name(text_under(told, "service"), text)?;
-    write!(text, "\n  model {}\n", text_under(told, "model"))
+fn add_head(told: &Told<'_>, text: &mut String) -> Result<(), AllocError> {
+    write!(text, "line {}: client ", told.number("line"))?;
+    add_quoted(told.text("client"), LONGEST_NAME, text)?;
+    write!(text, ", ticket {}, asks for ", told.number("ticket"))?;
+    add_name(told.text("service"), text)?;
+    write!(text, "\n  model {}\n", told.text("model"))
 }
 
-/// Adds the inputs of the service, as they were read.
-fn add_inputs(alloc: Global, told: &Value, text: &mut String) -> Result<(), AllocError> {
-    let Some(Value::Object(inputs)) = told.get("inputs") else {
-        return Ok(());
-    };
+/// The inputs of the service by their names.
+fn inputs_by_name<'a>(
+    alloc: Global,
+    told: &Told<'a>,
+) -> Result<BTreeMap<String, &'a [u8]>, AllocError> {
+    let mut inputs = BTreeMap::new(alloc);
+    let mut name = "";
+    for (place, part) in told.list(alloc, "inputs")?.iter().enumerate() {
+        if place % 2 == 0 {
+            name = between_quotes(*part);
+        } else {
+            inputs.insert(String::from_str(alloc, name)?, *part)?;
+        }
+    }
+    Ok(inputs)
+}
+
+/// Adds the inputs of the service, as they were read, in the order of their names.
+fn add_inputs(alloc: Global, told: &Told<'_>, text: &mut String) -> Result<(), AllocError> {
+    let inputs = inputs_by_name(alloc, told)?;
     for (name, value) in inputs.iter() {
         text.push_str("  input ")?;
         add_name(name.as_str(), text)?;
         text.push_str(" = ")?;
-        add_shown(alloc, value, text)?;
+        add_shown(alloc, *value, text)?;
         text.push('\n')?;
     }
     Ok(())
@@ -56,10 +57,10 @@ fn add_inputs(alloc: Global, told: &Value, text: &mut String) -> Result<(), Allo
 fn add_decision(
     alloc: Global,
     model: &Option<Model>,
-    told: &Value,
+    told: &Told<'_>,
     text: &mut String,
 ) -> Result<(), AllocError> {
-    let name = text_under(told, "name");
+    let name = told.text("name");
     if told.get("given").is_some() {
         return add_line(alloc, name, None, told, DECISION, text);
     }
@@ -76,20 +77,23 @@ fn add_decision(
 fn add_decisions(
     alloc: Global,
     model: &Option<Model>,
-    told: &Value,
+    told: &Told<'_>,
     text: &mut String,
 ) -> Result<(), AllocError> {
-    let Some(Value::Array(decisions)) = told.get("decisions") else {
+    let Some(decisions) = told.get("decisions") else {
         return text.push_str("  the decisions take over 64 MiB, and are not told\n");
     };
-    for decision in decisions {
-        add_decision(alloc, model, decision, text)?;
+    for decision in &parts_of(alloc, decisions)? {
+        if is_long(text) {
+            return Ok(());
+        }
+        add_decision(alloc, model, &Told::of(alloc, *decision)?, text)?;
     }
     Ok(())
 }
 
 /// Adds the last line: the result.
-fn add_result(alloc: Global, told: &Value, text: &mut String) -> Result<(), AllocError> {
+fn add_result(alloc: Global, told: &Told<'_>, text: &mut String) -> Result<(), AllocError> {
     let Some(value) = told.get("result") else {
         return text.push_str("  result: a limit is broken\n");
     };
@@ -98,16 +102,32 @@ fn add_result(alloc: Global, told: &Value, text: &mut String) -> Result<(), Allo
     text.push('\n')
 }
 
-/// Adds an explanation.
-fn add_explanation(
+/// Adds an explanation, up to its result.
+fn add_reasons(
     alloc: Global,
     model: &Option<Model>,
-    told: &Value,
+    told: &Told<'_>,
     text: &mut String,
 ) -> Result<(), AllocError> {
     add_head(told, text)?;
     add_inputs(alloc, told, text)?;
-    add_decisions(alloc, model, told, text)?;
+    add_decisions(alloc, model, told, text)
+}
+
+/// Adds an explanation. Where the text of its decisions takes over 64 MiB, it says so in their place.
+fn add_explanation(
+    alloc: Global,
+    model: &Option<Model>,
+    told: &Told<'_>,
+    text: &mut String,
+) -> Result<(), AllocError> {
+    add_reasons(alloc, model, told, text)?;
+    if is_long(text) {
+        text.clear();
+        add_head(told, text)?;
+        add_inputs(alloc, told, text)?;
+        text.push_str("  the text of the decisions takes over 64 MiB, and is not told\n")?;
+    }
     add_result(alloc, told, text)
 }
 
@@ -116,12 +136,12 @@ fn add_explanation(
 pub(crate) fn text_of(
     alloc: Global,
     model: &Option<Model>,
-    told: &Value,
+    told: &Told<'_>,
     line: &str,
 ) -> Result<String, AllocError> {
     if told.get("read").is_some() {
-        let sum = text_under(told, "sha256");
-        return format!(in alloc; "line {}: model {sum}\n", number_under(told, "line"));
+        let sum = told.text("sha256");
+        return format!(in alloc; "line {}: model {sum}\n", told.number("line"));
     }
     if told.get("decisions").is_none() && told.get("explained").is_none() {
         return visible(alloc, line);

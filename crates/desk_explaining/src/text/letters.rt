@@ -74,14 +74,47 @@ pub(crate) fn add_source(source: &str, most: usize, text: &mut String) -> Result
     Ok(())
 }
 
-/// Adds so many letters of a text, in quotes.
-pub(crate) fn add_quoted(quoted: &str, most: usize, text: &mut String) -> Result<(), AllocError> {
-    text.push('"')?;
-    for letter in quoted.chars().take(most) {
-        if letter == '"' {
-            text.push('\\')?;
-        }
-        add_letter(letter, text)?;
+/// Where a scan of a text of JSON stands: at a letter, or within the signs of an escaped one.
+#[derive(Clone, Copy)]
+enum At {
+    Letter,
+    Escape,
+    Digits(u32),
+}
+
+/// Where the scan stands behind a sign.
+fn behind(at: At, sign: char) -> At {
+    match at {
+        At::Letter if sign == '\\' => At::Escape,
+        At::Escape if sign == 'u' => At::Digits(3),
+        At::Digits(left) if left > 0 => At::Digits(left - 1),
+        _ => At::Letter,
     }
-    text.push('"')
+}
+
+/// Adds a sign of a text of JSON; of an escaped letter those of its number, or as FEEL writes it.
+fn add_sign(at: At, sign: char, text: &mut String) -> Result<(), AllocError> {
+    match at {
+        At::Escape if sign == 'b' => text.push_str("u0008"),
+        At::Escape if sign == 'f' => text.push_str("u000c"),
+        _ => add_visible(sign, text),
+    }
+}
+
+/// Adds the first so many letters of a text of JSON, in quotes, and gives how many it has. It is given without its own quotes.
+pub(crate) fn add_quoted(inner: &str, most: usize, text: &mut String) -> Result<usize, AllocError> {
+    let mut at = At::Letter;
+    let mut count: usize = 0;
+    text.push('"')?;
+    for sign in inner.chars() {
+        if matches!(at, At::Letter) {
+            count = count.saturating_add(1);
+        }
+        if count <= most {
+            add_sign(at, sign, text)?;
+        }
+        at = behind(at, sign);
+    }
+    text.push('"')?;
+    Ok(count)
 }

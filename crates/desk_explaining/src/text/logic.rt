@@ -1,10 +1,9 @@
 //! How a boxed expression came to its value.
 use super::grid::add_blanks;
-use super::rules::list_under;
 use super::shown::{add_expression, add_shown};
 use super::table::add_table;
+use super::told::Told;
 use dmn_form::WrittenLogic;
-use serde_json::Value;
 use std::alloc::{AllocError, Global};
 
 /// The blanks by which the parts of an expression stand further in.
@@ -19,7 +18,7 @@ pub(crate) fn add_line(
     alloc: Global,
     label: &str,
     logic: Option<&WrittenLogic>,
-    told: &Value,
+    told: &Told<'_>,
     indent: usize,
     text: &mut String,
 ) -> Result<(), AllocError> {
@@ -47,7 +46,7 @@ pub(crate) fn add_part(
     alloc: Global,
     label: &str,
     logic: &WrittenLogic,
-    told: &Value,
+    told: &Told<'_>,
     indent: usize,
     text: &mut String,
 ) -> Result<(), AllocError> {
@@ -60,14 +59,14 @@ pub(crate) fn add_part(
 fn add_parts(
     alloc: Global,
     logic: &WrittenLogic,
-    told: &Value,
+    told: &Told<'_>,
     indent: usize,
     text: &mut String,
 ) -> Result<(), AllocError> {
     match logic {
         WrittenLogic::Expression(_) => Ok(()),
         WrittenLogic::Table(table) => match told.get("table") {
-            Some(parts) => add_table(alloc, table, parts, indent, text),
+            Some(parts) => add_table(alloc, table, &Told::of(alloc, parts)?, indent, text),
             None => Ok(()),
         },
         WrittenLogic::List(members) => add_members(alloc, members, told, indent, text),
@@ -75,7 +74,9 @@ fn add_parts(
         WrittenLogic::ContextWith(entries, last) => {
             add_entries(alloc, entries, told, indent, text)?;
             match told.get("result") {
-                Some(part) => add_part(alloc, "result", last, part, indent, text),
+                Some(part) => {
+                    add_part(alloc, "result", last, &Told::of(alloc, part)?, indent, text)
+                }
                 None => Ok(()),
             }
         }
@@ -97,27 +98,35 @@ fn add_left_out(count: usize, indent: usize, text: &mut String) -> Result<(), Al
 fn add_members(
     alloc: Global,
     members: &[WrittenLogic],
-    told: &Value,
+    told: &Told<'_>,
     indent: usize,
     text: &mut String,
 ) -> Result<(), AllocError> {
-    let parts = list_under(told, "members");
+    let parts = told.list(alloc, "members")?;
     for (place, member) in members.iter().enumerate() {
-        let Some(part) = shown_part(parts, place) else {
+        let Some(part) = shown_part(&parts, place) else {
             break;
         };
         let label = format!(in alloc; "member {}", place + 1)?;
-        add_part(alloc, label.as_str(), member, part, indent, text)?;
+        add_part(
+            alloc,
+            label.as_str(),
+            member,
+            &Told::of(alloc, part)?,
+            indent,
+            text,
+        )?;
     }
     add_left_out(parts.len(), indent, text)
 }
 
 /// The part at a place, if it is shown.
-fn shown_part(parts: &[Value], place: usize) -> Option<&Value> {
+fn shown_part<'a>(parts: &[&'a [u8]], place: usize) -> Option<&'a [u8]> {
     if place >= MOST_PARTS {
         return None;
     }
-    parts.get(place)
+    let part = parts.get(place)?;
+    Some(*part)
 }
 
 /// Adds the entries of a context that are told.
@@ -125,16 +134,23 @@ fn shown_part(parts: &[Value], place: usize) -> Option<&Value> {
 fn add_entries(
     alloc: Global,
     entries: &[(String, WrittenLogic)],
-    told: &Value,
+    told: &Told<'_>,
     indent: usize,
     text: &mut String,
 ) -> Result<(), AllocError> {
-    let parts = list_under(told, "entries");
+    let parts = told.list(alloc, "entries")?;
     for (place, (name, entry)) in entries.iter().enumerate() {
-        let Some(part) = shown_part(parts, place) else {
+        let Some(part) = shown_part(&parts, place) else {
             break;
         };
-        add_part(alloc, name.as_str(), entry, part, indent, text)?;
+        add_part(
+            alloc,
+            name.as_str(),
+            entry,
+            &Told::of(alloc, part)?,
+            indent,
+            text,
+        )?;
     }
     add_left_out(parts.len(), indent, text)
 }

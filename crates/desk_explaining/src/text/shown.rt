@@ -1,6 +1,7 @@
 //! Values and names as texts of bounded length.
+
 use super::letters::{add_quoted, add_source};
-use serde_json::{Map, Value};
+use super::part::{between_quotes, parts_of, text_of_part};
 use std::alloc::{AllocError, Global};
 
 /// The most parts of a value that are shown.
@@ -8,6 +9,14 @@ const MOST_PARTS: usize = 200;
 
 /// The most letters of a text that are shown.
 const MOST_LETTERS: usize = 200;
+
+/// The most bytes of an explanation's text: 64 MiB, as of its decisions in JSON.
+const MOST_BYTES: usize = 67_108_864;
+
+/// Whether a text takes more than an explanation may.
+pub(crate) fn is_long(text: &String) -> bool {
+    text.len() > MOST_BYTES
+}
 
 /// Adds how many more there are than these many.
 pub(crate) fn add_more(count: usize, most: usize, text: &mut String) -> Result<(), AllocError> {
@@ -20,15 +29,15 @@ pub(crate) fn add_more(count: usize, most: usize, text: &mut String) -> Result<(
 
 /// Adds a value in JSON with names that have no quotes where they are words. Of one with over 200 parts the first 200 stand
 /// there, and of a text the first 200 letters, each with how many more there are.
-pub(crate) fn add_shown(alloc: Global, value: &Value, text: &mut String) -> Result<(), AllocError> {
+pub(crate) fn add_shown(alloc: Global, value: &[u8], text: &mut String) -> Result<(), AllocError> {
     let mut left = MOST_PARTS;
     add_value(alloc, value, &mut left, text)
 }
 
-/// Adds a text in quotes.
-fn add_text(quoted: &str, text: &mut String) -> Result<(), AllocError> {
-    add_quoted(quoted, MOST_LETTERS, text)?;
-    add_more(quoted.chars().count(), MOST_LETTERS, text)
+/// Adds a text of JSON, which is given without its quotes.
+fn add_text(inner: &str, text: &mut String) -> Result<(), AllocError> {
+    let count = add_quoted(inner, MOST_LETTERS, text)?;
+    add_more(count, MOST_LETTERS, text)
 }
 
 /// Adds an expression of FEEL, cut as a text is.
@@ -41,19 +50,16 @@ pub(crate) fn add_expression(source: &str, text: &mut String) -> Result<(), Allo
 #[cycle(shown)]
 fn add_value(
     alloc: Global,
-    value: &Value,
+    value: &[u8],
     left: &mut usize,
     text: &mut String,
 ) -> Result<(), AllocError> {
     *left = left.saturating_sub(1);
-    match value {
-        Value::Array(items) => add_items(alloc, items, left, text),
-        Value::Object(members) => add_members(alloc, members, left, text),
-        Value::String(letters) => add_text(letters.as_str(), text),
-        _ => {
-            let scalar = value.to_string(alloc)?;
-            text.push_str(scalar.as_str())
-        }
+    match value.first() {
+        Some(b'[') => add_items(alloc, value, left, text),
+        Some(b'{') => add_members(alloc, value, left, text),
+        Some(b'"') => add_text(between_quotes(value), text),
+        _ => text.push_str(text_of_part(value)),
     }
 }
 
@@ -61,10 +67,11 @@ fn add_value(
 #[cycle(shown)]
 fn add_items(
     alloc: Global,
-    items: &[Value],
+    list: &[u8],
     left: &mut usize,
     text: &mut String,
 ) -> Result<(), AllocError> {
+    let items = parts_of(alloc, list)?;
     text.push_str("[")?;
     for (place, item) in items.iter().enumerate() {
         if place > 0 {
@@ -74,7 +81,7 @@ fn add_items(
             add_more(items.len(), place, text)?;
             break;
         }
-        add_value(alloc, item, left, text)?;
+        add_value(alloc, *item, left, text)?;
     }
     text.push_str("]")
 }
@@ -83,22 +90,26 @@ fn add_items(
 #[cycle(shown)]
 fn add_members(
     alloc: Global,
-    members: &Map<String, Value>,
+    context: &[u8],
     left: &mut usize,
     text: &mut String,
 ) -> Result<(), AllocError> {
+    let parts = parts_of(alloc, context)?;
     text.push_str("{")?;
-    for (place, (name, value)) in members.iter().enumerate() {
+    for (place, part) in parts.iter().enumerate() {
+        if place % 2 == 1 {
+            text.push_str(": ")?;
+            add_value(alloc, *part, left, text)?;
+            continue;
+        }
         if place > 0 {
             text.push_str(", ")?;
         }
         if *left == 0 {
-            add_more(members.len(), place, text)?;
+            add_more(parts.len() / 2, place / 2, text)?;
             break;
         }
-        add_name(name.as_str(), text)?;
-        text.push_str(": ")?;
-        add_value(alloc, value, left, text)?;
+        add_name(between_quotes(*part), text)?;
     }
     text.push_str("}")
 }

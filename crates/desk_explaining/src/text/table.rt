@@ -1,10 +1,11 @@
 //! Tables, with the rules that hit and those that decided.
 use super::grid::{add_blanks, add_row, cell, widen};
+use super::part::{number_of, parts_of};
 use super::policy::add_policy;
-use super::rules::{Told, list_under, rules_told};
-use super::shown::{add_expression, add_shown};
+use super::rules::{RuleTold, rules_told};
+use super::shown::{add_expression, add_shown, is_long};
+use super::told::Told;
 use dmn_form::{WrittenRule, WrittenTable};
-use serde_json::Value;
 use std::alloc::{AllocError, Global};
 
 /// A table with more rules than this is shown by those that hit, unless each miss is told.
@@ -14,7 +15,7 @@ const MOST_RULES: usize = 40;
 fn add_columns(
     alloc: Global,
     table: &WrittenTable,
-    values: &[Value],
+    values: &[&[u8]],
     indent: usize,
     text: &mut String,
 ) -> Result<(), AllocError> {
@@ -25,7 +26,7 @@ fn add_columns(
         add_blanks(indent, text)?;
         add_expression(input.as_str(), text)?;
         text.push_str(" = ")?;
-        add_shown(alloc, value, text)?;
+        add_shown(alloc, *value, text)?;
         text.push('\n')?;
     }
     Ok(())
@@ -59,7 +60,7 @@ fn heads(alloc: Global, table: &WrittenTable) -> Result<Vec<String>, AllocError>
 fn rule_row(
     alloc: Global,
     number: usize,
-    told: &Told<'_>,
+    told: &RuleTold<'_>,
     rule: &WrittenRule,
 ) -> Result<Vec<String>, AllocError> {
     let mark = if told.decided {
@@ -94,13 +95,13 @@ fn default_row(alloc: Global, table: &WrittenTable) -> Result<Vec<String>, Alloc
 }
 
 /// Adds the places of a hit's values among the output values.
-fn add_places(places: &[Value], text: &mut String) -> Result<(), AllocError> {
+fn add_places(places: &[&[u8]], text: &mut String) -> Result<(), AllocError> {
     text.push_str(" (place ")?;
     for (column, place) in places.iter().enumerate() {
         if column > 0 {
             text.push_str(", ")?;
         }
-        match place.as_u64() {
+        match number_of(*place) {
             Some(number) => write!(text, "{number}")?,
             None => text.push_str("none")?,
         }
@@ -108,36 +109,48 @@ fn add_places(places: &[Value], text: &mut String) -> Result<(), AllocError> {
     text.push(')')
 }
 
+/// Adds what a hit gave.
+fn add_given(
+    alloc: Global,
+    hit: &Told<'_>,
+    blanks: usize,
+    text: &mut String,
+) -> Result<(), AllocError> {
+    add_blanks(blanks, text)?;
+    let Some(value) = hit.get("value") else {
+        return text.push_str("breaks a limit");
+    };
+    text.push_str("= ")?;
+    add_shown(alloc, value, text)?;
+    match hit.get("places") {
+        Some(places) => add_places(&parts_of(alloc, places)?, text),
+        None => Ok(()),
+    }
+}
+
 /// Adds what a rule gave that hit, or at which column one missed; nothing where neither is told.
 fn add_note(
     alloc: Global,
-    told: &Told<'_>,
+    told: &RuleTold<'_>,
     blanks: usize,
     text: &mut String,
 ) -> Result<(), AllocError> {
     if let Some(hit) = told.hit {
-        add_blanks(blanks, text)?;
-        let Some(value) = hit.get("value") else {
-            return text.push_str("breaks a limit");
-        };
-        text.push_str("= ")?;
-        add_shown(alloc, value, text)?;
-        if let Some(Value::Array(places)) = hit.get("places") {
-            add_places(places, text)?;
-        }
-    } else if let Some(column) = told.column {
-        add_blanks(blanks, text)?;
-        text.push_str("misses at column ")?;
-        add_shown(alloc, column, text)?;
+        return add_given(alloc, &Told::of(alloc, hit)?, blanks, text);
     }
-    Ok(())
+    let Some(column) = told.column else {
+        return Ok(());
+    };
+    add_blanks(blanks, text)?;
+    text.push_str("misses at column ")?;
+    add_shown(alloc, column, text)
 }
 
 /// The widths of the columns over the heads, the defaults if these decided, and the rules that are shown.
 fn widths_of(
     alloc: Global,
     table: &WrittenTable,
-    told: &[Told<'_>],
+    told: &[RuleTold<'_>],
     shows_all: bool,
 ) -> Result<Vec<usize>, AllocError> {
     let mut widths = Vec::new(alloc);
@@ -157,7 +170,7 @@ fn widths_of(
 fn add_rules(
     alloc: Global,
     table: &WrittenTable,
-    told: &[Told<'_>],
+    told: &[RuleTold<'_>],
     shows_all: bool,
     widths: &[usize],
     indent: usize,
@@ -167,6 +180,9 @@ fn add_rules(
         let Some(told) = told.get(place) else {
             break;
         };
+        if is_long(text) {
+            break;
+        }
         if shows_all || told.hit.is_some() {
             let row = rule_row(alloc, place + 1, told, rule)?;
             let blanks = add_row(&row, widths, indent, text)?;
@@ -192,7 +208,7 @@ fn add_plain_row(
 fn add_rows(
     alloc: Global,
     table: &WrittenTable,
-    told: &Value,
+    told: &Told<'_>,
     indent: usize,
     text: &mut String,
 ) -> Result<(), AllocError> {
@@ -201,14 +217,14 @@ fn add_rows(
     let shows_all = count <= MOST_RULES || told.get("misses").is_some();
     let mut widths = widths_of(alloc, table, &rules, shows_all)?;
     let defaults = default_row(alloc, table)?;
-    let takes_defaults = matches!(told.get("defaults"), Some(Value::Bool(true)));
+    let takes_defaults = told.is_true("defaults");
     if takes_defaults {
         widen(&mut widths, &defaults)?;
     }
     add_plain_row(&heads(alloc, table)?, &widths, indent, text)?;
     add_rules(alloc, table, &rules, shows_all, &widths, indent, text)?;
     if !shows_all {
-        let left_out = count.saturating_sub(list_under(told, "hits").len());
+        let left_out = count.saturating_sub(told.list(alloc, "hits")?.len());
         add_blanks(indent, text)?;
         write!(text, "rules that missed, and are left out: {left_out}\n")?;
     }
@@ -223,13 +239,13 @@ fn add_rows(
 pub(crate) fn add_table(
     alloc: Global,
     table: &WrittenTable,
-    told: &Value,
+    told: &Told<'_>,
     indent: usize,
     text: &mut String,
 ) -> Result<(), AllocError> {
     add_blanks(indent, text)?;
-    add_policy(table.hit.as_str(), told, table.rules.len(), text)?;
-    add_columns(alloc, table, list_under(told, "inputs"), indent, text)?;
+    add_policy(alloc, table.hit.as_str(), told, table.rules.len(), text)?;
+    add_columns(alloc, table, &told.list(alloc, "inputs")?, indent, text)?;
     match told.get("hits") {
         Some(_) => add_rows(alloc, table, told, indent, text),
         None => Ok(()),

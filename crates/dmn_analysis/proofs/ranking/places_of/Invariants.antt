@@ -1,4 +1,4 @@
-use Rattle.std.proofs.Common.{◌≡◌, length, map}
+use Rattle.std.proofs.Common.{map}
 use Rattle.dmn_table.specs.Parts.{column_view}
 use Rattle.dmn_analysis.proofs.Ranks.{ArePlacesBelow}
 use Rattle.dmn_analysis.proofs.ranking.places_of.Given as goal

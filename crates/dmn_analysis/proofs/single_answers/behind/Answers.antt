@@ -11,7 +11,7 @@ returns c =
     let rules = map rule_view c.args.rules.now in
     let s : Scene = record { words = words; rules = rules; chosen = c.args.rule; first = c.args.others.items; whole = c.in_ok-copy.copy.items } in
     let knows = c.in_ok-search.ensures.known s refl refl refl refl refl in
-    let done = c.is_done.ensures c.if-not-is_done.false in
+    let done = c.is_done.ensures.done c.if-not-is_done.false in
     let none = sym c.deref-2.ensures.value ∙ done.0 in
     let unopened = sym c.deref-3.ensures.value ∙ done.1 in
     let covered = sym c.deref.ensures.value ∙ c.are_covered.ensures c.if-not-are_covered.false in

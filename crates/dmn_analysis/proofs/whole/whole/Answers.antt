@@ -17,7 +17,7 @@ loop-place-preserved c =
     let is = ap (slice_get asked) long ∙ at_place asked place c.index-asked-place.result c.if-place-asked.false c.index-asked-place.is in (
       ap length c.in_ok-push.ensures.items ∙ omega (arith, long, length-append cells (c.in-Some.cell ∷ [])),
       subst (AreWhole words asked) (sym c.in_ok-push.ensures.items)
-          (whole_more words asked cells c.index-words-place.result c.index-asked-place.result c.in-Some.cell c.loop-place.invariant.1 of is c.in-Some.ensures),
+          (whole_more words asked cells c.index-words-place.result c.index-asked-place.result c.in-Some.cell c.loop-place.invariant.1 of is c.in-Some.ensures.whole),
     )
 
 pub returns-clause-long : goal.returns-clause-long

@@ -1,0 +1,190 @@
+-- Lines that pass a gate, and those that are refused.
+use Rattle.std.proofs.Common.{◌≡◌, ◌<◌, ◌≤◌, ◌∙◌, ℕ, suc, Bool, true, false, is_ok, List, [], ◌∷◌, ◌++◌, Option, Some, None, length, if◌then◌else◌, cond, ◌||◌, String, Global, string_bytes, refl, sym, ap, arith, append-nil}
+use Rattle.std.specs.Arc.{arc_value}
+use Rattle.std.specs.BTreeSet.{BTreeSet, Updates, contains_text}
+use Rattle.std.specs.List.{flat_map}
+use Rattle.std.specs.Prelude.{bytes_eq}
+use Rattle.std.specs.String.{string_cmp}
+use Rattle.std.proofs.lemmas.List.{length-append, take_all}
+use Rattle.std.proofs.lemmas.List.Concat.{flat_map-append}
+use Rattle.std.proofs.lemmas.Map.Text.{btree_set_updates_text}
+use Rattle.serde_json.specs.Data.{Data}
+use Rattle.serde_json.specs.Written.{compact_text}
+use Rattle.feel_value.specs.Distinct.{is_among}
+use Rattle.dmn_plan.specs.ReadModel.{read_model}
+use Rattle.dmn_plan.specs.Request as plan
+use Rattle.desk_wire.specs.Heard.{IsHeardAs}
+use Rattle.desk_wire.specs.Reading.{Reading, Blank, Long, Syntax, Shape, Says}
+use Rattle.desk_wire.specs.Reports.{Report, Refused}
+use Rattle.desk_wire.specs.declared.heard.Heard.{Heard}
+use Rattle.desk_wire.specs.declared.heard.Heard.TheVariants as heard
+use Rattle.desk_wire.specs.declared.word.Word.TheVariants as word
+use Rattle.desk_requests.specs.Due.{answer, answers, close_answer, line_answer, model_answer, resize_answer, task_answer}
+use Rattle.desk_requests.specs.Gate.{IsOpenAfter, Passes, PassesText, listed, unread}
+use Rattle.desk_requests.specs.Line.{Line, Model, Request, Close, Resize, Reads}
+use Rattle.desk_requests.specs.LineHeard.{IsLineOf}
+use Rattle.desk_requests.specs.LineView.{line_view}
+use Rattle.desk_requests.specs.Refused.{refused, refused_at, refused_by, refused_lines}
+use Rattle.desk_requests.specs.State.{callers, has_lane, in_force, is_closed, newer_model, number_after, requests, with_one, with_requester}
+use Rattle.desk_requests.specs.declared.gate.Gate.{Gate}
+use Rattle.desk_requests.specs.declared.line.Line as asking
+use Rattle.desk_requests.specs.declared.refused.RefusedLine.{RefusedLine}
+use Rattle.desk_requests.proofs.Answering.{asks, due_with_lane}
+use Rattle.desk_requests.proofs.Callers.{is_among-append}
+use Rattle.desk_requests.proofs.Fewness.{no_line}
+use Rattle.desk_requests.proofs.Models.{loaded_model}
+use Rattle.desk_requests.proofs.Names.{name_itself, or_true}
+
+-- ## Each client has a lane where there are more lanes than lines
+
+with_one_few : (n : List ℕ) (names : List (List ℕ)) (k : ℕ) (b : Bool) → length names ≤ k → length (if b then names else names ++ n ∷ []) ≤ suc k
+with_one_few n names k true h = omega (arith, h)
+with_one_few n names k false h = omega (arith, h, length-append names (n ∷ []))
+
+with_requester_few : (model : Option (List ℕ)) (n : List ℕ) (names : List (List ℕ)) (k : ℕ) → length names ≤ k → length (with_requester model n names) ≤ suc k
+with_requester_few None n names k h = omega (arith, h)
+with_requester_few (Some text) n names k h = with_one_few n names k (is_among names n) h
+
+callers_few : (earlier : List (Reading Line)) → length (callers earlier) ≤ length earlier
+callers_few [] = omega arith
+callers_few (Blank ∷ earlier) = let h = callers_few earlier in omega (arith, h)
+callers_few (Long ∷ earlier) = let h = callers_few earlier in omega (arith, h)
+callers_few (Syntax ∷ earlier) = let h = callers_few earlier in omega (arith, h)
+callers_few (Shape ∷ earlier) = let h = callers_few earlier in omega (arith, h)
+callers_few (Says (Model json) ∷ earlier) = let h = callers_few earlier in omega (arith, h)
+callers_few (Says (Request n s i) ∷ earlier) = with_requester_few (in_force earlier) n (callers earlier) (length earlier) (callers_few earlier)
+callers_few (Says (Close n) ∷ earlier) = with_one_few n (callers earlier) (length earlier) (is_among (callers earlier) n) (callers_few earlier)
+callers_few (Says (Resize n c) ∷ earlier) = with_one_few n (callers earlier) (length earlier) (is_among (callers earlier) n) (callers_few earlier)
+
+among_with_one : (n : List ℕ) (names : List (List ℕ)) (b : Bool) → is_among names n ≡ b → is_among (if b then names else names ++ n ∷ []) n ≡ true
+among_with_one n names true e = e
+among_with_one n names false e = is_among-append n n names ∙ ap (λ b. is_among names n || (b || false)) (name_itself n) ∙ or_true (is_among names n)
+
+has_its_lane : (lanes : ℕ) (earlier : List (Reading Line)) (line : Line) (n : List ℕ) → callers (Says line ∷ earlier) ≡ with_one n (callers earlier) → length earlier < lanes
+    → has_lane lanes (Says line ∷ earlier) n ≡ true
+has_its_lane lanes earlier line n asks less =
+    let few : length (callers (Says line ∷ earlier)) ≤ suc (length earlier) = callers_few (Says line ∷ earlier) in
+    ap (λ ns. is_among ns n) (take_all lanes (callers (Says line ∷ earlier)) (omega (arith, few, less)))
+    ∙ ap (λ ns. is_among ns n) asks ∙ among_with_one n (callers earlier) (is_among (callers earlier) n) refl
+
+-- ## One line
+
+one : (report : Report) → flat_map refused_by (report ∷ []) ≡ refused_by report
+one report = append-nil (refused_by report)
+
+as_it_is : (gate : Gate) (earlier : List (Reading Line)) (reading : Reading Line) → IsOpenAfter gate earlier → in_force (reading ∷ earlier) ≡ in_force earlier
+    → ((name : List ℕ) → is_closed name (reading ∷ earlier) ≡ is_closed name earlier) → IsOpenAfter gate (reading ∷ earlier)
+as_it_is gate earlier reading stands force same = record { model = force ∙ stands.model; closed = λ name. stands.closed name ∙ sym (same name) }
+
+pub passes_model : (old new : Gate) (k : ℕ) (json : Data) (found : Option RefusedLine) → new.closed ≡ old.closed
+    → Some (arc_value new.plan) ≡ newer_model json (read_model json) (Some (arc_value old.plan))
+    → refused_by (model_answer k (read_model json)) ≡ listed found → Passes old k (Says (Model json)) found new
+passes_model old new k json found closed model due = λ earlier stands num. (
+  (λ lanes less. one (model_answer (number_after earlier) (read_model json)) ∙ ap (λ j. refused_by (model_answer j (read_model json))) (sym num) ∙ due),
+  record {
+    model = ap (newer_model json (read_model json)) stands.model ∙ sym model;
+    closed = λ name. ap (λ names. contains_text names name) closed ∙ stands.closed name;
+  },
+)
+
+pub passes_request : (gate : Gate) (k : ℕ) (n s : List ℕ) (i : Data) (found : Option RefusedLine)
+    → ((ticket : ℕ) → refused_by (task_answer k n (contains_text gate.closed n) ticket (plan.request_of (arc_value gate.plan) s i)) ≡ listed found)
+    → Passes gate k (Says (Request n s i)) found gate
+passes_request gate k n s i found due = λ earlier stands num. (
+  (λ lanes less.
+      let text = arc_value gate.plan in
+      let request = plan.request_of text s i in
+      let ticket = length (requests n earlier) in
+      let lane = has_its_lane lanes earlier (Request n s i) n (asks n s text i earlier stands.model) less in
+      one (line_answer lanes earlier (Request n s i))
+      ∙ ap refused_by (due_with_lane lanes earlier n s text i request stands.model lane refl)
+      ∙ ap (λ b. refused_by (task_answer (number_after earlier) n b ticket request)) (sym (stands.closed n))
+      ∙ ap (λ j. refused_by (task_answer j n (contains_text gate.closed n) ticket request)) (sym num)
+      ∙ due ticket),
+  as_it_is gate earlier (Says (Request n s i)) stands refl (λ name. refl),
+)
+
+pub passes_close : (old new : Gate) (k : ℕ) (n : List ℕ) (found : Option RefusedLine) → new.plan ≡ old.plan
+    → ((other : List ℕ) → contains_text new.closed other ≡ (bytes_eq n other || contains_text old.closed other))
+    → refused_by (close_answer k n true (contains_text old.closed n)) ≡ listed found → Passes old k (Says (Close n)) found new
+passes_close old new k n found plan closes due = λ earlier stands num. (
+  (λ lanes less.
+      let lane = has_its_lane lanes earlier (Close n) n refl less in
+      one (line_answer lanes earlier (Close n))
+      ∙ ap (λ b. refused_by (close_answer (number_after earlier) n b (is_closed n earlier))) lane
+      ∙ ap (λ b. refused_by (close_answer (number_after earlier) n true b)) (sym (stands.closed n))
+      ∙ ap (λ j. refused_by (close_answer j n true (contains_text old.closed n))) (sym num)
+      ∙ due),
+  record {
+    model = stands.model ∙ ap (λ p. Some (arc_value p)) (sym plan);
+    closed = λ name. closes name ∙ ap (λ b. bytes_eq n name || b) (stands.closed name);
+  },
+)
+
+pub passes_resize : (gate : Gate) (k : ℕ) (n : List ℕ) (capacity : ℕ) (found : Option RefusedLine)
+    → refused_by (resize_answer k n capacity true (contains_text gate.closed n)) ≡ listed found → Passes gate k (Says (Resize n capacity)) found gate
+passes_resize gate k n capacity found due = λ earlier stands num. (
+  (λ lanes less.
+      let lane = has_its_lane lanes earlier (Resize n capacity) n refl less in
+      one (line_answer lanes earlier (Resize n capacity))
+      ∙ ap (λ b. refused_by (resize_answer (number_after earlier) n capacity b (is_closed n earlier))) lane
+      ∙ ap (λ b. refused_by (resize_answer (number_after earlier) n capacity true b)) (sym (stands.closed n))
+      ∙ ap (λ j. refused_by (resize_answer j n capacity true (contains_text gate.closed n))) (sym num)
+      ∙ due),
+  as_it_is gate earlier (Says (Resize n capacity)) stands refl (λ name. refl),
+)
+
+as_or : (a b : Bool) → cond a true b ≡ (a || b)
+as_or true b = refl
+as_or false b = refl
+
+pub one_more_closed : (old new : BTreeSet (String Global)) (name : String Global) → Updates string_cmp old new name true
+    → (other : List ℕ) → contains_text new other ≡ (bytes_eq (string_bytes name) other || contains_text old other)
+one_more_closed old new name put other = btree_set_updates_text (string_bytes name) old new true put other ∙ as_or (bytes_eq (string_bytes name) other) (contains_text old other)
+
+-- ## Lines by their bytes
+
+pub passes_said : (old new : Gate) (k : ℕ) (heard : Heard) (line : asking.Line) (it : List ℕ) (found : Option RefusedLine) → IsHeardAs it heard → IsLineOf heard (Some line)
+    → Passes old k (Says (line_view line)) found new → PassesText old k it found new
+passes_said old new k (heard.Object members) line it found h says f = (Says (line_view line), (h.0, h.1, h.2, h.3 ∙ ap Some (sym says.0), says.1), f)
+passes_said old new k heard.Long line it found h says f = absurd says
+passes_said old new k heard.Blank line it found h says f = absurd says
+passes_said old new k heard.Syntax line it found h says f = absurd says
+passes_said old new k heard.Other line it found h says f = absurd says
+
+refuses : (gate : Gate) (k : ℕ) (reading : Reading Line) (found : Option RefusedLine) (due : ℕ → List RefusedLine)
+    → ((lanes : ℕ) (earlier : List (Reading Line)) → refused_at lanes earlier reading ≡ due (number_after earlier)) → listed found ≡ due k
+    → ((earlier : List (Reading Line)) → in_force (reading ∷ earlier) ≡ in_force earlier)
+    → ((earlier : List (Reading Line)) (name : List ℕ) → is_closed name (reading ∷ earlier) ≡ is_closed name earlier) → Passes gate k reading found gate
+refuses gate k reading found due at is force same = λ earlier stands num. (
+  (λ lanes less. at lanes earlier ∙ ap due (sym num) ∙ sym is),
+  as_it_is gate earlier reading stands (force earlier) (same earlier),
+)
+
+-- what is none of the lines
+pub passes_unread : (gate : Gate) (k : ℕ) (heard : Heard) (it : List ℕ) (found : Option RefusedLine) → IsHeardAs it heard → IsLineOf heard None → listed found ≡ unread k heard
+    → PassesText gate k it found gate
+passes_unread gate k heard.Long it found h none is = (Long, h, refuses gate k Long found (λ j. refused j word.Long ∷ []) (λ lanes earlier. refl) is (λ earlier. refl) (λ earlier name. refl))
+passes_unread gate k heard.Blank it found h none is = (Blank, h, refuses gate k Blank found (λ j. []) (λ lanes earlier. refl) is (λ earlier. refl) (λ earlier name. refl))
+passes_unread gate k heard.Syntax it found h none is = (Syntax, h, refuses gate k Syntax found (λ j. refused j word.Syntax ∷ []) (λ lanes earlier. refl) is (λ earlier. refl) (λ earlier name. refl))
+passes_unread gate k heard.Other it found h none is = (
+  Shape,
+  (h.0, h.1, h.2, (h.3.0, h.3.1, no_line h.3.0 h.3.2)),
+  refuses gate k Shape found (λ j. refused j word.Shape ∷ []) (λ lanes earlier. refl) is (λ earlier. refl) (λ earlier name. refl),
+)
+passes_unread gate k (heard.Object members) it found h none is = (
+  Shape,
+  (h.0, h.1, h.2, (_, h.3, λ line lawful same. none line (same, lawful))),
+  refuses gate k Shape found (λ j. refused j word.Shape ∷ []) (λ lanes earlier. refl) is (λ earlier. refl) (λ earlier name. refl),
+)
+
+-- ## All lines
+
+pub opens : (gate : Gate) (d : Data) → is_ok (read_model d) ≡ true → arc_value gate.plan ≡ compact_text d → gate.closed.keys ≡ [] → IsOpenAfter gate (Says (Model d) ∷ [])
+opens gate d ok is empty = record {
+  model = (loaded_model d (read_model d) None 0 ok).0 ∙ ap Some (sym is);
+  closed = λ name. rw empty refl;
+}
+
+pub one_more_line : (lanes : ℕ) (earlier : List (Reading Line)) (reading : Reading Line) → refused_lines lanes (reading ∷ earlier) ≡ refused_lines lanes earlier ++ refused_at lanes earlier reading
+one_more_line lanes earlier reading = flat_map-append refused_by (answers lanes earlier) (answer lanes earlier reading)
