@@ -64,7 +64,7 @@ impl Listener for State {
     ghost use Rattle.desk_explaining.specs.Script.{Script};
     ghost use Rattle.desk_explaining.specs.StateView.{After};
 
-    const ROOM: usize = 512;
+    const ROOM: usize = 2_048;
 
     ghost Script = { λ state. Script state.misses state.register.lanes };
 

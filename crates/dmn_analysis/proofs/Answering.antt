@@ -13,7 +13,8 @@ use Rattle.dmn_analysis.specs.Cells.{AreIn}
 use Rattle.dmn_analysis.specs.Claims.{AreAsked, AreInputs, GoesBefore, HasHit, IsGapIn, IsInGap, IsMasked, NeverHits, NeverTwo, TellsGap, TellsGaps}
 use Rattle.dmn_analysis.specs.Constant.{AreConstant, is_constant}
 use Rattle.dmn_analysis.specs.Joining.{AreCovered, AreMissed}
-use Rattle.dmn_analysis.specs.Searching.{CannotHit, IsAmong, IsBare, IsInSome, Knows, KnowsPairs, Scene, cells_of}
+use Rattle.dmn_analysis.specs.Searching.{CannotHit, IsAmong, IsBare, IsInSome, Knows, Scene, cells_of}
+use Rattle.dmn_analysis.specs.Sharing.{KnowsPairs}
 use Rattle.dmn_analysis.specs.Telling.{HasHitAmong, IsBehind, IsDealtWith, IsMaskedOn, IsToldGap}
 use Rattle.dmn_analysis.specs.Whole.{AreWhole}
 use Rattle.dmn_analysis.specs.declared.asked.Asked.{Asked}
@@ -87,7 +88,7 @@ pub never_two : (t : Table) (words : List Words) (asked : List Asked) (cells : L
     → KnowsPairs (record { words = words; rules = t.rules; chosen = length t.rules; first = first; whole = cells }) search
     → search.pending.items ≡ [] → search.open.items ≡ [] → search.shared.items ≡ [] → NeverTwo (length t.inputs) t.rules
 never_two t words asked cells first search long whole all each knows none unopened unshared m values inputs i j r q less there other hits also =
-    elim (knows.parted unopened unshared m values (inputs.one_each ∙ sym long) (in_whole words asked cells values whole inputs.lawful (everything asked values all))) [
+    elim (knows.parted unopened unshared m values (record { one_each = inputs.one_each ∙ sym long; lawful = inputs.lawful }) (in_whole words asked cells values whole inputs.lawful (everything asked values all))) [
       | inl few ↦ few i j r q less (each i (slice_get_within t.rules i r there)) (each j (slice_get_within t.rules j q other)) there other hits also
       | inr p ↦ nowhere words values (subst (λ ps. IsInSome words (cells_of ps) values) none p)
     ]

@@ -10,6 +10,7 @@ mod Ranks
 mod Results
 mod RulesOn
 mod Searches
+mod Sharings
 mod Turning
 mod Wholes
 mod Witnesses

@@ -1,7 +1,6 @@
 -- What is told of the elements of a list, each by its place.
 use Rattle.std.proofs.Common.{◌≡◌, ◌∙◌, sym, ap, refl, subst, ℕ, zero, suc, ◌+◌, ◌⊎◌, ◌<◌, List, [], ◌∷◌, ◌++◌, length, map, get_or, option_map, Some, inl, inr, arith}
 use Rattle.std.specs.List.{slice_get, All}
-use Rattle.std.proofs.lemmas.List.{length-append}
 use Rattle.std.proofs.lemmas.Option.{get_or_from_slice_get, same_Some, slice_get-get_or, slice_get-map, slice_get_within}
 use Rattle.std.proofs.lemmas.List.Elements.{All-get_or}
 
@@ -51,7 +50,3 @@ below_next zero zero h = inr refl
 below_next zero (suc i) h = inl (omega arith)
 below_next (suc k) zero h = absurd (omega (arith, h))
 below_next (suc k) (suc i) h = elim (below_next k i (omega (arith, h))) [ inl p ↦ inl (omega (arith, p)) | inr q ↦ inr (ap suc q) ]
-
--- one element more
-pub one_longer : {X : Type 0} (xs ys : List X) (x : X) → ys ≡ xs ++ x ∷ [] → length ys ≡ length xs + 1
-one_longer xs ys x is = ap length is ∙ length-append xs (x ∷ [])

@@ -1,8 +1,8 @@
 -- The cells of all values that are asked about.
-use Rattle.std.proofs.Common.{◌≡◌, ◌∙◌, sym, ap, ap₂, refl, subst, inl, inr, ℕ, suc, ℤ, pos, List, [], ◌∷◌, ◌++◌, length, map, Bool, true, false, not, ◌&&◌, ◌||◌, if◌then◌else◌, Some, Vec, arith}
+use Rattle.std.proofs.Common.{◌≡◌, ◌∙◌, sym, ap, ap₂, refl, subst, inl, inr, ℕ, suc, ◌≤◌, ℤ, pos, List, [], ◌∷◌, ◌++◌, length, map, Bool, true, false, not, ◌&&◌, ◌||◌, if◌then◌else◌, Some, Vec, arith}
 use Rattle.std.specs.Arc.{arc_str_bytes}
 use Rattle.std.specs.Prelude.{bytes_eq, int_le, ◌-ℤ◌}
-use Rattle.std.specs.List.{list_any, slice_get}
+use Rattle.std.specs.List.{list_any, slice_get, All}
 use Rattle.std.specs.declared.alloc.Global.{Global}
 use Rattle.std.specs.declared.sync.ArcStr.{ArcStr}
 use Rattle.std.proofs.lemmas.Int.{ints}
@@ -11,12 +11,13 @@ use Rattle.std.proofs.lemmas.Option.{same_Some}
 use Rattle.feel_value.specs.Datum.{null, boolean, number, text, list, context}
 use Rattle.feel_value.specs.Limits.{in_range, is_value}
 use Rattle.dmn_analysis.specs.Cells.{is_text_among, words_within}
+use Rattle.dmn_analysis.specs.Claims.{AreKnown, AreTextsKnown}
 use Rattle.dmn_analysis.specs.Whole.{AreWhole, AreWholeTexts, HasWhole, IsWhole, whole_of}
 use Rattle.dmn_analysis.specs.declared.asked.Asked.{Asked}
 use Rattle.dmn_analysis.specs.declared.asked.Texts.TheVariants as texts
 use Rattle.dmn_analysis.specs.declared.cell.Cell.{Cell}
 use Rattle.dmn_analysis.specs.declared.cell.Words.{Words}
-use Rattle.dmn_analysis.proofs.Places.{map_at, pushed}
+use Rattle.dmn_analysis.proofs.Places.{All-at, map_at, pushed}
 
 pub same_texts : (a b : List (ArcStr Global)) → length a ≡ length b
     → ((k : ℕ) (x y : ArcStr Global) → slice_get a k ≡ Some x → slice_get b k ≡ Some y → arc_str_bytes x ≡ arc_str_bytes y) → map arc_str_bytes a ≡ map arc_str_bytes b
@@ -93,3 +94,10 @@ whole_more words asked cells ws a c before of is whole k ws' c' of' there =
             is_whole = subst (λ w. IsWhole w a c) (same_Some ws ws' (sym of ∙ ap (slice_get words) (sym last.0) ∙ of')) whole;
           }))
     ]
+
+-- all texts are asked about, in so many columns
+pub known_every : (count : ℕ) (words : List Words) (asked : List Asked) → count ≤ length asked → All (λ (a : Asked). a.texts ≡ texts.All) asked → AreKnown count words asked
+known_every count words asked long all = record {
+  each_asked = long;
+  known = λ k ws a of is. subst (AreTextsKnown ws.texts.items) (sym (All-at (λ (a : Asked). a.texts ≡ texts.All) asked k a all is)) tt;
+}

@@ -156,6 +156,10 @@ pub record AreKnown (count : ℕ) (words : List Words) (asked : List Asked) : Ty
   pub each_asked : count ≤ length asked
   pub known : (k : ℕ) (ws : Words) (a : Asked) → slice_get words k ≡ Some ws → slice_get asked k ≡ Some a → AreTextsKnown ws.texts.items a.texts
 
+-- Where no overlap is told, it is told that there is none.
+abbrev pub DecidesOverlaps : Overlaps → Type 0
+DecidesOverlaps overlaps = overlaps.found.items ≡ [] → IsTrue overlaps.is_all
+
 -- Each gap is told, or counted; and where there is any, one is told. So it is told that the table is complete, or a gap.
 pub record DecidesGaps (gaps : Gaps) : Type 0 where
   pub all : IsTrue gaps.is_all

@@ -6,6 +6,7 @@ pub mod Whole
 pub mod Constant
 pub mod Claims
 pub mod Searching
+pub mod Sharing
 pub mod Telling
 pub mod Joining
 pub mod Ranking

@@ -18,7 +18,6 @@ use Rattle.dmn_analysis.specs.declared.gaps.Chosen.{Chosen}
 use Rattle.dmn_analysis.specs.declared.gaps.Chosen.TheVariants as does
 use Rattle.dmn_analysis.specs.declared.gaps.Pending.{Pending}
 use Rattle.dmn_analysis.specs.declared.gaps.Search.{Search}
-use Rattle.dmn_analysis.specs.declared.pairs.PairSearch.{PairSearch}
 use Rattle.dmn_analysis.specs.declared.searching.Outlook.{Outlook}
 use Rattle.dmn_analysis.specs.declared.searching.Outlook.TheVariants as outlook
 use Rattle.dmn_analysis.specs.declared.searching.Unsure.{Unsure}
@@ -146,27 +145,6 @@ pub record HasMissing (words : List Words) (rules : List Rule) (chosen : ℕ) (c
   pub rule : Rule
   pub there : slice_get rules chosen ≡ Some rule
   pub cannot : CannotHit words cells rule
-
--- ---- a search for two rules
-
--- no two of the rules hit
-abbrev pub AtMostOne : Scene → Bindings → List Datum → Type 0
-AtMostOne s m values =
-    (i j : ℕ) (r q : Rule) → i < j → IsAmong s.first i → IsAmong s.first j → slice_get s.rules i ≡ Some r → slice_get s.rules j ≡ Some q
-    → does_hit m values r ≡ Some true → does_hit m values q ≡ Some true → ⊥
-
--- what a search knows that found no two rules, and met none of which it doesn't know whether they hit
-pub record KnowsPairs (s : Scene) (search : PairSearch) : Type 0 where
-  pub pending : All (IsPending s) search.pending.items
-  pub parted : search.open.items ≡ [] → search.shared.items ≡ [] → (m : Bindings) (values : List Datum) → length values ≡ length s.whole → AreIn s.words s.whole values
-      → AtMostOne s m values ⊎ IsInSome s.words (cells_of search.pending.items) values
-
--- the same but for values of some cells
-pub record KnowsPairsBut (s : Scene) (cells : List Cell) (search : PairSearch) : Type 0 where
-  pub long : length cells ≡ length s.whole
-  pub pending : All (IsPending s) search.pending.items
-  pub parted : search.open.items ≡ [] → search.shared.items ≡ [] → (m : Bindings) (values : List Datum) → length values ≡ length s.whole → AreIn s.words s.whole values
-      → AtMostOne s m values ⊎ (IsInSome s.words (cells_of search.pending.items) values ⊎ AreIn s.words cells values)
 
 -- ---- what the chosen rule does for the values of cells
 

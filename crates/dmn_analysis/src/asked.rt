@@ -2,6 +2,7 @@
 ghost use Rattle.std.specs.Prelude.{◌≡◌, true};
 ghost use Rattle.feel_value.specs.Datum.{Datum};
 ghost use Rattle.dmn_analysis.specs.Asked.{is_asked};
+ghost use Rattle.dmn_analysis.specs.declared.asked.Texts.TheVariants.{All as AllTexts};
 
 use std::sync::ArcStr;
 
@@ -31,7 +32,8 @@ pub struct Asked {
 impl Asked {
     /// Every value.
     pub fn every() -> Asked
-        ensures { (v : Datum) → is_asked result v ≡ true }
+        ensures asked { (v : Datum) → is_asked result v ≡ true }
+        ensures texts { result.texts ≡ AllTexts }
     {
         Asked {
             null: true,

@@ -52,7 +52,8 @@ pub(crate) fn hits(
     i: usize,
     values: &[Feel],
 ) -> Result<bool, AllocError>
-    ensures { IfOk result (λ hit. IsTrue hit → Hits (map rule_view rules.now) i values.now) }
+    ensures hits { IfOk result (λ hit. IsTrue hit → Hits (map rule_view rules.now) i values.now) }
+    ensures all { IfOk result (λ hit. Hits (map rule_view rules.now) i values.now → IsTrue hit) }
 {
     let env = Env::new(alloc);
     if i >= rules.len() {

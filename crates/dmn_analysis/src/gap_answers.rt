@@ -6,6 +6,7 @@ ghost use Rattle.dmn_analysis.specs.Claims.{AreKnown, DecidesGaps, IsGapIn, Tell
 ghost use Rattle.dmn_analysis.specs.Constant.{AreConstant, IsConstant};
 ghost use Rattle.dmn_analysis.specs.Joining.{AreMissed};
 ghost use Rattle.dmn_analysis.specs.Searching.{IsAmong, IsBare, Scene};
+ghost use Rattle.dmn_analysis.specs.Sharing.{IsRising};
 ghost use Rattle.dmn_analysis.specs.Telling.{IsDealtWith, IsToldGap};
 
 use crate::asked::Asked;
@@ -26,6 +27,7 @@ use std::alloc::{AllocError, Global};
 pub(crate) fn places(alloc: Global, count: usize) -> Result<Vec<usize>, AllocError>
     ensures below { IfOk result (λ places. All (λ r. r < count) places.items) }
     ensures each { IfOk result (λ places. (r : ℕ) → r < count → IsAmong places.items r) }
+    ensures rising { IfOk result (λ places. IsRising places.items) }
 {
     let mut places = Vec::with_capacity(alloc, count)?;
     for place in 0..count {

@@ -21,6 +21,7 @@ mod laws;
 mod met;
 mod on_class;
 mod pair_answers;
+mod pairing;
 mod pairs;
 mod pieces;
 mod ranking;

@@ -1,20 +1,23 @@
 //! Whether no two rules hit whatever the values are, or for which values two do.
-ghost use Rattle.std.specs.Prelude.{◌≡◌, [], true, false, IsTrue, IfOk, IfSome, length, map};
+ghost use Rattle.std.specs.Prelude.{◌≡◌, ◌<◌, List, [], None, true, false, IsTrue, IfOk, IfSome, length, map};
 ghost use Rattle.std.specs.List.{All};
 ghost use Rattle.feel_value.specs.Datum.{Datum};
 ghost use Rattle.dmn_table.specs.Parts.{rule_view};
 ghost use Rattle.dmn_analysis.specs.Asked.{is_asked};
-ghost use Rattle.dmn_analysis.specs.Claims.{AreOverlappingIn, Hits, TellsOverlaps};
+ghost use Rattle.dmn_analysis.specs.Claims.{AreKnown, AreOverlappingIn, DecidesOverlaps, Hits, TellsOverlaps};
+ghost use Rattle.dmn_analysis.specs.Constant.{IsConstant};
+ghost use Rattle.dmn_analysis.specs.Sharing.{IsPairOf, IsShared, MustOverlap};
+ghost use Rattle.dmn_analysis.specs.declared.cell.Words.{Words as WordsData};
 
 use crate::asked::Asked;
 use crate::asking::hits;
 use crate::cell::{Cell, Words};
 use crate::found::{Overlap, Overlaps};
-use crate::gap_answers::{distinct, places};
+use crate::gap_answers::{distinct, is_done, places};
 use crate::gaps::Pending;
+use crate::pairing::{MOST_PAIRS, Pair, pairs_of};
 use crate::pairs::{PairSearch, Shared, find_shared};
 use crate::pieces::parts_of;
-use crate::searching::first_of;
 use crate::whole::whole;
 use crate::witness::values_of;
 use crate::words::all_words;
@@ -22,57 +25,19 @@ use dmn_table::{Rule, Table};
 use feel_value::Feel;
 use std::alloc::{AllocError, Global};
 
-/// The most pairs of rules that are looked at.
-const MOST_PAIRS: usize = 100_000;
-
 /// The most cells with several rules that are looked for.
 const MOST_SHARED: usize = 100_000;
 
 /// Every value is asked about, in each of so many columns.
 pub(crate) fn every(alloc: Global, count: usize) -> Result<Vec<Asked>, AllocError>
-    ensures { IfOk result (λ all. All (λ a. (v : Datum) → is_asked a v ≡ true) all.items) }
+    ensures asked { IfOk result (λ all. All (λ a. (v : Datum) → is_asked a v ≡ true) all.items) }
+    ensures known { IfOk result (λ all. (words : List WordsData) → AreKnown count words all.items) }
 {
     let mut all = Vec::with_capacity(alloc, count)?;
     for _place in 0..count {
         all.push(Asked::every())?;
     }
     Ok(all)
-}
-
-/// Two rules, and the cells in whose values both hit.
-#[derive(Clone, Copy, PartialEq, Eq, PartialOrd, Ord)]
-struct Pair {
-    first: usize,
-    second: usize,
-    shared: usize,
-}
-
-// Adds the pairs of these rules.
-fn add_pairs(pairs: &mut Vec<Pair>, rules: &[usize], shared: usize) -> Result<(), AllocError> {
-    for second in 1..rules.len() {
-        for first in 0..second {
-            if pairs.len() >= MOST_PAIRS {
-                return Ok(());
-            }
-            pairs.push(Pair {
-                first: rules[first],
-                second: rules[second],
-                shared,
-            })?;
-        }
-    }
-    Ok(())
-}
-
-// The pairs of rules that share cells, each once.
-fn pairs_of(alloc: Global, all: &[Shared]) -> Result<Vec<Pair>, AllocError> {
-    let mut pairs = Vec::new(alloc);
-    for (place, shared) in all.iter().enumerate() {
-        add_pairs(&mut pairs, &shared.rules, place)?;
-    }
-    pairs.sort_unstable();
-    pairs.dedup_by(|a, b| a.first == b.first && a.second == b.second);
-    Ok(pairs)
 }
 
 // Values of the cells for which both rules hit where no name stands for anything; None where the rules don't say so.
@@ -88,6 +53,7 @@ fn witness(
     ensures one_each { IfOk result (λ found. IfSome found (λ values. length values.items ≡ count)) }
     ensures first { IfOk result (λ found. IfSome found (λ values. Hits (map rule_view rules.now) i values.items)) }
     ensures second { IfOk result (λ found. IfSome found (λ values. Hits (map rule_view rules.now) j values.items)) }
+    ensures unless { IfOk result (λ found. found ≡ None → MustOverlap words.now (map rule_view rules.now) count cells.now i j → ⊥) }
 {
     let Some(values) = values_of(alloc, words, cells)? else {
         return Ok(None);
@@ -112,7 +78,8 @@ fn overlap_of(
     pair: Pair,
     count: usize,
 ) -> Result<Option<Overlap>, AllocError>
-    ensures { IfOk result (λ found. IfSome found (λ o. AreOverlappingIn count (map rule_view rules.now) o.first o.second o.values.items)) }
+    ensures overlap { IfOk result (λ found. IfSome found (λ o. AreOverlappingIn count (map rule_view rules.now) o.first o.second o.values.items)) }
+    ensures unless { IfOk result (λ found. found ≡ None → MustOverlap words.now (map rule_view rules.now) count cells.now pair.first pair.second → ⊥) }
 {
     let (first, second) = (pair.first, pair.second);
     if first >= second {
@@ -140,7 +107,8 @@ fn tell(
     count: usize,
     most: usize,
 ) -> Result<Vec<Overlap>, AllocError>
-    ensures { IfOk result (λ found. All (λ o. AreOverlappingIn count (map rule_view rules.now) o.first o.second o.values.items) found.items) }
+    ensures each { IfOk result (λ found. All (λ o. AreOverlappingIn count (map rule_view rules.now) o.first o.second o.values.items) found.items) }
+    ensures some { IfOk result (λ found. 0 < most → All (IsShared words.now (map rule_view rules.now) count) all.now → All (IsPairOf all.now) pairs.now → found.items ≡ [] → pairs.now ≡ []) }
 {
     let mut found = Vec::new(alloc);
     for pair in pairs {
@@ -171,27 +139,11 @@ fn nothing_told(alloc: Global) -> Overlaps
     }
 }
 
-// Whether nothing is pending.
-fn are_none(pending: &[Pending]) -> bool
-    ensures { IsTrue result → pending.now ≡ [] }
-{
-    pending.first().is_none()
-}
-
 fn are_unshared(shared: &[Shared]) -> bool
-    ensures { IsTrue result → shared.now ≡ [] }
+    ensures none { IsTrue result → shared.now ≡ [] }
+    ensures all { shared.now ≡ [] → IsTrue result }
 {
-    shared.first().is_none()
-}
-
-// Whether a search went through all, and met no rule of which it isn't known whether it hits.
-fn is_done(search: &PairSearch) -> bool
-    ensures { IsTrue result → (search.now.pending.items ≡ []) × (search.now.open.items ≡ []) }
-{
-    if !are_none(&search.pending) {
-        return false;
-    }
-    first_of(&search.open).is_none()
+    shared.is_empty()
 }
 
 fn are_untold(found: &[Overlap]) -> bool
@@ -204,6 +156,7 @@ fn are_untold(found: &[Overlap]) -> bool
 fn are_all(search: &PairSearch, pairs: usize, found: &[Overlap]) -> bool
     ensures done { IsTrue result → (search.now.pending.items ≡ []) × (search.now.open.items ≡ []) }
     ensures none { IsTrue result → found.now ≡ [] → search.now.shared.items ≡ [] }
+    ensures all { pairs ≡ 0 → search.now.shared.items ≡ [] → search.now.pending.items ≡ [] → search.now.open.items ≡ [] → IsTrue result }
 {
     if pairs >= MOST_PAIRS {
         return false;
@@ -211,7 +164,7 @@ fn are_all(search: &PairSearch, pairs: usize, found: &[Overlap]) -> bool
     if are_untold(found) && !are_unshared(&search.shared) {
         return false;
     }
-    is_done(search)
+    is_done(&search.pending, &search.open)
 }
 
 /// Whether no two rules of the table hit, whatever the values of its input columns and whatever the names stand for: the pairs that
@@ -222,7 +175,8 @@ pub fn find_overlaps(
     most: usize,
     steps: u64,
 ) -> Result<Overlaps, AllocError>
-    ensures { IfOk result (TellsOverlaps table.now) }
+    ensures tells { IfOk result (TellsOverlaps table.now) }
+    ensures decides { IfOk result (λ overlaps. IsConstant table.now → 0 < most → overlaps.steps < steps → DecidesOverlaps overlaps) }
 {
     let rules = table.rules();
     let count = table.inputs().len();

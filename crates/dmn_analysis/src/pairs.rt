@@ -1,13 +1,17 @@
 //! A search for values for which two rules hit.
-ghost use Rattle.std.specs.Prelude.{◌≡◌, List, OnOk, IfOk, map};
+ghost use Rattle.std.specs.Prelude.{◌≡◌, ◌<◌, ◌≤◌, List, [], OnOk, IfOk, length, map};
+ghost use Rattle.std.specs.List.{All};
 ghost use Rattle.dmn_table.specs.Parts.{rule_view};
+ghost use Rattle.dmn_analysis.specs.Constant.{AreConstant};
 ghost use Rattle.dmn_analysis.specs.Cutting.{AreHalves};
-ghost use Rattle.dmn_analysis.specs.Searching.{AreLeft, KnowsPairs, KnowsPairsBut, Scene};
+ghost use Rattle.dmn_analysis.specs.Searching.{AreLeft, Scene};
+ghost use Rattle.dmn_analysis.specs.Sharing.{IsMustHit, IsRising, KnowsPairs, KnowsPairsBut};
 ghost use Rattle.dmn_analysis.specs.declared.cell.Cell.{Cell as CellData};
 
 use crate::cell::{Cell, Words};
 use crate::gaps::Pending;
 use crate::searching::{are_few, first_unsure, halves, possible};
+use crate::witness::values_of;
 use dmn_table::Rule;
 use std::alloc::{AllocError, Global};
 
@@ -36,7 +40,8 @@ impl PairSearch {
         upper: Vec<Cell>,
         left: Vec<usize>,
     ) -> Result<(), AllocError>
-        ensures { OnOk result ((s : Scene) (cells : List CellData) → KnowsPairsBut s cells self.old → AreHalves cells lower.items upper.items → AreLeft s cells left.items → KnowsPairs s self.new) }
+        ensures known { OnOk result ((s : Scene) (cells : List CellData) → KnowsPairsBut s cells self.old → AreHalves cells lower.items upper.items → AreLeft s cells left.items → IsRising left.items → KnowsPairs s self.new) }
+        ensures opened { OnOk result (self.new.open.items ≡ self.old.open.items) }
     {
         let copy = Vec::from_slice(alloc, &left)?;
         self.pending.push(Pending {
@@ -44,6 +49,25 @@ impl PairSearch {
             left: copy,
         })?;
         self.pending.push(Pending { cells: lower, left })?;
+        Ok(())
+    }
+
+    // Cells for all of whose values each of these rules hits. They are left out where they have none.
+    fn share(
+        &mut self,
+        alloc: Global,
+        words: &[Words],
+        cells: Vec<Cell>,
+        rules: Vec<usize>,
+    ) -> Result<(), AllocError>
+        requires { 2 ≤ length rules.items }
+        ensures known { OnOk result ((s : Scene) → s.words ≡ words.now → KnowsPairsBut s cells.items self.old → All (IsMustHit s.words s.rules cells.items) rules.items → IsRising rules.items → KnowsPairs s self.new) }
+        ensures opened { OnOk result (self.new.open.items ≡ self.old.open.items) }
+    {
+        let Some(_) = values_of(alloc, words, &cells)? else {
+            return Ok(());
+        };
+        self.shared.push(Shared { cells, rules })?;
         Ok(())
     }
 
@@ -56,7 +80,8 @@ impl PairSearch {
         next: Pending,
         steps: &mut u64,
     ) -> Result<(), AllocError>
-        ensures { OnOk result ((s : Scene) → s.words ≡ words.now → s.rules ≡ map rule_view rules.now → KnowsPairsBut s next.cells.items self.old → AreLeft s next.cells.items next.left.items → KnowsPairs s self.new) }
+        ensures known { OnOk result ((s : Scene) → s.words ≡ words.now → s.rules ≡ map rule_view rules.now → KnowsPairsBut s next.cells.items self.old → AreLeft s next.cells.items next.left.items → IsRising next.left.items → KnowsPairs s self.new) }
+        ensures decided { OnOk result (AreConstant (map rule_view rules.now) → self.old.open.items ≡ [] → self.new.open.items ≡ []) }
     {
         let left = possible(alloc, words, rules, &next.cells, &next.left, steps)?;
         if are_few(&left) {
@@ -64,7 +89,7 @@ impl PairSearch {
         }
         let Some(unsure) = first_unsure(words, rules, &next.cells, &left, steps) else {
             let Pending { cells, left: _ } = next;
-            self.shared.push(Shared { cells, rules: left })?;
+            self.share(alloc, words, cells, left)?;
             return Ok(());
         };
         let Some((lower, upper)) = halves(alloc, words, rules, &next.cells, &left, unsure, steps)?
@@ -87,7 +112,9 @@ pub(crate) fn find_shared(
     most: usize,
     steps: &mut u64,
 ) -> Result<PairSearch, AllocError>
-    ensures { IfOk result (λ search. (s : Scene) → s.words ≡ words.now → s.rules ≡ map rule_view rules.now → s.first ≡ first.left.items → s.whole ≡ first.cells.items → KnowsPairs s search) }
+    ensures known { IfOk result (λ search. (s : Scene) → s.words ≡ words.now → s.rules ≡ map rule_view rules.now → s.first ≡ first.left.items → s.whole ≡ first.cells.items → IsRising first.left.items → KnowsPairs s search) }
+    ensures decided { IfOk result (λ search. AreConstant (map rule_view rules.now) → search.open.items ≡ []) }
+    ensures ended { IfOk result (λ search. 0 < most → 0 < steps.new → search.shared.items ≡ [] → search.pending.items ≡ []) }
 {
     let mut search = PairSearch {
         pending: Vec::new(alloc),
@@ -105,5 +132,7 @@ pub(crate) fn find_shared(
         };
         search.turn(alloc, words, rules, next, steps)?;
     }
+    // So many turns have taken all of the steps.
+    *steps = 0;
     Ok(search)
 }

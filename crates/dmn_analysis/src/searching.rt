@@ -1,10 +1,11 @@
 //! What a search through the cells of a table does at each turn.
-ghost use Rattle.std.specs.Prelude.{◌≡◌, ◌<◌, [], IsTrue, IfOk, IfSome, None, length, map};
+ghost use Rattle.std.specs.Prelude.{◌≡◌, ◌<◌, ◌≤◌, [], false, IsTrue, IfOk, IfSome, None, length, map};
 ghost use Rattle.dmn_table.specs.Parts.{rule_view};
 ghost use Rattle.std.specs.List.{All};
 ghost use Rattle.dmn_analysis.specs.Constant.{AreConstant};
 ghost use Rattle.dmn_analysis.specs.Cutting.{AreHalves};
 ghost use Rattle.dmn_analysis.specs.Searching.{AreLeft, HasEntry, Scene, TellsOutlook};
+ghost use Rattle.dmn_analysis.specs.Sharing.{IsMustHit, IsRising};
 
 use crate::cell::{Cell, Words};
 use crate::choosing::choose;
@@ -15,16 +16,10 @@ use crate::rule_on::{cannot_hit, first_unsettled, must_hit};
 use dmn_table::Rule;
 use std::alloc::{AllocError, Global};
 
-/// The first of the rules that are left; None where none is.
-pub(crate) fn first_of(left: &[usize]) -> Option<usize>
-    ensures { result ≡ None → left.now ≡ [] }
-{
-    left.first().copied()
-}
-
 /// Whether at most one rule is left.
 pub(crate) fn are_few(left: &[usize]) -> bool
-    ensures { IsTrue result → length left.now < 2 }
+    ensures few { IsTrue result → length left.now < 2 }
+    ensures several { result ≡ false → 2 ≤ length left.now }
 {
     left.len() < 2
 }
@@ -40,6 +35,7 @@ pub(crate) fn possible(
 ) -> Result<Vec<usize>, AllocError>
     ensures left { IfOk result (λ kept. (s : Scene) → s.words ≡ words.now → s.rules ≡ map rule_view rules.now → AreLeft s cells.now left.now → AreLeft s cells.now kept.items) }
     ensures there { IfOk result (λ kept. All (λ r. r < length rules.now) kept.items) }
+    ensures rising { IfOk result (λ kept. IsRising left.now → IsRising kept.items) }
 {
     let mut kept = Vec::with_capacity(alloc, left.len())?;
     for number in left {
@@ -108,7 +104,8 @@ pub(crate) fn first_unsure(
     steps: &mut u64,
 ) -> Option<Unsure>
     requires { All (λ r. r < length rules.now) left.now }
-    ensures { IfSome result (HasEntry (map rule_view rules.now) cells.now) }
+    ensures entry { IfSome result (HasEntry (map rule_view rules.now) cells.now) }
+    ensures must { result ≡ None → All (IsMustHit words.now (map rule_view rules.now) cells.now) left.now }
 {
     for number in left {
         let rule = *number;

@@ -133,6 +133,7 @@ fn value_at(
     cell: Cell,
 ) -> Result<Option<Feel>, AllocError>
     ensures inside { IfOk result (λ found. IfSome found (IsInAt words.now place cell)) }
+    ensures lawful { IfOk result (λ found. IfSome found (λ v. is_value v ≡ true)) }
     ensures none { IfOk result (λ found. found ≡ None → IsVoidAt words.now place cell) }
 {
     if place >= words.len() {
@@ -152,6 +153,7 @@ pub(crate) fn values_of(
 ) -> Result<Option<Vec<Feel>>, AllocError>
     ensures long { IfOk result (λ found. IfSome found (λ values. length values.items ≡ length cells.now)) }
     ensures inside { IfOk result (λ found. IfSome found (λ values. AreIn words.now cells.now values.items)) }
+    ensures lawful { IfOk result (λ found. IfSome found (λ values. All (λ v. is_value v ≡ true) values.items)) }
     ensures none { IfOk result (λ found. found ≡ None → IsVoid words.now cells.now) }
 {
     let mut values = Vec::with_capacity(alloc, cells.len())?;

@@ -10,6 +10,9 @@ use feel_value::Feel;
 use std::alloc::{AllocError, Global};
 use table_classes::keep_limits;
 
+/// As many rules hit mostly, or fewer.
+const FEW_HITS: usize = 16;
+
 /// A rule that hits, with its number, which counts from 1 on.
 #[derive(Clone, Copy)]
 pub(crate) struct Hit<'a> {
@@ -89,7 +92,7 @@ pub(crate) fn ask_rules<'a>(
     ensures { IfOk result (λ found. option_map asked_view found ≡ found_from with_misses 1 env.now values.now (map rule_view rules.now)) }
 {
     let mut asked = Asked {
-        hits: Vec::new(alloc),
+        hits: Vec::with_capacity(alloc, FEW_HITS)?,
         misses: Vec::new(alloc),
     };
     for (i, rule) in rules.iter().enumerate() {

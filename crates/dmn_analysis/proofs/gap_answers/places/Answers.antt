@@ -1,10 +1,12 @@
 use Rattle.std.proofs.Common.{◌∙◌, ◌<◌, sym, ap, subst, inl, inr, arith, length, [], ◌∷◌, ◌++◌}
-use Rattle.std.specs.List.{All}
+use Rattle.std.specs.List.{slice_get, All}
 use Rattle.std.proofs.lemmas.List.{length-append}
 use Rattle.std.proofs.lemmas.List.Elements.{All-push}
 use Rattle.dmn_analysis.specs.Searching.{IsAmong}
-use Rattle.dmn_analysis.proofs.Places.{below_next}
+use Rattle.dmn_analysis.specs.Sharing.{IsRising}
+use Rattle.dmn_analysis.proofs.Places.{below_next, pushed}
 use Rattle.dmn_analysis.proofs.Searches.{among_last, among_more}
+use Rattle.dmn_analysis.proofs.Sharings.{rising_push}
 use Rattle.dmn_analysis.proofs.gap_answers.places.Goals as goal
 
 pub loop-place-preserved : goal.loop-place-preserved
@@ -20,6 +22,11 @@ loop-place-preserved c =
         | inl before ↦ among_more old place r (c.loop-place.invariant.1 r before)
         | inr at ↦ subst (IsAmong (old ++ place ∷ [])) (sym at) (among_last old place)
       ])),
+      subst IsRising (sym is) (rising_push old place c.loop-place.invariant.2 c.loop-place.invariant.3),
+      (λ k y here. elim (pushed old place y k (ap (λ xs. slice_get xs k) (sym is) ∙ here)) [
+        | inl before ↦ omega (arith, c.loop-place.invariant.3 k y before)
+        | inr at ↦ omega (arith, at.1)
+      ]),
     )
 
 pub returns-clause-below : goal.returns-clause-below

@@ -7,6 +7,7 @@ use Rattle.dmn_table.specs.Parts.{rule_view}
 use Rattle.dmn_analysis.specs.Searching.{CannotHit, IsAmong}
 use Rattle.dmn_analysis.proofs.Places.{All-at, at_place, map_at}
 use Rattle.dmn_analysis.proofs.Searches.{Sifted, left_sifted, sifted_in, sifted_out}
+use Rattle.dmn_analysis.proofs.Sharings.{AreSome, some_in, some_out}
 use Rattle.dmn_analysis.proofs.searching.possible.Goals as goal
 
 pub loop-number-preserved-then-number-rules : goal.loop-number-preserved-then-number-rules
@@ -18,6 +19,7 @@ loop-number-preserved-then-number-rules c = (
       sifted_out s c.args.cells.now left c.loop-number.kept.items i r (c.loop-number.invariant.0 s words rules before) (slice_get-get_or left i 0 c.loop-number-test.true)
       (λ rule of. absurd (omega (arith, slice_get_within s.rules r rule of, ap length rules, length-map c.args.rules.now rule_view, c.if-number-rules.true))),
   c.loop-number.invariant.1,
+  λ rising. some_out c.args.left.now c.loop-number.kept.items c.loop-number.number-index (c.loop-number.invariant.2 rising),
 )
 
 pub loop-number-preserved-then-cannot_hit : goal.loop-number-preserved-then-cannot_hit
@@ -33,6 +35,7 @@ loop-number-preserved-then-cannot_hit c = (
       let same = same_Some (rule_view one) rule (sym there ∙ ap (λ rs. slice_get rs r) (sym rules) ∙ of) in
       subst (λ ws. CannotHit ws c.args.cells.now rule) (sym words) (subst (CannotHit c.args.words.now c.args.cells.now) same (c.cannot_hit.ensures c.if-cannot_hit.true))),
   c.loop-number.invariant.1,
+  λ rising. some_out c.args.left.now c.loop-number.kept.items c.loop-number.number-index (c.loop-number.invariant.2 rising),
 )
 
 pub loop-number-preserved : goal.loop-number-preserved
@@ -47,7 +50,15 @@ loop-number-preserved c = (
       subst (λ ks. Sifted s c.args.cells.now left ks (i + 1)) (sym c.in_ok-push.ensures.items)
       (sifted_in s c.args.cells.now left kept i r sifted there (All-push (IsAmong s.first) kept r sifted.among (All-at (IsAmong s.first) left i r before.among there))),
   subst (All (λ r. r < length c.args.rules.now)) (sym c.in_ok-push.ensures.items) (All-push (λ r. r < length c.args.rules.now) c.loop-number.kept.items _ c.loop-number.invariant.1 c.if-number-rules.false),
+  λ rising.
+      let left = c.args.left.now in
+      let i = c.loop-number.number-index in
+      subst (λ ks. AreSome left ks (i + 1)) (sym c.in_ok-push.ensures.items)
+      (some_in left c.loop-number.kept.items i (get_or left i 0) rising (slice_get-get_or left i 0 c.loop-number-test.true) (c.loop-number.invariant.2 rising)),
 )
+
+pub returns-clause-rising : goal.returns-clause-rising
+returns-clause-rising c = λ rising. (c.loop-number.invariant.2 rising).rising
 
 pub returns-clause-left : goal.returns-clause-left
 returns-clause-left c = λ s words rules before. left_sifted s c.args.cells.now c.args.left.now c.loop-number.kept.items c.loop-number.number-index before (c.loop-number.invariant.0 s words rules before) (omega (arith, c.loop-number-test.false, c.loop-number.auto.number-index-end))

@@ -16,5 +16,5 @@ returns c =
     let long = rw c.in-Some.is at c.in_ok-cells.ensures.long ∙ ap length c.inputs-count.ensures in
     let whole = subst (λ ws. AreWhole ws asked cells) c.deref.ensures.value (subst (λ xs. AreWhole c.deref.result.now xs cells) c.deref-2.ensures.value (rw c.in-Some.is at c.in_ok-cells.ensures.all)) in
     All-weaker (λ (k : Mask). IsMaskedOn t c.deref-4.result.now c.deref-5.result.now k.rule) (λ (k : Mask). IsMasked t k.rule) (λ k b.
-    masked t words asked cells k.rule long whole c.in_ok-asked.ensures
+    masked t words asked cells k.rule long whole c.in_ok-asked.ensures.asked
     (subst (λ ws. IsMaskedOn t ws cells k.rule) c.deref-4.ensures.value (subst (λ cs. IsMaskedOn t c.deref-4.result.now cs k.rule) c.deref-5.ensures.value b))) c.in_ok-found.found.items c.in_ok-found.ensures

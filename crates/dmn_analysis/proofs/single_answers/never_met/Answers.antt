@@ -22,5 +22,5 @@ returns c =
     subst (λ is. All (NeverHits (length is) t.rules) out) c.inputs-count.ensures
     (subst (λ rs. All (NeverHits (length c.inputs-count.result.now) rs) out) rules
     (All-weaker (λ i. IsBehind c.deref-3.result.now (map rule_view c.rules-rules.result.now) c.deref-4.result.now i []) (NeverHits (length c.inputs-count.result.now) (map rule_view c.rules-rules.result.now)) (λ i b.
-    never_hits words (map rule_view c.rules-rules.result.now) asked cells (length c.inputs-count.result.now) i long whole c.in_ok-asked.ensures
+    never_hits words (map rule_view c.rules-rules.result.now) asked cells (length c.inputs-count.result.now) i long whole c.in_ok-asked.ensures.asked
     (subst (λ ws. IsBehind ws (map rule_view c.rules-rules.result.now) cells i []) c.deref-3.ensures.value (subst (λ cs. IsBehind c.deref-3.result.now (map rule_view c.rules-rules.result.now) cs i []) c.deref-4.ensures.value b))) out behind))

@@ -1,7 +1,9 @@
-use Rattle.std.proofs.Common.{◌∙◌, sym, ap, subst, pos, false, arith, length, get_or, [], ◌∷◌}
-use Rattle.std.specs.List.{slice_get}
+use Rattle.std.proofs.Common.{◌≡◌, true, ◌∙◌, sym, ap, subst, pos, false, arith, length, get_or, [], ◌∷◌}
+use Rattle.std.specs.List.{slice_get, All}
 use Rattle.std.proofs.lemmas.List.{length-append}
+use Rattle.std.proofs.lemmas.List.Elements.{All-push}
 use Rattle.std.proofs.lemmas.Option.{slice_get-get_or}
+use Rattle.feel_value.specs.Limits.{is_value}
 use Rattle.dmn_analysis.specs.declared.cell.Cell.{Cell}
 use Rattle.dmn_analysis.proofs.Witnesses.{AreInFirst, all_in, one_more_in, void_at}
 use Rattle.dmn_analysis.proofs.witness.values_of.Goals as goal
@@ -21,7 +23,11 @@ loop-place-preserved c =
     let inside = rw c.in-Some.is at c.in_ok-value.ensures.inside in (
       ap length is ∙ omega (arith, long, length-append values (value ∷ [])),
       subst (AreInFirst words cells) (sym is) (one_more_in words cells values cell value c.loop-place.invariant.1 there (λ ws of. inside ws (ap (slice_get words) (sym long) ∙ of))),
+      subst (All (λ v. is_value v ≡ true)) (sym is) (All-push (λ v. is_value v ≡ true) values value c.loop-place.invariant.2 (rw c.in-Some.is at c.in_ok-value.ensures.lawful)),
     )
+
+pub returns-clause-lawful : goal.returns-clause-lawful
+returns-clause-lawful c = c.loop-place.invariant.2
 
 pub returns-in_default-clause-none : goal.returns-in_default-clause-none
 returns-in_default-clause-none c = λ none.

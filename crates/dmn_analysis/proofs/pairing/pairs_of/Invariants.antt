@@ -1,0 +1,10 @@
+use Rattle.std.proofs.Common.{◌≡◌, ◌<◌, ℕ, [], Some, length}
+use Rattle.std.specs.List.{slice_get, All}
+use Rattle.dmn_analysis.specs.Sharing.{IsPairOf}
+use Rattle.dmn_analysis.specs.declared.pairs.Shared.{Shared}
+use Rattle.dmn_analysis.proofs.pairing.pairs_of.Given as goal
+
+abbrev pub invariant-loop-place : goal.invariant-loop-place
+invariant-loop-place l =
+    All (IsPairOf l.all) l.pairs.items
+    × (l.pairs.items ≡ [] → (k : ℕ) (s : Shared) → k < l.place → slice_get l.all k ≡ Some s → length s.rules.items < 2)
