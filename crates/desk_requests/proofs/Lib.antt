@@ -6,4 +6,5 @@ pub mod Readings
 pub mod Listening
 pub mod Booking
 pub mod Answering
+pub mod Taken
 pub mod Passing

@@ -1,5 +1,5 @@
 -- Lines that pass a gate, and those that are refused.
-use Rattle.std.proofs.Common.{◌≡◌, ◌<◌, ◌≤◌, ◌∙◌, ℕ, suc, Bool, true, false, is_ok, List, [], ◌∷◌, ◌++◌, Option, Some, None, length, if◌then◌else◌, cond, ◌||◌, String, Global, string_bytes, refl, sym, ap, arith, append-nil}
+use Rattle.std.proofs.Common.{◌≡◌, ◌<◌, ◌≤◌, ◌∙◌, ℕ, suc, Bool, true, false, is_ok, List, [], ◌∷◌, ◌++◌, Option, Some, None, length, if◌then◌else◌, cond, subst, ◌||◌, String, Global, string_bytes, refl, sym, ap, arith, append-nil}
 use Rattle.std.specs.Arc.{arc_value}
 use Rattle.std.specs.BTreeSet.{BTreeSet, Updates, contains_text}
 use Rattle.std.specs.List.{flat_map}
@@ -15,16 +15,17 @@ use Rattle.dmn_plan.specs.ReadModel.{read_model}
 use Rattle.dmn_plan.specs.Request as plan
 use Rattle.desk_wire.specs.Heard.{IsHeardAs}
 use Rattle.desk_wire.specs.Reading.{Reading, Blank, Long, Syntax, Shape, Says}
-use Rattle.desk_wire.specs.Reports.{Report, Refused}
+use Rattle.desk_wire.specs.Reports.{Report}
 use Rattle.desk_wire.specs.declared.heard.Heard.{Heard}
 use Rattle.desk_wire.specs.declared.heard.Heard.TheVariants as heard
 use Rattle.desk_wire.specs.declared.word.Word.TheVariants as word
 use Rattle.desk_requests.specs.Due.{answer, answers, close_answer, line_answer, model_answer, resize_answer, task_answer}
 use Rattle.desk_requests.specs.Gate.{IsOpenAfter, Passes, PassesText, listed, unread}
-use Rattle.desk_requests.specs.Line.{Line, Model, Request, Close, Resize, Reads}
+use Rattle.desk_requests.specs.Line.{Line, Model, Request, Close, Resize}
 use Rattle.desk_requests.specs.LineHeard.{IsLineOf}
 use Rattle.desk_requests.specs.LineView.{line_view}
 use Rattle.desk_requests.specs.Refused.{refused, refused_at, refused_by, refused_lines}
+use Rattle.desk_requests.specs.Services.{KnowsServices}
 use Rattle.desk_requests.specs.State.{callers, has_lane, in_force, is_closed, newer_model, number_after, requests, with_one, with_requester}
 use Rattle.desk_requests.specs.declared.gate.Gate.{Gate}
 use Rattle.desk_requests.specs.declared.line.Line as asking
@@ -74,37 +75,44 @@ one report = append-nil (refused_by report)
 
 as_it_is : (gate : Gate) (earlier : List (Reading Line)) (reading : Reading Line) → IsOpenAfter gate earlier → in_force (reading ∷ earlier) ≡ in_force earlier
     → ((name : List ℕ) → is_closed name (reading ∷ earlier) ≡ is_closed name earlier) → IsOpenAfter gate (reading ∷ earlier)
-as_it_is gate earlier reading stands force same = record { model = force ∙ stands.model; closed = λ name. stands.closed name ∙ sym (same name) }
+as_it_is gate earlier reading stands force same = record { model = force ∙ stands.model; closed = λ name. stands.closed name ∙ sym (same name); services = stands.services }
 
 pub passes_model : (old new : Gate) (k : ℕ) (json : Data) (found : Option RefusedLine) → new.closed ≡ old.closed
     → Some (arc_value new.plan) ≡ newer_model json (read_model json) (Some (arc_value old.plan))
+    → (KnowsServices (arc_value old.plan) old.services → KnowsServices (arc_value new.plan) new.services)
     → refused_by (model_answer k (read_model json)) ≡ listed found → Passes old k (Says (Model json)) found new
-passes_model old new k json found closed model due = λ earlier stands num. (
+passes_model old new k json found closed model services due = λ earlier stands num. (
   (λ lanes less. one (model_answer (number_after earlier) (read_model json)) ∙ ap (λ j. refused_by (model_answer j (read_model json))) (sym num) ∙ due),
   record {
     model = ap (newer_model json (read_model json)) stands.model ∙ sym model;
     closed = λ name. ap (λ names. contains_text names name) closed ∙ stands.closed name;
+    services = services stands.services;
   },
 )
 
-pub passes_request : (gate : Gate) (k : ℕ) (n s : List ℕ) (i : Data) (found : Option RefusedLine)
-    → ((ticket : ℕ) → refused_by (task_answer k n (contains_text gate.closed n) ticket (plan.request_of (arc_value gate.plan) s i)) ≡ listed found)
-    → Passes gate k (Says (Request n s i)) found gate
-passes_request gate k n s i found due = λ earlier stands num. (
+pub passes_request : (old new : Gate) (k : ℕ) (n s : List ℕ) (i : Data) (found : Option RefusedLine) → (new.plan ≡ old.plan) × (new.closed ≡ old.closed)
+    → (KnowsServices (arc_value old.plan) old.services → KnowsServices (arc_value new.plan) new.services)
+    → (KnowsServices (arc_value old.plan) old.services → (ticket : ℕ) → refused_by (task_answer k n (contains_text old.closed n) ticket (plan.request_of (arc_value old.plan) s i)) ≡ listed found)
+    → Passes old k (Says (Request n s i)) found new
+passes_request old new k n s i found same services due = λ earlier stands num. (
   (λ lanes less.
-      let text = arc_value gate.plan in
+      let text = arc_value old.plan in
       let request = plan.request_of text s i in
       let ticket = length (requests n earlier) in
       let lane = has_its_lane lanes earlier (Request n s i) n (asks n s text i earlier stands.model) less in
       one (line_answer lanes earlier (Request n s i))
       ∙ ap refused_by (due_with_lane lanes earlier n s text i request stands.model lane refl)
       ∙ ap (λ b. refused_by (task_answer (number_after earlier) n b ticket request)) (sym (stands.closed n))
-      ∙ ap (λ j. refused_by (task_answer j n (contains_text gate.closed n) ticket request)) (sym num)
-      ∙ due ticket),
-  as_it_is gate earlier (Says (Request n s i)) stands refl (λ name. refl),
+      ∙ ap (λ j. refused_by (task_answer j n (contains_text old.closed n) ticket request)) (sym num)
+      ∙ due stands.services ticket),
+  record {
+    model = stands.model ∙ ap (λ p. Some (arc_value p)) (sym same.0);
+    closed = λ name. ap (λ names. contains_text names name) same.1 ∙ stands.closed name;
+    services = services stands.services;
+  },
 )
 
-pub passes_close : (old new : Gate) (k : ℕ) (n : List ℕ) (found : Option RefusedLine) → new.plan ≡ old.plan
+pub passes_close : (old new : Gate) (k : ℕ) (n : List ℕ) (found : Option RefusedLine) → (new.plan ≡ old.plan) × (new.services ≡ old.services)
     → ((other : List ℕ) → contains_text new.closed other ≡ (bytes_eq n other || contains_text old.closed other))
     → refused_by (close_answer k n true (contains_text old.closed n)) ≡ listed found → Passes old k (Says (Close n)) found new
 passes_close old new k n found plan closes due = λ earlier stands num. (
@@ -116,8 +124,9 @@ passes_close old new k n found plan closes due = λ earlier stands num. (
       ∙ ap (λ j. refused_by (close_answer j n true (contains_text old.closed n))) (sym num)
       ∙ due),
   record {
-    model = stands.model ∙ ap (λ p. Some (arc_value p)) (sym plan);
+    model = stands.model ∙ ap (λ p. Some (arc_value p)) (sym plan.0);
     closed = λ name. closes name ∙ ap (λ b. bytes_eq n name || b) (stands.closed name);
+    services = subst (λ p. KnowsServices (arc_value p) new.services) (sym plan.0) (subst (KnowsServices (arc_value old.plan)) (sym plan.1) stands.services);
   },
 )
 
@@ -180,10 +189,12 @@ passes_unread gate k (heard.Object members) it found h none is = (
 
 -- ## All lines
 
-pub opens : (gate : Gate) (d : Data) → is_ok (read_model d) ≡ true → arc_value gate.plan ≡ compact_text d → gate.closed.keys ≡ [] → IsOpenAfter gate (Says (Model d) ∷ [])
-opens gate d ok is empty = record {
+pub opens : (gate : Gate) (d : Data) → is_ok (read_model d) ≡ true → arc_value gate.plan ≡ compact_text d → gate.closed.keys ≡ [] → ((text : List ℕ) → KnowsServices text gate.services)
+    → IsOpenAfter gate (Says (Model d) ∷ [])
+opens gate d ok is empty services = record {
   model = (loaded_model d (read_model d) None 0 ok).0 ∙ ap Some (sym is);
   closed = λ name. rw empty refl;
+  services = services (arc_value gate.plan);
 }
 
 pub one_more_line : (lanes : ℕ) (earlier : List (Reading Line)) (reading : Reading Line) → refused_lines lanes (reading ∷ earlier) ≡ refused_lines lanes earlier ++ refused_at lanes earlier reading

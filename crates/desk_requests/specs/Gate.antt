@@ -8,6 +8,7 @@ use Rattle.desk_wire.specs.declared.heard.Heard.TheVariants as heard
 use Rattle.desk_wire.specs.declared.word.Word.TheVariants as word
 use Rattle.desk_requests.specs.Line.{Line, Reads}
 use Rattle.desk_requests.specs.Refused.{refused, refused_at}
+use Rattle.desk_requests.specs.Services.{KnowsServices}
 use Rattle.desk_requests.specs.State.{in_force, is_closed, number_after}
 use Rattle.desk_requests.specs.declared.gate.Gate.{Gate}
 use Rattle.desk_requests.specs.declared.refused.RefusedLine.{RefusedLine}
@@ -16,6 +17,7 @@ use Rattle.desk_requests.specs.declared.refused.RefusedLine.{RefusedLine}
 pub record IsOpenAfter (gate : Gate) (earlier : List (Reading Line)) : Type 0 where
   pub model : in_force earlier ≡ Some (arc_value gate.plan)
   pub closed : (name : List ℕ) → contains_text gate.closed name ≡ is_closed name earlier
+  pub services : KnowsServices (arc_value gate.plan) gate.services
 
 abbrev pub listed : Option RefusedLine → List RefusedLine
 listed None = []

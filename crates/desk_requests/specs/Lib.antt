@@ -5,4 +5,5 @@ pub mod State
 pub mod Due
 pub mod Register
 pub mod Refused
+pub mod Services
 pub mod Gate

@@ -15,24 +15,27 @@ ghost use Rattle.desk_requests.specs.Line.{Model};
 ghost use Rattle.desk_requests.specs.LineView.{line_view};
 ghost use Rattle.desk_requests.specs.Refused as specs;
 ghost use Rattle.desk_requests.specs.Refused.{refused_by};
+ghost use Rattle.desk_requests.specs.Services.{KnowsServices};
 ghost use Rattle.desk_requests.specs.State.{newer_model};
 
 use crate::line::{Line, line_heard};
 use crate::refused::RefusedLine;
 use crate::register::MOST_OUTSTANDING;
+use crate::services::Services;
 use desk_wire::{Heard, Word};
-use dmn_plan::{ModelFault, Plan, Task, TaskFault};
+use dmn_plan::{ModelFault, Plan};
 use serde_json::Value;
 use std::alloc::{AllocError, Global};
 use std::collections::BTreeSet;
 use std::sync::Arc;
 
-/// What stands between the lines behind that of a lawful model, where each client has a lane: the model in force, and the clients that
-/// are closed. It answers nothing: it tells which lines are refused.
+/// What stands between the lines behind that of a lawful model, where each client has a lane: the model in force, the clients that are
+/// closed, and what the services take that were asked. It answers nothing: it tells which lines are refused.
 #[derive(Drop)]
 pub struct Gate {
     pub(crate) plan: Arc<Plan>,
     pub(crate) closed: BTreeSet<String>,
+    pub(crate) services: Services,
 }
 
 /// The line with this number, refused with this word.
@@ -70,11 +73,13 @@ impl Gate {
     ) -> Result<Option<RefusedLine>, AllocError>
         ensures closed { self.new.closed ≡ self.old.closed }
         ensures model { OnOk result (Some (arc_value self.new.plan) ≡ newer_model (view model.now) (read_model (view model.now)) (Some (arc_value self.old.plan))) }
+        ensures services { OnOk result (KnowsServices (arc_value self.old.plan) self.old.services → KnowsServices (arc_value self.new.plan) self.new.services) }
         ensures due { IfOk result (λ found. refused_by (model_answer number (read_model (view model.now))) ≡ listed found) }
     {
         match Plan::of(alloc, model) {
             Ok(plan) => {
                 self.plan = Arc::new(alloc, plan)?;
+                self.services = Services::new(alloc);
                 Ok(None)
             }
             Err(fault) => match fault {
@@ -97,24 +102,23 @@ impl Gate {
 
     /// A request is refused where the model has no such service, where its inputs are no values, and where its client is closed.
     fn ask(
-        &self,
+        &mut self,
         alloc: Global,
         number: u64,
         name: &str,
         service: &str,
         inputs: &Value,
     ) -> Result<Option<RefusedLine>, AllocError>
-        ensures { IfOk result (λ found. (ticket : ℕ) →
-            refused_by (task_answer number name.now (contains_text self.now.closed name.now) ticket (request_of (arc_value self.now.plan) service.now (view inputs.now))) ≡ listed found) }
+        ensures same { (self.new.plan ≡ self.old.plan) × (self.new.closed ≡ self.old.closed) }
+        ensures services { OnOk result (KnowsServices (arc_value self.old.plan) self.old.services → KnowsServices (arc_value self.new.plan) self.new.services) }
+        ensures due { IfOk result (λ found. KnowsServices (arc_value self.old.plan) self.old.services → (ticket : ℕ) →
+            refused_by (task_answer number name.now (contains_text self.old.closed name.now) ticket (request_of (arc_value self.old.plan) service.now (view inputs.now))) ≡ listed found) }
     {
-        let plan = Arc::try_clone(&self.plan)?;
-        match Task::new(alloc, plan, service, inputs) {
-            Ok(_) if self.is_closed(name) => Ok(Some(refused(number, Word::Closed))),
-            Ok(_) => Ok(None),
-            Err(fault) => match fault {
-                TaskFault::Memory => Err(AllocError),
-                fault => Ok(Some(refused(number, Word::of_task_fault(fault)))),
-            },
+        let fault = self.services.fault_of(alloc, &self.plan, service, inputs)?;
+        match fault {
+            Some(fault) => Ok(Some(refused(number, Word::of_task_fault(fault)))),
+            None if self.is_closed(name) => Ok(Some(refused(number, Word::Closed))),
+            None => Ok(None),
         }
     }
 
@@ -125,7 +129,7 @@ impl Gate {
         number: u64,
         name: &str,
     ) -> Result<Option<RefusedLine>, AllocError>
-        ensures plan { self.new.plan ≡ self.old.plan }
+        ensures plan { (self.new.plan ≡ self.old.plan) × (self.new.services ≡ self.old.services) }
         ensures closes { OnOk result ((other : List ℕ) → contains_text self.new.closed other ≡ (bytes_eq name.now other || contains_text self.old.closed other)) }
         ensures due { IfOk result (λ found. refused_by (close_answer number name.now true (contains_text self.old.closed name.now)) ≡ listed found) }
     {
@@ -160,6 +164,7 @@ impl Gate {
         Gate {
             plan,
             closed: BTreeSet::new(alloc),
+            services: Services::new(alloc),
         }
     }
 
@@ -187,7 +192,8 @@ impl Gate {
     }
 
     /// Whether the line with this number is refused, and why. Where memory is refused the gate is of no more use. The time is in
-    /// proportion to the line, times the logarithm of how many clients are closed.
+    /// proportion to the line, times the logarithm of how many clients are closed and of how many values a service takes; the first
+    /// request to a service also takes time for each of these.
     pub fn pass(
         &mut self,
         alloc: Global,

@@ -7,6 +7,7 @@ mod gate;
 mod line;
 mod refused;
 mod register;
+mod services;
 
 pub use gate::Gate;
 pub use line::{Line, line_heard};

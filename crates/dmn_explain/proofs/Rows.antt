@@ -3,7 +3,8 @@ use Rattle.std.proofs.Common.{◌≡◌, ℕ, ◌+◌, ◌<◌, ◌≤◌, List,
 use Rattle.std.specs.Option.{is_none}
 use Rattle.std.specs.Prelude.{nat_eq}
 use Rattle.std.proofs.lemmas.List.{at_drop_more, drop_all}
-use Rattle.std.proofs.lemmas.Option.{same_Some}
+use Rattle.std.specs.List.{slice_get}
+use Rattle.std.proofs.lemmas.Option.{same_Some, slice_get-map, slice_get_read}
 use Rattle.serde_json.specs.Data.{Members}
 use Rattle.feel_value.specs.Datum.{Datum}
 use Rattle.feel_value.specs.Found.{each, ◌>>=◌}
@@ -66,6 +67,21 @@ module _ (w : Bool) (whole : Option Found) (a : Found) (m : Bindings) (values : 
         before ∙ ap (after_found a) (from_rule w (i + 1) m values rs i x (Some miss) here more is)
         ∙ found_behind w (i + 1) (rule_view x) (map rule_view (drop (i + 1) rs)) miss (each (first_miss m values) (map rule_view (drop (i + 1) rs))) a
         ∙ ap (λ (c : Found). after_found c (found_from w (i + 1 + 1) m values (map rule_view (drop (i + 1) rs)))) (sym added)
+
+    pub rule_there : slice_get (map rule_view rs) i ≡ Some (rule_view x)
+    rule_there = slice_get-map rule_view rs i ∙ ap (option_map rule_view) (slice_get_read rs (length rs) i x refl more here)
+
+    -- a rule that misses is passed over where misses aren't asked for
+    pub found_passed : w ≡ false → does_hit m values (rule_view x) ≡ Some false → whole ≡ after_found a (found_from w (i + 1 + 1) m values (map rule_view (drop (i + 1) rs)))
+    found_passed off miss = go (first_miss m values (rule_view x)) refl
+      where
+        misses_by : (o : Option (Option ℕ)) → first_miss m values (rule_view x) ≡ o → option_map is_none o ≡ Some false
+        misses_by o e = ap (option_map is_none) (sym e) ∙ hits_without_miss m values (rule_view x) ∙ miss
+
+        go : (o : Option (Option ℕ)) → first_miss m values (rule_view x) ≡ o → whole ≡ after_found a (found_from w (i + 1 + 1) m values (map rule_view (drop (i + 1) rs)))
+        go None e = let no : None ≡ Some false = misses_by None e in cc
+        go (Some None) e = let no : Some true ≡ Some false = misses_by (Some None) e in cc
+        go (Some (Some c)) e = found_more (Some c) a (sym e) (sym (ap (λ b. one_more b (i + 1) (rule_view x) (Some c) a) off))
 
 -- ---- of a whole table
 

@@ -1,10 +1,11 @@
 //! Which rules of a table hit, and by which column the others miss.
 ghost use Rattle.std.specs.Prelude.{◌≡◌, OnOk, IfOk, map, option_map};
 ghost use Rattle.dmn_table.specs.Hits.{first_miss as first_miss_of};
+ghost use Rattle.dmn_table.specs.MayHit.{LeavesOutOf};
 ghost use Rattle.dmn_table.specs.Parts.{rule_view, rules_view};
 ghost use Rattle.dmn_explain.specs.Numbered.{asked_view, found_from, hit_view, one_more};
 
-use dmn_table::{Rule, first_miss};
+use dmn_table::{MayHit, Rule, first_miss};
 use feel_lang::{Env, Held, holds};
 use feel_value::Feel;
 use std::alloc::{AllocError, Global};
@@ -81,14 +82,16 @@ fn miss_of(
 }
 
 /// The rules that hit, in their order and with their numbers, and those that miss, where these are asked for; None where an entry
-/// breaks a limit. Each rule is asked once.
+/// breaks a limit. Each rule is asked once; where misses aren't asked for, only those that may hit.
 pub(crate) fn ask_rules<'a>(
     alloc: Global,
     rules: &'a [Rule],
+    some: &MayHit,
     values: &[Feel],
     with_misses: bool,
     env: &Env,
 ) -> Result<Option<Asked<'a>>, AllocError>
+    requires { LeavesOutOf (map rule_view rules.now) values.now some.now }
     ensures { IfOk result (λ found. option_map asked_view found ≡ found_from with_misses 1 env.now values.now (map rule_view rules.now)) }
 {
     let mut asked = Asked {
@@ -96,6 +99,9 @@ pub(crate) fn ask_rules<'a>(
         misses: Vec::new(alloc),
     };
     for (i, rule) in rules.iter().enumerate() {
+        if !with_misses && some.leaves_out(i) {
+            continue;
+        }
         let Some(miss) = miss_of(alloc, rule, values, env)? else {
             return Ok(None);
         };

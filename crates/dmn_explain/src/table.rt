@@ -178,7 +178,8 @@ pub(crate) fn add_table(
     };
     add_key(true, Key::Inputs, text)?;
     add_values(alloc, &values, text)?;
-    let Some(asked) = ask_rules(alloc, table.rules(), &values, with_misses, env)? else {
+    let some = table.may_hit(alloc, &values)?;
+    let Some(asked) = ask_rules(alloc, table.rules(), &some, &values, with_misses, env)? else {
         text.push(b'}')?;
         return Ok(());
     };

@@ -8,7 +8,7 @@ use crate::course::Course;
 use crate::fault::{ModelFault, TaskFault};
 use crate::index::plans_by_name;
 use crate::planning::plan_of;
-use crate::values::values_at;
+use crate::values::{names_at, values_at};
 use dmn_form::read_form;
 use dmn_service::{Item, ServicePlan, service_evaluation, service_outcome};
 use feel_value::{Feel, Outcome};
@@ -44,8 +44,9 @@ impl Plan {
     ghost use Rattle.serde_json.specs.Written.{compact_text};
     ghost use Rattle.dmn_plan.specs.Due.{IsDue, IsReadDue, IsTaskDue};
     ghost use Rattle.dmn_plan.specs.ReadModel.{read_model, read_text};
-    ghost use Rattle.dmn_plan.specs.Request.{TakesValues, request_of, request_result};
-    ghost use Rattle.std.specs.Prelude.{length, Ok, IfSome, is_some};
+    ghost use Rattle.dmn_plan.specs.Request.{TakesValues, request_of, request_result, service_in};
+    ghost use Rattle.dmn_service.specs.Decision.{parameters_of};
+    ghost use Rattle.std.specs.Prelude.{length, map, Ok, IfSome, is_some};
     ghost use Rattle.dmn_plan.specs.Course.{IsCourseOf};
 
     /// The plan of a model in JSON, or its first fault: Shape, Name, Twice, Expression, Table, Unknown, Cycle, Service, Large, in
@@ -142,6 +143,22 @@ impl Plan {
             return Err(TaskFault::Value);
         };
         Ok(values)
+    }
+
+    /// The names of what the service of this name takes values of: its input decisions, and then its input data. None where there is no
+    /// such service.
+    pub fn parameters<'a>(
+        &'a self,
+        alloc: Global,
+        service: &str,
+    ) -> Result<Option<Vec<&'a str>>, AllocError>
+        ensures { IfOk result (λ found. option_map (λ names. map (λ n. n.now) names.items) found ≡ option_map parameters_of (service_in (read_text self.now) service.now)) }
+    {
+        let Some(plan) = self.services.get(service) else {
+            return Ok(None);
+        };
+        let names = names_at(alloc, &self.items, &plan.parameters)?;
+        Ok(Some(names))
     }
 
     /// The compact text of the model, with the keys of each object in the order of their bytes.

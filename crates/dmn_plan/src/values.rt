@@ -75,3 +75,19 @@ pub(crate) fn values_at(
     let values = place_values(alloc, inputs, items, places)?;
     Ok(values)
 }
+
+/// The names of these places.
+pub(crate) fn names_at<'a>(
+    alloc: Global,
+    items: &'a [Item],
+    places: &[usize],
+) -> Result<Vec<&'a str>, AllocError>
+    requires { All (λ q. q < length items.now) places.now }
+    ensures { IfOk result (λ names. map (λ n. n.now) names.items ≡ map (name_at items.now) places.now) }
+{
+    let mut names = Vec::with_capacity(alloc, places.len())?;
+    for place in places {
+        names.push(items[*place].name.as_str())?;
+    }
+    Ok(names)
+}

@@ -1,9 +1,11 @@
 -- The rules that hit where some are known to miss.
-use Rattle.std.proofs.Common.{◌≡◌, ◌∙◌, sym, ap, ap₂, refl, ℕ, zero, suc, ◌+◌, ◌*◌, ◌<◌, ◌≤◌, List, [], ◌∷◌, ◌++◌, map, take, drop, length, get_or, Bool, true, false, Option, None, Some, option_map, append_assoc, arith}
+use Rattle.std.proofs.Common.{◌≡◌, ◌∙◌, ◌⊎◌, inl, inr, sym, ap, ap₂, refl, subst, ℕ, zero, suc, ◌+◌, ◌*◌, ◌/◌, ◌%◌, ◌<◌, ◌≤◌, List, [], ◌∷◌, ◌++◌, map, take, drop, length, get_or, Bool, true, false, Option, None, Some, option_map, append_assoc, arith}
 use Rattle.std.specs.List.{slice_get}
 use Rattle.std.specs.Int.{bit_at}
 use denote.Ref.{Bor}
 use Rattle.std.proofs.lemmas.List.{drop-map, length-take, take-append-drop, map-append}
+use Rattle.std.proofs.lemmas.Bool.Decides.{nat_tests}
+use Rattle.std.proofs.lemmas.Nat.{div-add-mod'}
 use Rattle.std.proofs.lemmas.Option.{get_or_from_slice_get, same_Some, slice_get-map, slice_get_within}
 use Rattle.feel_value.specs.Datum.{Datum}
 use Rattle.feel_value.specs.Found.{each, ◌>>=◌}
@@ -11,6 +13,8 @@ use Rattle.feel_text.specs.Meaning.{Bindings}
 use Rattle.table_classes.specs.Classes.{AreRowsOf, IsUnsetIn}
 use Rattle.table_classes.specs.declared.classes.ClassRules.{ClassRules}
 use Rattle.dmn_table.specs.Classes.{MissUnset, input_entries}
+use Rattle.dmn_table.specs.MayHit.{LeavesOut, LeavesOutOf, is_unset_in}
+use Rattle.dmn_table.specs.declared.may_hit.MayHit.{MayHit}
 use Rattle.dmn_table.specs.declared.table.Rule as code
 use Rattle.dmn_table.specs.Hits.{does_hit, kept}
 use Rattle.dmn_table.specs.Parts.{rule_view}
@@ -172,3 +176,65 @@ block_misses m vs rules block rest rows place k word told unset left front few =
     let row = told u.column u.row u.there in
     let at = row.of_class.1 place u.word u.has i r.tests.items small (input_entries_behind (64 * place) i rules r here) u.unset in
     missed_at m vs (rule_view r) u.column at.missed.entry row.value at.keeps at.missed.there row.there (at.missed.misses row.value m row.lawful row.of_class.0)
+
+-- ---- rules that are left out
+
+-- an element of a list that is one longer
+pushed : {X : Type 0} (xs : List X) (x y : X) (w : ℕ) → slice_get (xs ++ x ∷ []) w ≡ Some y → (slice_get xs w ≡ Some y) ⊎ ((w ≡ length xs) × (x ≡ y))
+pushed [] x y zero e = inr (refl, same_Some x y e)
+pushed [] x y (suc w) e = cc
+pushed (z ∷ xs) x y zero e = inl e
+pushed (z ∷ xs) x y (suc w) e = elim (pushed xs x y w e) [ inl h ↦ inl h | inr h ↦ inr (ap suc h.0, h.1) ]
+
+-- the bits that are not set in the words of the first blocks
+abbrev pub TellsFirst : List (Option (Bor ClassRules)) → List ℕ → Type 0
+TellsFirst rows words = (w word i : ℕ) → i < 64 → slice_get words w ≡ Some word → bit_at word i ≡ 0 → IsUnsetIn rows w i
+
+pub one_more_word : (rows : List (Option (Bor ClassRules))) (old new : List ℕ) (last : ℕ) → TellsFirst rows old → new ≡ old ++ last ∷ []
+    → ((i : ℕ) → i < 64 → bit_at last i ≡ 0 → IsUnsetIn rows (length old) i) → TellsFirst rows new
+one_more_word rows old new last told is more w word i small there unset =
+    elim (pushed old last word w (ap (λ ws. slice_get ws w) (sym is) ∙ there)) [
+      | inl before ↦ told w word i small before unset
+      | inr at ↦ subst (λ k. IsUnsetIn rows k i) (sym at.0) (more i small (ap (λ n. bit_at n i) at.1 ∙ unset))
+    ]
+
+-- an element behind others
+behind_others : {X : Type 0} (n i : ℕ) (xs : List X) → slice_get (drop n xs) i ≡ slice_get xs (n + i)
+behind_others zero i xs = let same : i ≡ 0 + i = omega arith in ap (slice_get xs) same
+behind_others (suc n) i [] = refl
+behind_others (suc n) i (x ∷ xs) = let next : suc (n + i) ≡ suc n + i = omega arith in behind_others n i xs ∙ ap (slice_get (x ∷ xs)) next
+
+-- a rule misses whose bit is not set in the word of its block
+missed_in_word : (m : Bindings) (vs : List Datum) (rules : List code.Rule) (rows : List (Option (Bor ClassRules))) (w i : ℕ) (r : code.Rule) → AreRowsOf (input_entries rules) vs rows → IsUnsetIn rows w i
+    → i < 64 → slice_get rules (64 * w + i) ≡ Some r → does_hit m vs (rule_view r) ≡ Some false
+missed_in_word m vs rules rows w i r told u small there =
+    let row = told u.column u.row u.there in
+    let here : slice_get (drop (64 * w) rules) i ≡ Some r = behind_others (64 * w) i rules ∙ there in
+    let at = row.of_class.1 w u.word u.has i r.tests.items small (input_entries_behind (64 * w) i rules r here) u.unset in
+    missed_at m vs (rule_view r) u.column at.missed.entry row.value at.keeps at.missed.there row.there (at.missed.misses row.value m row.lawful row.of_class.0)
+
+pub left_out : (vs : List Datum) (rules : List code.Rule) (rows : List (Option (Bor ClassRules))) (some : MayHit) → AreRowsOf (input_entries rules) vs rows
+    → TellsFirst rows some.words.items → LeavesOut rules vs some
+left_out vs rules rows some told words m i r there out = go (slice_get some.words.items (i / 64)) refl out
+  where
+    whole : 64 * (i / 64) + i % 64 ≡ i
+    whole = omega (arith, div-add-mod' i 64)
+
+    go : (o : Option ℕ) → slice_get some.words.items (i / 64) ≡ o → is_unset_in o (i % 64) ≡ true → does_hit m vs (rule_view r) ≡ Some false
+    go None e h = cc
+    go (Some word) e h =
+        let small : i % 64 < 64 = omega arith in
+        missed_in_word m vs rules rows (i / 64) (i % 64) r told (words (i / 64) word (i % 64) small e (grind (arith, nat_tests, h))) small (ap (slice_get rules) whole ∙ there)
+
+-- where nothing is known, nothing is left out
+pub none_left_out : (vs : List Datum) (rules : List code.Rule) (some : MayHit) → some.words.items ≡ [] → LeavesOut rules vs some
+none_left_out vs rules some none m i r there out = let no : false ≡ true = sym (ap (λ ws. is_unset_in (slice_get ws (i / 64)) (i % 64)) none) ∙ out in cc
+
+pub left_out_of : (vs : List Datum) (rules : List code.Rule) (some : MayHit) → LeavesOut rules vs some → LeavesOutOf (map rule_view rules) vs some
+left_out_of vs rules some told m i r there out = go (slice_get rules i) refl
+  where
+    go : (o : Option code.Rule) → slice_get rules i ≡ o → does_hit m vs r ≡ Some false
+    go None e = let no : None ≡ Some r = ap (option_map rule_view) (sym e) ∙ sym (slice_get-map rule_view rules i) ∙ there in cc
+    go (Some x) e =
+        let same : rule_view x ≡ r = same_Some (rule_view x) r (ap (option_map rule_view) (sym e) ∙ sym (slice_get-map rule_view rules i) ∙ there) in
+        subst (λ y. does_hit m vs y ≡ Some false) same (told m i x e out)

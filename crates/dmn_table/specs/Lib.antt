@@ -3,6 +3,7 @@ pub mod Faults
 pub mod Hits
 pub mod Unbroken
 pub mod Classes
+pub mod MayHit
 pub mod Priority
 pub mod Listed
 pub mod RuleOutputs

@@ -11,6 +11,7 @@ ghost use Rattle.table_classes.specs.Unbroken.{KeepLimits};
 use crate::columns::MOST_KEPT;
 use crate::fault::TableFault;
 use crate::hit_policy::HitPolicy;
+use crate::may_hit::{MayHit, may_hit};
 use crate::output::one_or_context;
 use feel_lang::{Expr, Tests};
 use feel_value::{Feel, Outcome};
@@ -110,6 +111,7 @@ impl Model for Table {
 impl Table {
     ghost use Rattle.std.specs.Prelude.{map};
     ghost use Rattle.dmn_table.specs.Hits.{output_of};
+    ghost use Rattle.dmn_table.specs.MayHit.{LeavesOutOf};
     ghost use Rattle.dmn_table.specs.Parts.{column_view, rule_view, have_entries};
 
     /// The table, or its first fault: of the text of the hit policy, of the columns, of an operator over several outputs. It
@@ -190,6 +192,15 @@ impl Table {
         ensures entries { have_entries (length self.now.outputs) self.now.rules ≡ true }
     {
         &self.rules
+    }
+
+    /// Which of its rules may hit for some values of its input columns, as far as that is known without asking them: what is left out
+    /// misses. The time is in proportion to the columns times the rules, 64 of which take a step.
+    pub fn may_hit(&self, alloc: Global, values: &[Feel]) -> Result<MayHit, AllocError>
+        ensures { IfOk result (LeavesOutOf self.now.rules values.now) }
+    {
+        let some = may_hit(alloc, &self.rules, &self.classes, values)?;
+        Ok(some)
     }
 
     /// The values of its output columns as one value: the only one itself, otherwise a context of them under the columns' names.

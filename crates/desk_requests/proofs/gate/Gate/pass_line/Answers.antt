@@ -9,8 +9,9 @@ use Rattle.desk_requests.proofs.gate.Gate.pass_line.Goals as goal
 
 pub returns-in_ok-found-in-Request : goal.returns-in_ok-found-in-Request
 returns-in_ok-found-in-Request c =
-    subst (λ (says : Line). Passes c.args.self.now c.args.number (Says (line_view says)) c.in_ok-found-in-Request.found c.args.self.now) (sym c.in-Request.is)
-    (passes_request c.args.self.now c.args.number c.in-Request.name.now c.in-Request.service.now (view c.in-Request.inputs.now) c.in_ok-found-in-Request.found c.in_ok-found-in-Request.ensures)
+    let asked = c.in_ok-found-in-Request.ensures in
+    subst (λ (says : Line). Passes c.args.self.now c.args.number (Says (line_view says)) c.in_ok-found-in-Request.found c.ask.new.self) (sym c.in-Request.is)
+    (passes_request c.args.self.now c.ask.new.self c.args.number c.in-Request.name.now c.in-Request.service.now (view c.in-Request.inputs.now) c.in_ok-found-in-Request.found c.ask.ensures.same asked.services asked.due)
 
 pub returns-in_ok-found-in-Close : goal.returns-in_ok-found-in-Close
 returns-in_ok-found-in-Close c =
