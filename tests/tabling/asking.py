@@ -55,18 +55,18 @@ def wrong_gaps(row: Row, scan: Scan, told: Told) -> Iterator[str]:
         in_cells = [it for it in gaps if it.has(point)]
         if scan.hits(point) and in_cells and (row.is_constant or point in row.taken_points):
             yield f"{point} is in the cells of {in_cells[0].line}, and has a rule"
-        if scan.hits(point) or told.more or row.due()[0] is not False:
+        if scan.hits(point) or told.more or row.told[0] is not False:
             continue
         if not in_cells:
             yield f"{point} has no rule, and is in no gap"
-        elif scan.is_asked(point, ASKED) and row.due()[1] is False and not any(it.is_asked for it in in_cells):
+        elif scan.is_asked(point, ASKED) and row.told[1] is False and not any(it.is_asked for it in in_cells):
             yield f"{point} has no rule and is asked, and is in no gap that is told as asked"
 
 
 def wrong_overlaps(row: Row, scan: Scan, told: Told) -> Iterator[str]:
     overlaps = told.of("overlap")
     pairs = sorted((it.rules[0], it.rules[1]) for it in overlaps)
-    if row.is_decided and pairs != sorted(row.overlaps) or not set(pairs) <= set(row.overlaps):
+    if row.is_constant and pairs != sorted(row.overlaps) or not set(pairs) <= set(row.overlaps):
         yield f"overlaps: {pairs}"
     if not row.is_constant:
         return
@@ -79,7 +79,7 @@ def wrong_overlaps(row: Row, scan: Scan, told: Told) -> Iterator[str]:
 def wrong_masked(row: Row, scan: Scan, told: Told) -> Iterator[str]:
     found = {it.rules[0]: it.rules[1:] for it in told.of("masked") if it.rules[0] not in row.never}
     due = set(row.masked) if row.hit in ("F", "P") else set()
-    if row.is_decided and set(found) != due or not set(found) <= due:
+    if row.is_constant and set(found) != due or not set(found) <= due:
         yield f"masked: {found}"
     for rule, before in found.items():
         order = row.order()
@@ -109,9 +109,9 @@ def wrong(row: Row, told: Told) -> Iterator[str]:
         yield fault
         return
     scan = row.scan
-    yield from (f"{it}: {told.line[it]}, and {due} is due" for it, due in zip(ANSWERS, row.due(), strict=True) if not is_due(told.line[it], due))
+    yield from (f"{it}: {told.line[it]}, and {due} is due" for it, due in zip(ANSWERS, row.told, strict=True) if not is_due(told.line[it], due))
     never = sorted(it.rules[0] for it in told.of("never"))
-    if row.is_decided and never != sorted(row.never) or not set(never) <= set(row.never):
+    if row.is_constant and never != sorted(row.never) or not set(never) <= set(row.never):
         yield f"never: {never}"
     yield from wrong_gaps(row, scan, told)
     yield from wrong_overlaps(row, scan, told)

@@ -13,10 +13,10 @@ from .scan import ASKED, EVERY, WORDS
 
 POLICIES = ["U", "A", "P", "F", "O", "R", "C", "C+", "C<", "C>", "C#"]
 NUMBERS = [-MOST, 1 - MOST, -7, -2, -1, 0, 1, 2, 3, 5, 8, MOST - 1, MOST]
-TEXTS = ["", "a", "b", "ab", "a\0", "é", "Z", "\U0001f600"]
+TEXTS = ["", "a", "b", "ab", "a\0", "é", "Z", "\uffff", "\U0001f600"]
 COLUMNS = ["a", "b", "c", "p.x", "p.y", "p.q.z"]
 # Tests that take nothing, or the same as others, and such that a list, a name or a decision before decides.
-ODD = ["[7..3]", "(5..6)", "(2..2)", "> null", "[null..5]", "[0..true)", "not(< 1, >= 1)", '["b"..1]', "-0", "null", "not(null, 1)", "true, 3", 'not(["a".."b"], 1)']
+ODD = ['["b".."a"]', '< ""', '("a".."a\0")', '("a".."b"]', 'not(< "b")', 'not(["a".."é"], "Z")', '> "ab", "a"', '< "\U0001f600"', '["a"..5]', "[7..3]", "(5..6)", "(2..2)", "> null", "[null..5]", "[0..true)", "not(< 1, >= 1)", '["b"..1]', "-0", "null", "not(null, 1)", "true, 3", 'not(["a".."b"], 1)']
 UNDECIDED = ["[1, 2]", "not([1, 2])", "[]", "x", "not(x)", "< x", "[0..x]", "[x, 1]", "half", "a", "1 + 1"]
 # The rules' entries in one column, of which each value of a kind meets just one.
 Parts = Callable[[random.Random], list[str]]
@@ -64,9 +64,17 @@ def words(draw: random.Random) -> list[str]:
 
 def ordered(draw: random.Random) -> list[str]:
     """All texts, by order."""
-    cuts = [text(it) for it in sorted(draw.sample(TEXTS[1:], draw.randrange(1, 3)))]
-    between = [f"[{low}..{high})" for low, high in itertools.pairwise(cuts)]
-    return shuffled(draw, [f"< {cuts[0]}", *between, f">= {cuts[-1]}"])
+    cuts = [text(it) for it in sorted(draw.sample(TEXTS[1:], draw.randrange(1, 4)))]
+    # Of each cut, whether it stands with what is below it, with what is above, or alone.
+    sides = [draw.choice(["below", "above", "alone"]) for _ in cuts]
+    opened, closed = ["[" if it == "above" else "(" for it in sides], ["]" if it == "below" else ")" for it in sides]
+    between = [f"{opened[n]}{cuts[n]}..{cuts[n + 1]}{closed[n + 1]}" for n in range(len(cuts) - 1)]
+    first, last = f"{'<=' if sides[0] == 'below' else '<'} {cuts[0]}", f"{'>=' if sides[-1] == 'above' else '>'} {cuts[-1]}"
+    alone = [cut for cut, side in zip(cuts, sides, strict=True) if side == "alone"]
+    parts = [first, *between, last, *alone]
+    if draw.randrange(4) == 0:
+        return shuffled(draw, [*parts[1:], draw.choice([f"not({', '.join(parts[1:])})", first])])
+    return shuffled(draw, parts)
 
 
 def truths(draw: random.Random) -> list[str]:
@@ -77,7 +85,7 @@ def nulls(draw: random.Random) -> list[str]:
     return draw.choice([["null", "not(null)"], ["not(null)", "null"]])
 
 
-KINDS: list[Parts] = [numbers, numbers, words, words, ordered, truths, nulls]
+KINDS: list[Parts] = [numbers, numbers, words, words, ordered, ordered, truths, nulls]
 
 
 def split(draw: random.Random, kinds: list[Parts], most: int) -> list[list[str]]:

@@ -137,7 +137,27 @@ ROWS: list[tuple[str, object, list[str]]] = [
     (
         "a test that compares texts by order",
         one('< "m"', "-"),
-        ['table: decisions[0] "d": 2 rules, U: complete, overlaps not decided', "  not decided: rule 1 has tests that compare texts by order"],
+        ['table: decisions[0] "d": 2 rules, U: complete, rules overlap', '  rules 1 and 2 both apply: a before "m"    U gives null'],
+    ),
+    (
+        "texts behind the last one",
+        one('<= "m"', hit="C"),
+        ['table: decisions[0] "d": 1 rule, C: not complete', '  no rule: a after "m"    e.g. "m\\u0000"    null', "  no rule for null and other kinds of a"],
+    ),
+    (
+        "texts from one to another, without them",
+        one('<= "k"', '>= "m"', hit="C"),
+        ['table: decisions[0] "d": 2 rules, C: not complete', '  no rule: a between "k" and "m"    e.g. "k\\u0000"    null', "  no rule for null and other kinds of a"],
+    ),
+    (
+        "with one of them",
+        one('<= "k"', '> "m"', hit="C"),
+        ['table: decisions[0] "d": 2 rules, C: not complete', '  no rule: a after "k" and up to "m"    e.g. "m"    null', "  no rule for null and other kinds of a"],
+    ),
+    (
+        "with both",
+        one('< "k"', '> "m"', hit="C"),
+        ['table: decisions[0] "d": 2 rules, C: not complete', '  no rule: a from "k" up to "m"    e.g. "k"    null', "  no rule for null and other kinds of a"],
     ),
     (
         "an expression in a column",

@@ -15,8 +15,6 @@ Due = bool | None | tuple[bool | None, ...]
 YES, NO, OPEN = True, False, None
 # Where a list or a name decides it may be left undecided, but never told wrong.
 YES_OR_OPEN, NO_OR_OPEN = (True, None), (False, None)
-# Whether the same goes for tests that compare texts by order.
-ORDER_MAY_BE_OPEN = True
 
 
 def point_of(point: object) -> Values:
@@ -64,22 +62,6 @@ class Row:
     def is_constant(self) -> bool:
         """Whether each of its tests is of literals alone."""
         return all(entry.is_literal for column in self.scan.columns for entry in column.entries)
-
-    @property
-    def has_order(self) -> bool:
-        """Whether some test compares texts by order."""
-        return any(entry.has_order for column in self.scan.columns for entry in column.entries)
-
-    @property
-    def is_decided(self) -> bool:
-        """Whether everything is decided: then each finding that is due is told."""
-        return self.is_constant and not (ORDER_MAY_BE_OPEN and self.has_order)
-
-    def due(self) -> list[Due]:
-        """What is due of each answer."""
-        if self.is_decided or not self.is_constant:
-            return list(self.told)
-        return [it if isinstance(it, tuple) else (it, None) for it in self.told]
 
     @cached_property
     def scan(self) -> Scan:

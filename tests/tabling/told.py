@@ -23,8 +23,9 @@ def is_in_piece(piece: Json, value: object) -> bool:
     if keys == {"else"}:
         named = piece["else"]["kinds"]  # type: ignore[index]
         return isinstance(value, list) and "list" in named or isinstance(value, dict) and "context" in named
-    if keys and keys <= {"from", "below"} and all(isinstance(it, str) for it in piece.values()):
-        return isinstance(value, str) and str(piece.get("from", "")) <= value and ("below" not in piece or value < str(piece["below"]))
+    if keys and keys <= {"above", "below"} and all(isinstance(it, str) for it in piece.values()):
+        is_above = "above" not in piece or str(piece["above"]) < str(value)
+        return isinstance(value, str) and is_above and ("below" not in piece or str(value) < str(piece["below"]))
     if keys and keys <= {"from", "to"} and all(kind(it) == "int" for it in piece.values()):
         return kind(value) == "int" and piece.get("from", -MOST) <= value <= piece.get("to", MOST)  # type: ignore[operator]
     raise ValueError(f"no piece: {piece}")

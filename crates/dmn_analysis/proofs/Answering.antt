@@ -8,9 +8,8 @@ use Rattle.feel_value.specs.Limits.{is_value}
 use Rattle.feel_text.specs.Meaning.{Bindings}
 use Rattle.dmn_table.specs.Hits.{does_hit}
 use Rattle.dmn_table.specs.Table.{Rule, Table}
-use Rattle.dmn_analysis.specs.Asked.{is_asked}
 use Rattle.dmn_analysis.specs.Cells.{AreIn}
-use Rattle.dmn_analysis.specs.Claims.{AreAsked, AreInputs, GoesBefore, HasHit, IsGapIn, IsInGap, IsMasked, NeverHits, NeverTwo, TellsGap, TellsGaps}
+use Rattle.dmn_analysis.specs.Claims.{AreAsked, AreInputs, GoesBefore, HasHit, IsGapIn, IsInGap, IsMaskedAmong, NeverHits, NeverTwo, TellsGap, TellsGaps}
 use Rattle.dmn_analysis.specs.Constant.{AreConstant, is_constant}
 use Rattle.dmn_analysis.specs.Joining.{AreCovered, AreMissed}
 use Rattle.dmn_analysis.specs.Searching.{CannotHit, IsAmong, IsBare, IsInSome, Knows, Scene, cells_of}
@@ -25,7 +24,7 @@ use Rattle.dmn_analysis.specs.declared.found.Gaps.{Gaps}
 use Rattle.dmn_analysis.specs.declared.gaps.Bare.{Bare}
 use Rattle.dmn_analysis.specs.declared.gaps.Search.{Search}
 use Rattle.dmn_analysis.specs.declared.pairs.PairSearch.{PairSearch}
-use Rattle.dmn_analysis.proofs.HitRules.{everything, mapped}
+use Rattle.dmn_analysis.proofs.HitRules.{mapped}
 use Rattle.dmn_analysis.proofs.Constants.{misses}
 use Rattle.dmn_analysis.proofs.Places.{All-at, All-from_places}
 
@@ -68,6 +67,7 @@ tells_gaps t asked cells first search gaps long whole each knows told covers don
     all_told sure zero m values inputs are_asked =
         elim (knows.parted (done sure).1 m values (record {
           long = inputs.one_each ∙ sym long;
+          lawful = inputs.lawful;
           inside = in_whole gaps.words.items asked cells values whole inputs.lawful are_asked;
           chosen = λ rule there. let none : None ≡ Some rule = sym (slice_get_past t.rules (length t.rules) (omega arith)) ∙ there in cc;
         })) [
@@ -84,11 +84,11 @@ tells_gaps t asked cells first search gaps long whole each knows told covers don
 -- ---- overlaps
 
 pub never_two : (t : Table) (words : List Words) (asked : List Asked) (cells : List Cell) (first : List ℕ) (search : PairSearch) → length cells ≡ length t.inputs → AreWhole words asked cells
-    → All (λ a. (v : Datum) → is_asked a v ≡ true) asked → ((r : ℕ) → r < length t.rules → IsAmong first r)
+    → ((r : ℕ) → r < length t.rules → IsAmong first r)
     → KnowsPairs (record { words = words; rules = t.rules; chosen = length t.rules; first = first; whole = cells }) search
-    → search.pending.items ≡ [] → search.open.items ≡ [] → search.shared.items ≡ [] → NeverTwo (length t.inputs) t.rules
-never_two t words asked cells first search long whole all each knows none unopened unshared m values inputs i j r q less there other hits also =
-    elim (knows.parted unopened unshared m values (record { one_each = inputs.one_each ∙ sym long; lawful = inputs.lawful }) (in_whole words asked cells values whole inputs.lawful (everything asked values all))) [
+    → search.pending.items ≡ [] → search.open.items ≡ [] → search.shared.items ≡ [] → NeverTwo (length t.inputs) t.rules asked
+never_two t words asked cells first search long whole each knows none unopened unshared m values inputs are_asked i j r q less there other hits also =
+    elim (knows.parted unopened unshared m values (record { one_each = inputs.one_each ∙ sym long; lawful = inputs.lawful }) (in_whole words asked cells values whole inputs.lawful are_asked)) [
       | inl few ↦ few i j r q less (each i (slice_get_within t.rules i r there)) (each j (slice_get_within t.rules j q other)) there other hits also
       | inr p ↦ nowhere words values (subst (λ ps. IsInSome words (cells_of ps) values) none p)
     ]
@@ -96,8 +96,8 @@ never_two t words asked cells first search long whole all each knows none unopen
 -- ---- single rules
 
 pub behind_from : (s : Scene) (search : Search) → Knows s search → search.pending.items ≡ [] → search.open.items ≡ [] → search.bare.items ≡ [] → IsBehind s.words s.rules s.whole s.chosen s.first
-behind_from s search knows none unopened covered m values long inside chosen =
-    elim (knows.parted unopened m values (record { long = long; inside = inside; chosen = chosen })) [
+behind_from s search knows none unopened covered m values long lawful inside chosen =
+    elim (knows.parted unopened m values (record { long = long; lawful = lawful; inside = inside; chosen = chosen })) [
       | inl hit ↦ record { number = hit.number; among = hit.among; rule = hit.rule; there = hit.there; hits = hit.hits }
       | inr rest ↦ elim rest [
         | inl b ↦ absurd (nowhere s.words values (subst (λ bs. IsInSome s.words (map (λ (b : Bare). b.cells.items) bs) values) covered b))
@@ -108,16 +108,16 @@ behind_from s search knows none unopened covered m values long inside chosen =
 nobody : (rules : List Rule) (m : Bindings) (values : List Datum) → HasHitAmong rules [] m values → ⊥
 nobody rules m values h = let e : None ≡ Some h.number = h.among.there in cc
 
-pub never_hits : (words : List Words) (rules : List Rule) (asked : List Asked) (cells : List Cell) (count i : ℕ) → length cells ≡ count → AreWhole words asked cells → All (λ a. (v : Datum) → is_asked a v ≡ true) asked
-    → IsBehind words rules cells i [] → NeverHits count rules i
-never_hits words rules asked cells count i long whole all behind m values inputs r there hits =
-    nobody rules m values (behind m values (inputs.one_each ∙ sym long) (in_whole words asked cells values whole inputs.lawful (everything asked values all))
+pub never_hits : (words : List Words) (rules : List Rule) (asked : List Asked) (cells : List Cell) (count i : ℕ) → length cells ≡ count → AreWhole words asked cells
+    → IsBehind words rules cells i [] → NeverHits count rules asked i
+never_hits words rules asked cells count i long whole behind m values inputs are_asked r there hits =
+    nobody rules m values (behind m values (inputs.one_each ∙ sym long) inputs.lawful (in_whole words asked cells values whole inputs.lawful are_asked)
     (λ q here. subst (λ x. does_hit m values x ≡ Some true) (same_Some r q (sym there ∙ here)) hits))
 
-pub masked : (t : Table) (words : List Words) (asked : List Asked) (cells : List Cell) (i : ℕ) → length cells ≡ length t.inputs → AreWhole words asked cells → All (λ a. (v : Datum) → is_asked a v ≡ true) asked
-    → IsMaskedOn t words cells i → IsMasked t i
-masked t words asked cells i long whole all on m values inputs r there hits =
-    let found = on.behind m values (inputs.one_each ∙ sym long) (in_whole words asked cells values whole inputs.lawful (everything asked values all))
+pub masked : (t : Table) (words : List Words) (asked : List Asked) (cells : List Cell) (i : ℕ) → length cells ≡ length t.inputs → AreWhole words asked cells
+    → IsMaskedOn t words cells i → IsMaskedAmong t asked i
+masked t words asked cells i long whole on m values inputs are_asked r there hits =
+    let found = on.behind m values (inputs.one_each ∙ sym long) inputs.lawful (in_whole words asked cells values whole inputs.lawful are_asked)
     (λ q here. subst (λ x. does_hit m values x ≡ Some true) (same_Some r q (sym there ∙ here)) hits) in
     record { place = found.number; before = All-at (λ j. GoesBefore t j i) on.first found.among.place found.number on.before found.among.there; rule = found.rule; there = found.there; hits = found.hits }
 

@@ -66,22 +66,22 @@ negated (expr.Binary op a b) h = cc
 negated (expr.Between e a b) h = cc
 negated (expr.If t a b) h = cc
 
-literal_value : (texts : Bool) (e : Expr) → is_literal texts e ≡ true → HasValue e
-literal_value texts expr.Null h = (null, λ m. refl)
-literal_value texts (expr.Boolean b) h = (boolean b, λ m. refl)
-literal_value texts (expr.Text s) h = (text s, λ m. refl)
-literal_value texts (expr.Number n) h = (number (pos n), λ m. held_number (pos n) h)
-literal_value texts (expr.Negate e) h = negated e h
-literal_value texts (expr.Name n) h = cc
-literal_value texts (expr.Group e) h = cc
-literal_value texts (expr.Members es) h = cc
-literal_value texts (expr.Call f e) h = cc
-literal_value texts (expr.Modulo a b) h = cc
-literal_value texts (expr.Not e) h = cc
-literal_value texts (expr.Path e n) h = cc
-literal_value texts (expr.Binary op a b) h = cc
-literal_value texts (expr.Between e a b) h = cc
-literal_value texts (expr.If t a b) h = cc
+literal_value : (e : Expr) → is_literal e ≡ true → HasValue e
+literal_value expr.Null h = (null, λ m. refl)
+literal_value (expr.Boolean b) h = (boolean b, λ m. refl)
+literal_value (expr.Text s) h = (text s, λ m. refl)
+literal_value (expr.Number n) h = (number (pos n), λ m. held_number (pos n) h)
+literal_value (expr.Negate e) h = negated e h
+literal_value (expr.Name n) h = cc
+literal_value (expr.Group e) h = cc
+literal_value (expr.Members es) h = cc
+literal_value (expr.Call f e) h = cc
+literal_value (expr.Modulo a b) h = cc
+literal_value (expr.Not e) h = cc
+literal_value (expr.Path e n) h = cc
+literal_value (expr.Binary op a b) h = cc
+literal_value (expr.Between e a b) h = cc
+literal_value (expr.If t a b) h = cc
 
 -- ---- tests
 
@@ -99,12 +99,12 @@ joined_told : (f : Truth → Truth → Truth) (a b : Answer) → IsTold a → Is
 joined_told f a b h k = (f h.0 k.0, ap (λ x. joined f x b) h.1 ∙ ap (joined f (Told h.0)) k.1)
 
 test_told : (t : Test) (v : Datum) (m : Bindings) → is_constant_test t ≡ true → IsTold (tested t v m)
-test_told (Compares bound e) v m h = answered e (stands_to bound v) m (literal_value false e h)
+test_told (Compares bound e) v m h = answered e (stands_to bound v) m (literal_value e h)
 test_told (Interval c low high d) v m h =
-    let parts = both (is_literal false low) (is_literal false high) h in
-    joined_told and_of (answer (den low m) (stands_to (low_bound c) v)) (answer (den high m) (stands_to (high_bound d) v)) (answered low (stands_to (low_bound c) v) m (literal_value false low parts.0))
-    (answered high (stands_to (high_bound d) v) m (literal_value false high parts.1))
-test_told (Equals e) v m h = answered e (λ d. decided (is_in v d)) m (literal_value true e h)
+    let parts = both (is_literal low) (is_literal high) h in
+    joined_told and_of (answer (den low m) (stands_to (low_bound c) v)) (answer (den high m) (stands_to (high_bound d) v)) (answered low (stands_to (low_bound c) v) m (literal_value low parts.0))
+    (answered high (stands_to (high_bound d) v) m (literal_value high parts.1))
+test_told (Equals e) v m h = answered e (λ d. decided (is_in v d)) m (literal_value e h)
 
 any_told : (ts : List Test) (v : Datum) (m : Bindings) → list_all is_constant_test ts ≡ true → IsTold (tested_any ts v m)
 any_told [] v m h = (No, refl)

@@ -4,6 +4,7 @@ mod Halves
 mod HitRules
 mod Joins
 mod OnClasses
+mod OnTexts
 mod PairSearches
 mod Places
 mod Ranks
@@ -11,6 +12,8 @@ mod Results
 mod RulesOn
 mod Searches
 mod Sharings
+mod TextBehind
+mod TextOrder
 mod Turning
 mod Wholes
 mod Witnesses

@@ -4,7 +4,7 @@ use Rattle.std.specs.List.{slice_get, All}
 use Rattle.std.proofs.lemmas.List.Elements.{All-nil, All-push}
 use Rattle.std.proofs.lemmas.Option.{same_Some}
 use Rattle.feel_value.specs.Datum.{Datum}
-use Rattle.dmn_analysis.specs.Cells.{AreIn}
+use Rattle.dmn_analysis.specs.Cells.{AllInOrder, AreIn}
 use Rattle.dmn_analysis.specs.Cutting.{AreHalves}
 use Rattle.dmn_analysis.specs.Searching.{AreLeft, IsAmong, IsInSome, IsPending, Scene, cells_of}
 use Rattle.dmn_analysis.specs.Sharing.{ArePending, AreShared, IsRising, IsShared, KnowsPairs, KnowsPairsBut}
@@ -22,8 +22,8 @@ pending_push s old p h is rising = (All-push (IsPending s) old p h.0 is, All-pus
 
 -- the values that were left out are in cells that were cut in two
 pub pairs_cut : (s : Scene) (cells : List Cell) (old new : PairSearch) (a b : Pending) → new.pending.items ≡ (old.pending.items ++ a ∷ []) ++ b ∷ [] → new.shared.items ≡ old.shared.items → new.open.items ≡ old.open.items
-    → AreHalves cells b.cells.items a.cells.items → AreLeft s cells a.left.items → AreLeft s cells b.left.items → IsRising a.left.items → IsRising b.left.items → KnowsPairsBut s cells old → KnowsPairs s new
-pairs_cut s cells old new a b is shared_is open_is halves left_a left_b rising_a rising_b knows = record {
+    → AllInOrder s.words → AreHalves cells b.cells.items a.cells.items → AreLeft s cells a.left.items → AreLeft s cells b.left.items → IsRising a.left.items → IsRising b.left.items → KnowsPairsBut s cells old → KnowsPairs s new
+pairs_cut s cells old new a b is shared_is open_is order halves left_a left_b rising_a rising_b knows = record {
   pending = subst (ArePending s) (sym is) (pending_push s (old.pending.items ++ a ∷ []) b (pending_push s old.pending.items a knows.pending pending_a rising_a) pending_b rising_b);
   shared = subst (AreShared s) (sym shared_is) knows.shared;
   parted = λ none unshared m values inputs in_whole.
@@ -32,7 +32,7 @@ pairs_cut s cells old new a b is shared_is open_is halves left_a left_b rising_a
         | inr rest ↦ inr (elim rest [
           | inl p ↦ pending_grows s.words old.pending.items new.pending.items values pending_more p
           | inr inside ↦
-              elim (halves.parted s.words values (inputs.one_each ∙ sym knows.long) inside) [
+              elim (halves.parted s.words values order (inputs.one_each ∙ sym knows.long) inside) [
                 | inl low ↦ cell_at s.words new.pending.items (length (old.pending.items ++ a ∷ [])) b values (ap (λ ps. slice_get ps (length (old.pending.items ++ a ∷ []))) is ∙ last_there (old.pending.items ++ a ∷ []) b) low
                 | inr high ↦ cell_at s.words new.pending.items (length old.pending.items) a values (ap (λ ps. slice_get ps (length old.pending.items)) is ∙ more_there (old.pending.items ++ a ∷ []) b a (length old.pending.items) (last_there old.pending.items a)) high
               ]
@@ -41,10 +41,10 @@ pairs_cut s cells old new a b is shared_is open_is halves left_a left_b rising_a
 }
   where
     pending_a : IsPending s a
-    pending_a = record { long = halves.upper_long ∙ knows.long; left = left_within s cells a.cells.items a.left.items halves.upper_long halves.upper_within left_a }
+    pending_a = record { long = halves.upper_long ∙ knows.long; left = left_within s cells a.cells.items a.left.items halves.upper_long (λ values. halves.upper_within s.words values order) left_a }
 
     pending_b : IsPending s b
-    pending_b = record { long = halves.lower_long ∙ knows.long; left = left_within s cells b.cells.items b.left.items halves.lower_long halves.lower_within left_b }
+    pending_b = record { long = halves.lower_long ∙ knows.long; left = left_within s cells b.cells.items b.left.items halves.lower_long (λ values. halves.lower_within s.words values order) left_b }
 
     pending_more : Grows old.pending.items new.pending.items
     pending_more k x h = grown (old.pending.items ++ a ∷ []) new.pending.items b is k x (more_there old.pending.items a x k h)

@@ -10,7 +10,7 @@ use Rattle.dmn_table.specs.Hits.{does_hit, hit_of, kept, values_of}
 use Rattle.dmn_table.specs.Priority.{Hit}
 use Rattle.dmn_table.specs.Result.{found_hits, policy_result, result_from, table_result}
 use Rattle.dmn_table.specs.Table.{Table}
-use Rattle.dmn_analysis.specs.Claims.{AreAsked, AreInputs, IsComplete, IsUnique}
+use Rattle.dmn_analysis.specs.Claims.{AreAsked, AreInputs, IsComplete, IsUniqueAmong}
 use Rattle.dmn_analysis.specs.declared.asked.Asked.{Asked}
 
 -- ---- each
@@ -101,8 +101,9 @@ no_default t asked m values complete e lawful all =
     same_length (hit_of t.outputs m) (kept t.rules parts.0) hs parts.2
     (is_kept (does_hit m values) t.rules hit.place hit.rule parts.0 hit.there hit.hits parts.1))
 
-pub one_hit : (t : Table) (m : Bindings) (values : List Datum) (hs : List Hit) → IsUnique t → values_of m t.inputs ≡ Some values → All (λ v. is_value v ≡ true) values → found_hits t m ≡ Some hs → length hs ≤ 1
-one_hit t m values hs unique e lawful found =
+pub one_hit : (t : Table) (asked : List Asked) (m : Bindings) (values : List Datum) (hs : List Hit) → IsUniqueAmong t asked → values_of m t.inputs ≡ Some values → All (λ v. is_value v ≡ true) values → AreAsked asked values
+    → found_hits t m ≡ Some hs → length hs ≤ 1
+one_hit t asked m values hs unique e lawful all found =
     let parts = hits_parts t m values hs e found in
-    let few = one_kept (does_hit m values) t.rules parts.0 (unique m values (inputs_of t m values e lawful)) parts.1 in
+    let few = one_kept (does_hit m values) t.rules parts.0 (unique m values (inputs_of t m values e lawful) all) parts.1 in
     omega (arith, few, each_length (hit_of t.outputs m) (kept t.rules parts.0) hs parts.2)

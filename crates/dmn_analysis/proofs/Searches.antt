@@ -6,9 +6,10 @@ use Rattle.std.proofs.lemmas.Option.{same_Some, slice_get_within}
 use Rattle.feel_value.specs.Datum.{Datum}
 use Rattle.feel_text.specs.Meaning.{Bindings}
 use Rattle.dmn_table.specs.Table.{Rule}
-use Rattle.dmn_analysis.specs.Cells.{AreIn}
+use Rattle.dmn_analysis.specs.Cells.{AllInOrder, AreIn}
 use Rattle.dmn_analysis.specs.Cutting.{AreHalves}
 use Rattle.dmn_analysis.specs.Searching.{AreBare, AreLeft, CannotHit, HasMissing, IsAmong, IsBare, IsInSome, IsPending, IsSure, IsTold, Knows, KnowsBut, Scene, bare_cells, cells_of}
+use Rattle.dmn_analysis.specs.Telling.{IsVoid}
 use Rattle.dmn_analysis.specs.declared.cell.Cell.{Cell}
 use Rattle.dmn_analysis.specs.declared.cell.Words.{Words}
 use Rattle.dmn_analysis.specs.declared.gaps.Bare.{Bare}
@@ -109,11 +110,11 @@ not_empty (y ∷ xs) x e = cc
 
 -- ---- a part of cells
 
-cannot_within : (words : List Words) (cells part : List Cell) (rule : Rule) → length part ≡ length cells → ((ws : List Words) (values : List Datum) → AreIn ws part values → AreIn ws cells values)
+cannot_within : (words : List Words) (cells part : List Cell) (rule : Rule) → length part ≡ length cells → ((values : List Datum) → AreIn words part values → AreIn words cells values)
     → CannotHit words cells rule → CannotHit words part rule
-cannot_within words cells part rule long within cannot m values same inside hits = cannot m values (same ∙ long) (within words values inside) hits
+cannot_within words cells part rule long within cannot m values same inside hits = cannot m values (same ∙ long) (within values inside) hits
 
-pub left_within : (s : Scene) (cells part : List Cell) (left : List ℕ) → length part ≡ length cells → ((ws : List Words) (values : List Datum) → AreIn ws part values → AreIn ws cells values)
+pub left_within : (s : Scene) (cells part : List Cell) (left : List ℕ) → length part ≡ length cells → ((values : List Datum) → AreIn s.words part values → AreIn s.words cells values)
     → AreLeft s cells left → AreLeft s part left
 left_within s cells part left long within h = record {
   among = h.among;
@@ -124,15 +125,15 @@ left_within s cells part left long within h = record {
 
 -- the values that were left out are in cells that were cut in two
 pub known_cut : (s : Scene) (cells : List Cell) (old new : Search) (a b : Pending) → new.pending.items ≡ (old.pending.items ++ a ∷ []) ++ b ∷ [] → new.bare.items ≡ old.bare.items → new.open.items ≡ old.open.items
-    → AreHalves cells b.cells.items a.cells.items → AreLeft s cells a.left.items → AreLeft s cells b.left.items → KnowsBut s cells old → Knows s new
-known_cut s cells old new a b is bare_is open_is halves left_a left_b knows = record {
+    → AllInOrder s.words → AreHalves cells b.cells.items a.cells.items → AreLeft s cells a.left.items → AreLeft s cells b.left.items → KnowsBut s cells old → Knows s new
+known_cut s cells old new a b is bare_is open_is order halves left_a left_b knows = record {
   pending = subst (All (IsPending s)) (sym is) (All-push (IsPending s) (old.pending.items ++ a ∷ []) b (All-push (IsPending s) old.pending.items a knows.pending pending_a) pending_b);
   bare = subst (All (IsBare s)) (sym bare_is) knows.bare;
   parted = λ none m values searched.
       elim (knows.parted (sym open_is ∙ none) m values searched) [
         | inl told ↦ inl_told m values told
         | inr inside ↦
-            elim (halves.parted s.words values (searched.long ∙ sym knows.long) inside) [
+            elim (halves.parted s.words values order (searched.long ∙ sym knows.long) inside) [
               | inl low ↦ inr (inr (at_b values low))
               | inr high ↦ inr (inr (at_a values high))
             ]
@@ -140,10 +141,10 @@ known_cut s cells old new a b is bare_is open_is halves left_a left_b knows = re
 }
   where
     pending_a : IsPending s a
-    pending_a = record { long = halves.upper_long ∙ knows.long; left = left_within s cells a.cells.items a.left.items halves.upper_long halves.upper_within left_a }
+    pending_a = record { long = halves.upper_long ∙ knows.long; left = left_within s cells a.cells.items a.left.items halves.upper_long (λ values. halves.upper_within s.words values order) left_a }
 
     pending_b : IsPending s b
-    pending_b = record { long = halves.lower_long ∙ knows.long; left = left_within s cells b.cells.items b.left.items halves.lower_long halves.lower_within left_b }
+    pending_b = record { long = halves.lower_long ∙ knows.long; left = left_within s cells b.cells.items b.left.items halves.lower_long (λ values. halves.lower_within s.words values order) left_b }
 
     pending_more : Grows old.pending.items new.pending.items
     pending_more k x h = grown (old.pending.items ++ a ∷ []) new.pending.items b is k x (more_there old.pending.items a x k h)
@@ -213,6 +214,18 @@ known_bare s cells old new b is bare_is open_is same are_left knows = record {
       where
         nothing_among : {r : ℕ} → IsAmong [] r → ⊥
         nothing_among {r} a = let e : None ≡ Some r = a.there in cc
+
+-- there are no values in the cells
+pub known_void : (s : Scene) (cells : List Cell) (search : Search) → IsVoid s.words cells → KnowsBut s cells search → Knows s search
+known_void s cells search void knows = record {
+  pending = knows.pending;
+  bare = knows.bare;
+  parted = λ none m values searched.
+      elim (knows.parted none m values searched) [
+        | inl told ↦ told
+        | inr inside ↦ absurd (void values (searched.long ∙ sym knows.long) searched.lawful inside)
+      ];
+}
 
 -- it isn't known
 pub known_open : (s : Scene) (cells : List Cell) (old new : Search) (x : ℕ) → new.pending.items ≡ old.pending.items → new.bare.items ≡ old.bare.items → new.open.items ≡ old.open.items ++ x ∷ []

@@ -1,5 +1,5 @@
 -- The cells of all values that are asked about.
-use Rattle.std.proofs.Common.{◌≡◌, ◌∙◌, sym, ap, ap₂, refl, subst, inl, inr, ℕ, suc, ◌≤◌, ℤ, pos, List, [], ◌∷◌, ◌++◌, length, map, Bool, true, false, not, ◌&&◌, ◌||◌, if◌then◌else◌, Some, Vec, arith}
+use Rattle.std.proofs.Common.{◌≡◌, ◌∙◌, sym, ap, ap₂, refl, subst, inl, inr, ℕ, suc, ℤ, pos, List, [], ◌∷◌, ◌++◌, length, map, Bool, true, false, not, ◌&&◌, ◌||◌, if◌then◌else◌, Some, Vec, arith}
 use Rattle.std.specs.Arc.{arc_str_bytes}
 use Rattle.std.specs.Prelude.{bytes_eq, int_le, ◌-ℤ◌}
 use Rattle.std.specs.List.{list_any, slice_get, All}
@@ -7,17 +7,19 @@ use Rattle.std.specs.declared.alloc.Global.{Global}
 use Rattle.std.specs.declared.sync.ArcStr.{ArcStr}
 use Rattle.std.proofs.lemmas.Int.{ints}
 use Rattle.std.proofs.lemmas.List.{length-map, take_all}
-use Rattle.std.proofs.lemmas.Option.{same_Some}
+use Rattle.std.proofs.lemmas.Option.{same_Some, slice_get_within}
 use Rattle.feel_value.specs.Datum.{null, boolean, number, text, list, context}
 use Rattle.feel_value.specs.Limits.{in_range, is_value}
 use Rattle.dmn_analysis.specs.Cells.{is_text_among, words_within}
-use Rattle.dmn_analysis.specs.Claims.{AreKnown, AreTextsKnown}
 use Rattle.dmn_analysis.specs.Whole.{AreWhole, AreWholeTexts, HasWhole, IsWhole, whole_of}
 use Rattle.dmn_analysis.specs.declared.asked.Asked.{Asked}
 use Rattle.dmn_analysis.specs.declared.asked.Texts.TheVariants as texts
 use Rattle.dmn_analysis.specs.declared.cell.Cell.{Cell}
+use Rattle.dmn_analysis.specs.declared.cell.Others.{Others}
+use Rattle.dmn_analysis.specs.declared.cell.Others.TheVariants as others
 use Rattle.dmn_analysis.specs.declared.cell.Words.{Words}
-use Rattle.dmn_analysis.proofs.Places.{All-at, map_at, pushed}
+use Rattle.dmn_analysis.proofs.Places.{map_at, pushed}
+use Rattle.dmn_analysis.proofs.TextOrder.{lies_so}
 
 pub same_texts : (a b : List (ArcStr Global)) → length a ≡ length b
     → ((k : ℕ) (x y : ArcStr Global) → slice_get a k ≡ Some x → slice_get b k ≡ Some y → arc_str_bytes x ≡ arc_str_bytes y) → map arc_str_bytes a ≡ map arc_str_bytes b
@@ -51,10 +53,16 @@ left_of false b e = cc
 all_words : (ws : List (ArcStr Global)) → words_within ws 0 (length ws) ≡ ws
 all_words ws = take_all (length ws) ws (omega arith)
 
-pub whole_all : (ws : List (ArcStr Global)) → AreWholeTexts ws texts.All (length ws) true
+pub whole_all : (ws : List (ArcStr Global)) → AreWholeTexts ws texts.All (length ws) others.All
 whole_all ws s e = ap (λ us. is_text_among us s || not (is_text_among ws s)) (all_words ws) ∙ either (is_text_among ws s)
 
-pub whole_these : (ws : List (ArcStr Global)) (ts : Vec (ArcStr Global) Global) → map arc_str_bytes ts.items ≡ map arc_str_bytes ws → AreWholeTexts ws (texts.These ts) (length ws) false
+-- each text in UTF-8 is a word, or one of the others
+pub whole_utf8 : (ws : List (ArcStr Global)) → AreWholeTexts ws texts.Utf8 (length ws) (others.Between 0 (length ws))
+whole_utf8 ws s e =
+    let other = lies_so ws 0 (length ws) s (record { utf8 = e; above = λ k w less there. absurd (omega (arith, less)); below = λ k w past there. absurd (omega (arith, past, slice_get_within ws k w there)) }) in
+    ap₂ (λ us o. is_text_among us s || (o && not (is_text_among ws s))) (all_words ws) other ∙ either (is_text_among ws s)
+
+pub whole_these : (ws : List (ArcStr Global)) (ts : Vec (ArcStr Global) Global) → map arc_str_bytes ts.items ≡ map arc_str_bytes ws → AreWholeTexts ws (texts.These ts) (length ws) others.None
 whole_these ws ts same s e =
     left_of (is_text_among (words_within ws 0 (length ws)) s) (false && not (is_text_among ws s)) (ap (λ us. is_text_among us s) (all_words ws) ∙ sym (among_same ts.items ws s same) ∙ e)
 
@@ -71,7 +79,7 @@ number_in_whole : (z : ℤ) (b : Bool) → in_range z ≡ true → b ≡ true �
 number_in_whole z true range e = grind (arith, ints, range)
 number_in_whole z false range e = cc
 
-pub is_whole : (ws : Words) (asked : Asked) (to : ℕ) (others : Bool) → AreWholeTexts ws.texts.items asked.texts to others → IsWhole ws asked (whole_of asked to others)
+pub is_whole : (ws : Words) (asked : Asked) (to : ℕ) (others : Others) → AreWholeTexts ws.texts.items asked.texts to others → IsWhole ws asked (whole_of asked to others)
 is_whole ws asked to others texts null lawful e = e
 is_whole ws asked to others texts (boolean true) lawful e = e
 is_whole ws asked to others texts (boolean false) lawful e = e
@@ -94,10 +102,3 @@ whole_more words asked cells ws a c before of is whole k ws' c' of' there =
             is_whole = subst (λ w. IsWhole w a c) (same_Some ws ws' (sym of ∙ ap (slice_get words) (sym last.0) ∙ of')) whole;
           }))
     ]
-
--- all texts are asked about, in so many columns
-pub known_every : (count : ℕ) (words : List Words) (asked : List Asked) → count ≤ length asked → All (λ (a : Asked). a.texts ≡ texts.All) asked → AreKnown count words asked
-known_every count words asked long all = record {
-  each_asked = long;
-  known = λ k ws a of is. subst (AreTextsKnown ws.texts.items) (sym (All-at (λ (a : Asked). a.texts ≡ texts.All) asked k a all is)) tt;
-}

@@ -1,21 +1,20 @@
 -- Values of cells.
-use Rattle.std.proofs.Common.{◌≡◌, ◌∙◌, sym, ap, refl, subst, inl, inr, ℕ, ◌<◌, ◌≤◌, ℤ, List, [], ◌∷◌, ◌++◌, length, Bool, true, false, not, ◌&&◌, ◌||◌, Some, arith}
+use Rattle.std.proofs.Common.{◌≡◌, ◌∙◌, sym, ap, refl, subst, inl, inr, ℕ, ◌<◌, ◌≤◌, List, [], ◌∷◌, ◌++◌, length, Bool, true, false, not, ◌&&◌, ◌||◌, Some, arith}
 use Rattle.std.specs.Arc.{arc_str_bytes}
-use Rattle.std.specs.Prelude.{bytes_eq, int_le}
+use Rattle.std.specs.Prelude.{bytes_eq}
 use Rattle.std.specs.List.{slice_get, All}
 use Rattle.std.specs.declared.alloc.Global.{Global}
 use Rattle.std.specs.declared.sync.ArcStr.{ArcStr}
 use Rattle.std.proofs.lemmas.List.Elements.{All-head, All-tail}
 use Rattle.std.proofs.lemmas.Option.{same_Some, slice_get_within}
 use Rattle.std.proofs.lemmas.Slice.Eq.{bytes_eq-Decides}
-use Rattle.feel_value.specs.Datum.{Datum, null, boolean, number, text, list, context}
-use Rattle.feel_value.specs.Limits.{in_range, is_value}
-use Rattle.dmn_analysis.specs.Cells.{AreIn, is_in, is_text_among, is_text_in, words_within}
-use Rattle.dmn_analysis.specs.Telling.{HasNoOther, IsInAt, IsVoid, IsVoidAt}
+use Rattle.feel_value.specs.Datum.{Datum}
+use Rattle.feel_value.specs.Limits.{is_value}
+use Rattle.dmn_analysis.specs.Cells.{AreIn, is_one_of, is_text_among, is_text_in, words_within}
+use Rattle.dmn_analysis.specs.Telling.{IsInAt, IsVoid, IsVoidAt}
 use Rattle.dmn_analysis.specs.declared.cell.Cell.{Cell}
 use Rattle.dmn_analysis.specs.declared.cell.Words.{Words}
 use Rattle.dmn_analysis.proofs.Places.{All-at, element, pushed}
-use Rattle.dmn_analysis.proofs.Wholes.{number_in_range}
 
 -- ---- texts
 
@@ -31,35 +30,8 @@ none_as_long (t ∷ ts) s n all less = go (bytes_eq s (arc_str_bytes t)) refl (n
         let short = All-head (λ t. length (arc_str_bytes t) ≤ n) t ts all in
         absurd (omega (arith, less, same, short))
 
--- the first of some texts is one of them
-pub first_among : (ts : List (ArcStr Global)) (t : ArcStr Global) → slice_get ts 0 ≡ Some t → is_text_among ts (arc_str_bytes t) ≡ true
-first_among [] t e = cc
-first_among (u ∷ ts) t e = ap (λ b. b || is_text_among ts (arc_str_bytes t)) ((bytes_eq-Decides (arc_str_bytes t) (arc_str_bytes u)).1 (ap arc_str_bytes (sym (same_Some u t e))))
-
 pub word_in : (words : List (ArcStr Global)) (c : Cell) (s : List ℕ) → is_text_among (words_within words c.from c.to) s ≡ true → is_text_in words c s ≡ true
-word_in words c s e = ap (λ b. b || (c.others && not (is_text_among words s))) e
-
-either_true : (a b : Bool) → b ≡ true → (a || b) ≡ true
-either_true true b e = refl
-either_true false b e = e
-
-pub other_in : (words : List (ArcStr Global)) (c : Cell) (s : List ℕ) → c.others ≡ true → is_text_among words s ≡ false → is_text_in words c s ≡ true
-other_in words c s e f = either_true (is_text_among (words_within words c.from c.to) s) (c.others && not (is_text_among words s)) (ap (λ b. b && not (is_text_among words s)) e ∙ ap not f)
-
-pub no_text : (words : List (ArcStr Global)) (c : Cell) (s : List ℕ) → words_within words c.from c.to ≡ [] → c.others ≡ false → is_text_in words c s ≡ false
-no_text words c s e f = ap (λ ws. is_text_among ws s || (c.others && not (is_text_among words s))) e ∙ ap (λ b. b && not (is_text_among words s)) f
-
--- ---- any value
-
-pub no_value : (words : List (ArcStr Global)) (c : Cell) → ((z : ℤ) → in_range z ≡ true → (int_le c.low z && int_le z c.high) ≡ false) → ((s : List ℕ) → is_text_in words c s ≡ false) → HasNoOther c
-    → (v : Datum) → is_value v ≡ true → is_in words c v ≡ false
-no_value words c numbers texts others null h = others.null
-no_value words c numbers texts others (boolean true) h = others.yes
-no_value words c numbers texts others (boolean false) h = others.no
-no_value words c numbers texts others (number z) h = numbers z (number_in_range z h)
-no_value words c numbers texts others (text s) h = texts s
-no_value words c numbers texts others (list ds) h = others.parted
-no_value words c numbers texts others (context es) h = others.parted
+word_in words c s e = ap (λ b. b || (is_one_of words c.others s && not (is_text_among words s))) e
 
 -- ---- one value a column
 

@@ -2,6 +2,7 @@
 use Rattle.std.specs.Prelude.{List, ℕ, Bool, true, false, bytes_eq}
 use Rattle.std.specs.Arc.{arc_str_bytes}
 use Rattle.std.specs.List.{list_any}
+use Rattle.std.specs.Str.{is_utf8}
 use Rattle.feel_value.specs.Datum.{Datum, null, boolean, number, text, list, context}
 use Rattle.dmn_analysis.specs.declared.asked.Texts.{Texts}
 use Rattle.dmn_analysis.specs.declared.asked.Texts.TheVariants as texts
@@ -10,7 +11,13 @@ use Rattle.dmn_analysis.specs.declared.asked.Asked.{Asked}
 abbrev pub is_asked_text : Texts → List ℕ → Bool
 is_asked_text texts.None s = false
 is_asked_text (texts.These ts) s = list_any (λ t. bytes_eq s (arc_str_bytes t)) ts.items
+is_asked_text texts.Utf8 s = is_utf8 s
 is_asked_text texts.All s = true
+
+-- whether a value is no text, or one in UTF-8
+abbrev pub is_in_utf8 : Datum → Bool
+is_in_utf8 (text s) = is_utf8 s
+is_in_utf8 d = true
 
 -- whether this value of the column is asked about
 abbrev pub is_asked : Asked → Datum → Bool

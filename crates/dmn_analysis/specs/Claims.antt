@@ -32,6 +32,10 @@ pub record AreInputs (count : ℕ) (values : List Datum) : Type 0 where
 abbrev pub AreAsked : List Asked → List Datum → Type 0
 AreAsked asked values = (k : ℕ) (a : Asked) (v : Datum) → slice_get asked k ≡ Some a → slice_get values k ≡ Some v → is_asked a v ≡ true
 
+-- every value is asked about in each column
+abbrev pub AskEverything : List Asked → Type 0
+AskEverything asked = All (λ a. (v : Datum) → is_asked a v ≡ true) asked
+
 -- some rule hits
 pub record HasHit (m : Bindings) (values : List Datum) (rules : List Rule) : Type 0 where
   pub place : ℕ
@@ -54,14 +58,18 @@ pub record IsGapIn (count : ℕ) (rules : List Rule) (values : List Datum) : Typ
 abbrev pub IsGap : Table → List Datum → Type 0
 IsGap t values = IsGapIn (length t.inputs) t.rules values
 
--- Whatever the values, and whatever the names stand for, no two of the rules hit.
-abbrev pub NeverTwo : ℕ → List Rule → Type 0
-NeverTwo count rules =
-    (m : Bindings) (values : List Datum) → AreInputs count values → (i j : ℕ) (r s : Rule) → i < j → slice_get rules i ≡ Some r → slice_get rules j ≡ Some s
+-- Whatever the values that are asked about, and whatever the names stand for, no two of the rules hit.
+abbrev pub NeverTwo : ℕ → List Rule → List Asked → Type 0
+NeverTwo count rules asked =
+    (m : Bindings) (values : List Datum) → AreInputs count values → AreAsked asked values → (i j : ℕ) (r s : Rule) → i < j → slice_get rules i ≡ Some r → slice_get rules j ≡ Some s
     → does_hit m values r ≡ Some true → does_hit m values s ≡ Some true → ⊥
 
+abbrev pub IsUniqueAmong : Table → List Asked → Type 0
+IsUniqueAmong t asked = NeverTwo (length t.inputs) t.rules asked
+
+-- the same of all values: an empty list leaves none out
 abbrev pub IsUnique : Table → Type 0
-IsUnique t = NeverTwo (length t.inputs) t.rules
+IsUnique t = IsUniqueAmong t []
 
 -- the rule hits for these values, where no name stands for anything
 pub record Hits (rules : List Rule) (i : ℕ) (values : List Datum) : Type 0 where
@@ -79,12 +87,16 @@ pub record AreOverlappingIn (count : ℕ) (rules : List Rule) (i j : ℕ) (value
 abbrev pub AreOverlapping : Table → ℕ → ℕ → List Datum → Type 0
 AreOverlapping t i j values = AreOverlappingIn (length t.inputs) t.rules i j values
 
--- Whatever the values, and whatever the names stand for, the rule doesn't hit.
-abbrev pub NeverHits : ℕ → List Rule → ℕ → Type 0
-NeverHits count rules i = (m : Bindings) (values : List Datum) → AreInputs count values → (r : Rule) → slice_get rules i ≡ Some r → does_hit m values r ≢ Some true
+-- Whatever the values that are asked about, and whatever the names stand for, the rule doesn't hit.
+abbrev pub NeverHits : ℕ → List Rule → List Asked → ℕ → Type 0
+NeverHits count rules asked i = (m : Bindings) (values : List Datum) → AreInputs count values → AreAsked asked values → (r : Rule) → slice_get rules i ≡ Some r → does_hit m values r ≢ Some true
 
+abbrev pub IsNeverMetAmong : Table → List Asked → ℕ → Type 0
+IsNeverMetAmong t asked i = NeverHits (length t.inputs) t.rules asked i
+
+-- the same of all values
 abbrev pub IsNeverMet : Table → ℕ → Type 0
-IsNeverMet t i = NeverHits (length t.inputs) t.rules i
+IsNeverMet t i = IsNeverMetAmong t [] i
 
 -- Whatever the names stand for, where both rules hit, the first one's output has the higher priority; or the other one's hasn't, and
 -- the first stands before it.
@@ -111,9 +123,13 @@ pub record HasHitBefore (m : Bindings) (values : List Datum) (t : Table) (i : �
   pub there : slice_get t.rules place ≡ Some rule
   pub hits : does_hit m values rule ≡ Some true
 
--- Whatever the values, and whatever the names stand for, where the rule hits, so does one that goes before it.
+-- Whatever the values that are asked about, and whatever the names stand for, where the rule hits, so does one that goes before it.
+abbrev pub IsMaskedAmong : Table → List Asked → ℕ → Type 0
+IsMaskedAmong t asked i = (m : Bindings) (values : List Datum) → AreInputs (length t.inputs) values → AreAsked asked values → (r : Rule) → slice_get t.rules i ≡ Some r → does_hit m values r ≡ Some true → HasHitBefore m values t i
+
+-- the same of all values
 abbrev pub IsMasked : Table → ℕ → Type 0
-IsMasked t i = (m : Bindings) (values : List Datum) → AreInputs (length t.inputs) values → (r : Rule) → slice_get t.rules i ≡ Some r → does_hit m values r ≡ Some true → HasHitBefore m values t i
+IsMasked t i = IsMaskedAmong t [] i
 
 -- for none of the values of these cells a rule hits, whatever the names stand for
 abbrev pub IsBareOf : List Words → List Rule → List Cell → Type 0
@@ -138,16 +154,17 @@ pub record TellsGaps (t : Table) (asked : List Asked) (gaps : Gaps) : Type 0 whe
   pub all : IsTrue gaps.is_all → gaps.more ≡ 0 → (m : Bindings) (values : List Datum) → AreInputs (length t.inputs) values → AreAsked asked values → HasHit m values t.rules ⊎ IsInGap gaps.words.items gaps.found.items values
   pub complete : IsTrue gaps.is_all → gaps.more ≡ 0 → gaps.found.items ≡ [] → IsComplete t asked
 
--- What is told of a table's overlaps.
-pub record TellsOverlaps (t : Table) (overlaps : Overlaps) : Type 0 where
+-- What is told of a table's overlaps among what is asked about.
+pub record TellsOverlaps (t : Table) (asked : List Asked) (overlaps : Overlaps) : Type 0 where
   pub each : All (λ o. AreOverlapping t o.first o.second o.values.items) overlaps.found.items
-  pub unique : IsTrue overlaps.is_all → overlaps.found.items ≡ [] → IsUnique t
+  pub unique : IsTrue overlaps.is_all → overlaps.found.items ≡ [] → IsUniqueAmong t asked
 
 -- ---- what is decided
 
--- the texts that are asked about in a column of these words are all, none, or the words
+-- the texts that are asked about in a column of these words are all, those in UTF-8, none, or the words
 abbrev pub AreTextsKnown : List (ArcStr Global) → Texts → Type 0
 AreTextsKnown words texts.None = ⊤
+AreTextsKnown words texts.Utf8 = ⊤
 AreTextsKnown words texts.All = ⊤
 AreTextsKnown words (texts.These ts) = map arc_str_bytes ts.items ≡ map arc_str_bytes words
 

@@ -1,12 +1,14 @@
 -- Internal: no public contract cites these words. Which values are of a class.
-use Rattle.std.specs.Prelude.{ℕ, ℤ, List, Bool, true, false, not, ◌&&◌, int_le, bytes_eq}
+use Rattle.std.specs.Prelude.{◌≡◌, ◌<◌, ◌≤◌, ℕ, ℤ, Some, List, Bool, true, false, not, ◌&&◌, int_le, bytes_eq}
 use Rattle.std.specs.Arc.{arc_str_bytes}
-use Rattle.std.specs.List.{list_any}
+use Rattle.std.specs.List.{list_any, slice_get}
 use Rattle.std.specs.declared.alloc.Global.{Global}
 use Rattle.std.specs.declared.sync.ArcStr.{ArcStr}
 use Rattle.feel_value.specs.Comparison.{bool_eq}
 use Rattle.feel_value.specs.Datum.{Datum, null, boolean, number, text, list, context}
 use Rattle.feel_value.specs.View.{datum_of}
+use Rattle.dmn_analysis.specs.Cells.{is_less, is_one_of, is_text_among}
+use Rattle.dmn_analysis.specs.declared.cell.Others.TheVariants as others
 use Rattle.dmn_analysis.specs.declared.class.Class.{Class}
 use Rattle.dmn_analysis.specs.declared.class.Class.TheVariants as class
 
@@ -23,6 +25,19 @@ is_text s d = false
 abbrev pub is_other_text : List (ArcStr Global) → Datum → Bool
 is_other_text texts (text s) = not (list_any (λ t. bytes_eq s (arc_str_bytes t)) texts)
 is_other_text texts d = false
+
+-- each of the texts before a place is less than this one
+abbrev pub AreLessBefore : ℕ → List ℕ → List (ArcStr Global) → Type 0
+AreLessBefore place s texts = (k : ℕ) (t : ArcStr Global) → k < place → slice_get texts k ≡ Some t → is_less (arc_str_bytes t) s ≡ true
+
+-- each of the texts from a place on is greater than this one
+abbrev pub AreGreaterFrom : ℕ → List ℕ → List (ArcStr Global) → Type 0
+AreGreaterFrom place s texts = (k : ℕ) (t : ArcStr Global) → place ≤ k → slice_get texts k ≡ Some t → is_less s (arc_str_bytes t) ≡ true
+
+-- a text in UTF-8 that is none of these, greater than those before a place, and less than those from another on
+abbrev pub is_between : List (ArcStr Global) → ℕ → ℕ → Datum → Bool
+is_between texts from to (text s) = is_one_of texts (others.Between from to) s && not (is_text_among texts s)
+is_between texts from to d = false
 
 -- a text that is one of these
 abbrev pub is_word : List (ArcStr Global) → Datum → Bool
@@ -61,4 +76,5 @@ is_of (class.One value) v = is_same (datum_of value) v
 is_of (class.Numbers low high) v = is_number_in low high v
 is_of (class.Words texts) v = is_word texts.now v
 is_of (class.OtherTexts texts) v = is_other_text texts.now v
+is_of (class.Between texts from to) v = is_between texts.now from to v
 is_of class.Parted v = is_parted v

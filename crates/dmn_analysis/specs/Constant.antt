@@ -11,19 +11,19 @@ abbrev pub is_number : Expr → Bool
 is_number (Number n) = nat_le n greatest_number
 is_number e = false
 
--- a number, which may have a `-`, a truth value, null, or where texts count too a text
-abbrev pub is_literal : Bool → Expr → Bool
-is_literal texts Null = true
-is_literal texts (Boolean b) = true
-is_literal texts (Text s) = texts
-is_literal texts (Negate e) = is_number e
-is_literal texts e = is_number e
+-- a number, which may have a `-`, a truth value, null or a text
+abbrev pub is_literal : Expr → Bool
+is_literal Null = true
+is_literal (Boolean b) = true
+is_literal (Text s) = true
+is_literal (Negate e) = is_number e
+is_literal e = is_number e
 
--- a test against literals, which compares no text by order
+-- a test against literals
 abbrev pub is_constant_test : Test → Bool
-is_constant_test (Compares bound e) = is_literal false e
-is_constant_test (Interval closed_low low high closed_high) = is_literal false low && is_literal false high
-is_constant_test (Equals e) = is_literal true e
+is_constant_test (Compares bound e) = is_literal e
+is_constant_test (Interval closed_low low high closed_high) = is_literal low && is_literal high
+is_constant_test (Equals e) = is_literal e
 
 abbrev pub is_constant : Tests → Bool
 is_constant Any = true

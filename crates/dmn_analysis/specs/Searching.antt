@@ -2,6 +2,7 @@
 use Rattle.std.specs.Prelude.{◌≡◌, ◌≢◌, ◌⊎◌, ◌<◌, ⊤, ℕ, List, [], length, map, Bool, true, false, Some}
 use Rattle.std.specs.List.{slice_get, All}
 use Rattle.feel_value.specs.Datum.{Datum}
+use Rattle.feel_value.specs.Limits.{is_value}
 use Rattle.feel_value.specs.declared.logic.Truth.TheVariants.{Yes}
 use Rattle.feel_text.specs.Meaning.{Bindings}
 use Rattle.feel_text.specs.Satisfied.{Answer, Told, satisfied}
@@ -124,6 +125,7 @@ IsTold s search m values = HasHitOf s m values ⊎ (IsInSome s.words (bare_cells
 -- values that are searched
 pub record IsSearched (s : Scene) (m : Bindings) (values : List Datum) : Type 0 where
   pub long : length values ≡ length s.whole
+  pub lawful : All (λ v. is_value v ≡ true) values
   pub inside : AreIn s.words s.whole values
   pub chosen : ChosenHits s m values
 

@@ -61,7 +61,8 @@ pub record HasHitAmong (rules : List Rule) (first : List ℕ) (m : Bindings) (va
 -- wherever a rule hits for values of the cells, so does one of these numbers
 abbrev pub IsBehind : List Words → List Rule → List Cell → ℕ → List ℕ → Type 0
 IsBehind words rules cells rule first =
-    (m : Bindings) (values : List Datum) → length values ≡ length cells → AreIn words cells values → ((r : Rule) → slice_get rules rule ≡ Some r → does_hit m values r ≡ Some true) → HasHitAmong rules first m values
+    (m : Bindings) (values : List Datum) → length values ≡ length cells → All (λ v. is_value v ≡ true) values → AreIn words cells values → ((r : Rule) → slice_get rules rule ≡ Some r → does_hit m values r ≡ Some true)
+    → HasHitAmong rules first m values
 
 -- the same of some that go before it
 pub record IsMaskedOn (t : Table) (words : List Words) (cells : List Cell) (rule : ℕ) : Type 0 where

@@ -1,24 +1,25 @@
 -- Internal: no public contract cites these words. The cells of all values that are asked about.
-use Rattle.std.specs.Prelude.{◌≡◌, ℕ, pos, ◌-ℤ◌, List, Bool, true, not, ◌&&◌, ◌||◌, if◌then◌else◌, Some}
+use Rattle.std.specs.Prelude.{◌≡◌, ℕ, pos, ◌-ℤ◌, List, true, not, ◌&&◌, ◌||◌, if◌then◌else◌, Some}
 use Rattle.std.specs.List.{slice_get}
 use Rattle.std.specs.declared.alloc.Global.{Global}
 use Rattle.std.specs.declared.sync.ArcStr.{ArcStr}
 use Rattle.feel_value.specs.Datum.{Datum}
 use Rattle.feel_value.specs.Limits.{is_value}
 use Rattle.dmn_analysis.specs.Asked.{is_asked, is_asked_text}
-use Rattle.dmn_analysis.specs.Cells.{is_in, is_text_among, words_within}
+use Rattle.dmn_analysis.specs.Cells.{is_in, is_one_of, is_text_among, words_within}
 use Rattle.dmn_analysis.specs.declared.asked.Asked.{Asked}
 use Rattle.dmn_analysis.specs.declared.asked.Texts.{Texts}
 use Rattle.dmn_analysis.specs.declared.cell.Cell.{Cell}
+use Rattle.dmn_analysis.specs.declared.cell.Others.{Others}
 use Rattle.dmn_analysis.specs.declared.cell.Words.{Words}
 
 -- each text that is asked about is one of the words before a place, or another text, where these are meant
-abbrev pub AreWholeTexts : List (ArcStr Global) → Texts → ℕ → Bool → Type 0
+abbrev pub AreWholeTexts : List (ArcStr Global) → Texts → ℕ → Others → Type 0
 AreWholeTexts words texts to others =
-    (s : List ℕ) → is_asked_text texts s ≡ true → (is_text_among (words_within words 0 to) s || (others && not (is_text_among words s))) ≡ true
+    (s : List ℕ) → is_asked_text texts s ≡ true → (is_text_among (words_within words 0 to) s || (is_one_of words others s && not (is_text_among words s))) ≡ true
 
 -- all values that are asked about, with these texts
-abbrev pub whole_of : Asked → ℕ → Bool → Cell
+abbrev pub whole_of : Asked → ℕ → Others → Cell
 whole_of asked to others = record {
   null = asked.null;
   yes = asked.truths;

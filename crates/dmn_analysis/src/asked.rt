@@ -1,8 +1,8 @@
 //! What is asked about: of each column the values that it may have.
 ghost use Rattle.std.specs.Prelude.{◌≡◌, true};
 ghost use Rattle.feel_value.specs.Datum.{Datum};
-ghost use Rattle.dmn_analysis.specs.Asked.{is_asked};
-ghost use Rattle.dmn_analysis.specs.declared.asked.Texts.TheVariants.{All as AllTexts};
+ghost use Rattle.dmn_analysis.specs.Asked.{is_asked, is_in_utf8};
+ghost use Rattle.dmn_analysis.specs.declared.asked.Texts.TheVariants.{All as AllTexts, Utf8};
 
 use std::sync::ArcStr;
 
@@ -11,6 +11,9 @@ use std::sync::ArcStr;
 pub enum Texts {
     None,
     These(Vec<ArcStr>),
+    /// Those in UTF-8, as each text of a request is. Of these it can be told how they compare with others by order.
+    Utf8,
+    /// All, whatever their bytes.
     All,
 }
 
@@ -40,6 +43,20 @@ impl Asked {
             truths: true,
             numbers: true,
             texts: Texts::All,
+            parted: true,
+        }
+    }
+
+    /// Every value whose texts are in UTF-8, as those of each request are.
+    pub fn every_in_utf8() -> Asked
+        ensures asked { (v : Datum) → is_in_utf8 v ≡ true → is_asked result v ≡ true }
+        ensures texts { result.texts ≡ Utf8 }
+    {
+        Asked {
+            null: true,
+            truths: true,
+            numbers: true,
+            texts: Texts::Utf8,
             parted: true,
         }
     }

@@ -11,6 +11,17 @@ pub struct Words {
     pub texts: Vec<ArcStr>,
 }
 
+/// Of the texts that are no word of a column some, told by the words that they lie between.
+#[derive(Clone, Copy, Debug, PartialEq, Eq)]
+pub enum Others {
+    /// None of them.
+    None,
+    /// All of them.
+    All,
+    /// Those in UTF-8 that are greater than each of the words before the first place, and less than each from the second place on.
+    Between(usize, usize),
+}
+
 /// Values of one column. Its texts are told by the places of the column's words.
 #[derive(Clone, Copy, Debug, PartialEq, Eq)]
 pub struct Cell {
@@ -28,8 +39,8 @@ pub struct Cell {
     pub from: usize,
     /// The place behind the last of the words.
     pub to: usize,
-    /// Whether the texts are that are no word of the column.
-    pub others: bool,
+    /// Which of the texts are that are no word of the column.
+    pub others: Others,
     /// Whether lists and contexts are.
     pub parted: bool,
 }

@@ -1,7 +1,8 @@
 //! Where cells are cut, so that few rules are on both sides. Nothing is promised of it: any cut is a right one.
 use crate::bounds::Bounds;
-use crate::cell::{Cell, Words};
+use crate::cell::{Cell, Others, Words};
 use crate::cutting::{Cut, Kinds, cut_cell, of_kinds, of_other_kinds};
+use crate::halving::middle;
 use crate::rule_on::asked;
 use dmn_table::Rule;
 use std::alloc::{AllocError, Global};
@@ -147,8 +148,8 @@ fn joined(a: Kinds, b: Kinds) -> Kinds {
 
 /// Whether the cell has no value.
 pub(crate) fn is_empty(cell: Cell) -> bool {
-    let kinds = cell.null || cell.yes || cell.no || cell.others || cell.parted;
-    !kinds && cell.low > cell.high && cell.from >= cell.to
+    let kinds = cell.null || cell.yes || cell.no || cell.parted;
+    !kinds && cell.low > cell.high && cell.from >= cell.to && cell.others == Others::None
 }
 
 /// The kinds of a cell: those on which no mixed rule may hit, and whether there are others.
@@ -221,8 +222,22 @@ fn kinds_choice(
     })
 }
 
-// The choice to cut the words of a cell in the middle; None where there is but one.
-fn words_choice(
+// The cut of the texts of a cell in the middle, of its words or else of the others; None where there is but one word, all others, or
+// those between two words alone.
+fn texts_cut(cell: Cell) -> Option<Cut> {
+    if cell.to.saturating_sub(cell.from) >= 2 {
+        return Some(Cut::Word(middle(cell.from, cell.to)));
+    }
+    match cell.others {
+        Others::Between(from, to) if from < to => {
+            Some(Cut::Between(middle(from, to).saturating_add(1)))
+        }
+        Others::None | Others::All | Others::Between(_, _) => None,
+    }
+}
+
+// The choice to cut the texts of a cell.
+fn texts_choice(
     words: &Words,
     rules: &[Rule],
     cell: Cell,
@@ -230,10 +245,7 @@ fn words_choice(
     mixed: &Mixed,
     steps: &mut u64,
 ) -> Option<Choice> {
-    if cell.to.saturating_sub(cell.from) < 2 {
-        return None;
-    }
-    let cut = Cut::Word(cell.from + (cell.to - cell.from) / 2);
+    let cut = texts_cut(cell)?;
     let (low, high) = cut_cell(cell, cut)?;
     let lower = mixed.count_in(words, rules, low, place, steps);
     let upper = mixed.count_in(words, rules, high, place, steps);
@@ -316,7 +328,7 @@ fn choice_in(
     if let Some(choice) = kinds_choice(words, rules, cell, place, &mixed, steps) {
         return Ok(Some(choice));
     }
-    if let Some(choice) = words_choice(words, rules, cell, place, &mixed, steps) {
+    if let Some(choice) = texts_choice(words, rules, cell, place, &mixed, steps) {
         return Ok(Some(choice));
     }
     if cell.low >= cell.high {

@@ -1,12 +1,13 @@
 //! Classes of the values of a column. On each, constant tests have one answer, or it is not known that they have.
-ghost use Rattle.std.specs.Prelude.{◌≡◌, List, ℕ, true, IfSome, bytes_eq};
+ghost use Rattle.std.specs.Prelude.{◌≡◌, List, ℕ, true, false, IfSome, IsTrue, bytes_eq};
 ghost use Rattle.std.specs.Arc.{arc_str_bytes};
-ghost use Rattle.std.specs.List.{list_any};
+ghost use Rattle.std.specs.List.{list_any, All};
 ghost use Rattle.feel_value.specs.Comparison.{equal, less};
 ghost use Rattle.feel_value.specs.Datum.{Datum, text as text_datum};
 ghost use Rattle.feel_value.specs.Logic.{is_yes};
 ghost use Rattle.feel_value.specs.View.{datum_of};
-ghost use Rattle.dmn_analysis.specs.Classes.{is_number_in, is_of, is_other_text, is_parted, is_word};
+ghost use Rattle.dmn_analysis.specs.Cells.{is_less as is_text_less};
+ghost use Rattle.dmn_analysis.specs.Classes.{AreGreaterFrom, AreLessBefore, is_between, is_number_in, is_of, is_other_text, is_parted, is_word};
 
 use feel_value::{Truth, Value};
 use std::sync::ArcStr;
@@ -22,6 +23,8 @@ pub(crate) enum Class<'a> {
     Words(&'a [ArcStr]),
     /// The texts that are none of these.
     OtherTexts(&'a [ArcStr]),
+    /// The texts in UTF-8 that are none of these, greater than each before the first place, and less than each from the second place on.
+    Between(&'a [ArcStr], usize, usize),
     /// The lists and the contexts.
     Parted,
 }
@@ -34,8 +37,9 @@ impl Class<'_> {
         match self {
             Class::One(one) => Some(one.less(value)),
             Class::Numbers(low, high) => numbers_below(*low, *high, value),
-            Class::Words(_) => text_below(value),
+            Class::Words(texts) => words_below(texts, value),
             Class::OtherTexts(_) => text_below(value),
+            Class::Between(texts, from, to) => between_below(texts, *from, *to, value),
             Class::Parted => Some(Truth::Unknown),
         }
     }
@@ -47,8 +51,9 @@ impl Class<'_> {
         match self {
             Class::One(one) => Some(value.less(one)),
             Class::Numbers(low, high) => numbers_above(*low, *high, value),
-            Class::Words(_) => text_above(value),
+            Class::Words(texts) => words_above(texts, value),
             Class::OtherTexts(_) => text_above(value),
+            Class::Between(texts, from, to) => between_above(texts, *from, *to, value),
             Class::Parted => Some(Truth::Unknown),
         }
     }
@@ -62,6 +67,7 @@ impl Class<'_> {
             Class::Numbers(low, high) => numbers_equal(*low, *high, value),
             Class::Words(texts) => words_equal(texts, value),
             Class::OtherTexts(texts) => other_texts_equal(texts, value),
+            Class::Between(texts, from, to) => between_equal(texts, *from, *to, value),
             Class::Parted => parted_equal(value),
         }
     }
@@ -129,6 +135,134 @@ fn text_above(value: &Value) -> Option<Truth>
         Value::Text(_) => None,
         _ => Some(Truth::Unknown),
     }
+}
+
+/// Whether a text is less than another, by code points.
+pub(crate) fn is_less(text: &str, other: &str) -> bool
+    ensures { result ≡ is_text_less text.now other.now }
+{
+    text < other
+}
+
+fn all_below(texts: &[ArcStr], text: &str) -> bool
+    ensures { IsTrue result → All (λ t. is_text_less (arc_str_bytes t) text.now ≡ true) texts.now }
+{
+    texts.iter().all(|other| is_less(other.as_str(), text))
+}
+
+fn none_below(texts: &[ArcStr], text: &str) -> bool
+    ensures { IsTrue result → All (λ t. is_text_less (arc_str_bytes t) text.now ≡ false) texts.now }
+{
+    texts.iter().all(|other| !is_less(other.as_str(), text))
+}
+
+fn all_above(texts: &[ArcStr], text: &str) -> bool
+    ensures { IsTrue result → All (λ t. is_text_less text.now (arc_str_bytes t) ≡ true) texts.now }
+{
+    texts.iter().all(|other| is_less(text, other.as_str()))
+}
+
+fn none_above(texts: &[ArcStr], text: &str) -> bool
+    ensures { IsTrue result → All (λ t. is_text_less text.now (arc_str_bytes t) ≡ false) texts.now }
+{
+    texts.iter().all(|other| !is_less(text, other.as_str()))
+}
+
+fn words_below(texts: &[ArcStr], value: &Value) -> Option<Truth>
+    ensures { IfSome result (λ t. (v : Datum) → is_word texts.now v ≡ true → less v (datum_of value.now) ≡ t) }
+{
+    let Value::Text(text) = value else {
+        return Some(Truth::Unknown);
+    };
+    if all_below(texts, text.as_str()) {
+        return Some(Truth::Yes);
+    }
+    if none_below(texts, text.as_str()) {
+        return Some(Truth::No);
+    }
+    None
+}
+
+fn words_above(texts: &[ArcStr], value: &Value) -> Option<Truth>
+    ensures { IfSome result (λ t. (v : Datum) → is_word texts.now v ≡ true → less (datum_of value.now) v ≡ t) }
+{
+    let Value::Text(text) = value else {
+        return Some(Truth::Unknown);
+    };
+    if all_above(texts, text.as_str()) {
+        return Some(Truth::Yes);
+    }
+    if none_above(texts, text.as_str()) {
+        return Some(Truth::No);
+    }
+    None
+}
+
+// Whether each text that is less than those from a place on is less than this one: the text there isn't greater than it.
+fn is_past(texts: &[ArcStr], place: usize, text: &str) -> bool
+    ensures { IsTrue result → (s : List ℕ) → AreGreaterFrom place s texts.now → is_text_less s text.now ≡ true }
+{
+    if place >= texts.len() {
+        return false;
+    }
+    !is_less(text, texts[place].as_str())
+}
+
+// Whether each text that is greater than those before a place is greater than this one: the last of them isn't less than it.
+fn is_short_of(texts: &[ArcStr], place: usize, text: &str) -> bool
+    ensures { IsTrue result → (s : List ℕ) → AreLessBefore place s texts.now → is_text_less text.now s ≡ true }
+{
+    if place == 0 || place > texts.len() {
+        return false;
+    }
+    !is_less(texts[place - 1].as_str(), text)
+}
+
+// How texts between words stand to one: it is known where that lies below or above them.
+fn between_below(texts: &[ArcStr], from: usize, to: usize, value: &Value) -> Option<Truth>
+    ensures { IfSome result (λ t. (v : Datum) → is_between texts.now from to v ≡ true → less v (datum_of value.now) ≡ t) }
+{
+    let Value::Text(text) = value else {
+        return Some(Truth::Unknown);
+    };
+    if is_past(texts, to, text.as_str()) {
+        return Some(Truth::Yes);
+    }
+    if is_short_of(texts, from, text.as_str()) {
+        return Some(Truth::No);
+    }
+    None
+}
+
+fn between_above(texts: &[ArcStr], from: usize, to: usize, value: &Value) -> Option<Truth>
+    ensures { IfSome result (λ t. (v : Datum) → is_between texts.now from to v ≡ true → less (datum_of value.now) v ≡ t) }
+{
+    let Value::Text(text) = value else {
+        return Some(Truth::Unknown);
+    };
+    if is_past(texts, to, text.as_str()) {
+        return Some(Truth::No);
+    }
+    if is_short_of(texts, from, text.as_str()) {
+        return Some(Truth::Yes);
+    }
+    None
+}
+
+fn between_equal(texts: &[ArcStr], from: usize, to: usize, value: &Value) -> Option<bool>
+    ensures { IfSome result (λ b. (v : Datum) → is_between texts.now from to v ≡ true → is_yes (equal v (datum_of value.now)) ≡ b) }
+{
+    let Value::Text(text) = value else {
+        return Some(false);
+    };
+    if is_past(texts, to, text.as_str()) {
+        return Some(false);
+    }
+    if is_short_of(texts, from, text.as_str()) {
+        return Some(false);
+    }
+    let same = other_texts_equal(texts, value)?;
+    Some(same)
 }
 
 fn words_equal(texts: &[ArcStr], value: &Value) -> Option<bool>

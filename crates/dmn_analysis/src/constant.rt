@@ -38,23 +38,12 @@ fn is_number(expr: &Tree) -> bool
     }
 }
 
-// Whether the constant is no text, or texts count too.
-fn is_one_of(constant: &Constant, texts: bool) -> bool
-    ensures { is_literal_expr texts (expr_of_constant constant.now) ≡ true → IsTrue result }
-{
-    match constant.value().value() {
-        Value::Text(_) => texts,
-        Value::Null | Value::Bool(_) | Value::Number(_) | Value::List(_) | Value::Context(_) =>
-            true,
-    }
-}
-
-// A number, which may have a `-`, a truth value, null, or a text where these count too.
-fn is_literal(expr: &Tree, texts: bool) -> bool
-    ensures { is_literal_expr texts (view expr.now) ≡ true → IsTrue result }
+// A number, which may have a `-`, a truth value, null or a text.
+fn is_literal(expr: &Tree) -> bool
+    ensures { is_literal_expr (view expr.now) ≡ true → IsTrue result }
 {
     match expr {
-        Tree::Constant(constant) => is_one_of(constant, texts),
+        Tree::Constant(_) => true,
         Tree::Number(_) => true,
         Tree::Negate(inner) => is_number(inner),
         Tree::Name(_)
@@ -74,14 +63,14 @@ fn is_constant_one(test: &Test) -> bool
     ensures { is_constant_test (test_view test.now) ≡ true → IsTrue result }
 {
     match test {
-        Test::Compares(_, expr) => is_literal(expr, false),
+        Test::Compares(_, expr) => is_literal(expr),
         Test::Interval(_, low, high, _) => {
-            if !is_literal(low, false) {
+            if !is_literal(low) {
                 return false;
             }
-            is_literal(high, false)
+            is_literal(high)
         }
-        Test::Equals(expr) => is_literal(expr, true),
+        Test::Equals(expr) => is_literal(expr),
     }
 }
 
@@ -106,7 +95,7 @@ fn is_constant_tree(tests: &TestsTree) -> bool
     }
 }
 
-/// Whether literals alone stand in the tests, and no text is compared by order.
+/// Whether literals alone stand in the tests.
 pub(crate) fn are_constant(tests: &Tests) -> bool
     ensures { is_constant tests.now ≡ true → IsTrue result }
 {

@@ -1,8 +1,8 @@
 //! Cells cut in two.
 ghost use Rattle.std.specs.Prelude.{◌≡◌, ◌<◌, IfOk, IfSome, length, set};
-ghost use Rattle.dmn_analysis.specs.Cutting.{AreHalves, MakeUp, kept_of, numbers_alone, other_kinds_of, with_from, with_low, words_alone};
+ghost use Rattle.dmn_analysis.specs.Cutting.{AreHalves, MakeUp, between_alone, kept_of, numbers_alone, other_kinds_of, with_from, with_low, with_others as with_others_of, words_alone};
 
-use crate::cell::Cell;
+use crate::cell::{Cell, Others};
 use std::alloc::{AllocError, Global};
 
 /// Some of the kinds of values.
@@ -26,6 +26,8 @@ pub(crate) enum Cut {
     Number(i64),
     /// The words before this place, and all else.
     Word(usize),
+    /// The other texts that are less than the word before this place, and all else.
+    Between(usize),
 }
 
 /// The kinds that are none of these.
@@ -55,7 +57,11 @@ pub(crate) fn of_kinds(cell: Cell, kinds: Kinds) -> Cell
         high: if kinds.numbers { cell.high } else { 0 },
         from: if kinds.words { cell.from } else { 0 },
         to: if kinds.words { cell.to } else { 0 },
-        others: cell.others && kinds.others,
+        others: if kinds.others {
+            cell.others
+        } else {
+            Others::None
+        },
         parted: cell.parted && kinds.parted,
     }
 }
@@ -79,7 +85,7 @@ fn only_numbers(low: i64, high: i64) -> Cell
         high,
         from: 0,
         to: 0,
-        others: false,
+        others: Others::None,
         parted: false,
     }
 }
@@ -96,9 +102,33 @@ fn only_words(from: usize, to: usize) -> Cell
         high: 0,
         from,
         to,
-        others: false,
+        others: Others::None,
         parted: false,
     }
+}
+
+// The texts that are no words, between the words before a place and those from another on.
+fn only_between(from: usize, to: usize) -> Cell
+    ensures { result ≡ between_alone from to }
+{
+    Cell {
+        null: false,
+        yes: false,
+        no: false,
+        low: 1,
+        high: 0,
+        from: 0,
+        to: 0,
+        others: Others::Between(from, to),
+        parted: false,
+    }
+}
+
+// The cell with these of the texts that are no words.
+fn with_others(cell: Cell, others: Others) -> Cell
+    ensures { result ≡ with_others_of cell others }
+{
+    Cell { others, ..cell }
 }
 
 // The cell without the numbers below this one.
@@ -137,6 +167,20 @@ fn cut_at_word(cell: Cell, place: usize) -> Option<(Cell, Cell)>
     Some((lower, upper))
 }
 
+fn cut_between(cell: Cell, place: usize) -> Option<(Cell, Cell)>
+    ensures { IfSome result (λ halves. MakeUp cell halves.0 halves.1) }
+{
+    let Others::Between(from, to) = cell.others else {
+        return None;
+    };
+    if place <= from || place > to {
+        return None;
+    }
+    let lower = only_between(from, place - 1);
+    let upper = with_others(cell, Others::Between(place, to));
+    Some((lower, upper))
+}
+
 /// The two parts of a cell; None where it can't be cut so.
 pub(crate) fn cut_cell(cell: Cell, cut: Cut) -> Option<(Cell, Cell)>
     ensures { IfSome result (λ halves. MakeUp cell halves.0 halves.1) }
@@ -145,6 +189,7 @@ pub(crate) fn cut_cell(cell: Cell, cut: Cut) -> Option<(Cell, Cell)>
         Cut::Kinds(kinds) => Some((of_kinds(cell, kinds), of_other_kinds(cell, kinds))),
         Cut::Number(number) => cut_at_number(cell, number),
         Cut::Word(place) => cut_at_word(cell, place),
+        Cut::Between(place) => cut_between(cell, place),
     }
 }
 

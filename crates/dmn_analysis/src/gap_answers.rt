@@ -2,6 +2,7 @@
 ghost use Rattle.std.specs.Prelude.{◌≡◌, ◌<◌, ℕ, [], IsTrue, IfOk, IfSome, None, false, length, map};
 ghost use Rattle.std.specs.List.{All};
 ghost use Rattle.dmn_table.specs.Parts.{rule_view};
+ghost use Rattle.dmn_analysis.specs.Cells.{AllInOrder};
 ghost use Rattle.dmn_analysis.specs.Claims.{AreKnown, DecidesGaps, IsGapIn, TellsGaps};
 ghost use Rattle.dmn_analysis.specs.Constant.{AreConstant, IsConstant};
 ghost use Rattle.dmn_analysis.specs.Joining.{AreMissed};
@@ -83,6 +84,7 @@ fn tell(
     count: usize,
     most: usize,
 ) -> Result<Told, AllocError>
+    requires { AllInOrder words.now }
     ensures each { IfOk result (λ told. (s : Scene) → s.rules ≡ map rule_view rules.now → All (IsBare s) bare.now → All (IsToldGap s count) told.found.items) }
     ensures all { IfOk result (λ told. IsTrue told.is_all → told.more ≡ 0 → All (λ b. IsDealtWith words.now told.found.items b.cells.items) bare.now) }
     ensures one { IfOk result (λ told. 0 < most → told.found.items ≡ [] → told.more ≡ 0) }

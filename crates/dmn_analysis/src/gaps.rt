@@ -1,6 +1,7 @@
 //! A search for values for which no rule hits.
 ghost use Rattle.std.specs.Prelude.{◌≡◌, ◌<◌, List, [], OnOk, IfOk, false, map};
 ghost use Rattle.dmn_table.specs.Parts.{rule_view};
+ghost use Rattle.dmn_analysis.specs.Cells.{AllInOrder};
 ghost use Rattle.dmn_analysis.specs.Constant.{AreConstant};
 ghost use Rattle.dmn_analysis.specs.Cutting.{AreHalves};
 ghost use Rattle.dmn_analysis.specs.Searching.{AreLeft, HasEntry, Knows, KnowsBut, Scene, TellsChosen};
@@ -9,6 +10,7 @@ ghost use Rattle.dmn_analysis.specs.declared.cell.Cell.{Cell as CellData};
 use crate::cell::{Cell, Words};
 use crate::rule_on::{cannot_hit, first_unsettled};
 use crate::searching::{Outlook, Unsure, halves, outlook_for, possible};
+use crate::witness::is_void;
 use dmn_table::Rule;
 use std::alloc::{AllocError, Global};
 
@@ -83,7 +85,7 @@ impl Search {
         upper: Vec<Cell>,
         left: Vec<usize>,
     ) -> Result<(), AllocError>
-        ensures known { OnOk result ((s : Scene) (cells : List CellData) → KnowsBut s cells self.old → AreHalves cells lower.items upper.items → AreLeft s cells left.items → Knows s self.new) }
+        ensures known { OnOk result ((s : Scene) (cells : List CellData) → AllInOrder s.words → KnowsBut s cells self.old → AreHalves cells lower.items upper.items → AreLeft s cells left.items → Knows s self.new) }
         ensures opened { OnOk result (self.new.open.items ≡ self.old.open.items) }
     {
         let copy = Vec::from_slice(alloc, &left)?;
@@ -107,7 +109,7 @@ impl Search {
         steps: &mut u64,
     ) -> Result<(), AllocError>
         requires { HasEntry (map rule_view rules.now) cells.now unsure }
-        ensures known { OnOk result ((s : Scene) → KnowsBut s cells.now self.old → AreLeft s cells.now left.items → Knows s self.new) }
+        ensures known { OnOk result ((s : Scene) → AllInOrder s.words → KnowsBut s cells.now self.old → AreLeft s cells.now left.items → Knows s self.new) }
         ensures decided { OnOk result (AreConstant (map rule_view rules.now) → self.old.open.items ≡ [] → self.new.open.items ≡ []) }
     {
         let Some((lower, upper)) = halves(alloc, words, rules, cells, &left, unsure, steps)? else {
@@ -118,7 +120,7 @@ impl Search {
         Ok(())
     }
 
-    // Cells for all of whose values the chosen rule hits.
+    // Cells for all of whose values the chosen rule hits. They are left out where they have none.
     fn look(
         &mut self,
         alloc: Global,
@@ -127,12 +129,17 @@ impl Search {
         next: Pending,
         steps: &mut u64,
     ) -> Result<(), AllocError>
+        requires { AllInOrder words.now }
         ensures known { OnOk result ((s : Scene) → s.words ≡ words.now → s.rules ≡ map rule_view rules.now → KnowsBut s next.cells.items self.old → AreLeft s next.cells.items next.left.items → Knows s self.new) }
         ensures decided { OnOk result (AreConstant (map rule_view rules.now) → self.old.open.items ≡ [] → self.new.open.items ≡ []) }
     {
         let left = possible(alloc, words, rules, &next.cells, &next.left, steps)?;
         match outlook_for(words, rules, &next.cells, &left, steps) {
             Outlook::Nothing => {
+                let void = is_void(alloc, words, &next.cells)?;
+                if void {
+                    return Ok(());
+                }
                 let Pending { cells, left: _ } = next;
                 self.bare.push(Bare { cells })?;
                 Ok(())
@@ -158,6 +165,7 @@ impl Search {
         next: Pending,
         steps: &mut u64,
     ) -> Result<(), AllocError>
+        requires { AllInOrder words.now }
         ensures known { OnOk result ((s : Scene) → s.words ≡ words.now → s.rules ≡ map rule_view rules.now → s.chosen ≡ chosen → KnowsBut s next.cells.items self.old → AreLeft s next.cells.items next.left.items → Knows s self.new) }
         ensures decided { OnOk result (AreConstant (map rule_view rules.now) → self.old.open.items ≡ [] → self.new.open.items ≡ []) }
     {
@@ -199,6 +207,7 @@ pub(crate) fn go_through(
     most: usize,
     steps: &mut u64,
 ) -> Result<Search, AllocError>
+    requires { AllInOrder words.now }
     ensures known { IfOk result (λ search. (s : Scene) → s.words ≡ words.now → s.rules ≡ map rule_view rules.now → s.chosen ≡ chosen → s.first ≡ first.left.items → s.whole ≡ first.cells.items → Knows s search) }
     ensures decided { IfOk result (λ search. AreConstant (map rule_view rules.now) → search.open.items ≡ []) }
     ensures ended { IfOk result (λ search. most ≡ 18446744073709551615 → 0 < steps.new → search.pending.items ≡ []) }

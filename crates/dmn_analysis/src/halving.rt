@@ -2,7 +2,7 @@
 ghost use Rattle.std.specs.Prelude.{◌<◌, IfOk, length};
 ghost use Rattle.dmn_analysis.specs.Cutting.{AreHalves, MakeUp};
 
-use crate::cell::Cell;
+use crate::cell::{Cell, Others};
 use crate::choosing::{EACH_KIND, NO_KINDS, is_empty};
 use crate::cutting::{Cut, Kinds, cut_cell, of_kinds, of_other_kinds, with_cell};
 use std::alloc::{AllocError, Global};
@@ -18,6 +18,11 @@ fn kind_apart(cell: Cell) -> Option<Kinds> {
     None
 }
 
+// The number in the middle of two.
+pub(crate) fn middle(from: usize, to: usize) -> usize {
+    from.saturating_add(to.saturating_sub(from) / 2)
+}
+
 // How the values of a cell are parted; what is one value alone isn't.
 fn middle_cut(cell: Cell) -> Cut {
     if let Some(kind) = kind_apart(cell) {
@@ -27,7 +32,10 @@ fn middle_cut(cell: Cell) -> Cut {
         let half = (cell.high.abs_diff(cell.low) / 2) as i64;
         return Cut::Number(cell.high.saturating_sub(half));
     }
-    Cut::Word(cell.from + cell.to.saturating_sub(cell.from) / 2)
+    if let Others::Between(from, to) = cell.others {
+        return Cut::Between(middle(from, to).saturating_add(1));
+    }
+    Cut::Word(middle(cell.from, cell.to))
 }
 
 /// The cell cut in two. Where it has but one value, one part has none.

@@ -1,5 +1,5 @@
 //! Cells joined where they differ in one column alone. Nothing is promised of them: what is joined is asked of the rules again.
-use crate::cell::Cell;
+use crate::cell::{Cell, Others};
 use crate::gaps::Bare;
 use std::alloc::{AllocError, Global};
 
@@ -43,10 +43,30 @@ fn joined_words(a: Cell, b: Cell) -> Option<(usize, usize)> {
     None
 }
 
+// The texts of both that are no words, where they stand side by side or are the same.
+fn joined_others(a: Others, b: Others) -> Option<Others> {
+    match (a, b) {
+        (Others::None, other) | (other, Others::None) => Some(other),
+        (Others::All, _) | (_, Others::All) => Some(Others::All),
+        (Others::Between(from, to), Others::Between(first, end)) => {
+            if from == first && to == end {
+                Some(a)
+            } else if to.saturating_add(1) == first {
+                Some(Others::Between(from, end))
+            } else if end.saturating_add(1) == from {
+                Some(Others::Between(first, to))
+            } else {
+                None
+            }
+        }
+    }
+}
+
 // The values of both, where they make one cell.
 fn joined_cell(a: Cell, b: Cell) -> Option<Cell> {
     let (low, high) = joined_numbers(a, b)?;
     let (from, to) = joined_words(a, b)?;
+    let others = joined_others(a.others, b.others)?;
     Some(Cell {
         null: a.null || b.null,
         yes: a.yes || b.yes,
@@ -55,7 +75,7 @@ fn joined_cell(a: Cell, b: Cell) -> Option<Cell> {
         high,
         from,
         to,
-        others: a.others || b.others,
+        others,
         parted: a.parted || b.parted,
     })
 }

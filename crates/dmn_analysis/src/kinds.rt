@@ -1,4 +1,9 @@
 //! What the tests of a column ask for.
+ghost use Rattle.std.specs.Prelude.{◌≡◌, IfOk, true};
+ghost use Rattle.std.specs.List.{All};
+ghost use Rattle.feel_value.specs.Datum.{Datum};
+ghost use Rattle.dmn_analysis.specs.Asked.{is_asked, is_in_utf8};
+
 use crate::asked::{Asked, Texts};
 use crate::on_class::{literal, negative};
 use crate::words::in_order;
@@ -106,11 +111,21 @@ impl Seen {
         !others && self.texts.is_empty()
     }
 
+    // Every value; where texts are compared by order, of texts those in UTF-8, of which that can be told.
+    fn every(&self) -> Asked
+        ensures { (v : Datum) → is_in_utf8 v ≡ true → is_asked result v ≡ true }
+    {
+        if self.has_order {
+            return Asked::every_in_utf8();
+        }
+        Asked::every()
+    }
+
     // What is asked for: of texts all, or where `words_only` says so those that are seen, unless some are compared by order. Where
     // there is no constant, every value.
     fn into_asked(self, words_only: bool) -> Asked {
         if self.is_nothing() {
-            return Asked::every();
+            return self.every();
         }
         let Seen {
             null,
@@ -124,6 +139,8 @@ impl Seen {
             Texts::None
         } else if words_only && !has_order {
             Texts::These(in_order(texts))
+        } else if has_order {
+            Texts::Utf8
         } else {
             Texts::All
         };
@@ -150,6 +167,19 @@ pub fn kinds_asked(
     for place in 0..count {
         let seen = Seen::of(alloc, table.rules(), place)?;
         asked.push(seen.into_asked(words_only))?;
+    }
+    Ok(asked)
+}
+
+/// Of each column of the table every value; where a test compares texts by order, of texts those in UTF-8.
+pub fn every_value(alloc: Global, table: &Table) -> Result<Vec<Asked>, AllocError>
+    ensures { IfOk result (λ asked. All (λ a. (v : Datum) → is_in_utf8 v ≡ true → is_asked a v ≡ true) asked.items) }
+{
+    let count = table.inputs().len();
+    let mut asked = Vec::with_capacity(alloc, count)?;
+    for place in 0..count {
+        let seen = Seen::of(alloc, table.rules(), place)?;
+        asked.push(seen.every())?;
     }
     Ok(asked)
 }

@@ -34,11 +34,11 @@ mod witness;
 mod words;
 
 pub use asked::{Asked, Texts};
-pub use cell::{Cell, Words};
+pub use cell::{Cell, Others, Words};
 pub use found::{Gap, Gaps, Mask, Masks, Overlap, Overlaps};
 pub use gap_answers::find_gaps;
-pub use kinds::kinds_asked;
-pub use laws::{complete_gives_no_default, unique_gives_one_hit};
+pub use kinds::{every_value, kinds_asked};
+pub use laws::{complete_gives_no_default, every_value_is_asked, unique_gives_one_hit};
 pub use pair_answers::find_overlaps;
 pub use pieces::{Part, Piece};
 pub use single_answers::{find_masked, never_met};

@@ -3,11 +3,11 @@ ghost use Rattle.std.specs.Prelude.{◌≡◌, ℕ, ℤ, List, true, false, IsTr
 ghost use Rattle.feel_value.specs.Datum.{Datum, null as null_datum, boolean, number as number_datum, text as text_datum};
 ghost use Rattle.feel_text.specs.Meaning.{Bindings};
 ghost use Rattle.feel_text.specs.Satisfied.{satisfied};
-ghost use Rattle.dmn_analysis.specs.Cells.{is_in, is_text_among, is_text_in, truth_in, words_within};
+ghost use Rattle.dmn_analysis.specs.Cells.{is_in, is_one_of, is_text_among, truth_in, words_within};
 ghost use Rattle.dmn_analysis.specs.Classes.{is_number_in, is_of, is_parted};
 ghost use Rattle.dmn_analysis.specs.Searching.{Settles};
 
-use crate::cell::{Cell, within};
+use crate::cell::{Cell, Others, within};
 use crate::class::Class;
 use crate::on_class::answer_on;
 use feel_text::Tests;
@@ -68,13 +68,14 @@ fn words_are_sure(words: &[ArcStr], cell: Cell, tests: &Tests, met: bool) -> boo
     is_sure(&Class::Words(some), tests, met)
 }
 
-fn others_are_sure(words: &[ArcStr], cell: Cell, tests: &Tests, met: bool) -> bool
-    ensures { IsTrue result → IsTrue cell.others → (s : List ℕ) (m : Bindings) → is_text_among words.now s ≡ false → Settles met (satisfied tests.now (text_datum s) m) }
+fn others_are_sure(words: &[ArcStr], others: Others, tests: &Tests, met: bool) -> bool
+    ensures { IsTrue result → (s : List ℕ) (m : Bindings) → is_one_of words.now others s ≡ true → is_text_among words.now s ≡ false → Settles met (satisfied tests.now (text_datum s) m) }
 {
-    if !cell.others {
-        return true;
+    match others {
+        Others::None => true,
+        Others::All => is_sure(&Class::OtherTexts(words), tests, met),
+        Others::Between(from, to) => is_sure(&Class::Between(words, from, to), tests, met),
     }
-    is_sure(&Class::OtherTexts(words), tests, met)
 }
 
 fn parted_are_sure(cell: Cell, tests: &Tests, met: bool) -> bool
@@ -96,7 +97,7 @@ pub(crate) fn are_sure(words: &[ArcStr], cell: Cell, tests: &Tests, met: bool) -
     if !words_are_sure(words, cell, tests, met) {
         return false;
     }
-    if !others_are_sure(words, cell, tests, met) {
+    if !others_are_sure(words, cell.others, tests, met) {
         return false;
     }
     if !null_is_sure(cell, tests, met) {

@@ -1,8 +1,7 @@
 //! What unary tests answer of all values of a class, whatever the names stand for.
 ghost use Rattle.std.specs.Prelude.{◌≡◌, true, IfSome};
-ghost use Rattle.feel_value.specs.Comparison.{equal};
 ghost use Rattle.feel_value.specs.Datum.{Datum, number as number_datum};
-ghost use Rattle.feel_value.specs.Logic.{decided, is_yes};
+ghost use Rattle.feel_value.specs.Logic.{decided};
 ghost use Rattle.feel_value.specs.View.{datum_of};
 ghost use Rattle.feel_value.specs.declared.feel.Outcome.TheVariants.{Is};
 ghost use Rattle.feel_text.specs.Constants.{expr_of_constant};

@@ -1,9 +1,8 @@
 //! Whether no two rules hit whatever the values are, or for which values two do.
-ghost use Rattle.std.specs.Prelude.{◌≡◌, ◌<◌, List, [], None, true, false, IsTrue, IfOk, IfSome, length, map};
+ghost use Rattle.std.specs.Prelude.{◌≡◌, ◌<◌, List, [], None, false, IsTrue, IfOk, IfSome, length, map};
 ghost use Rattle.std.specs.List.{All};
-ghost use Rattle.feel_value.specs.Datum.{Datum};
 ghost use Rattle.dmn_table.specs.Parts.{rule_view};
-ghost use Rattle.dmn_analysis.specs.Asked.{is_asked};
+ghost use Rattle.dmn_analysis.specs.Cells.{AllInOrder};
 ghost use Rattle.dmn_analysis.specs.Claims.{AreKnown, AreOverlappingIn, DecidesOverlaps, Hits, TellsOverlaps};
 ghost use Rattle.dmn_analysis.specs.Constant.{IsConstant};
 ghost use Rattle.dmn_analysis.specs.Sharing.{IsPairOf, IsShared, MustOverlap};
@@ -28,18 +27,6 @@ use std::alloc::{AllocError, Global};
 /// The most cells with several rules that are looked for.
 const MOST_SHARED: usize = 100_000;
 
-/// Every value is asked about, in each of so many columns.
-pub(crate) fn every(alloc: Global, count: usize) -> Result<Vec<Asked>, AllocError>
-    ensures asked { IfOk result (λ all. All (λ a. (v : Datum) → is_asked a v ≡ true) all.items) }
-    ensures known { IfOk result (λ all. (words : List WordsData) → AreKnown count words all.items) }
-{
-    let mut all = Vec::with_capacity(alloc, count)?;
-    for _place in 0..count {
-        all.push(Asked::every())?;
-    }
-    Ok(all)
-}
-
 // Values of the cells for which both rules hit where no name stands for anything; None where the rules don't say so.
 fn witness(
     alloc: Global,
@@ -50,6 +37,7 @@ fn witness(
     j: usize,
     count: usize,
 ) -> Result<Option<Vec<Feel>>, AllocError>
+    requires { AllInOrder words.now }
     ensures one_each { IfOk result (λ found. IfSome found (λ values. length values.items ≡ count)) }
     ensures first { IfOk result (λ found. IfSome found (λ values. Hits (map rule_view rules.now) i values.items)) }
     ensures second { IfOk result (λ found. IfSome found (λ values. Hits (map rule_view rules.now) j values.items)) }
@@ -78,6 +66,7 @@ fn overlap_of(
     pair: Pair,
     count: usize,
 ) -> Result<Option<Overlap>, AllocError>
+    requires { AllInOrder words.now }
     ensures overlap { IfOk result (λ found. IfSome found (λ o. AreOverlappingIn count (map rule_view rules.now) o.first o.second o.values.items)) }
     ensures unless { IfOk result (λ found. found ≡ None → MustOverlap words.now (map rule_view rules.now) count cells.now pair.first pair.second → ⊥) }
 {
@@ -107,6 +96,7 @@ fn tell(
     count: usize,
     most: usize,
 ) -> Result<Vec<Overlap>, AllocError>
+    requires { AllInOrder words.now }
     ensures each { IfOk result (λ found. All (λ o. AreOverlappingIn count (map rule_view rules.now) o.first o.second o.values.items) found.items) }
     ensures some { IfOk result (λ found. 0 < most → All (IsShared words.now (map rule_view rules.now) count) all.now → All (IsPairOf all.now) pairs.now → found.items ≡ [] → pairs.now ≡ []) }
 {
@@ -167,22 +157,23 @@ fn are_all(search: &PairSearch, pairs: usize, found: &[Overlap]) -> bool
     is_done(&search.pending, &search.open)
 }
 
-/// Whether no two rules of the table hit, whatever the values of its input columns and whatever the names stand for: the pairs that
-/// do, of which at most so many are told, each once. The search takes at most so many steps.
+/// Whether no two rules of the table hit, whatever the values of its input columns that are asked about and whatever the names stand
+/// for: the pairs that do, of which at most so many are told, each once. `asked` has an entry for each input column, as for
+/// `find_gaps`. The search takes at most so many steps.
 pub fn find_overlaps(
     alloc: Global,
     table: &Table,
+    asked: &[Asked],
     most: usize,
     steps: u64,
 ) -> Result<Overlaps, AllocError>
-    ensures tells { IfOk result (TellsOverlaps table.now) }
-    ensures decides { IfOk result (λ overlaps. IsConstant table.now → 0 < most → overlaps.steps < steps → DecidesOverlaps overlaps) }
+    ensures tells { IfOk result (TellsOverlaps table.now asked.now) }
+    ensures decides { IfOk result (λ overlaps. IsConstant table.now → ((words : List WordsData) → AreKnown (length table.now.inputs) words asked.now) → 0 < most → overlaps.steps < steps → DecidesOverlaps overlaps) }
 {
     let rules = table.rules();
     let count = table.inputs().len();
-    let asked = every(alloc, count)?;
     let words = all_words(alloc, rules, count)?;
-    let Some(cells) = whole(alloc, &words, &asked, count)? else {
+    let Some(cells) = whole(alloc, &words, asked, count)? else {
         return Ok(nothing_told(alloc));
     };
     let left = places(alloc, rules.len())?;

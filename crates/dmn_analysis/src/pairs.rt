@@ -2,6 +2,7 @@
 ghost use Rattle.std.specs.Prelude.{◌≡◌, ◌<◌, ◌≤◌, List, [], OnOk, IfOk, length, map};
 ghost use Rattle.std.specs.List.{All};
 ghost use Rattle.dmn_table.specs.Parts.{rule_view};
+ghost use Rattle.dmn_analysis.specs.Cells.{AllInOrder};
 ghost use Rattle.dmn_analysis.specs.Constant.{AreConstant};
 ghost use Rattle.dmn_analysis.specs.Cutting.{AreHalves};
 ghost use Rattle.dmn_analysis.specs.Searching.{AreLeft, Scene};
@@ -40,7 +41,7 @@ impl PairSearch {
         upper: Vec<Cell>,
         left: Vec<usize>,
     ) -> Result<(), AllocError>
-        ensures known { OnOk result ((s : Scene) (cells : List CellData) → KnowsPairsBut s cells self.old → AreHalves cells lower.items upper.items → AreLeft s cells left.items → IsRising left.items → KnowsPairs s self.new) }
+        ensures known { OnOk result ((s : Scene) (cells : List CellData) → AllInOrder s.words → KnowsPairsBut s cells self.old → AreHalves cells lower.items upper.items → AreLeft s cells left.items → IsRising left.items → KnowsPairs s self.new) }
         ensures opened { OnOk result (self.new.open.items ≡ self.old.open.items) }
     {
         let copy = Vec::from_slice(alloc, &left)?;
@@ -60,7 +61,8 @@ impl PairSearch {
         cells: Vec<Cell>,
         rules: Vec<usize>,
     ) -> Result<(), AllocError>
-        requires { 2 ≤ length rules.items }
+        requires several { 2 ≤ length rules.items }
+        requires order { AllInOrder words.now }
         ensures known { OnOk result ((s : Scene) → s.words ≡ words.now → KnowsPairsBut s cells.items self.old → All (IsMustHit s.words s.rules cells.items) rules.items → IsRising rules.items → KnowsPairs s self.new) }
         ensures opened { OnOk result (self.new.open.items ≡ self.old.open.items) }
     {
@@ -80,6 +82,7 @@ impl PairSearch {
         next: Pending,
         steps: &mut u64,
     ) -> Result<(), AllocError>
+        requires { AllInOrder words.now }
         ensures known { OnOk result ((s : Scene) → s.words ≡ words.now → s.rules ≡ map rule_view rules.now → KnowsPairsBut s next.cells.items self.old → AreLeft s next.cells.items next.left.items → IsRising next.left.items → KnowsPairs s self.new) }
         ensures decided { OnOk result (AreConstant (map rule_view rules.now) → self.old.open.items ≡ [] → self.new.open.items ≡ []) }
     {
@@ -112,6 +115,7 @@ pub(crate) fn find_shared(
     most: usize,
     steps: &mut u64,
 ) -> Result<PairSearch, AllocError>
+    requires { AllInOrder words.now }
     ensures known { IfOk result (λ search. (s : Scene) → s.words ≡ words.now → s.rules ≡ map rule_view rules.now → s.first ≡ first.left.items → s.whole ≡ first.cells.items → IsRising first.left.items → KnowsPairs s search) }
     ensures decided { IfOk result (λ search. AreConstant (map rule_view rules.now) → search.open.items ≡ []) }
     ensures ended { IfOk result (λ search. 0 < most → 0 < steps.new → search.shared.items ≡ [] → search.pending.items ≡ []) }

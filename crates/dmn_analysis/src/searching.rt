@@ -1,5 +1,5 @@
 //! What a search through the cells of a table does at each turn.
-ghost use Rattle.std.specs.Prelude.{◌≡◌, ◌<◌, ◌≤◌, [], false, IsTrue, IfOk, IfSome, None, length, map};
+ghost use Rattle.std.specs.Prelude.{◌≡◌, ◌<◌, ◌≤◌, false, IsTrue, IfOk, IfSome, None, length, map};
 ghost use Rattle.dmn_table.specs.Parts.{rule_view};
 ghost use Rattle.std.specs.List.{All};
 ghost use Rattle.dmn_analysis.specs.Constant.{AreConstant};

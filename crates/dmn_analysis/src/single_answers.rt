@@ -2,15 +2,16 @@
 ghost use Rattle.std.specs.Prelude.{◌≡◌, [], IsTrue, IfOk, IfSome, map};
 ghost use Rattle.std.specs.List.{All};
 ghost use Rattle.dmn_table.specs.Parts.{rule_view};
-ghost use Rattle.dmn_analysis.specs.Claims.{GoesBefore, IsMasked, IsNeverMet};
+ghost use Rattle.dmn_analysis.specs.Cells.{AllInOrder};
+ghost use Rattle.dmn_analysis.specs.Claims.{GoesBefore, IsMaskedAmong, IsNeverMetAmong};
 ghost use Rattle.dmn_analysis.specs.Ranking.{AreRanks};
 ghost use Rattle.dmn_analysis.specs.Telling.{IsBehind, IsMaskedOn};
 
+use crate::asked::Asked;
 use crate::cell::{Cell, Words};
 use crate::found::{Mask, Masks};
 use crate::gap_answers::{distinct, is_done, places};
 use crate::gaps::{Bare, Pending, go_through};
-use crate::pair_answers::every;
 use crate::ranking::{Rank, ranks, rules_ahead, unranked};
 use crate::whole::whole;
 use crate::words::all_words;
@@ -37,6 +38,7 @@ fn behind(
     others: Vec<usize>,
     steps: &mut u64,
 ) -> Result<Option<Vec<usize>>, AllocError>
+    requires { AllInOrder words.now }
     ensures { IfOk result (λ found. IfSome found (λ sure. IsBehind words.now (map rule_view rules.now) cells.now rule others.items)) }
 {
     let copy = Vec::from_slice(alloc, cells)?;
@@ -60,6 +62,7 @@ fn rules_out(
     rules: &[Rule],
     cells: &[Cell],
 ) -> Result<Vec<usize>, AllocError>
+    requires { AllInOrder words.now }
     ensures { IfOk result (λ out. All (λ i. IsBehind words.now (map rule_view rules.now) cells.now i []) out.items) }
 {
     let mut out = Vec::new(alloc);
@@ -74,16 +77,15 @@ fn rules_out(
     Ok(out)
 }
 
-/// The places of the rules, counted from 0, of which it is known that they never hit, whatever the values of the input columns and
-/// whatever the names stand for.
-pub fn never_met(alloc: Global, table: &Table) -> Result<Vec<usize>, AllocError>
-    ensures { IfOk result (λ out. All (IsNeverMet table.now) out.items) }
+/// The places of the rules, counted from 0, of which it is known that they never hit, whatever the values of the input columns that are
+/// asked about and whatever the names stand for.
+pub fn never_met(alloc: Global, table: &Table, asked: &[Asked]) -> Result<Vec<usize>, AllocError>
+    ensures { IfOk result (λ out. All (IsNeverMetAmong table.now asked.now) out.items) }
 {
     let rules = table.rules();
     let count = table.inputs().len();
-    let asked = every(alloc, count)?;
     let words = all_words(alloc, rules, count)?;
-    let Some(cells) = whole(alloc, &words, &asked, count)? else {
+    let Some(cells) = whole(alloc, &words, asked, count)? else {
         return Ok(Vec::new(alloc));
     };
     let out = rules_out(alloc, &words, rules, &cells)?;
@@ -133,7 +135,8 @@ fn masks(
     cells: &[Cell],
     steps: &mut u64,
 ) -> Result<Vec<Mask>, AllocError>
-    requires { AreRanks table.now.outputs table.now.rules ranks.now }
+    requires ranks { AreRanks table.now.outputs table.now.rules ranks.now }
+    requires order { AllInOrder words.now }
     ensures { IfOk result (λ found. All (λ k. IsMaskedOn table.now words.now cells.now k.rule) found.items) }
 {
     let rules = table.rules();
@@ -157,19 +160,23 @@ fn masks(
     Ok(found)
 }
 
-/// The rules of which it is known that wherever they hit a rule hits that goes before them, whatever the values of the input columns and
-/// whatever the names stand for; but not those that never hit. Under `F` the rules go as they stand, under `P` by the priority of
-/// their outputs, where no names decide these, and then as they stand; under the other policies none is found. The search takes at most so
-/// many steps.
-pub fn find_masked(alloc: Global, table: &Table, steps: u64) -> Result<Masks, AllocError>
-    ensures { IfOk result (λ masks. All (λ m. IsMasked table.now m.rule) masks.found.items) }
+/// The rules of which it is known that wherever they hit a rule hits that goes before them, whatever the values of the input columns
+/// that are asked about and whatever the names stand for; but not those that never hit. Under `F` the rules go as they stand, under
+/// `P` by the priority of their outputs, where no names decide these, and then as they stand; under the other policies none is found.
+/// The search takes at most so many steps.
+pub fn find_masked(
+    alloc: Global,
+    table: &Table,
+    asked: &[Asked],
+    steps: u64,
+) -> Result<Masks, AllocError>
+    ensures { IfOk result (λ masks. All (λ m. IsMaskedAmong table.now asked.now m.rule) masks.found.items) }
 {
     let count = table.inputs().len();
-    let asked = every(alloc, count)?;
     let words = all_words(alloc, table.rules(), count)?;
     let ranks = ranks_under_policy(alloc, table)?;
     let mut rest = steps;
-    let Some(cells) = whole(alloc, &words, &asked, count)? else {
+    let Some(cells) = whole(alloc, &words, asked, count)? else {
         return Ok(Masks {
             found: Vec::new(alloc),
             is_all: false,

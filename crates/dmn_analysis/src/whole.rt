@@ -5,7 +5,7 @@ ghost use Rattle.dmn_analysis.specs.Claims.{AreKnown, AreTextsKnown};
 ghost use Rattle.dmn_analysis.specs.Whole.{AreWhole, AreWholeTexts, IsWhole, whole_of};
 
 use crate::asked::{Asked, Texts};
-use crate::cell::{Cell, Words};
+use crate::cell::{Cell, Others, Words};
 use std::alloc::{AllocError, Global};
 use std::sync::ArcStr;
 
@@ -32,14 +32,14 @@ fn are_same(a: &[ArcStr], b: &[ArcStr]) -> bool
     true
 }
 
-/// Which texts of a column are asked about: its words before a place, and the others or none.
+/// Which texts of a column are asked about: its words before a place, and some of the others.
 #[derive(Clone, Copy)]
 struct WholeTexts {
     to: usize,
-    others: bool,
+    others: Others,
 }
 
-// The texts that are asked about, where they are all, none or the words.
+// The texts that are asked about, where they are all, those in UTF-8, none or the words.
 fn whole_texts(words: &[ArcStr], texts: &Texts) -> Option<WholeTexts>
     ensures all { IfSome result (λ all. AreWholeTexts words.now texts.now all.to all.others) }
     ensures none { result ≡ None → AreTextsKnown words.now texts.now → ⊥ }
@@ -47,11 +47,15 @@ fn whole_texts(words: &[ArcStr], texts: &Texts) -> Option<WholeTexts>
     match texts {
         Texts::None => Some(WholeTexts {
             to: 0,
-            others: false,
+            others: Others::None,
+        }),
+        Texts::Utf8 => Some(WholeTexts {
+            to: words.len(),
+            others: Others::Between(0, words.len()),
         }),
         Texts::All => Some(WholeTexts {
             to: words.len(),
-            others: true,
+            others: Others::All,
         }),
         Texts::These(these) => {
             if !are_same(these, words) {
@@ -59,7 +63,7 @@ fn whole_texts(words: &[ArcStr], texts: &Texts) -> Option<WholeTexts>
             }
             Some(WholeTexts {
                 to: words.len(),
-                others: false,
+                others: Others::None,
             })
         }
     }

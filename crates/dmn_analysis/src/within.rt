@@ -3,17 +3,16 @@ ghost use Rattle.std.specs.Prelude.{◌≡◌, ◌&&◌, ℕ, ℤ, List, true, I
 ghost use Rattle.std.specs.List.{All};
 ghost use Rattle.std.specs.declared.alloc.Global.{Global as GlobalData};
 ghost use Rattle.std.specs.declared.sync.ArcStr.{ArcStr as ArcStrData};
-ghost use Rattle.dmn_analysis.specs.Cells.{is_text_among, words_within};
+ghost use Rattle.dmn_analysis.specs.Cells.{is_one_of, is_text_among, words_within};
 ghost use Rattle.dmn_analysis.specs.Joining.{AreCovered, AreWithin, IsCellWithin};
 
-use crate::cell::Cell;
+use crate::cell::{Cell, Others};
 use crate::gaps::Bare;
 
 fn flags_within(a: Cell, b: Cell) -> bool
     ensures null { IsTrue result → IsTrue a.null → IsTrue b.null }
     ensures yes { IsTrue result → IsTrue a.yes → IsTrue b.yes }
     ensures no { IsTrue result → IsTrue a.no → IsTrue b.no }
-    ensures others { IsTrue result → IsTrue a.others → IsTrue b.others }
     ensures parted { IsTrue result → IsTrue a.parted → IsTrue b.parted }
 {
     if a.null && !b.null {
@@ -23,9 +22,6 @@ fn flags_within(a: Cell, b: Cell) -> bool
         return false;
     }
     if a.no && !b.no {
-        return false;
-    }
-    if a.others && !b.others {
         return false;
     }
     !a.parted || b.parted
@@ -55,6 +51,16 @@ fn words_are_within(a: Cell, b: Cell) -> bool
     true
 }
 
+fn others_are_within(a: Others, b: Others) -> bool
+    ensures { IsTrue result → (ws : List (ArcStrData GlobalData)) (s : List ℕ) → is_one_of ws a s ≡ true → is_one_of ws b s ≡ true }
+{
+    match (a, b) {
+        (Others::None, _) | (_, Others::All) => true,
+        (Others::Between(from, to), Others::Between(first, end)) => first <= from && to <= end,
+        (Others::All | Others::Between(_, _), _) => false,
+    }
+}
+
 /// Whether each value of the first cell is one of the second.
 fn cell_within(a: Cell, b: Cell) -> bool
     ensures { IsTrue result → IsCellWithin a b }
@@ -63,6 +69,9 @@ fn cell_within(a: Cell, b: Cell) -> bool
         return false;
     }
     if !numbers_within(a, b) {
+        return false;
+    }
+    if !others_are_within(a.others, b.others) {
         return false;
     }
     words_are_within(a, b)

@@ -1,7 +1,9 @@
 //! The texts that stand in the tests of a table's columns.
-ghost use Rattle.std.specs.Prelude.{◌≡◌, IfOk, length};
+ghost use Rattle.std.specs.Prelude.{◌≡◌, IfOk, IsTrue, length};
+ghost use Rattle.dmn_analysis.specs.Cells.{AllInOrder, AreInOrder};
 
 use crate::cell::Words;
+use crate::class::is_less;
 use crate::on_class::literal;
 use dmn_table::Rule;
 use feel_text::{Test, TestsTree, Tree};
@@ -46,17 +48,36 @@ pub(crate) fn in_order(texts: Vec<ArcStr>) -> Vec<ArcStr> {
     texts
 }
 
-/// The texts that stand in the tests of the column at this place, each once, in their order.
-pub(crate) fn words_of(alloc: Global, rules: &[Rule], place: usize) -> Result<Words, AllocError> {
+// Whether each of these texts is less than the one behind it.
+fn are_in_order(texts: &[ArcStr]) -> bool
+    ensures { IsTrue result → AreInOrder texts.now }
+{
+    for i in 1..texts.len() {
+        if !is_less(texts[i - 1].as_str(), texts[i].as_str()) {
+            return false;
+        }
+    }
+    true
+}
+
+/// The texts that stand in the tests of the column at this place, each once, in their order. That they are in order is looked at again,
+/// so that it can be relied on; if they weren't, there would be none.
+pub(crate) fn words_of(alloc: Global, rules: &[Rule], place: usize) -> Result<Words, AllocError>
+    ensures { IfOk result (λ words. AreInOrder words.texts.items) }
+{
     let mut texts = Vec::new(alloc);
     for rule in rules {
         if let Some(tests) = rule.tests.get(place) {
             add_tests(&mut texts, tests.tree())?;
         }
     }
-    Ok(Words {
-        texts: in_order(texts),
-    })
+    let texts = in_order(texts);
+    if !are_in_order(&texts) {
+        return Ok(Words {
+            texts: Vec::new(alloc),
+        });
+    }
+    Ok(Words { texts })
 }
 
 /// The same of each of so many columns.
@@ -65,11 +86,13 @@ pub(crate) fn all_words(
     rules: &[Rule],
     count: usize,
 ) -> Result<Vec<Words>, AllocError>
-    ensures { IfOk result (λ all. length all.items ≡ count) }
+    ensures count { IfOk result (λ all. length all.items ≡ count) }
+    ensures order { IfOk result (λ all. AllInOrder all.items) }
 {
     let mut all = Vec::with_capacity(alloc, count)?;
     for place in 0..count {
-        all.push(words_of(alloc, rules, place)?)?;
+        let words = words_of(alloc, rules, place)?;
+        all.push(words)?;
     }
     Ok(all)
 }

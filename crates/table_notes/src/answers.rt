@@ -3,8 +3,8 @@
 use crate::cells::have_other_kinds;
 use crate::same_outputs::outputs_differ;
 use dmn_analysis::{
-    Asked, Gaps, Masks, Overlaps, Texts, find_gaps, find_masked, find_overlaps, kinds_asked,
-    never_met,
+    Asked, Gaps, Masks, Overlaps, Texts, every_value, find_gaps, find_masked, find_overlaps,
+    kinds_asked, never_met,
 };
 use dmn_table::{HitPolicy, Table, has_no_default};
 use serde_json::Value as Json;
@@ -71,19 +71,11 @@ fn most_of(columns: usize, most: usize, cells: usize) -> usize {
     }
 }
 
-fn every_value(alloc: Global, columns: usize) -> Result<Vec<Asked>, AllocError> {
-    let mut asked = Vec::with_capacity(alloc, columns)?;
-    for _ in 0..columns {
-        asked.push(Asked::every())?;
-    }
-    Ok(asked)
-}
-
 /// Whether something is left out of the values of some column.
 fn leave_out(asked: &[Asked]) -> bool {
     for column in asked {
         let has_all = column.null && column.truths && column.numbers && column.parted;
-        if !has_all || !matches!(column.texts, Texts::All) {
+        if !has_all || !matches!(column.texts, Texts::Utf8 | Texts::All) {
             return true;
         }
     }
@@ -111,14 +103,18 @@ fn gaps_of_words(alloc: Global, table: &Table, most: usize) -> Result<Option<Gap
 }
 
 /// The overlaps, where the hit policy is one under which they count.
-fn overlaps_of(alloc: Global, table: &Table) -> Result<Option<Overlaps>, AllocError> {
+fn overlaps_of(
+    alloc: Global,
+    table: &Table,
+    all: &[Asked],
+) -> Result<Option<Overlaps>, AllocError> {
     let columns = table.inputs().len();
     let most = match table.policy() {
         HitPolicy::Unique => most_of(columns, MOST_FINDINGS, MOST_CELLS),
         HitPolicy::Any => most_of(columns, MOST_PAIRS, MOST_PAIR_CELLS),
         _ => return Ok(None),
     };
-    let overlaps = find_overlaps(alloc, table, most, STEPS)?;
+    let overlaps = find_overlaps(alloc, table, all, most, STEPS)?;
     Ok(Some(overlaps))
 }
 
@@ -150,10 +146,10 @@ fn faults_of(
 }
 
 /// The masked rules, where the hit policy is one under which one of several hits decides.
-fn masks_of(alloc: Global, table: &Table) -> Result<Option<Masks>, AllocError> {
+fn masks_of(alloc: Global, table: &Table, all: &[Asked]) -> Result<Option<Masks>, AllocError> {
     match table.policy() {
         HitPolicy::First | HitPolicy::Priority => {
-            let masks = find_masked(alloc, table, STEPS)?;
+            let masks = find_masked(alloc, table, all, STEPS)?;
             Ok(Some(masks))
         }
         _ => Ok(None),
@@ -166,13 +162,13 @@ impl Answers {
     pub fn of(alloc: Global, table: &Table, json: Option<&Json>) -> Result<Answers, AllocError> {
         let columns = table.inputs().len();
         let most = most_of(columns, MOST_FINDINGS, MOST_CELLS);
-        let all = every_value(alloc, columns)?;
+        let all = every_value(alloc, table)?;
         let every = find_gaps(alloc, table, &all, most, STEPS)?;
         let kinds = kinds_asked(alloc, table, false)?;
-        let overlaps = overlaps_of(alloc, table)?;
+        let overlaps = overlaps_of(alloc, table, &all)?;
         let faults = faults_of(alloc, table, json, &overlaps)?;
-        let never = never_met(alloc, table)?;
-        let masks = masks_of(alloc, table)?;
+        let never = never_met(alloc, table, &all)?;
+        let masks = masks_of(alloc, table, &all)?;
         let mut answers = Answers {
             every,
             kinds,

@@ -2,6 +2,7 @@
 
 use crate::cells::Cell;
 use crate::quoted::add_quoted;
+use crate::stretches::{Stretch, stretches_of};
 use std::alloc::{AllocError, Global};
 
 /// The most ranges of numbers that are told of a column, and the most texts.
@@ -68,6 +69,41 @@ fn add_all_but(
     Ok(())
 }
 
+/// Adds the texts from one on to another, as `from "a" up to "m"`; one where they are the same.
+fn add_bounded(
+    alloc: Global,
+    text: &mut String,
+    stretch: Stretch<'_>,
+    low: &str,
+    high: &str,
+) -> Result<(), AllocError> {
+    if low == high {
+        return add_quoted(alloc, text, "", low);
+    }
+    let (before_low, before_high) = match (stretch.has_low, stretch.has_high) {
+        (true, true) => ("from ", " up to "),
+        (true, false) => ("from ", " and before "),
+        (false, true) => ("after ", " and up to "),
+        (false, false) => ("between ", " and "),
+    };
+    add_quoted(alloc, text, before_low, low)?;
+    add_quoted(alloc, text, before_high, high)
+}
+
+fn add_stretch(alloc: Global, text: &mut String, stretch: Stretch<'_>) -> Result<(), AllocError> {
+    match (stretch.low, stretch.high) {
+        (Some(low), Some(high)) => add_bounded(alloc, text, stretch, low, high),
+        (Some(low), None) if stretch.has_low => add_quoted(alloc, text, "from ", low),
+        (Some(low), None) => add_quoted(alloc, text, "after ", low),
+        (None, Some(high)) if stretch.has_high => add_quoted(alloc, text, "up to ", high),
+        (None, Some(high)) => add_quoted(alloc, text, "before ", high),
+        (None, None) => {
+            text.push_str("any text")?;
+            Ok(())
+        }
+    }
+}
+
 fn add_texts(
     alloc: Global,
     text: &mut String,
@@ -77,11 +113,12 @@ fn add_texts(
     if let Some(words) = &cell.all_but {
         return add_all_but(alloc, text, start, words);
     }
-    for word in cell.words.iter().take(MOST_PIECES) {
+    let stretches = stretches_of(alloc, &cell.words, &cell.runs)?;
+    for stretch in stretches.iter().take(MOST_PIECES) {
         part(text, start)?;
-        add_quoted(alloc, text, "", word)?;
+        add_stretch(alloc, text, *stretch)?;
     }
-    add_more(text, start, cell.words.len())
+    add_more(text, start, stretches.len())
 }
 
 /// Adds a word, where it is due.

@@ -1,5 +1,6 @@
 //! The values of one column in a gap or an overlap, kind by kind.
 
+use crate::stretches::Run;
 use dmn_analysis::{Asked, Part, Piece, Texts};
 use feel_value::Value;
 use std::alloc::{AllocError, Global};
@@ -18,7 +19,9 @@ pub(crate) struct Cell<'a> {
     pub(crate) numbers: Vec<(i64, i64)>,
     /// Texts.
     pub(crate) words: Vec<&'a str>,
-    /// Where all texts are among them but some: these. Then there are no words.
+    /// Texts, told by those between which they stand.
+    pub(crate) runs: Vec<Run<'a>>,
+    /// Where all texts are among them but some: these. Then there are no words and no runs.
     pub(crate) all_but: Option<Vec<&'a str>>,
 }
 
@@ -91,12 +94,29 @@ impl<'a> Cell<'a> {
         Ok(())
     }
 
+    /// Adds the texts between two, if there are any.
+    fn add_run(
+        &mut self,
+        above: &'a Option<ArcStr>,
+        below: &'a Option<ArcStr>,
+    ) -> Result<(), AllocError> {
+        let run = Run {
+            above: above.as_ref().map(|text| text.as_str()),
+            below: below.as_ref().map(|text| text.as_str()),
+        };
+        if !run.is_void() {
+            self.runs.push(run)?;
+        }
+        Ok(())
+    }
+
     fn add(&mut self, piece: &'a Piece) -> Result<(), AllocError> {
         match piece {
             Piece::One(value) => return self.add_one(value),
             Piece::Numbers(low, high) => self.numbers.push((*low, *high))?,
             Piece::Words(words) => return self.add_words(words),
             Piece::OtherTexts(_) => {}
+            Piece::Between(above, below) => self.add_run(above, below)?,
             Piece::Parted => self.parted = true,
         }
         Ok(())
@@ -109,6 +129,28 @@ impl<'a> Cell<'a> {
         if let Some(words) = others {
             self.all_but = Some(without(alloc, words, &self.words)?);
             self.words.clear();
+            return Ok(());
+        }
+        self.join_least(alloc)
+    }
+
+    /// Where a run begins behind the empty text, and that is there too, makes one of them: the run has no text that it begins behind.
+    /// If it has no end either, all texts are there.
+    fn join_least(&mut self, alloc: Global) -> Result<(), AllocError> {
+        let has_least = self.words.first().is_some_and(|word| word.is_empty());
+        let Some(run) = self.runs.first_mut() else {
+            return Ok(());
+        };
+        if !has_least || !run.begins_behind_the_least() {
+            return Ok(());
+        }
+        run.above = None;
+        let is_all = run.below.is_none();
+        self.words.remove(0);
+        if is_all {
+            self.all_but = Some(Vec::new(alloc));
+            self.words.clear();
+            self.runs.clear();
         }
         Ok(())
     }
@@ -122,6 +164,7 @@ impl<'a> Cell<'a> {
             parted: false,
             numbers: Vec::new(alloc),
             words: Vec::new(alloc),
+            runs: Vec::new(alloc),
             all_but: None,
         };
         for piece in &part.pieces {
@@ -168,9 +211,10 @@ fn is_of_kinds(piece: &Piece, asked: &Asked) -> bool {
         Piece::One(Value::Null) => asked.null,
         Piece::One(Value::Bool(_)) => asked.truths,
         Piece::One(Value::Number(_)) | Piece::Numbers(_, _) => asked.numbers,
-        Piece::One(Value::Text(_)) | Piece::Words(_) | Piece::OtherTexts(_) => {
-            !matches!(asked.texts, Texts::None)
-        }
+        Piece::One(Value::Text(_))
+        | Piece::Words(_)
+        | Piece::OtherTexts(_)
+        | Piece::Between(_, _) => !matches!(asked.texts, Texts::None),
         Piece::One(Value::List(_) | Value::Context(_)) | Piece::Parted => asked.parted,
     }
 }

@@ -9,10 +9,10 @@ mod cells;
 mod columns;
 mod lines;
 mod not_decided;
-mod order;
 mod quoted;
 mod same_outputs;
 mod standing;
+mod stretches;
 mod subject;
 mod words;
 

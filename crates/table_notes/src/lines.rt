@@ -3,6 +3,7 @@
 use crate::answers::MOST_FINDINGS;
 use crate::cells::Cell;
 use crate::quoted::add_quoted;
+use crate::stretches::Run;
 use crate::subject::TableSubject;
 use dmn_analysis::{Gap, Mask, Overlap, Part};
 use feel_value::Feel;
@@ -72,6 +73,21 @@ fn add_all_but(alloc: Global, text: &mut String, words: &[&str]) -> Result<(), A
     Ok(())
 }
 
+/// Adds the texts between two, as `{"above":"a","below":"m"}`.
+fn add_run(alloc: Global, text: &mut String, run: Run<'_>) -> Result<(), AllocError> {
+    text.push_str("{")?;
+    let start = text.len();
+    if let Some(above) = run.above {
+        add_quoted(alloc, text, "\"above\":", above)?;
+    }
+    if let Some(below) = run.below {
+        part(text, start)?;
+        add_quoted(alloc, text, "\"below\":", below)?;
+    }
+    text.push_str("}")?;
+    Ok(())
+}
+
 fn add_texts(
     alloc: Global,
     text: &mut String,
@@ -86,6 +102,10 @@ fn add_texts(
         part(text, start)?;
         add_quoted(alloc, text, "{\"text\":", word)?;
         text.push_str("}")?;
+    }
+    for run in &cell.runs {
+        part(text, start)?;
+        add_run(alloc, text, *run)?;
     }
     Ok(())
 }

@@ -1,10 +1,8 @@
 //! What of a decision table wasn't decided, and why, for people to read.
 
 use crate::answers::Answers;
-use crate::order::has_order_of_texts;
 use crate::words::add_rule_numbers;
 use dmn_analysis::Gaps;
-use dmn_table::Table;
 use std::alloc::{AllocError, Global};
 use std::collections::BTreeSet;
 
@@ -77,12 +75,11 @@ fn add_open_outputs(text: &mut String, answers: &Answers) -> Result<(), AllocErr
 pub(crate) fn add_not_decided(
     alloc: Global,
     text: &mut String,
-    table: &Table,
     answers: &Answers,
 ) -> Result<(), AllocError> {
     add_open_outputs(text, answers)?;
     let reasons = Reasons::of(alloc, answers)?;
-    add_open_rules(alloc, text, table, &reasons)?;
+    add_open_rules(alloc, text, &reasons)?;
     let masks_ran_out = add_unranked(text, answers)?;
     if reasons.ran_out || masks_ran_out {
         text.push_str("  not decided: 2,000,000 steps were not enough\n")?;
@@ -110,33 +107,18 @@ fn add_unranked(text: &mut String, answers: &Answers) -> Result<bool, AllocError
     Ok(false)
 }
 
-/// Adds the rules of which it wasn't decided where they hit, by what their tests are.
-fn add_open_rules(
-    alloc: Global,
-    text: &mut String,
-    table: &Table,
-    reasons: &Reasons,
-) -> Result<(), AllocError> {
-    let mut by_order = Vec::new(alloc);
-    let mut by_names = Vec::new(alloc);
-    for number in &reasons.rules {
-        match table.rules().get(*number) {
-            Some(rule) if has_order_of_texts(rule) => by_order.push(*number)?,
-            _ => by_names.push(*number)?,
-        }
+/// Adds the rules of which it wasn't decided where they hit, where there are some.
+fn add_open_rules(alloc: Global, text: &mut String, reasons: &Reasons) -> Result<(), AllocError> {
+    let mut rules = Vec::with_capacity(alloc, reasons.rules.len())?;
+    for rule in &reasons.rules {
+        rules.push(*rule)?;
     }
-    add_rules(text, &by_names, "tests that names or lists decide")?;
-    add_rules(text, &by_order, "tests that compare texts by order")
-}
-
-/// Adds that rules have such tests, where there are some.
-fn add_rules(text: &mut String, rules: &[usize], tests: &str) -> Result<(), AllocError> {
     if rules.is_empty() {
         return Ok(());
     }
     text.push_str("  not decided: ")?;
-    add_rule_numbers(text, rules)?;
+    add_rule_numbers(text, &rules)?;
     let have = if rules.len() == 1 { "has" } else { "have" };
-    write!(text, " {have} {tests}\n")?;
+    write!(text, " {have} tests that names or lists decide\n")?;
     Ok(())
 }

@@ -353,5 +353,5 @@ pub fn add_table_words(
     add_never(text, answers)?;
     add_masks(text, subject)?;
     add_all_more(text, answers)?;
-    add_not_decided(alloc, text, subject.table, answers)
+    add_not_decided(alloc, text, answers)
 }

@@ -73,4 +73,4 @@ returns-in_default-clause-decides c = λ constant known positive less.
     let words = c.deref.result.now in
     let told = subst (λ ws. AreKnown (length c.args.table.now.inputs) ws asked) (c.nothing_told.ensures.words ∙ sym c.deref.ensures.value) known in
     let here = subst (λ is. AreKnown (length is) words asked) (sym c.inputs-count.ensures) told in
-    absurd (c.in_ok-cells.ensures.none c.in_default.is (omega (arith, c.in_ok-words.ensures, ap length c.deref.ensures.value)) here)
+    absurd (c.in_ok-cells.ensures.none c.in_default.is (omega (arith, c.in_ok-words.ensures.count, ap length c.deref.ensures.value)) here)

@@ -3,6 +3,7 @@ use Rattle.std.specs.List.{slice_get}
 use Rattle.std.proofs.lemmas.Option.{slice_get-get_or}
 use Rattle.dmn_table.specs.Parts.{rule_view}
 use Rattle.dmn_analysis.specs.declared.cell.Cell.{Cell}
+use Rattle.dmn_analysis.specs.declared.cell.Others.TheVariants as others
 use Rattle.dmn_analysis.proofs.Places.{at_place}
 use Rattle.dmn_analysis.proofs.RulesOn.{cannot}
 use Rattle.dmn_analysis.proofs.rule_on.cannot_hit.Goals as goal
@@ -13,7 +14,7 @@ returns-then-asked c = λ _.
     let cells = c.args.cells.now in
     let tests = c.deref-tests-items.result.now in
     let place = c.loop-place.place in
-    let none : Cell = record { null = false; yes = false; no = false; low = pos 0; high = pos 0; from = 0; to = 0; others = false; parted = false } in
+    let none : Cell = record { null = false; yes = false; no = false; low = pos 0; high = pos 0; from = 0; to = 0; others = others.None; parted = false } in
     let there = ap (λ ts. slice_get ts place) (sym c.deref-tests-items.ensures.value) ∙ at_place tests place c.tests-item.result c.loop-place-test.true c.tests-item.is in
     cannot words cells (rule_view c.args.rule.now) place c.tests-item.result there (record {
       ws = c.index-words-place.result;

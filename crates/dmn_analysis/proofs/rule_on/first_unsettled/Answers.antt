@@ -5,6 +5,7 @@ use Rattle.feel_value.specs.declared.logic.Truth.TheVariants.{Yes}
 use Rattle.feel_text.specs.Satisfied.{Told, satisfied}
 use Rattle.dmn_table.specs.Parts.{rule_view}
 use Rattle.dmn_analysis.specs.declared.cell.Cell.{Cell}
+use Rattle.dmn_analysis.specs.declared.cell.Others.TheVariants as others
 use Rattle.dmn_analysis.proofs.Places.{at_place, below_next}
 use Rattle.dmn_analysis.proofs.RulesOn.{IsSettled, must}
 use Rattle.dmn_analysis.proofs.rule_on.first_unsettled.Goals as goal
@@ -15,7 +16,7 @@ loop-place-preserved c = λ k t less here.
     let cells = c.args.cells.now in
     let tests = c.deref-tests-items.result.now in
     let place = c.loop-place.place in
-    let none : Cell = record { null = false; yes = false; no = false; low = pos 0; high = pos 0; from = 0; to = 0; others = false; parted = false } in
+    let none : Cell = record { null = false; yes = false; no = false; low = pos 0; high = pos 0; from = 0; to = 0; others = others.None; parted = false } in
     elim (below_next k place less) [
       | inl before ↦ c.loop-place.invariant k t before here
       | inr at ↦

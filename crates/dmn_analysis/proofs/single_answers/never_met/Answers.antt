@@ -11,16 +11,16 @@ use Rattle.dmn_analysis.proofs.single_answers.never_met.Goals as goal
 pub returns : goal.returns
 returns c =
     let t = c.args.table.now in
-    let asked = c.in_ok-asked.asked.items in
+    let asked = c.args.asked.now in
     let words = c.in_ok-words.words.items in
     let cells = c.in-Some.cells.items in
     let rules = c.rules-rules.ensures.rules in
     let long = rw c.in-Some.is at c.in_ok-cells.ensures.long in
-    let whole = subst (λ ws. AreWhole ws asked cells) c.deref.ensures.value (subst (λ xs. AreWhole c.deref.result.now xs cells) c.deref-2.ensures.value (rw c.in-Some.is at c.in_ok-cells.ensures.all)) in
+    let whole = subst (λ ws. AreWhole ws asked cells) c.deref.ensures.value (rw c.in-Some.is at c.in_ok-cells.ensures.all) in
     let out = c.in_ok-out.out.items in
     let behind = c.in_ok-out.ensures in
-    subst (λ is. All (NeverHits (length is) t.rules) out) c.inputs-count.ensures
-    (subst (λ rs. All (NeverHits (length c.inputs-count.result.now) rs) out) rules
-    (All-weaker (λ i. IsBehind c.deref-3.result.now (map rule_view c.rules-rules.result.now) c.deref-4.result.now i []) (NeverHits (length c.inputs-count.result.now) (map rule_view c.rules-rules.result.now)) (λ i b.
-    never_hits words (map rule_view c.rules-rules.result.now) asked cells (length c.inputs-count.result.now) i long whole c.in_ok-asked.ensures.asked
-    (subst (λ ws. IsBehind ws (map rule_view c.rules-rules.result.now) cells i []) c.deref-3.ensures.value (subst (λ cs. IsBehind c.deref-3.result.now (map rule_view c.rules-rules.result.now) cs i []) c.deref-4.ensures.value b))) out behind))
+    subst (λ is. All (NeverHits (length is) t.rules asked) out) c.inputs-count.ensures
+    (subst (λ rs. All (NeverHits (length c.inputs-count.result.now) rs asked) out) rules
+    (All-weaker (λ i. IsBehind c.deref-2.result.now (map rule_view c.rules-rules.result.now) c.deref-3.result.now i []) (NeverHits (length c.inputs-count.result.now) (map rule_view c.rules-rules.result.now) asked) (λ i b.
+    never_hits words (map rule_view c.rules-rules.result.now) asked cells (length c.inputs-count.result.now) i long whole
+    (subst (λ ws. IsBehind ws (map rule_view c.rules-rules.result.now) cells i []) c.deref-2.ensures.value (subst (λ cs. IsBehind c.deref-2.result.now (map rule_view c.rules-rules.result.now) cs i []) c.deref-3.ensures.value b))) out behind))

@@ -2,11 +2,14 @@ use Rattle.std.proofs.Common.{◌∙◌, sym, ap, subst, map}
 use Rattle.std.specs.Arc.{arc_str_bytes}
 use Rattle.dmn_analysis.specs.Claims.{AreTextsKnown}
 use Rattle.dmn_analysis.specs.Asked.{is_asked_text}
-use Rattle.dmn_analysis.proofs.Wholes.{whole_all, whole_these}
+use Rattle.dmn_analysis.proofs.Wholes.{whole_all, whole_these, whole_utf8}
 use Rattle.dmn_analysis.proofs.whole.whole_texts.Goals as goal
 
 pub returns-in-All-clause-all : goal.returns-in-All-clause-all
 returns-in-All-clause-all c = λ s e. whole_all c.args.words.now s (ap (λ t. is_asked_text t s) (sym c.in-All.is) ∙ e)
+
+pub returns-in-Utf8-clause-all : goal.returns-in-Utf8-clause-all
+returns-in-Utf8-clause-all c = λ s e. whole_utf8 c.args.words.now s (ap (λ t. is_asked_text t s) (sym c.in-Utf8.is) ∙ e)
 
 pub returns-in-None-clause-all : goal.returns-in-None-clause-all
 returns-in-None-clause-all c = λ s e. ap (λ t. is_asked_text t s) (sym c.in-None.is) ∙ e

@@ -3,6 +3,7 @@ use Rattle.std.specs.List.{slice_get}
 use Rattle.std.proofs.lemmas.Option.{same_Some, slice_get-get_or, slice_get_within}
 use Rattle.dmn_analysis.specs.Joining.{IsCellWithin}
 use Rattle.dmn_analysis.specs.declared.cell.Cell.{Cell}
+use Rattle.dmn_analysis.specs.declared.cell.Others.TheVariants as others
 use Rattle.dmn_analysis.proofs.Places.{below_next, element}
 use Rattle.dmn_analysis.proofs.within.cells_within.Goals as goal
 
@@ -11,7 +12,7 @@ loop-place-preserved c = λ k x y less here there.
     let a = c.args.a.now in
     let b = c.args.b.now in
     let i = c.loop-place.place in
-    let none : Cell = record { null = false; yes = false; no = false; low = pos 0; high = pos 0; from = 0; to = 0; others = false; parted = false } in
+    let none : Cell = record { null = false; yes = false; no = false; low = pos 0; high = pos 0; from = 0; to = 0; others = others.None; parted = false } in
     elim (below_next k i less) [
       | inl before ↦ c.loop-place.invariant k x y before here there
       | inr at ↦

@@ -5,6 +5,7 @@ use Rattle.std.proofs.lemmas.List.Elements.{All-push}
 use Rattle.std.proofs.lemmas.Option.{slice_get-get_or}
 use Rattle.feel_value.specs.Limits.{is_value}
 use Rattle.dmn_analysis.specs.declared.cell.Cell.{Cell}
+use Rattle.dmn_analysis.specs.declared.cell.Others.TheVariants as others
 use Rattle.dmn_analysis.proofs.Witnesses.{AreInFirst, all_in, one_more_in, void_at}
 use Rattle.dmn_analysis.proofs.witness.values_of.Goals as goal
 
@@ -14,7 +15,7 @@ loop-place-preserved c =
     let cells = c.args.cells.now in
     let values = c.loop-place.values.items in
     let place = c.loop-place.place in
-    let none : Cell = record { null = false; yes = false; no = false; low = pos 0; high = pos 0; from = 0; to = 0; others = false; parted = false } in
+    let none : Cell = record { null = false; yes = false; no = false; low = pos 0; high = pos 0; from = 0; to = 0; others = others.None; parted = false } in
     let cell = get_or cells place none in
     let value = c.in-Some.value in
     let is = c.in_ok-push.ensures.items in
@@ -33,7 +34,7 @@ pub returns-in_default-clause-none : goal.returns-in_default-clause-none
 returns-in_default-clause-none c = λ none.
     let cells = c.args.cells.now in
     let place = c.loop-place.place in
-    let none : Cell = record { null = false; yes = false; no = false; low = pos 0; high = pos 0; from = 0; to = 0; others = false; parted = false } in
+    let none : Cell = record { null = false; yes = false; no = false; low = pos 0; high = pos 0; from = 0; to = 0; others = others.None; parted = false } in
     let cell = get_or cells place none in
     void_at c.args.words.now cells place cell (slice_get-get_or cells place none c.loop-place-test.true) (c.in_ok-value.ensures.none c.in_default.is)
 

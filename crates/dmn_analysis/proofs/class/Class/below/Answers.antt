@@ -1,10 +1,11 @@
-use Rattle.std.proofs.Common.{◌≡◌, ◌∙◌, sym, ap, ap₂, rules, arith, FitsSigned, w64, to_z, of_z}
+use Rattle.std.proofs.Common.{◌≡◌, ◌∙◌, sym, ap, ap₂, subst, true, IfSome, rules, arith, FitsSigned, w64, to_z, of_z}
 use Rattle.std.proofs.lemmas.Int.{ints}
 use Rattle.std.proofs.lemmas.Option.{IfSome_then}
 use Rattle.feel_value.specs.Comparison.{less}
+use Rattle.feel_value.specs.Datum.{Datum}
 use Rattle.feel_value.specs.View.{datum_of}
 use Rattle.dmn_analysis.specs.Classes.{is_number_in, is_of}
-use Rattle.dmn_analysis.proofs.OnClasses.{is_a_text, is_a_word, parted_below, same_value}
+use Rattle.dmn_analysis.proofs.OnClasses.{is_a_text, parted_below, same_value}
 use Rattle.dmn_analysis.proofs.class.Class.below.Goals as goal
 
 pub returns-in-One : goal.returns-in-One
@@ -23,14 +24,15 @@ returns-in-Numbers c = IfSome_then c.numbers_below.result c.numbers_below.ensure
     told v (ap₂ (λ a b. is_number_in a b v) same_low same_high ∙ ap (λ k. is_of k v) (sym c.in-Numbers.is) ∙ h))
 
 pub returns-in-Words : goal.returns-in-Words
-returns-in-Words c = IfSome_then c.text_below.result c.text_below.ensures (λ t told v h.
-    let text = is_a_word c.in-Words.field-0.now v (ap (λ k. is_of k v) (sym c.in-Words.is) ∙ h) in
-    ap (λ w. less w (datum_of c.args.value.now)) text.1 ∙ told text.0)
+returns-in-Words c = subst (λ k. IfSome c.words_below.result (λ t. (v : Datum) → is_of k v ≡ true → less v (datum_of c.args.value.now) ≡ t)) (sym c.in-Words.is) c.words_below.ensures
 
 pub returns-in-OtherTexts : goal.returns-in-OtherTexts
-returns-in-OtherTexts c = IfSome_then c.text_below-in-OtherTexts.result c.text_below-in-OtherTexts.ensures (λ t told v h.
+returns-in-OtherTexts c = IfSome_then c.text_below.result c.text_below.ensures (λ t told v h.
     let text = is_a_text c.in-OtherTexts.field-0.now v (ap (λ k. is_of k v) (sym c.in-OtherTexts.is) ∙ h) in
     ap (λ w. less w (datum_of c.args.value.now)) text.1 ∙ told text.0)
+
+pub returns-in-Between : goal.returns-in-Between
+returns-in-Between c = subst (λ k. IfSome c.between_below.result (λ t. (v : Datum) → is_of k v ≡ true → less v (datum_of c.args.value.now) ≡ t)) (sym c.in-Between.is) c.between_below.ensures
 
 pub returns-in-Parted : goal.returns-in-Parted
 returns-in-Parted c = λ v h. parted_below (datum_of c.args.value.now) v (ap (λ k. is_of k v) (sym c.in-Parted.is) ∙ h)

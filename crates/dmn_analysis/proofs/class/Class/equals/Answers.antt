@@ -32,6 +32,9 @@ pub returns-in-OtherTexts : goal.returns-in-OtherTexts
 returns-in-OtherTexts c =
     subst (λ k. IfSome c.other_texts_equal.result (λ b. (v : Datum) → is_of k v ≡ true → is_yes (equal v (datum_of c.args.value.now)) ≡ b)) (sym c.in-OtherTexts.is) c.other_texts_equal.ensures
 
+pub returns-in-Between : goal.returns-in-Between
+returns-in-Between c = subst (λ k. IfSome c.between_equal.result (λ t. (v : Datum) → is_of k v ≡ true → is_yes (equal v (datum_of c.args.value.now)) ≡ t)) (sym c.in-Between.is) c.between_equal.ensures
+
 pub returns-in-Parted : goal.returns-in-Parted
 returns-in-Parted c =
     subst (λ k. IfSome c.parted_equal.result (λ b. (v : Datum) → is_of k v ≡ true → is_yes (equal v (datum_of c.args.value.now)) ≡ b)) (sym c.in-Parted.is) c.parted_equal.ensures

@@ -1,9 +1,11 @@
 use Rattle.std.proofs.Common.{◌∙◌, refl, sym, subst, map}
 use Rattle.dmn_table.specs.Parts.{rule_view}
+use Rattle.dmn_analysis.specs.Cells.{AllInOrder}
 use Rattle.dmn_analysis.specs.Searching.{AreLeft, KnowsBut, TellsOutlook}
+use Rattle.dmn_analysis.specs.Telling.{IsVoid}
 use Rattle.dmn_analysis.specs.declared.gaps.Bare.{Bare}
 use Rattle.dmn_analysis.specs.declared.gaps.Search.{Search}
-use Rattle.dmn_analysis.proofs.Searches.{known_bare, known_hit, left_moved, sure_moved}
+use Rattle.dmn_analysis.proofs.Searches.{known_bare, known_hit, known_void, left_moved, sure_moved}
 use Rattle.dmn_analysis.proofs.gaps.Search.look.Goals as goal
 
 pub returns-in_ok-push-in-Nothing-clause-known : goal.returns-in_ok-push-in-Nothing-clause-known
@@ -16,6 +18,12 @@ returns-in_ok-push-in-Nothing-clause-known c = λ s words rules knows left.
     let bare : Bare = record { cells = c.args.next.cells } in
     let told = subst (TellsOutlook c.args.words.now (map rule_view c.args.rules.now) c.deref-3.result.now c.deref-4.result.now) c.in-Nothing.is c.outlook_for.ensures in
     known_bare s cells old new bare refl c.in_ok-push-in-Nothing.ensures.items refl refl (subst (AreLeft s cells) (sym c.deref-4.ensures.value ∙ told) kept) knows
+
+pub returns-then-void-clause-known : goal.returns-then-void-clause-known
+returns-then-void-clause-known c = λ s words rules knows left.
+    let cells = c.args.next.cells.items in
+    let void = c.in_ok-void-in-Nothing.ensures c.if-void.true in
+    known_void s cells c.args.self.now (subst (λ ws. IsVoid ws cells) (sym words) (subst (IsVoid c.args.words.now) c.deref-in-Nothing.ensures.value void)) knows
 
 pub returns-in_ok-push-in-Sure-clause-known : goal.returns-in_ok-push-in-Sure-clause-known
 returns-in_ok-push-in-Sure-clause-known c = λ s words rules knows left.
@@ -34,4 +42,4 @@ returns-in_ok-part-in-Unsure-clause-known c = λ s words rules knows left.
     let here = c.deref-in-Unsure.result.now in
     let kept = left_moved s c.deref.result.now cells c.in_ok-left.left.items c.in_ok-left.left.items (sym c.deref.ensures.value) refl
     (c.in_ok-left.ensures.left s words rules (left_moved s cells c.deref.result.now c.args.next.left.items c.deref-2.result.now c.deref.ensures.value c.deref-2.ensures.value left)) in
-    c.in_ok-part-in-Unsure.ensures.known s (subst (λ cs. KnowsBut s cs c.args.self.now) (sym c.deref-in-Unsure.ensures.value) knows) (left_moved s cells here c.in_ok-left.left.items c.in_ok-left.left.items c.deref-in-Unsure.ensures.value refl kept)
+    c.in_ok-part-in-Unsure.ensures.known s (subst AllInOrder (sym words) c.requires) (subst (λ cs. KnowsBut s cs c.args.self.now) (sym c.deref-in-Unsure.ensures.value) knows) (left_moved s cells here c.in_ok-left.left.items c.in_ok-left.left.items c.deref-in-Unsure.ensures.value refl kept)

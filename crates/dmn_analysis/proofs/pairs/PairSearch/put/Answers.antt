@@ -7,11 +7,11 @@ use Rattle.dmn_analysis.proofs.PairSearches.{pairs_cut}
 use Rattle.dmn_analysis.proofs.pairs.PairSearch.put.Goals as goal
 
 pub returns-clause-known : goal.returns-clause-known
-returns-clause-known c = λ s cells knows halves left rising.
+returns-clause-known c = λ s cells order knows halves left rising.
     let old = c.args.self.now in
     let new : PairSearch = record { pending = c.push-2.new.self; shared = old.shared; «open» = old.open } in
     let upper : Pending = record { cells = c.args.upper; left = c.in_ok-copy.copy } in
     let lower : Pending = record { cells = c.args.lower; left = c.args.left } in
     let copied = c.in_ok-copy.ensures.items ∙ c.deref.ensures.value in
-    pairs_cut s cells old new upper lower (c.in_ok-push-2.ensures.items ∙ ap (λ ps. ps ++ lower ∷ []) c.in_ok-push.ensures.items) refl refl halves
+    pairs_cut s cells old new upper lower (c.in_ok-push-2.ensures.items ∙ ap (λ ps. ps ++ lower ∷ []) c.in_ok-push.ensures.items) refl refl order halves
     (subst (AreLeft s cells) (sym copied) left) left (subst IsRising (sym copied) rising) rising knows

@@ -30,5 +30,5 @@ returns-clause-known c = λ s words knows must rising.
       filled = subst (λ ws. AreFilled ws cells) (sym words) (subst (AreFilled c.args.words.now) c.deref.ensures.value filled);
       must = must;
       rising = rising;
-      several = c.requires;
+      several = c.requires.several;
     }) knows

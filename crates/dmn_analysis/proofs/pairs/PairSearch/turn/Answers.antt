@@ -1,6 +1,7 @@
 use Rattle.std.proofs.Common.{◌<◌, refl, sym, subst, length, map}
 use Rattle.std.specs.List.{All}
 use Rattle.dmn_table.specs.Parts.{rule_view}
+use Rattle.dmn_analysis.specs.Cells.{AllInOrder}
 use Rattle.dmn_analysis.specs.Cutting.{AreHalves}
 use Rattle.dmn_analysis.specs.Sharing.{IsMustHit, IsRising}
 use Rattle.dmn_analysis.proofs.PairSearches.{pairs_few}
@@ -20,7 +21,7 @@ returns-clause-known c = λ s words rules knows left rising.
     let kept = left_moved s c.deref.result.now cells c.in_ok-left.left.items c.in_ok-left.left.items (sym c.deref.ensures.value) refl
     (c.in_ok-left.ensures.left s words rules (left_moved s cells c.deref.result.now c.args.next.left.items c.deref-2.result.now c.deref.ensures.value c.deref-2.ensures.value left)) in
     let found = rw c.in-Some-2.is at c.in_ok-lower.ensures.halves in
-    c.in_ok-put.ensures.known s cells knows (subst (λ cs. AreHalves cs c.in-Some-2.lower.items c.in-Some-2.upper.items) c.deref-6.ensures.value found) kept
+    c.in_ok-put.ensures.known s cells (subst AllInOrder (sym words) c.requires) knows (subst (λ cs. AreHalves cs c.in-Some-2.lower.items c.in-Some-2.upper.items) c.deref-6.ensures.value found) kept
     (c.in_ok-left.ensures.rising (subst IsRising (sym c.deref-2.ensures.value) rising))
 
 pub returns-in_default-clause-known : goal.returns-in_default-clause-known

@@ -1,0 +1,23 @@
+use Rattle.std.proofs.Common.{◌≡◌, ◌∙◌, ap, subst, ℕ, List, true}
+use Rattle.std.specs.Arc.{arc_str_bytes}
+use Rattle.feel_value.specs.Comparison.{equal}
+use Rattle.feel_value.specs.Logic.{is_yes}
+use Rattle.feel_value.specs.View.{datum_of}
+use Rattle.dmn_analysis.specs.Cells.{is_less}
+use Rattle.dmn_analysis.specs.Classes.{AreGreaterFrom, AreLessBefore}
+use Rattle.dmn_analysis.proofs.OnTexts.{unequal_greater, unequal_less}
+use Rattle.dmn_analysis.proofs.class.between_equal.Goals as goal
+
+pub returns-then-is_past : goal.returns-then-is_past
+returns-then-is_past c = λ v h.
+    let ts = c.args.texts.now in
+    let t = arc_str_bytes c.in-Text.text in
+    let smaller = subst (λ u. (s : List ℕ) → AreGreaterFrom c.args.to s ts → is_less s u ≡ true) c.as_str.ensures.value (c.is_past.ensures c.if-is_past.true) in
+    ap (λ d. is_yes (equal v (datum_of d))) c.in-Text.is ∙ unequal_less ts c.args.from c.args.to t v smaller h
+
+pub returns-then-is_short_of : goal.returns-then-is_short_of
+returns-then-is_short_of c = λ v h.
+    let ts = c.args.texts.now in
+    let t = arc_str_bytes c.in-Text.text in
+    let greater = subst (λ u. (s : List ℕ) → AreLessBefore c.args.from s ts → is_less u s ≡ true) c.as_str-2.ensures.value (c.is_short_of.ensures c.if-is_short_of.true) in
+    ap (λ d. is_yes (equal v (datum_of d))) c.in-Text.is ∙ unequal_greater ts c.args.from c.args.to t v greater h
