@@ -14,6 +14,8 @@ from pathlib import Path
 
 TOP = Path(__file__).resolve().parent.parent
 PROGRAM = "desk"
+# What the proof of a crate takes at most, as measured, in bytes.
+MEMORY_OF_A_PROOF = 3_500_000_000
 
 
 @dataclass
@@ -55,6 +57,15 @@ def below(name: str, known: Crates) -> list[str]:
     for use in known[name].uses:
         found += [it for it in [*below(use, known), use] if it not in found]
     return found
+
+
+def at_once() -> int:
+    """How many proofs there is room for, by the processors and the memory that is free."""
+    free = MEMORY_OF_A_PROOF
+    for line in Path("/proc/meminfo").read_text().splitlines():
+        if line.startswith("MemAvailable:"):
+            free = int(line.split()[1]) * 1024
+    return max(1, min(len(os.sched_getaffinity(0)), free // MEMORY_OF_A_PROOF))
 
 
 def room() -> tempfile.TemporaryDirectory[str]:

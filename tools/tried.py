@@ -1,7 +1,7 @@
 """On what the wrong bodies of a crate were last seen refused: one sum for each crate, kept in tools/wrong-bodies.seen.
 
-A sum covers what decides whether a wrong body is refused: all files of the crate, and of each crate below it what its check
-reads of that: the definitions, the code without the bodies of its functions, and what its lemmas say. A caller knows a
+A sum covers what decides whether a wrong body is refused: the logic, all files of the crate, and of each crate below it what
+its check reads of that: the definitions, the code without the bodies of its functions, and what its lemmas say. A caller knows a
 function by its clauses alone, so another body below changes no sum above it.
 """
 
@@ -51,19 +51,30 @@ def write_seen(seen: dict[str, Tried]) -> None:
     SEEN.write_text(HEAD + "".join(f"{name} {it.sum} {it.seconds}\n" for name, it in sorted(seen.items())))
 
 
-def edits_of(folder: Path) -> dict[str, str]:
-    """The edits that a crate's must-fail/more has, by name: of each page the lines between the fences."""
+def fenced(folder: Path, place: int) -> dict[str, str]:
+    """Of each page of a crate's must-fail/more, by name, the lines between the first fences, or the second ones, if it has these."""
     found = {}
     for page in sorted((folder / "must-fail" / "more").glob("*.md")):
-        fenced = re.search(r"^```\n(.*?)^```$", page.read_text(), re.M | re.S)
-        if not fenced:
+        edits = re.findall(r"^```\n(.*?)^```$", page.read_text(), re.M | re.S)
+        if not edits:
             raise SystemExit(f"wrong-bodies: {page.relative_to(TOP)} has no edit between two lines of ```")
-        found[page.stem] = fenced[1]
+        if len(edits) > place:
+            found[page.stem] = edits[place]
     return found
 
 
-def unfit(folder: Path, edit: str) -> str | None:
-    """Why an edit cannot be applied to the crate as it stands, if it cannot."""
+def edits_of(folder: Path) -> dict[str, str]:
+    """The wrong bodies that a crate's must-fail/more has, by name: of each page the first edit."""
+    return fenced(folder, 0)
+
+
+def controls_of(folder: Path) -> dict[str, str]:
+    """The controls beside them: of each page the second edit, if there is one. It has the same shape and means what stands there."""
+    return fenced(folder, 1)
+
+
+def edited(folder: Path, edit: str) -> dict[Path, str] | str:
+    """The files of a crate that an edit changes, with their new texts, or why it cannot be applied to the crate as it stands."""
     path, old, texts = Path(), "", dict[Path, str]()
     for line in edit.splitlines():
         if line.startswith("file: "):
@@ -77,7 +88,7 @@ def unfit(folder: Path, edit: str) -> str | None:
             if text.count(old) != 1:
                 return f"its text stands {text.count(old)} times in {path.relative_to(folder)}, and not once: {old.strip()}"
             texts[path] = text.replace(old, line[len("new:") :].removeprefix(" "))
-    return None
+    return texts
 
 
 def without_comments(lines: list[str], mark: str) -> str:
@@ -143,13 +154,15 @@ def own_files(folder: Path) -> Iterator[Path]:
 
 
 @lru_cache(maxsize=None)
-def kit() -> str:
-    return subprocess.run(["rt", "version"], stdout=subprocess.PIPE, text=True, check=True).stdout
+def logic() -> str:
+    """The sum of the logic that the toolchain proves in. It decides what can be proved; kits of one logic have other names."""
+    said = subprocess.run(["rt", "version"], stdout=subprocess.PIPE, text=True, check=True).stdout
+    return said.partition(" logic ")[2].strip()
 
 
 def sum_of(name: str, known: Crates) -> str:
     """The sum of all that decides whether the wrong bodies of a crate are refused."""
-    whole = hashlib.sha256(f"{kit()}{(TOP / 'HANDLES').read_text()}{known[name].line}\n".encode())
+    whole = hashlib.sha256(f"{logic()}\n{(TOP / 'HANDLES').read_text()}{known[name].line}\n".encode())
     for path in own_files(known[name].folder):
         whole.update(f"{path.relative_to(TOP)}\n".encode() + path.read_bytes())
     for it in below(name, known):

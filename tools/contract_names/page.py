@@ -11,13 +11,13 @@ from .reach import Reach
 from .sources import Item, Key
 
 WIDTH = 118
-# The calls of which the page speaks: where each stands, and what it is. A folder stands for all public functions in it.
+# The calls of which the page speaks: where each stands, and what it is. Folders stand for all public functions in them.
 CALLS = {
     "Broker::run": ("crates/box_core/src/broker.rt", "a list of events, each reported: the mailboxes and their order"),
     "replay": ("crates/desk_replaying/src/run.rt", "a script of lines, each answered before the next is read"),
     "serve": ("crates/desk_serving/src/run.rt", "many clients at once, with workers in threads"),
     "explain": ("crates/desk_explaining/src/run.rt", "each line answered with how its result came about"),
-    "dmn_check": ("crates/dmn_check/src/", "each place where a model has a fault, by all calls of the crate"),
+    "dmn_check": ("crates/dmn_places/src/ crates/dmn_check/src/", "each place where a model has a fault, by all calls of the crate"),
     "check": ("crates/desk_checking/src/model_check.rt", "a model, and what is written of it and of its places"),
     "run_desk": ("crates/desk_commands/src/run.rt", "the program: its words, its streams and its status"),
 }
@@ -42,8 +42,9 @@ prover, the compiler, the ported libraries' own statements, and the C library.
 **How to read it.** Take a call's contract, then its list from the top. Lines of `specs/*.antt` are definitions. Lines
 of `src/*.rt` are the types that they speak of, the models by which a contract sees a type, and the traits whose
 clauses say what a reader, a writer or a work is. Begin with `Broker::run`: its list is short, and `replay` and
-`run_desk` use most of it. `dmn_check` is a crate and no call: its list is that of all its public functions, on which
-`check` rests. The contract of `check` names their definitions for what it writes with `--json` alone.
+`run_desk` use most of it. `dmn_check` is a crate and no call: its list is that of all its public functions and those
+of `dmn_places`, on which `check` rests. The contract of `check` names their definitions for what it writes with
+`--json` alone.
 
 Where a type and the definitions over it name each other, the type may stand first or last.
 
@@ -137,7 +138,7 @@ class Page:
         where = CALLS[call][0]
         if where.endswith(".rt"):
             return [self.sources.contracts[(where, call)]]
-        public = [item for item in self.sources.public if item.key[0].startswith(where)]
+        public = [item for item in self.sources.public if item.key[0].startswith(tuple(where.split()))]
         return [item for item in public if item.key in self.sources.contracts]
 
     def roots(self, call: str) -> set[Key]:

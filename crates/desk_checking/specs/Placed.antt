@@ -13,7 +13,7 @@ use Rattle.dmn_check.specs.Findings.{Finding}
 use Rattle.dmn_check.specs.Graphs.{has_no_graph}
 use Rattle.dmn_check.specs.Large.{too_large}
 use Rattle.dmn_check.specs.NameFaults.{unlawful_names, repeated_names}
-use Rattle.dmn_check.specs.Pointer.{pointer_of}
+use Rattle.dmn_places.specs.Pointer.{pointer_of}
 use Rattle.dmn_check.specs.Refused.{refused_tables}
 use Rattle.dmn_check.specs.Rules.{unfit_rules}
 use Rattle.dmn_check.specs.Services.{bad_services}

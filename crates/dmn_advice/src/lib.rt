@@ -2,20 +2,14 @@
 //! wrong, and what is odd in requests to it.
 //!
 //! This crate explains, and decides nothing: what is wrong with a model, and where, is what `dmn_check` says, and how a request is
-//! answered what `dmn_plan` says.
+//! answered what `dmn_plan` says. It passes on what the crates below it say.
 #![tactic(auto)]
 
-mod hints;
-mod near;
-mod notes;
-mod oddities;
-mod shape;
-mod trail;
-
-pub use hints::{
+pub use model_hints::{
     ModelHint, name_hint, near_hint, ring_hint, rule_hint, shared_hint, stranger_hint,
     unlisted_hint,
 };
-pub use notes::{LineNotes, Note, RequestNotes, ValueReason, shape_text};
-pub use oddities::{LiteralKind, More, Oddity, OddityKind, Warning, Warnings, warnings};
-pub use shape::{Form, Misshape, ShapeFault, ShapeFaults, shape_faults};
+pub use model_oddities::warnings;
+pub use model_shape::{Form, Misshape, ShapeFault, ShapeFaults, shape_faults};
+pub use model_texts::warning::{LiteralKind, More, Oddity, OddityKind, Warning, Warnings};
+pub use request_notes::{LineNotes, Note, RequestNotes, ValueReason, shape_text};

@@ -8,7 +8,7 @@ use Rattle.feel_value.specs.Limits.{is_value}
 use Rattle.feel_text.specs.Meaning.{Bindings}
 use Rattle.dmn_table.specs.Hits.{does_hit}
 use Rattle.dmn_table.specs.Table.{Rule, Table}
-use Rattle.dmn_analysis.specs.Cells.{AreIn}
+use Rattle.dmn_analysis.specs.Cells.{AllInOrder, AreIn}
 use Rattle.dmn_analysis.specs.Claims.{AreAsked, AreInputs, GoesBefore, HasHit, IsGapIn, IsInGap, IsMaskedAmong, NeverHits, NeverTwo, TellsGap, TellsGaps}
 use Rattle.dmn_analysis.specs.Constant.{AreConstant, is_constant}
 use Rattle.dmn_analysis.specs.Joining.{AreCovered, AreMissed}
@@ -39,14 +39,14 @@ in_whole words asked cells values whole lawful all = λ k ws c v of there has.
 
 -- ---- gaps
 
-pub tells_gaps : (t : Table) (asked : List Asked) (cells : List Cell) (first : List ℕ) (search : Search) (gaps : Gaps) → length cells ≡ length t.inputs → AreWhole gaps.words.items asked cells
+pub tells_gaps : (t : Table) (asked : List Asked) (cells : List Cell) (first : List ℕ) (search : Search) (gaps : Gaps) → length cells ≡ length t.inputs → AllInOrder gaps.words.items → AreWhole gaps.words.items asked cells
     → ((r : ℕ) → r < length t.rules → IsAmong first r) → Knows (record { words = gaps.words.items; rules = t.rules; chosen = length t.rules; first = first; whole = cells }) search
     → All (IsToldGap (record { words = gaps.words.items; rules = t.rules; chosen = length t.rules; first = first; whole = cells }) (length t.inputs)) gaps.found.items
     → (IsTrue gaps.is_all → gaps.more ≡ 0 → All (λ (b : Bare). (values : List Datum) → length values ≡ length cells → All (λ v. is_value v ≡ true) values → AreIn gaps.words.items b.cells.items values → IsInGap gaps.words.items gaps.found.items values) search.bare.items)
     → (IsTrue gaps.is_all → (search.pending.items ≡ []) × (search.open.items ≡ [])) → TellsGaps t asked gaps
-tells_gaps t asked cells first search gaps long whole each knows told covers done = record {
+tells_gaps t asked cells first search gaps long order whole each knows told covers done = record {
   each = All-weaker (IsToldGap s (length t.inputs)) (TellsGap t gaps.words.items) (λ gap is. record {
-    none = λ m values r rule same inside there. is.bare.none r rule (each r (slice_get_within t.rules r rule there)) there m values same inside;
+    none = λ m values r rule same inside there. is.bare.none r rule (each r (slice_get_within t.rules r rule there)) there order m values same inside;
     witness = is.witness;
   }) gaps.found.items told;
   all = all_told;
@@ -144,11 +144,11 @@ missed_from_bare s count all long each bare =
     }) all bare
 
 -- values of cells for which no rule hits, where each entry is constant
-pub gap_from : (words : List Words) (rules : List Rule) (count : ℕ) (bare : Bare) (values : List Datum) → AreConstant rules → AreMissed words rules count bare → length values ≡ length bare.cells.items
+pub gap_from : (words : List Words) (rules : List Rule) (count : ℕ) (bare : Bare) (values : List Datum) → AllInOrder words → AreConstant rules → AreMissed words rules count bare → length values ≡ length bare.cells.items
     → AreIn words bare.cells.items values → IsGapIn count rules values
-gap_from words rules count bare values constant missed long inside = record {
+gap_from words rules count bare values order constant missed long inside = record {
   one_each = long ∙ missed.long;
   misses = All-from_places (λ r. does_hit [] values r ≡ Some false) rules (λ k r there.
       misses [] values r (λ j ts here. All-at (λ ts. is_constant ts ≡ true) r.tests j ts (All-at (λ r. All (λ ts. is_constant ts ≡ true) r.tests) rules k r constant there) here)
-      (All-at (CannotHit words bare.cells.items) rules k r missed.none there [] values long inside));
+      (All-at (CannotHit words bare.cells.items) rules k r missed.none there order [] values long inside));
 }

@@ -272,7 +272,7 @@ put_in words cells values place new here in_cells = λ k ws c v of there has.
       | inr other ↦ in_cells k ws c v of other has
     ]
 
-in_order : (words : List Words) → AllInOrder words → (k : ℕ) (ws : Words) → slice_get words k ≡ Some ws → AreInOrder ws.texts.items
+pub in_order : (words : List Words) → AllInOrder words → (k : ℕ) (ws : Words) → slice_get words k ≡ Some ws → AreInOrder ws.texts.items
 in_order words order k ws of = All-at (λ (w : Words). AreInOrder w.texts.items) words k ws order of
 
 -- values in cells of which one was set to a part of it

@@ -9,12 +9,12 @@ use Rattle.std.specs.declared.sync.ArcStr.{ArcStr}
 use Rattle.std.proofs.lemmas.Int.{ints}
 use Rattle.std.proofs.lemmas.Slice.Eq.{bytes_eq-Decides}
 use Rattle.feel_text.specs.Satisfied.{is_in}
-use Rattle.feel_value.proofs.Booleans.{or_false}
+use Rattle.feel_value.proofs.Booleans.{both_true, or_false}
 use Rattle.feel_value.specs.Comparison.{equal, less, bool_eq}
 use Rattle.feel_value.specs.Datum.{Datum, null, boolean, number, text, list, context}
 use Rattle.feel_value.specs.Logic.{is_yes, decided}
 use Rattle.feel_value.specs.declared.logic.Truth.TheVariants.{Yes, No, Unknown}
-use Rattle.dmn_analysis.specs.Classes.{is_list, is_number_in, is_other_text, is_parted, is_same, is_word}
+use Rattle.dmn_analysis.specs.Classes.{is_list, is_number_in, is_other_text, is_parted, is_same, is_within, is_word}
 
 -- ---- one value
 
@@ -139,8 +139,8 @@ not_equal_text ts t v among other = let found = is_a_text ts v other in ap (λ d
         let there : true ≡ false = sym among ∙ ap (λ x. list_any (λ u. bytes_eq x (arc_str_bytes u)) ts) (sym ((bytes_eq-Decides s t).0 e)) ∙ none in cc
 
 -- what is one of these texts is a text
-pub is_a_word : (ts : List (ArcStr Global)) (v : Datum) → is_word ts v ≡ true → (s : List ℕ) × (v ≡ text s) × (list_any (λ t. bytes_eq s (arc_str_bytes t)) ts ≡ true)
-is_a_word ts (text s) h = (s, refl, h)
+pub is_a_word : (ts : List (ArcStr Global)) (v : Datum) → is_word ts v ≡ true → (s : List ℕ) × (v ≡ text s) × (list_any (λ t. bytes_eq s (arc_str_bytes t)) ts ≡ true) × (is_within ts s ≡ true)
+is_a_word ts (text s) h = let parts = both_true (list_any (λ t. bytes_eq s (arc_str_bytes t)) ts) (is_within ts s) h in (s, refl, parts.0, parts.1)
 is_a_word ts null h = cc
 is_a_word ts (boolean b) h = cc
 is_a_word ts (number z) h = cc

@@ -60,8 +60,8 @@ same_among (x ∷ []) i j few a b = at_first x i a.place a.there ∙ sym (at_fir
 same_among (x ∷ y ∷ xs) i j few a b = absurd (omega (arith, few))
 
 -- at most one of the rules may hit for the values of the cells
-pub pairs_few : (s : Scene) (cells : List Cell) (left : List ℕ) (search : PairSearch) → length left < 2 → AreLeft s cells left → KnowsPairsBut s cells search → KnowsPairs s search
-pairs_few s cells left search few are_left knows = record {
+pub pairs_few : (s : Scene) (cells : List Cell) (left : List ℕ) (search : PairSearch) → length left < 2 → AllInOrder s.words → AreLeft s cells left → KnowsPairsBut s cells search → KnowsPairs s search
+pairs_few s cells left search few order are_left knows = record {
   pending = knows.pending;
   shared = knows.shared;
   parted = λ none unshared m values inputs in_whole.
@@ -71,9 +71,9 @@ pairs_few s cells left search few are_left knows = record {
           | inl p ↦ inr p
           | inr inside ↦ inl (λ i j r q less first second there other hits also.
               elim (are_left.others i r first there) [
-                | inr cannot ↦ cannot m values (inputs.one_each ∙ sym knows.long) inside hits
+                | inr cannot ↦ cannot order m values (inputs.one_each ∙ sym knows.long) inside hits
                 | inl a ↦ elim (are_left.others j q second other) [
-                  | inr cannot ↦ cannot m values (inputs.one_each ∙ sym knows.long) inside also
+                  | inr cannot ↦ cannot order m values (inputs.one_each ∙ sym knows.long) inside also
                   | inl b ↦ absurd (omega (arith, less, same_among left i j few a b))
                 ]
               ])

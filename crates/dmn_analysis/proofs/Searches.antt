@@ -112,7 +112,7 @@ not_empty (y ∷ xs) x e = cc
 
 cannot_within : (words : List Words) (cells part : List Cell) (rule : Rule) → length part ≡ length cells → ((values : List Datum) → AreIn words part values → AreIn words cells values)
     → CannotHit words cells rule → CannotHit words part rule
-cannot_within words cells part rule long within cannot m values same inside hits = cannot m values (same ∙ long) (within values inside) hits
+cannot_within words cells part rule long within cannot order m values same inside hits = cannot order m values (same ∙ long) (within values inside) hits
 
 pub left_within : (s : Scene) (cells part : List Cell) (left : List ℕ) → length part ≡ length cells → ((values : List Datum) → AreIn s.words part values → AreIn s.words cells values)
     → AreLeft s cells left → AreLeft s part left
@@ -171,8 +171,8 @@ known_cut s cells old new a b is bare_is open_is order halves left_a left_b know
 
 -- one of the rules hits for all of them
 pub known_hit : (s : Scene) (cells : List Cell) (left : List ℕ) (r : ℕ) (old new : Search) → new.pending.items ≡ old.pending.items → new.bare.items ≡ old.bare.items → new.open.items ≡ old.open.items
-    → IsSure s.words s.rules cells left r → AreLeft s cells left → KnowsBut s cells old → Knows s new
-known_hit s cells left r old new is bare_is open_is sure are_left knows = record {
+    → AllInOrder s.words → IsSure s.words s.rules cells left r → AreLeft s cells left → KnowsBut s cells old → Knows s new
+known_hit s cells left r old new is bare_is open_is order sure are_left knows = record {
   pending = subst (All (IsPending s)) (sym is) knows.pending;
   bare = subst (All (IsBare s)) (sym bare_is) knows.bare;
   parted = λ none m values searched.
@@ -183,7 +183,7 @@ known_hit s cells left r old new is bare_is open_is sure are_left knows = record
           among = All-at (IsAmong s.first) left sure.among.place r are_left.among sure.among.there;
           rule = sure.rule;
           there = sure.there;
-          hits = sure.must m values (searched.long ∙ sym knows.long) inside;
+          hits = sure.must order m values (searched.long ∙ sym knows.long) inside;
         })
       ];
 }
@@ -237,14 +237,14 @@ known_open s cells old new x is bare_is open_is knows = record {
 }
 
 -- the chosen rule hits for none of them
-pub known_missing : (s : Scene) (cells : List Cell) (search : Search) → HasMissing s.words s.rules s.chosen cells → KnowsBut s cells search → Knows s search
-known_missing s cells search missing knows = record {
+pub known_missing : (s : Scene) (cells : List Cell) (search : Search) → AllInOrder s.words → HasMissing s.words s.rules s.chosen cells → KnowsBut s cells search → Knows s search
+known_missing s cells search order missing knows = record {
   pending = knows.pending;
   bare = knows.bare;
   parted = λ none m values searched.
       elim (knows.parted none m values searched) [
         | inl told ↦ told
-        | inr inside ↦ absurd (missing.cannot m values (searched.long ∙ sym knows.long) inside (searched.chosen missing.rule missing.there))
+        | inr inside ↦ absurd (missing.cannot order m values (searched.long ∙ sym knows.long) inside (searched.chosen missing.rule missing.there))
       ];
 }
 

@@ -5,7 +5,7 @@ use Rattle.std.proofs.lemmas.List.Elements.{All-head, All-push}
 use Rattle.std.proofs.lemmas.Option.{same_Some, slice_get_within}
 use Rattle.feel_value.specs.Datum.{Datum}
 use Rattle.dmn_table.specs.Table.{Rule}
-use Rattle.dmn_analysis.specs.Cells.{AreIn}
+use Rattle.dmn_analysis.specs.Cells.{AllInOrder, AreIn}
 use Rattle.dmn_analysis.specs.Claims.{Hits}
 use Rattle.dmn_analysis.specs.Sharing.{AreFilled, IsMustHit, IsPairOf, IsRising, IsShared, MustOverlap}
 use Rattle.dmn_analysis.specs.Telling.{IsVoid}
@@ -61,8 +61,8 @@ pub void_not_filled : (words : List Words) (cells : List Cell) → IsVoid words 
 void_not_filled words cells void filled = void filled.values filled.long filled.lawful filled.inside
 
 -- a rule that hits for all values of cells hits for some of them
-pub hits_from : (words : List Words) (rules : List Rule) (cells : List Cell) (r : ℕ) (values : List Datum) → IsMustHit words rules cells r → length values ≡ length cells → AreIn words cells values → Hits rules r values
-hits_from words rules cells r values must long inside = record { rule = must.rule; there = must.there; hits = must.must [] values long inside }
+pub hits_from : (words : List Words) (rules : List Rule) (cells : List Cell) (r : ℕ) (values : List Datum) → AllInOrder words → IsMustHit words rules cells r → length values ≡ length cells → AreIn words cells values → Hits rules r values
+hits_from words rules cells r values order must long inside = record { rule = must.rule; there = must.there; hits = must.must order [] values long inside }
 
 -- ---- pairs
 

@@ -1,5 +1,5 @@
 -- The order of texts, and the texts that lie between words.
-use Rattle.std.proofs.Common.{◌≡◌, ◌∙◌, sym, ap, refl, ℕ, zero, suc, ◌+◌, ◌-◌, ◌<◌, ◌≤◌, ◌⊎◌, inl, inr, List, [], ◌∷◌, length, take, drop, Bool, true, false, ◌&&◌, ◌||◌, Some, chars, IsUtf8, Ordering, Less, Equal, Greater, is_lt, nat_cmp, arith}
+use Rattle.std.proofs.Common.{◌≡◌, ◌∙◌, sym, ap, ap₂, refl, ℕ, zero, suc, ◌+◌, ◌-◌, ◌<◌, ◌≤◌, ◌⊎◌, inl, inr, List, [], ◌∷◌, length, take, drop, Bool, true, false, not, ◌&&◌, ◌||◌, Option, None, Some, chars, IsUtf8, Ordering, Less, Equal, Greater, is_lt, nat_cmp, arith}
 use Rattle.std.specs.Prelude.{bytes_eq}
 use Rattle.std.specs.Arc.{arc_str_bytes}
 use Rattle.std.specs.Cmp.Lexicographic.{slice_cmp}
@@ -15,8 +15,9 @@ use Rattle.std.proofs.lemmas.Option.{same_Some, slice_get_within}
 use Rattle.std.proofs.lemmas.Slice.Eq.{bytes_eq-Decides}
 use Rattle.std.proofs.lemmas.Str.{IsUtf8-from_is_utf8, IsUtf8-string_bytes, encodes-chars}
 use Rattle.feel_value.proofs.Booleans.{both_true}
-use Rattle.dmn_analysis.specs.Cells.{AreInOrder, is_less, is_one_of, is_text_among}
-use Rattle.dmn_analysis.specs.Classes.{AreGreaterFrom, AreLessBefore}
+use Rattle.feel_value.specs.Datum.{text}
+use Rattle.dmn_analysis.specs.Cells.{AreInOrder, is_less, is_one_of, is_text_among, words_within}
+use Rattle.dmn_analysis.specs.Classes.{AreGreaterFrom, AreLessBefore, is_greater_than, is_less_than, is_within, is_word}
 use Rattle.dmn_analysis.specs.declared.cell.Others.TheVariants as others
 use Rattle.dmn_analysis.proofs.Places.{below_next, element}
 use lib.Utf8.{encodes}
@@ -242,3 +243,51 @@ lies_parted ws from to at s order h k none =
           ]
           | inr past ↦ left_of low high (lies_so ws from (at - 1) s (record { utf8 = is.utf8; above = is.above; below = λ j v upto here. absurd (omega (arith, past, upto, slice_get_within ws j v here)) }))
         ]
+
+-- ---- some of the words in order
+
+at_take : (ws : List (ArcStr Global)) (n k : ℕ) (w : ArcStr Global) → slice_get (take n ws) k ≡ Some w → slice_get ws k ≡ Some w
+at_take [] zero k w h = cc
+at_take [] (suc n) k w h = cc
+at_take (v ∷ ws) zero k w h = cc
+at_take (v ∷ ws) (suc n) zero w h = h
+at_take (v ∷ ws) (suc n) (suc k) w h = at_take ws n k w h
+
+at_drop : (ws : List (ArcStr Global)) (n k : ℕ) (w : ArcStr Global) → slice_get (drop n ws) k ≡ Some w → slice_get ws (n + k) ≡ Some w
+at_drop ws zero k w h = ap (slice_get ws) (omega arith) ∙ h
+at_drop [] (suc n) k w h = cc
+at_drop (v ∷ ws) (suc n) k w h = let same : suc n + k ≡ suc (n + k) = omega arith in ap (slice_get (v ∷ ws)) same ∙ at_drop ws n k w h
+
+run_in_order : (ws : List (ArcStr Global)) (from to : ℕ) → AreInOrder ws → AreInOrder (words_within ws from to)
+run_in_order ws from to order i a b here there =
+    order (from + i) a b (at_take ws to (from + i) a (at_drop (take to ws) from i a here))
+    (ap (slice_get ws) (omega arith) ∙ at_take ws to (from + (i + 1)) b (at_drop (take to ws) from (i + 1) b there))
+
+place_of : (ws : List (ArcStr Global)) (s : List ℕ) → is_text_among ws s ≡ true → (k : ℕ) × (w : ArcStr Global) × (slice_get ws k ≡ Some w) × (s ≡ arc_str_bytes w)
+place_of [] s h = cc
+place_of (v ∷ ws) s h = elim (or_cases (bytes_eq s (arc_str_bytes v)) (is_text_among ws s) h) [
+  | inl e ↦ (0, v, refl, (bytes_eq-Decides s (arc_str_bytes v)).0 e)
+  | inr e ↦ let one = place_of ws s e in (suc one.0, one.1, one.2, one.3)
+]
+
+-- words in order are within the first and the last
+word_within : (ws : List (ArcStr Global)) (s : List ℕ) → AreInOrder ws → is_text_among ws s ≡ true → is_within ws s ≡ true
+word_within ws s order among =
+    let one = place_of ws s among in
+    both (not (is_less_than s (slice_get ws 0))) (not (is_greater_than s (slice_get ws (length ws - 1))))
+    (first one.0 one.1 one.2 one.3 (slice_get ws 0) refl) (last one.0 one.1 one.2 one.3 (slice_get ws (length ws - 1)) refl)
+  where
+    first : (k : ℕ) (w : ArcStr Global) → slice_get ws k ≡ Some w → s ≡ arc_str_bytes w → (o : Option (ArcStr Global)) → slice_get ws 0 ≡ o → not (is_less_than s o) ≡ true
+    first k w there is None e = refl
+    first zero w there is (Some v) e = ap not (ap₂ is_less is (ap arc_str_bytes (same_Some v w (sym e ∙ there))) ∙ less_itself (arc_str_bytes w))
+    first (suc k) w there is (Some v) e = ap not (ap (λ u. is_less u (arc_str_bytes v)) is ∙ less_back (arc_str_bytes v) (arc_str_bytes w) (ordered ws order 0 (suc k) v w (omega arith) e there))
+
+    last : (k : ℕ) (w : ArcStr Global) → slice_get ws k ≡ Some w → s ≡ arc_str_bytes w → (o : Option (ArcStr Global)) → slice_get ws (length ws - 1) ≡ o → not (is_greater_than s o) ≡ true
+    last k w there is None e = refl
+    last k w there is (Some v) e = elim (below_next k (length ws - 1) (omega (arith, slice_get_within ws k w there))) [
+      | inl before ↦ ap not (ap (is_less (arc_str_bytes v)) is ∙ less_back (arc_str_bytes w) (arc_str_bytes v) (ordered ws order k (length ws - 1) w v before there e))
+      | inr at ↦ ap not (ap₂ is_less (ap arc_str_bytes (same_Some v w (sym e ∙ ap (slice_get ws) (sym at) ∙ there))) is ∙ less_itself (arc_str_bytes w))
+    ]
+
+pub word_of_run : (ws : List (ArcStr Global)) (from to : ℕ) (s : List ℕ) → AreInOrder ws → is_text_among (words_within ws from to) s ≡ true → is_word (words_within ws from to) (text s) ≡ true
+word_of_run ws from to s order among = both (is_text_among (words_within ws from to) s) (is_within (words_within ws from to) s) among (word_within (words_within ws from to) s (run_in_order ws from to order) among)

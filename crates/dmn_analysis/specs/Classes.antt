@@ -1,5 +1,5 @@
 -- Internal: no public contract cites these words. Which values are of a class.
-use Rattle.std.specs.Prelude.{◌≡◌, ◌<◌, ◌≤◌, ℕ, ℤ, Some, List, Bool, true, false, not, ◌&&◌, int_le, bytes_eq}
+use Rattle.std.specs.Prelude.{◌≡◌, ◌<◌, ◌≤◌, ◌-◌, ℕ, ℤ, Option, None, Some, List, length, Bool, true, false, not, ◌&&◌, int_le, bytes_eq}
 use Rattle.std.specs.Arc.{arc_str_bytes}
 use Rattle.std.specs.List.{list_any, slice_get}
 use Rattle.std.specs.declared.alloc.Global.{Global}
@@ -39,9 +39,22 @@ abbrev pub is_between : List (ArcStr Global) → ℕ → ℕ → Datum → Bool
 is_between texts from to (text s) = is_one_of texts (others.Between from to) s && not (is_text_among texts s)
 is_between texts from to d = false
 
--- a text that is one of these
+-- whether a text is less than another, if there is one, or greater
+abbrev pub is_less_than : List ℕ → Option (ArcStr Global) → Bool
+is_less_than s None = false
+is_less_than s (Some t) = is_less s (arc_str_bytes t)
+
+abbrev pub is_greater_than : List ℕ → Option (ArcStr Global) → Bool
+is_greater_than s None = false
+is_greater_than s (Some t) = is_less (arc_str_bytes t) s
+
+-- a text that isn't less than the first of these nor greater than the last
+abbrev pub is_within : List (ArcStr Global) → List ℕ → Bool
+is_within texts s = not (is_less_than s (slice_get texts 0)) && not (is_greater_than s (slice_get texts (length texts - 1)))
+
+-- a text that is one of these, which are in order
 abbrev pub is_word : List (ArcStr Global) → Datum → Bool
-is_word texts (text s) = list_any (λ t. bytes_eq s (arc_str_bytes t)) texts
+is_word texts (text s) = list_any (λ t. bytes_eq s (arc_str_bytes t)) texts && is_within texts s
 is_word texts d = false
 
 abbrev pub is_truth : Bool → Datum → Bool

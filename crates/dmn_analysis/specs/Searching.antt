@@ -9,7 +9,7 @@ use Rattle.feel_text.specs.Satisfied.{Answer, Told, satisfied}
 use Rattle.feel_text.specs.Tests.{Tests}
 use Rattle.dmn_table.specs.Hits.{does_hit}
 use Rattle.dmn_table.specs.Table.{Rule}
-use Rattle.dmn_analysis.specs.Cells.{AreIn, is_in}
+use Rattle.dmn_analysis.specs.Cells.{AllInOrder, AreIn, AreInOrder, is_in}
 use Rattle.dmn_analysis.specs.Constant.{AreConstant}
 use Rattle.dmn_analysis.specs.Cutting.{AreHalves}
 use Rattle.dmn_analysis.specs.declared.cell.Cell.{Cell}
@@ -28,17 +28,17 @@ abbrev pub Settles : Bool → Answer → Type 0
 Settles true a = a ≡ Told Yes
 Settles false a = a ≢ Told Yes
 
--- that of each value of a cell
+-- that of each value of a cell, where the words are in order
 abbrev pub SettlesIn : Bool → Words → Cell → Tests → Type 0
-SettlesIn met words cell tests = (v : Datum) (m : Bindings) → is_in words.texts.items cell v ≡ true → Settles met (satisfied tests v m)
+SettlesIn met words cell tests = AreInOrder words.texts.items → (v : Datum) (m : Bindings) → is_in words.texts.items cell v ≡ true → Settles met (satisfied tests v m)
 
--- the rule hits for all values of the cells, whatever the names stand for
+-- the rule hits for all values of the cells, whatever the names stand for, where the words are in order
 abbrev pub MustHit : List Words → List Cell → Rule → Type 0
-MustHit words cells rule = (m : Bindings) (values : List Datum) → length values ≡ length cells → AreIn words cells values → does_hit m values rule ≡ Some true
+MustHit words cells rule = AllInOrder words → (m : Bindings) (values : List Datum) → length values ≡ length cells → AreIn words cells values → does_hit m values rule ≡ Some true
 
 -- it does for none
 abbrev pub CannotHit : List Words → List Cell → Rule → Type 0
-CannotHit words cells rule = (m : Bindings) (values : List Datum) → length values ≡ length cells → AreIn words cells values → does_hit m values rule ≢ Some true
+CannotHit words cells rule = AllInOrder words → (m : Bindings) (values : List Datum) → length values ≡ length cells → AreIn words cells values → does_hit m values rule ≢ Some true
 
 -- one of these numbers
 pub record IsAmong (xs : List ℕ) (x : ℕ) : Type 0 where

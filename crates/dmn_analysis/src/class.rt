@@ -1,13 +1,13 @@
 //! Classes of the values of a column. On each, constant tests have one answer, or it is not known that they have.
 ghost use Rattle.std.specs.Prelude.{◌≡◌, List, ℕ, true, false, IfSome, IsTrue, bytes_eq};
 ghost use Rattle.std.specs.Arc.{arc_str_bytes};
-ghost use Rattle.std.specs.List.{list_any, All};
+ghost use Rattle.std.specs.List.{list_any};
 ghost use Rattle.feel_value.specs.Comparison.{equal, less};
 ghost use Rattle.feel_value.specs.Datum.{Datum, text as text_datum};
 ghost use Rattle.feel_value.specs.Logic.{is_yes};
 ghost use Rattle.feel_value.specs.View.{datum_of};
 ghost use Rattle.dmn_analysis.specs.Cells.{is_less as is_text_less};
-ghost use Rattle.dmn_analysis.specs.Classes.{AreGreaterFrom, AreLessBefore, is_between, is_number_in, is_of, is_other_text, is_parted, is_word};
+ghost use Rattle.dmn_analysis.specs.Classes.{AreGreaterFrom, AreLessBefore, is_between, is_number_in, is_of, is_other_text, is_parted, is_within, is_word};
 
 use feel_value::{Truth, Value};
 use std::sync::ArcStr;
@@ -19,7 +19,7 @@ pub(crate) enum Class<'a> {
     One(Value),
     /// The numbers from one to another, both included.
     Numbers(i64, i64),
-    /// The texts that are one of these.
+    /// The texts that are one of these, which are in order.
     Words(&'a [ArcStr]),
     /// The texts that are none of these.
     OtherTexts(&'a [ArcStr]),
@@ -144,40 +144,59 @@ pub(crate) fn is_less(text: &str, other: &str) -> bool
     text < other
 }
 
-fn all_below(texts: &[ArcStr], text: &str) -> bool
-    ensures { IsTrue result → All (λ t. is_text_less (arc_str_bytes t) text.now ≡ true) texts.now }
+// Whether each text that isn't greater than the last of these is less than this one: the last is.
+fn is_past_all(texts: &[ArcStr], text: &str) -> bool
+    ensures { IsTrue result → (s : List ℕ) → is_within texts.now s ≡ true → is_text_less s text.now ≡ true }
 {
-    texts.iter().all(|other| is_less(other.as_str(), text))
+    let count = texts.len();
+    if count == 0 {
+        return false;
+    }
+    is_less(texts[count - 1].as_str(), text)
 }
 
-fn none_below(texts: &[ArcStr], text: &str) -> bool
-    ensures { IsTrue result → All (λ t. is_text_less (arc_str_bytes t) text.now ≡ false) texts.now }
+// Whether each text that isn't less than the first of these is greater than this one: the first is.
+fn is_short_of_all(texts: &[ArcStr], text: &str) -> bool
+    ensures { IsTrue result → (s : List ℕ) → is_within texts.now s ≡ true → is_text_less text.now s ≡ true }
 {
-    texts.iter().all(|other| !is_less(other.as_str(), text))
+    if texts.len() == 0 {
+        return false;
+    }
+    is_less(text, texts[0].as_str())
 }
 
-fn all_above(texts: &[ArcStr], text: &str) -> bool
-    ensures { IsTrue result → All (λ t. is_text_less text.now (arc_str_bytes t) ≡ true) texts.now }
+// Whether no text that isn't less than the first of these is less than this one: the first isn't.
+fn is_upto_all(texts: &[ArcStr], text: &str) -> bool
+    ensures { IsTrue result → (s : List ℕ) → is_within texts.now s ≡ true → is_text_less s text.now ≡ false }
 {
-    texts.iter().all(|other| is_less(text, other.as_str()))
+    if texts.len() == 0 {
+        return false;
+    }
+    !is_less(texts[0].as_str(), text)
 }
 
-fn none_above(texts: &[ArcStr], text: &str) -> bool
-    ensures { IsTrue result → All (λ t. is_text_less text.now (arc_str_bytes t) ≡ false) texts.now }
+// Whether no text that isn't greater than the last of these is greater than this one: the last isn't.
+fn is_from_all(texts: &[ArcStr], text: &str) -> bool
+    ensures { IsTrue result → (s : List ℕ) → is_within texts.now s ≡ true → is_text_less text.now s ≡ false }
 {
-    texts.iter().all(|other| !is_less(text, other.as_str()))
+    let count = texts.len();
+    if count == 0 {
+        return false;
+    }
+    !is_less(text, texts[count - 1].as_str())
 }
 
+// How words in order stand to a text: their first and their last tell it.
 fn words_below(texts: &[ArcStr], value: &Value) -> Option<Truth>
     ensures { IfSome result (λ t. (v : Datum) → is_word texts.now v ≡ true → less v (datum_of value.now) ≡ t) }
 {
     let Value::Text(text) = value else {
         return Some(Truth::Unknown);
     };
-    if all_below(texts, text.as_str()) {
+    if is_past_all(texts, text.as_str()) {
         return Some(Truth::Yes);
     }
-    if none_below(texts, text.as_str()) {
+    if is_upto_all(texts, text.as_str()) {
         return Some(Truth::No);
     }
     None
@@ -189,10 +208,10 @@ fn words_above(texts: &[ArcStr], value: &Value) -> Option<Truth>
     let Value::Text(text) = value else {
         return Some(Truth::Unknown);
     };
-    if all_above(texts, text.as_str()) {
+    if is_short_of_all(texts, text.as_str()) {
         return Some(Truth::Yes);
     }
-    if none_above(texts, text.as_str()) {
+    if is_from_all(texts, text.as_str()) {
         return Some(Truth::No);
     }
     None
@@ -271,13 +290,19 @@ fn words_equal(texts: &[ArcStr], value: &Value) -> Option<bool>
     let Value::Text(text) = value else {
         return Some(false);
     };
+    if is_past_all(texts, text.as_str()) {
+        return Some(false);
+    }
+    if is_short_of_all(texts, text.as_str()) {
+        return Some(false);
+    }
+    if texts.len() != 1 {
+        return None;
+    }
     if !is_among(text.as_str(), texts) {
         return Some(false);
     }
-    if texts.len() == 1 {
-        return Some(true);
-    }
-    None
+    Some(true)
 }
 
 fn other_texts_equal(texts: &[ArcStr], value: &Value) -> Option<bool>

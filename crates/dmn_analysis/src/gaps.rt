@@ -133,13 +133,13 @@ impl Search {
         ensures known { OnOk result ((s : Scene) → s.words ≡ words.now → s.rules ≡ map rule_view rules.now → KnowsBut s next.cells.items self.old → AreLeft s next.cells.items next.left.items → Knows s self.new) }
         ensures decided { OnOk result (AreConstant (map rule_view rules.now) → self.old.open.items ≡ [] → self.new.open.items ≡ []) }
     {
+        let void = is_void(alloc, words, &next.cells)?;
+        if void {
+            return Ok(());
+        }
         let left = possible(alloc, words, rules, &next.cells, &next.left, steps)?;
         match outlook_for(words, rules, &next.cells, &left, steps) {
             Outlook::Nothing => {
-                let void = is_void(alloc, words, &next.cells)?;
-                if void {
-                    return Ok(());
-                }
                 let Pending { cells, left: _ } = next;
                 self.bare.push(Bare { cells })?;
                 Ok(())

@@ -3,7 +3,7 @@ ghost use Rattle.std.specs.Prelude.{◌≡◌, ℕ, ℤ, List, true, false, IsTr
 ghost use Rattle.feel_value.specs.Datum.{Datum, null as null_datum, boolean, number as number_datum, text as text_datum};
 ghost use Rattle.feel_text.specs.Meaning.{Bindings};
 ghost use Rattle.feel_text.specs.Satisfied.{satisfied};
-ghost use Rattle.dmn_analysis.specs.Cells.{is_in, is_one_of, is_text_among, truth_in, words_within};
+ghost use Rattle.dmn_analysis.specs.Cells.{AreInOrder, is_in, is_one_of, is_text_among, truth_in, words_within};
 ghost use Rattle.dmn_analysis.specs.Classes.{is_number_in, is_of, is_parted};
 ghost use Rattle.dmn_analysis.specs.Searching.{Settles};
 
@@ -59,7 +59,7 @@ fn numbers_are_sure(cell: Cell, tests: &Tests, met: bool) -> bool
 }
 
 fn words_are_sure(words: &[ArcStr], cell: Cell, tests: &Tests, met: bool) -> bool
-    ensures { IsTrue result → (s : List ℕ) (m : Bindings) → is_text_among (words_within words.now cell.from cell.to) s ≡ true → Settles met (satisfied tests.now (text_datum s) m) }
+    ensures { IsTrue result → AreInOrder words.now → (s : List ℕ) (m : Bindings) → is_text_among (words_within words.now cell.from cell.to) s ≡ true → Settles met (satisfied tests.now (text_datum s) m) }
 {
     let some = within(words, cell.from, cell.to);
     if some.is_empty() {
@@ -89,7 +89,7 @@ fn parted_are_sure(cell: Cell, tests: &Tests, met: bool) -> bool
 
 /// Whether it is known that each value of the cell meets the tests, or that none does, as is asked.
 pub(crate) fn are_sure(words: &[ArcStr], cell: Cell, tests: &Tests, met: bool) -> bool
-    ensures { IsTrue result → (v : Datum) (m : Bindings) → is_in words.now cell v ≡ true → Settles met (satisfied tests.now v m) }
+    ensures { IsTrue result → AreInOrder words.now → (v : Datum) (m : Bindings) → is_in words.now cell v ≡ true → Settles met (satisfied tests.now v m) }
 {
     if !numbers_are_sure(cell, tests, met) {
         return false;

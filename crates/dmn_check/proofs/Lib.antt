@@ -12,7 +12,6 @@ pub mod TableFaults
 pub mod Chasing
 pub mod CycleLaws
 pub mod ServiceLaws
-pub mod Pointers
 pub mod GraphLaws
 pub mod FirstFaultLaw
 pub mod RuleLaws

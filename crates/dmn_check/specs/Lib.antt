@@ -7,7 +7,6 @@ pub mod Unread
 pub mod Told
 pub mod ToldView
 pub mod Refused
-pub mod Pointer
 pub mod NameFaults
 pub mod NameMarks
 pub mod Unknown

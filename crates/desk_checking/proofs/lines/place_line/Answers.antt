@@ -1,6 +1,6 @@
 use Rattle.std.proofs.Common.{◌∙◌, ap, refl, string_bytes}
 use Rattle.std.specs.Prelude.{codes}
-use Rattle.dmn_check.specs.Pointer.{pointer_of}
+use Rattle.dmn_places.specs.Pointer.{pointer_of}
 use Rattle.desk_checking.specs.Placed.{place_head}
 use Rattle.desk_checking.proofs.Placing.{goes_on, goes_on_none}
 use Rattle.desk_checking.proofs.lines.place_line.Goals as goal

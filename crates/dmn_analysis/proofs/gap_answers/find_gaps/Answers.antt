@@ -37,7 +37,7 @@ returns-clause-tells c =
     let knows = c.in_ok-search.ensures.known s (sym c.deref-2.ensures.value) (sym rules) same_count refl refl in
     let bare = c.in_ok-all.ensures.bare s (sym c.deref-3.ensures.value) (sym rules) long knows.bare in
     let told = c.in_ok-told.ensures.each s (sym rules) (subst (All (IsBare s)) (sym c.deref-5.ensures.value) bare) in
-    tells_gaps t asked cells first search gaps (long ∙ ap length inputs) (subst (λ ws. AreWhole ws asked cells) c.deref.ensures.value whole)
+    tells_gaps t asked cells first search gaps (long ∙ ap length inputs) c.in_ok-words.ensures.order (subst (λ ws. AreWhole ws asked cells) c.deref.ensures.value whole)
     (λ r less. c.in_ok-left.ensures.each r (omega (arith, less, same_count))) knows (subst (λ is. All (IsToldGap s (length is)) gaps.found.items) inputs told)
     (λ sure zero. All-weaker (λ (b : Bare). AreCovered b.cells.items all) (λ (b : Bare). (values : List Datum) → length values ≡ length cells → All (λ v. is_value v ≡ true) values → AreIn words.items b.cells.items values → IsInGap words.items gaps.found.items values) (λ b covered.
     in_told s words.items gaps.found.items all b.cells.items covered bare

@@ -75,7 +75,7 @@ loop-place-preserved-in_default-2 c =
       (λ sure k b less here. cc),
       (λ constant all.
           let missed = All-at (AreMissed c.args.words.now rules c.args.count) bare place one all there in
-          absurd (c.in_ok-gap.ensures.unless c.in_default-2.is (gap_from c.args.words.now rules c.args.count one c.in-Some.values.items constant missed long inside))),
+          absurd (c.in_ok-gap.ensures.unless c.in_default-2.is (gap_from c.args.words.now rules c.args.count one c.in-Some.values.items c.requires constant missed long inside))),
     )
 
 pub returns-clause-all : goal.returns-clause-all

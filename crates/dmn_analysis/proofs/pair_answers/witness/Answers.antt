@@ -16,11 +16,11 @@ returns-then-len-count-clause-unless c = λ none must.
 pub returns-then-not-branch-clause-unless : goal.returns-then-not-branch-clause-unless
 returns-then-not-branch-clause-unless c = λ none must.
     let values = c.in-Some.values.items in
-    let hits = hits_from c.args.words.now (map rule_view c.args.rules.now) c.args.cells.now c.args.i values must.first (rw c.in-Some.is at c.in_ok-values.ensures.long) (rw c.in-Some.is at c.in_ok-values.ensures.inside) in
+    let hits = hits_from c.args.words.now (map rule_view c.args.rules.now) c.args.cells.now c.args.i values c.requires must.first (rw c.in-Some.is at c.in_ok-values.ensures.long) (rw c.in-Some.is at c.in_ok-values.ensures.inside) in
     not_both _ c.if-not-branch.true (c.in_ok-hits.ensures.all (subst (Hits (map rule_view c.args.rules.now) c.args.i) (sym c.deref.ensures.value) hits))
 
 pub returns-then-not-branch-2-clause-unless : goal.returns-then-not-branch-2-clause-unless
 returns-then-not-branch-2-clause-unless c = λ none must.
     let values = c.in-Some.values.items in
-    let hits = hits_from c.args.words.now (map rule_view c.args.rules.now) c.args.cells.now c.args.j values must.second (rw c.in-Some.is at c.in_ok-values.ensures.long) (rw c.in-Some.is at c.in_ok-values.ensures.inside) in
+    let hits = hits_from c.args.words.now (map rule_view c.args.rules.now) c.args.cells.now c.args.j values c.requires must.second (rw c.in-Some.is at c.in_ok-values.ensures.long) (rw c.in-Some.is at c.in_ok-values.ensures.inside) in
     not_both _ c.if-not-branch-2.true (c.in_ok-hits-2.ensures.all (subst (Hits (map rule_view c.args.rules.now) c.args.j) (sym c.deref-2.ensures.value) hits))

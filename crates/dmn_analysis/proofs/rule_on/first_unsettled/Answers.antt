@@ -26,7 +26,7 @@ loop-place-preserved c = λ k t less here.
             cell = get_or cells place none;
             words_there = at_place words place c.index-words-place.result c.if-place-words.false c.index-words-place.is;
             cell_there = slice_get-get_or cells place none c.if-place-cells.false;
-            settles = λ v m inside. subst (λ u. satisfied u v m ≡ Told Yes) same (c.asked.ensures c.if-not-asked.false v m inside);
+            settles = λ order v m inside. subst (λ u. satisfied u v m ≡ Told Yes) same (c.asked.ensures c.if-not-asked.false order v m inside);
           })
     ]
 

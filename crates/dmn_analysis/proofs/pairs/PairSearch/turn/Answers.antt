@@ -13,7 +13,7 @@ returns-then-are_few-clause-known c = λ s words rules knows left rising.
     let cells = c.args.next.cells.items in
     let kept = left_moved s c.deref.result.now cells c.in_ok-left.left.items c.in_ok-left.left.items (sym c.deref.ensures.value) refl
     (c.in_ok-left.ensures.left s words rules (left_moved s cells c.deref.result.now c.args.next.left.items c.deref-2.result.now c.deref.ensures.value c.deref-2.ensures.value left)) in
-    pairs_few s cells c.in_ok-left.left.items c.args.self.now (subst (λ xs. length xs < 2) c.deref-3.ensures.value (c.are_few.ensures.few c.if-are_few.true)) kept knows
+    pairs_few s cells c.in_ok-left.left.items c.args.self.now (subst (λ xs. length xs < 2) c.deref-3.ensures.value (c.are_few.ensures.few c.if-are_few.true)) (subst AllInOrder (sym words) c.requires) kept knows
 
 pub returns-clause-known : goal.returns-clause-known
 returns-clause-known c = λ s words rules knows left rising.
