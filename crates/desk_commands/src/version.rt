@@ -6,5 +6,5 @@ pub const VERSION: &str = concat!(
     "0.18.1\n",
     "licence MIT OR Apache-2.0\n",
     "proved with rattle-kit-13b logic dac8208d650f15bf\n",
-    "sources b8ae901cb282589f4e56392a38cff90aa15ca9b013729f7927daeae020106f81",
+    "sources f79decfad31d5d7238543e9274c04aaaffa54cd5739cb14ddc5db3a7a83deb74",
 );

@@ -4,10 +4,12 @@ use feel_text::{Operator, Test, Tree};
 use feel_value::Value;
 use std::alloc::{AllocError, Global};
 
-/// A name that stands for a value, and the name of the entry that is taken of it, where one is.
+/// A name, or the path of a name and one entry.
 #[derive(Clone, Copy)]
 pub struct ValueName<'a> {
+    /// The name that stands for a value.
     pub name: &'a str,
+    /// The entry that is taken of it.
     pub entry: Option<&'a str>,
 }
 
