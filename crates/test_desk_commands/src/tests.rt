@@ -308,7 +308,7 @@ fn the_version_is_told(rt: HostRuntime) -> Result<(), Fail> {
     assert!(rt; long.is_help());
     assert!(rt;
         long.output
-            .starts_with(b"desk 0.18.0\nlicence MIT OR Apache-2.0\nproved with ")
+            .starts_with(b"desk 0.18.1\nlicence MIT OR Apache-2.0\nproved with ")
     );
     assert!(rt; long.shows("\nsources "));
     let short = run(&rt, alloc, &["desk", "-V"], input)?;
