@@ -5,7 +5,9 @@ ghost use Rattle.desk_commands.specs.CommandLine.{AreCheckOptionsOf, AreExplainO
 
 use box_core::LARGEST_CAPACITY;
 use clap::ArgMatches;
-use desk_front::{CheckOptions, ExplainOptions, Options};
+use desk_checking::CheckOptions;
+use desk_explaining::ExplainOptions;
+use desk_serving::Options;
 use lanes::{MOST_CLIENTS, MOST_WORKERS};
 
 /// The number that an option has. `clap` has refused all texts but those of the numbers from 1 to the most.

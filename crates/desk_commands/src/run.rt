@@ -12,10 +12,11 @@ use crate::command::read_words;
 use crate::options::{check_options_of, explain_options_of, is_text, options_of};
 use clap::error::ErrorKind;
 use clap::{ArgMatches, Error};
-use desk_front::{
-    CheckFindings, CheckOptions, ExplainOptions, FrontFault, Options, Sink, Source, check, explain,
-    explain_in_text, replay, serve, write_all,
-};
+use desk_checking::{CheckFindings, CheckOptions, check};
+use desk_explaining::{ExplainOptions, explain, explain_in_text};
+use desk_lines::{FrontFault, Sink, Source, write_all};
+use desk_replaying::replay;
+use desk_serving::{Options, serve};
 use lanes::OpenGate;
 use std::alloc::{AllocError, Global};
 use std::io::{self, ErrorKind as IoKind};
