@@ -2,14 +2,20 @@
 //! wrong, and what is odd in requests to it.
 //!
 //! This crate explains, and decides nothing: what is wrong with a model, and where, is what `dmn_check` says, and how a request is
-//! answered what `dmn_plan` says. It passes on what the crates below it say.
+//! answered what `dmn_plan` says.
 #![tactic(auto)]
 
-pub use model_hints::{
+mod hints;
+mod notes;
+mod oddities;
+mod shape;
+mod texts;
+
+pub use hints::{
     ModelHint, name_hint, near_hint, ring_hint, rule_hint, shared_hint, stranger_hint,
     unlisted_hint,
 };
-pub use model_oddities::warnings;
-pub use model_shape::{Form, Misshape, ShapeFault, ShapeFaults, shape_faults};
-pub use model_texts::warning::{LiteralKind, More, Oddity, OddityKind, Warning, Warnings};
-pub use request_notes::{LineNotes, Note, RequestNotes, ValueReason, shape_text};
+pub use notes::{LineNotes, Note, RequestNotes, ValueReason, shape_text};
+pub use oddities::warnings;
+pub use shape::{Form, Misshape, ShapeFault, ShapeFaults, shape_faults};
+pub use texts::warning::{LiteralKind, More, Oddity, OddityKind, Warning, Warnings};

@@ -1,4 +1,4 @@
-use model_shape::shape_faults;
+use dmn_advice::shape_faults;
 use dmn_form::{WrittenDecision, WrittenLogic, WrittenModel, read_form};
 use serde_json::Value;
 use std::alloc::{AllocError, Global};

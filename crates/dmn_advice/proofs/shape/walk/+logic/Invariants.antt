@@ -1,6 +1,6 @@
 -- Each call goes to fewer boxes, or from a part to what stands in it at the same number of them.
 use Rattle.std.proofs.Common.{◌+◌, ◌*◌}
-use Rattle.model_shape.proofs.walk.+logic.Given as goal
+use Rattle.dmn_advice.proofs.shape.walk.+logic.Given as goal
 
 abbrev pub decreases-logic : goal.decreases-logic
 decreases-logic l = 4 * l.boxes

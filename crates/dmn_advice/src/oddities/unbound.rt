@@ -2,10 +2,10 @@
 
 use super::book::Book;
 use super::walk::Walk;
+use crate::hints::near_in_model;
+use crate::texts::seen::{Seen, ValueName};
+use crate::texts::warning::{Oddity, OddityKind};
 use dmn_places::Step;
-use model_hints::near_in_model;
-use model_texts::seen::{Seen, ValueName};
-use model_texts::warning::{Oddity, OddityKind};
 use std::alloc::AllocError;
 use std::collections::BTreeSet;
 

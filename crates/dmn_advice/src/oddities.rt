@@ -1,6 +1,4 @@
 //! What is lawful in a decision model and mostly a mistake.
-#![tactic(auto)]
-
 mod all;
 mod book;
 mod cells;

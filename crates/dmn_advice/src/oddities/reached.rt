@@ -1,9 +1,9 @@
 //! Inputs and decisions that nothing needs, or that no service leads to.
 
 use super::book::Book;
+use crate::texts::warning::{Oddity, OddityKind};
 use dmn_form::{WrittenDecision, WrittenModel, WrittenService};
 use dmn_places::{Key, Step};
-use model_texts::warning::{Oddity, OddityKind};
 use std::alloc::{AllocError, Global};
 use std::collections::{BTreeMap, BTreeSet};
 

@@ -1,14 +1,14 @@
 //! Literals that a table or an expression asks for and that the decision it looks at never gives.
 
 use super::walk::Walk;
+use crate::texts::given::near_literal;
+use crate::texts::known::known;
+use crate::texts::literal::json_text;
+use crate::texts::reading::each_test;
+use crate::texts::seen::{Comparison, ValueName};
+use crate::texts::warning::{Oddity, OddityKind};
 use dmn_places::Step;
 use feel_text::{Test, TestsTree, Tree};
-use model_texts::given::near_literal;
-use model_texts::known::known;
-use model_texts::literal::json_text;
-use model_texts::reading::each_test;
-use model_texts::seen::{Comparison, ValueName};
-use model_texts::warning::{Oddity, OddityKind};
 use std::alloc::AllocError;
 
 impl<'m> Walk<'m> {

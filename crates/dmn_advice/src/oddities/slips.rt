@@ -1,9 +1,9 @@
 //! Cells that mean another thing than they look like.
 
+use crate::texts::reading::each_test;
+use crate::texts::warning::OddityKind;
 use feel_text::{Operator, Test, TestsTree, Tree};
 use feel_value::Value;
-use model_texts::reading::each_test;
-use model_texts::warning::OddityKind;
 
 /// What the cells of an input compare with.
 #[derive(Clone, Copy)]

@@ -2,15 +2,15 @@
 
 use super::book::Book;
 use super::unbound::look_at_text;
+use crate::texts::given::Given;
+use crate::texts::literal::plain_kind;
+use crate::texts::reading::expression;
+use crate::texts::scope::Scope;
+use crate::texts::seen::Seen;
+use crate::texts::warning::{Oddity, OddityKind};
 use dmn_form::{WrittenDecision, WrittenLogic, WrittenModel};
 use dmn_places::{Key, Step};
 use feel_text::Tree;
-use model_texts::given::Given;
-use model_texts::literal::plain_kind;
-use model_texts::reading::expression;
-use model_texts::scope::Scope;
-use model_texts::seen::Seen;
-use model_texts::warning::{Oddity, OddityKind};
 use std::alloc::AllocError;
 
 /// A walk through a model.

@@ -4,12 +4,12 @@ use super::columns::Column;
 use super::slips::{Looks, has_interval};
 use super::unbound::look_at_text;
 use super::walk::Walk;
+use crate::texts::literal_tests::literal_tests;
+use crate::texts::reading::{Cell, each_test};
+use crate::texts::seen::Seen;
+use crate::texts::warning::{Oddity, OddityKind};
 use dmn_places::Step;
 use feel_text::TestsTree;
-use model_texts::literal_tests::literal_tests;
-use model_texts::reading::{Cell, each_test};
-use model_texts::seen::Seen;
-use model_texts::warning::{Oddity, OddityKind};
 use std::alloc::AllocError;
 
 impl<'m> Walk<'m> {

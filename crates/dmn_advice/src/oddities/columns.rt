@@ -3,10 +3,10 @@
 
 use super::book::Book;
 use super::slips::{Compared, Looks};
+use crate::texts::seen::ValueName;
+use crate::texts::warning::{LiteralKind, Oddity, OddityKind};
 use dmn_form::WrittenRule;
 use dmn_places::{Key, entry_steps};
-use model_texts::seen::ValueName;
-use model_texts::warning::{LiteralKind, Oddity, OddityKind};
 use std::alloc::{AllocError, Global};
 
 /// The cells of an input that compare with literals of a kind and that some value meets.

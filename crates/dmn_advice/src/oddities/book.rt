@@ -1,7 +1,7 @@
 //! The oddities that are found on a walk through a model.
 
+use crate::texts::warning::{More, ODDITY_KINDS, Oddity, OddityKind, Warning, Warnings};
 use dmn_places::{Step, Trail};
-use model_texts::warning::{More, ODDITY_KINDS, Oddity, OddityKind, Warning, Warnings};
 use std::alloc::{AllocError, Global};
 
 /// The most oddities of one kind that are kept.

@@ -1,10 +1,10 @@
 //! Listed output values that nothing gives, and literals that aren't listed.
 
 use super::book::Book;
+use crate::texts::literal::{add_literal, literal_text, plain_kind};
+use crate::texts::warning::{Oddity, OddityKind};
 use dmn_form::{WrittenColumn, WrittenRule, WrittenTable};
 use dmn_places::{Key, Step, entry_steps};
-use model_texts::literal::{add_literal, literal_text, plain_kind};
-use model_texts::warning::{Oddity, OddityKind};
 use std::alloc::{AllocError, Global};
 use std::collections::BTreeSet;
 

@@ -1,6 +1,4 @@
 //! Where a JSON value is not the form of a decision model.
-#![tactic(auto)]
-
 mod book;
 mod form;
 mod walk;

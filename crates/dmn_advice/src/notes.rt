@@ -1,6 +1,4 @@
 //! What is odd in a request to a service: names that are no parameters, parameters that are missing, and what is no value.
-#![tactic(auto)]
-
 mod line;
 mod note;
 mod parameters;

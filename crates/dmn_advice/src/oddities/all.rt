@@ -3,10 +3,10 @@
 use super::book::Book;
 use super::reached::look_at_values;
 use super::walk::Walk;
+use crate::texts::given::Given;
+use crate::texts::scope::Scope;
+use crate::texts::warning::Warnings;
 use dmn_form::WrittenModel;
-use model_texts::given::Given;
-use model_texts::scope::Scope;
-use model_texts::warning::Warnings;
 use std::alloc::{AllocError, Global};
 
 /// What is odd in a lawful model: of each kind the first 100, and how many more. Of a model that isn't lawful some of what is told may

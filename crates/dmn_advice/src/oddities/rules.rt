@@ -1,12 +1,12 @@
 //! Rules that never decide, and rules beside which no other one may hit.
 
 use super::book::Book;
+use crate::texts::literal::{literal, literal_text, plain_kind};
+use crate::texts::spelling::RuleTests;
+use crate::texts::warning::{LiteralKind, Oddity, OddityKind};
 use dmn_form::{WrittenColumn, WrittenRule, WrittenTable};
 use dmn_places::{Key, Step, entry_steps};
 use feel_value::Value;
-use model_texts::literal::{literal, literal_text, plain_kind};
-use model_texts::spelling::RuleTests;
-use model_texts::warning::{LiteralKind, Oddity, OddityKind};
 use std::alloc::{AllocError, Global};
 use std::collections::BTreeMap;
 

@@ -1,7 +1,7 @@
 //! Names that are none, and names that are nearly known.
 
 use super::hint::ModelHint;
-use crate::near::near_in_model;
+use super::near::near_in_model;
 use dmn_form::WrittenModel;
 use std::alloc::{AllocError, Global};
 

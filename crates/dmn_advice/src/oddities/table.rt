@@ -4,11 +4,11 @@ use super::columns::{Asked, Column, look_at_columns};
 use super::outputs::look_at_outputs;
 use super::rules::{Rules, look_at_policy};
 use super::walk::Walk;
+use crate::texts::reading::{Cell, expression};
+use crate::texts::seen::subject_of;
+use crate::texts::spelling::RuleTests;
 use dmn_form::{WrittenColumn, WrittenRule, WrittenTable};
 use dmn_places::{Key, Step};
-use model_texts::reading::{Cell, expression};
-use model_texts::seen::subject_of;
-use model_texts::spelling::RuleTests;
 use std::alloc::AllocError;
 
 impl<'m> Walk<'m> {

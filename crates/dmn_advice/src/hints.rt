@@ -1,6 +1,4 @@
 //! What helps where a decision model is wrong in its names, its rules, its needs or its services.
-#![tactic(auto)]
-
 mod hint;
 mod name;
 mod near;
