@@ -1,155 +1,125 @@
-"""On what the wrong bodies of a crate were last seen refused: one sum for each crate, kept in tools/wrong-bodies.seen.
+"""On what the wrong bodies of a crate were last seen refused, and what each edit came to.
 
-A sum covers what decides whether a wrong body is refused: the logic, all files of the crate, and of each crate below it what
-its check reads of that: the definitions, the code without the bodies of its functions, and what its lemmas say. A caller knows a
-function by its clauses alone, so another body below changes no sum above it.
+tools/wrong-bodies.seen has one sum for each crate. It covers what can change whether a wrong body is refused: the logic, the crate
+itself, its wrong bodies, and of each crate below it what a caller can see: definitions, types, and the contracts of public functions.
+Comments count nowhere.
+
+crates/NAME/out/wrong-bodies.json, which is not committed, has what each edit of a crate came to on a sum.
 """
 
 from __future__ import annotations
 
 import hashlib
+import json
 import re
 import subprocess
 from collections.abc import Iterator
-from dataclasses import dataclass
 from functools import lru_cache
 from pathlib import Path
 
 from contract_names.code import CodeFile
 from contract_names.reading import is_of_tests
-from contract_names.sources import Sources
-from contract_names.specs import blocks_of
+from edits import WRONG, Edit, code_file, fenced
 from rooms import TOP, Crates, below
 
 SEEN = TOP / "tools" / "wrong-bodies.seen"
 HEAD = """\
-# On what the wrong bodies of must-fail/more were last seen refused, written by tools/wrong-bodies. Each line: a crate, the
-# sum of its sources and of the contracts below it (none: not yet), and the processor seconds that trying them takes.
+# On what the wrong bodies of must-fail/more were last seen refused, written by tools/wrong-bodies. Each line: a crate, and the
+# sum of its sources and of the contracts below it.
 """
 # Carries the sum of the program's sources, which changes with each of them.
 STAMP = TOP / "crates/desk_commands/src/version.rt"
 
 
-@dataclass
-class Tried:
-    """What is kept of a crate: the sum on which its wrong bodies were refused, and what trying them takes."""
-
-    sum: str
-    seconds: int
+def read_seen() -> dict[str, str]:
+    lines = SEEN.read_text().splitlines() if SEEN.exists() else []
+    return dict(it.split() for it in lines if it and not it.startswith("#"))
 
 
-def read_seen() -> dict[str, Tried]:
-    found: dict[str, Tried] = {}
-    for line in SEEN.read_text().splitlines() if SEEN.exists() else []:
-        words = line.split()
-        if len(words) == 3 and words[0] != "#":
-            found[words[0]] = Tried(words[1], int(words[2]))
-    return found
+def write_seen(seen: dict[str, str]) -> None:
+    SEEN.write_text(HEAD + "".join(f"{name} {it}\n" for name, it in sorted(seen.items())))
 
 
-def write_seen(seen: dict[str, Tried]) -> None:
-    SEEN.write_text(HEAD + "".join(f"{name} {it.sum} {it.seconds}\n" for name, it in sorted(seen.items())))
+class Verdicts:
+    """What the edits of a crate came to on these sources, kept in its out/."""
+
+    def __init__(self, folder: Path, sum: str) -> None:
+        self.file, self.sum = folder / "out" / "wrong-bodies.json", sum
+        kept = json.loads(self.file.read_text()) if self.file.exists() else {}
+        self.known: dict[str, str] = kept.get("verdicts", {}) if kept.get("sum") == sum else {}
+
+    def of(self, edit: Edit) -> str:
+        return self.known.get(edit.text, "")
+
+    def keep(self, edit: Edit, verdict: str) -> None:
+        self.known[edit.text] = verdict
+        self.file.parent.mkdir(exist_ok=True)
+        self.file.write_text(json.dumps({"sum": self.sum, "verdicts": self.known}, indent=1))
 
 
-def fenced(folder: Path, place: int) -> dict[str, str]:
-    """Of each page of a crate's must-fail/more, by name, the lines between the first fences, or the second ones, if it has these."""
-    found = {}
-    for page in sorted((folder / "must-fail" / "more").glob("*.md")):
-        edits = re.findall(r"^```\n(.*?)^```$", page.read_text(), re.M | re.S)
-        if not edits:
-            raise SystemExit(f"wrong-bodies: {page.relative_to(TOP)} has no edit between two lines of ```")
-        if len(edits) > place:
-            found[page.stem] = edits[place]
-    return found
+def without_comments(text: str, mark: str) -> str:
+    """A text without its comments, each of which begins with a mark that stands behind nothing or a space, and without empty lines."""
+    parts = re.compile(rf'"(?:\\.|[^"\\\n])*"|(?<!\S){mark}[^\n]*')
+    left = parts.sub(lambda found: found[0] if found[0].startswith('"') else "", text)
+    return "\n".join(it.rstrip() for it in left.splitlines() if it.strip())
 
 
-def edits_of(folder: Path) -> dict[str, str]:
-    """The wrong bodies that a crate's must-fail/more has, by name: of each page the first edit."""
-    return fenced(folder, 0)
-
-
-def controls_of(folder: Path) -> dict[str, str]:
-    """The controls beside them: of each page the second edit, if there is one. It has the same shape and means what stands there."""
-    return fenced(folder, 1)
-
-
-def edited(folder: Path, edit: str) -> dict[Path, str] | str:
-    """The files of a crate that an edit changes, with their new texts, or why it cannot be applied to the crate as it stands."""
-    path, old, texts = Path(), "", dict[Path, str]()
-    for line in edit.splitlines():
-        if line.startswith("file: "):
-            path = folder / line[len("file: ") :].strip()
-            if not path.is_file():
-                return f"there is no file {path.relative_to(folder)}"
-        elif line.startswith("old: "):
-            old = line[len("old: ") :]
-        elif line.startswith("new:"):
-            text = texts.setdefault(path, path.read_text("utf-8"))
-            if text.count(old) != 1:
-                return f"its text stands {text.count(old)} times in {path.relative_to(folder)}, and not once: {old.strip()}"
-            texts[path] = text.replace(old, line[len("new:") :].removeprefix(" "))
-    return texts
-
-
-def without_comments(lines: list[str], mark: str) -> str:
-    return "\n".join(it for it in lines if it.strip() and not it.lstrip().startswith(mark))
-
-
-def contracts_in(code: CodeFile) -> str:
-    """A file of src/ without the bodies of its functions. The functions of a trait stay whole."""
+def public_in(code: CodeFile) -> str:
+    """A file of src/ as a caller sees it: no bodies of functions, no private functions of a type or a module, and no imports that
+    nothing else there names. The functions of a trait, and of an impl of one, stay."""
     dropped: set[int] = set()
     for _, start, end in code.blocks:
         kind = code.head(start)[0]
         if kind == "fn":
-            dropped.update(range(code.contract_end(start, end, 0), end))
+            dropped.update(unseen(code, start, end, 0, is_of_trait=False))
         elif kind == "impl":
+            is_of_trait = " for " in code.written[start]
             for member, _, (_, at, last) in code.members(start, end):
                 if member == "fn":
-                    dropped.update(range(code.contract_end(at, last, 4), last))
-    return without_comments([it for at, it in enumerate(code.written) if at not in dropped], "//")
+                    dropped.update(unseen(code, at, last, 4, is_of_trait))
+    text = "\n".join(it for at, it in enumerate(code.written) if at not in dropped)
+    return without_idle_imports(without_comments(text, "//"))
 
 
-def statements_in(file: str, text: str) -> str:
-    """What the lemmas of a file of proofs/ say, and the definitions there: of a lemma the lines before its first equation."""
-    found: list[str] = []
-    for block in blocks_of(file, text):
-        lines, name = [line for _, line in block.lines], block.key[1]
-        is_lemma = re.match(rf"\s*pub {re.escape(name)}\b", without_comments(lines, "--"))
-        ends = (at for at, line in enumerate(lines) if at and line.lstrip().startswith(f"{name} "))
-        found += lines[: next(ends, len(lines))] if is_lemma else lines
-    return without_comments(found, "--")
+def unseen(code: CodeFile, start: int, end: int, indent: int, is_of_trait: bool) -> range:
+    """The lines of a function that no caller in another crate sees."""
+    is_public = is_of_trait or code.written[start].lstrip().startswith("pub ")
+    return range(code.contract_end(start, end, indent) if is_public else start, end)
 
 
-@lru_cache(maxsize=None)
-def declared() -> Sources:
-    """What each file of the libraries declares."""
-    sources = Sources(TOP)
-    for crate in sources.crates:
-        for path in sorted((TOP / "crates" / crate).glob("src/**/*.rt")):
-            if not is_of_tests(path):
-                sources.declare(str(path.relative_to(TOP)), path.read_text("utf-8"))
-    return sources
+def without_idle_imports(text: str) -> str:
+    """A file without those names of its imports that nothing else in it has."""
+    use = re.compile(r"^( *)((?:ghost )?use )([^;{]*?)(?:\{([^}]*)\})?;\n?", re.M)
+    rest = use.sub("", text)
+
+    def needed(name: str) -> bool:
+        parts = [it for it in re.split(r"◌|\bas\b|::|\s", name) if it]
+        return any(part in rest for part in parts[-1:] or [name]) if not name.startswith("◌") else any(it in rest for it in parts)
+
+    def kept(found: re.Match[str]) -> str:
+        indent, word, path, names = found.groups()
+        if names is None:
+            return found[0] if needed(path) else ""
+        left = [it.strip() for it in names.split(",") if it.strip() and needed(it.strip())]
+        return f"{indent}{word}{path}{{{', '.join(left)}}};\n" if left else ""
+
+    return use.sub(kept, text)
 
 
 @lru_cache(maxsize=None)
 def seen_above(folder: Path) -> str:
     """What the check of a crate reads of a crate below it, as one sum."""
     whole = hashlib.sha256()
-
-    def add(path: Path, text: str) -> None:
-        whole.update(f"{path.relative_to(TOP)}\n{text}\n".encode())
-
     for path in sorted(it for it in folder.glob("src/**/*.rt") if not is_of_tests(it) and it != STAMP):
-        add(path, contracts_in(CodeFile(declared(), str(path.relative_to(TOP)), path.read_text("utf-8"))))
+        whole.update(f"{path.relative_to(folder)}\n{public_in(code_file(path))}\n".encode())
     for path in sorted(folder.glob("specs/**/*.antt")):
-        add(path, without_comments(path.read_text("utf-8").splitlines(), "--"))
-    for path in sorted(folder.glob("proofs/*.antt")):
-        add(path, statements_in(path.name, path.read_text("utf-8")))
+        text = without_comments(path.read_text("utf-8"), "--")
+        whole.update(f"{path.relative_to(folder)}\n{text}\n".encode())
     return whole.hexdigest()
 
 
 def own_files(folder: Path) -> Iterator[Path]:
-    for part in ("src", "specs", "proofs", "must-fail/more"):
+    for part in ("src", "specs", "proofs"):
         yield from sorted(it for it in (folder / part).rglob("*") if it.is_file() and it != STAMP)
 
 
@@ -162,9 +132,13 @@ def logic() -> str:
 
 def sum_of(name: str, known: Crates) -> str:
     """The sum of all that decides whether the wrong bodies of a crate are refused."""
-    whole = hashlib.sha256(f"{logic()}\n{(TOP / 'HANDLES').read_text()}{known[name].line}\n".encode())
-    for path in own_files(known[name].folder):
-        whole.update(f"{path.relative_to(TOP)}\n".encode() + path.read_bytes())
+    folder = known[name].folder
+    whole = hashlib.sha256(f"{logic()}\n{known[name].line}\n".encode())
+    for path in own_files(folder):
+        text = without_comments(path.read_text("utf-8"), "//" if path.suffix == ".rt" else "--")
+        whole.update(f"{path.relative_to(folder)}\n{text}\n".encode())
+    for page, edit in fenced(folder, 0).items():
+        whole.update(f"{WRONG} {page}\n{edit}\n".encode())
     for it in below(name, known):
-        whole.update(f"{known[it].line}\n{seen_above(known[it].folder)}\n".encode())
+        whole.update(f"{it}\n{seen_above(known[it].folder)}\n".encode())
     return whole.hexdigest()

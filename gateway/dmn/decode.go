@@ -21,6 +21,10 @@ const (
 // mark, else by the XML declaration; without either it is UTF-8.
 func asUTF8(raw []byte) ([]byte, *Fault) {
 	switch {
+	case bytes.HasPrefix(raw, []byte{0x1f, 0x8b}):
+		return nil, &Fault{Why: "this is gzip, and no XML", Instead: "the file that is packed in it, by gunzip"}
+	case bytes.HasPrefix(raw, []byte("PK\x03\x04")):
+		return nil, &Fault{Why: "this is a zip archive, and no XML", Instead: "the .dmn file that is packed in it, by unzip"}
 	case bytes.HasPrefix(raw, []byte{0, 0, 0xfe, 0xff}), bytes.HasPrefix(raw, []byte{0xff, 0xfe, 0, 0}):
 		return nil, &Fault{Why: "the encoding is UTF-32", Instead: saveAsUTF8}
 	case bytes.HasPrefix(raw, []byte{0xef, 0xbb, 0xbf}):

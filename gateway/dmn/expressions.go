@@ -28,12 +28,23 @@ func (r *reader) text(e *Element) *Text {
 		t.Language = r.file.Root.Attribute("expressionLanguage")
 	}
 	r.parts(e, map[string]part{
-		"text": func(c *Element) { t.Text = c.Text },
+		"text": func(c *Element) {
+			t.Text = c.Text
+			r.alone(c)
+		},
 		"importedValues": func(c *Element) {
 			r.fault(c, c.Attribute("locationURI"), "values of another file are not read", "write the values here")
 		},
 	})
 	return t
+}
+
+// alone makes a fault of an element that stands in a text.
+func (r *reader) alone(e *Element) {
+	for _, child := range e.Children {
+		r.fault(child, child.Tag, fmt.Sprintf("an element stands in %s, where characters alone are due", e.Tag),
+			"the characters without it; < as &lt;")
+	}
 }
 
 func (r *reader) table(e *Element) *Table {

@@ -146,7 +146,10 @@ func (r *reader) definitions() {
 func (r *reader) itemDefinition(e *Element) *ItemDefinition {
 	item := &ItemDefinition{Element: e, Collection: r.truth(e, "isCollection")}
 	r.parts(e, map[string]part{
-		"typeRef":        func(c *Element) { item.TypeRef = strings.TrimSpace(c.Text) },
+		"typeRef": func(c *Element) {
+			item.TypeRef = strings.TrimSpace(c.Text)
+			r.alone(c)
+		},
 		"allowedValues":  func(c *Element) { item.Allowed = r.text(c) },
 		"typeConstraint": func(c *Element) { item.Allowed = r.text(c) },
 		"itemComponent":  func(c *Element) { item.Components = append(item.Components, r.itemDefinition(c)) },

@@ -7,6 +7,8 @@ import (
 	"strings"
 	"testing"
 	"time"
+
+	"gateway/engine/enginetest"
 )
 
 // An engine that does not end with status 0 once all is answered is told.
@@ -37,10 +39,10 @@ func TestEnginesEndWell(t *testing.T) {
 
 // A request that is given up at the end is no fault of the end.
 func TestPoisonAtTheEnd(t *testing.T) {
-	model := slow(20_000)
-	p := start(t, Options{Processes: 1, Deadline: 300 * time.Millisecond}, model)
+	model := adding(1)
+	p := start(t, Options{Path: enginetest.Waiting(t, desk()), Processes: 1, Deadline: 3 * time.Second}, model)
 	var all asked
-	put(t, p, "", all.job(model, long(4990)))
+	put(t, p, "", all.job(model, waits(filepath.Join(t.TempDir(), "never"))))
 	end(t, p)
 	all.once(t)
 	if all.outcomes[0].Kind != Late {

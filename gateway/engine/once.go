@@ -19,11 +19,13 @@ func Once(ctx context.Context, input []byte, words ...string) (output []byte, st
 	run.Stdin = bytes.NewReader(input)
 	output, err = run.Output()
 	var exit *exec.ExitError
-	if errors.As(err, &exit) && exit.Exited() {
+	switch {
+	case errors.As(err, &exit) && exit.Exited():
 		return output, exit.ExitCode(), nil
-	}
-	if err != nil {
-		return nil, 0, fmt.Errorf("running the engine %s: %w", path, err)
+	case errors.As(err, &exit):
+		return nil, 0, fmt.Errorf("running the engine: %w", err)
+	case err != nil:
+		return nil, 0, NotStarted(path, err)
 	}
 	return output, 0, nil
 }

@@ -206,15 +206,6 @@ func (p *Pool) Processes() int {
 	return len(p.engines)
 }
 
-// Out is how many requests wait or are out at each engine.
-func (p *Pool) Out() []int {
-	out := make([]int, len(p.engines))
-	for at, e := range p.engines {
-		out[at] = e.state().out
-	}
-	return out
-}
-
 // Settle waits until every engine has taken the model in force.
 func (p *Pool) Settle(ctx context.Context) error {
 	for {

@@ -5,11 +5,16 @@ import (
 	"errors"
 	"fmt"
 	"os"
+	"path/filepath"
 	"strings"
 	"sync"
 	"testing"
 	"time"
+
+	"gateway/engine/enginetest"
 )
+
+func TestMain(m *testing.M) { enginetest.Main(m) }
 
 func desk() string {
 	if path := os.Getenv(PathVariable); path != "" {
@@ -33,14 +38,16 @@ func slow(rules int) *Model {
 		`"services":[{"encapsulated":[],"inputData":["b"],"inputDecisions":[],"name":"s","outputs":["d"]}]}`))
 }
 
-// long is a request to slow with a list of this length.
-func long(length int) string {
-	return `"inputs":{"b":[` + strings.TrimSuffix(strings.Repeat(`{"x":1},`, length), ",") + `]},"service":"s"}`
+// waits is a request to adding at which the engine of enginetest waits for a file.
+func waits(file string) string {
+	return `"inputs":{"a":1,` + enginetest.Until(file) + `},"service":"s"}`
 }
 
 func start(t *testing.T, options Options, model *Model) *Pool {
 	t.Helper()
-	options.Path = desk()
+	if options.Path == "" {
+		options.Path = desk()
+	}
 	if options.Deadline == 0 {
 		options.Deadline = 20 * time.Second
 	}
@@ -215,15 +222,15 @@ func TestKilledEngines(t *testing.T) {
 
 // One request takes longer than the deadline, among others that don't: it alone is given up.
 func TestPoison(t *testing.T) {
-	model := slow(20_000)
-	p := start(t, Options{Processes: 1, Deadline: 400 * time.Millisecond}, model)
+	model, never := adding(1), filepath.Join(t.TempDir(), "never")
+	p := start(t, Options{Path: enginetest.Waiting(t, desk()), Processes: 1, Deadline: 3 * time.Second}, model)
 	var all asked
 	for n := 0; n < 40; n++ {
-		length := 1
+		rest := adds(n)
 		if n == 20 {
-			length = 4990
+			rest = waits(never)
 		}
-		put(t, p, fmt.Sprint(n%4), all.job(model, long(length)))
+		put(t, p, fmt.Sprint(n%4), all.job(model, rest))
 	}
 	all.once(t)
 	for n, outcome := range all.outcomes {
@@ -282,26 +289,32 @@ func TestSwitch(t *testing.T) {
 	end(t, p)
 }
 
+// Requests that no engine is asked in time are given up. Those that an engine has are answered, however long it takes.
 func TestDroppedAndWaited(t *testing.T) {
-	model := slow(20_000)
-	p := start(t, Options{Processes: 1, Patience: 300 * time.Millisecond}, model)
+	model, file := adding(1), filepath.Join(t.TempDir(), "go")
+	p := start(t, Options{Path: enginetest.Waiting(t, desk()), Processes: 1, Patience: 3 * time.Second}, model)
 	var all asked
-	var jobs []*Job
-	for n := 0; n < 300; n++ {
-		length := 1
-		if n < 2 {
-			length = 2000
-		}
-		jobs = append(jobs, all.job(model, long(length)))
+	jobs := []*Job{all.job(model, waits(file))}
+	for n := 1; n < 300; n++ {
+		jobs = append(jobs, all.job(model, adds(n)))
 	}
-	jobs[299].Drop()
+	waited := make(chan struct{}, 1)
+	jobs[299].Done = func(job *Job, outcome Outcome) {
+		all.done(job, outcome)
+		waited <- struct{}{}
+	}
+	jobs[100].Drop()
 	put(t, p, "a", jobs...)
+	<-waited
+	if err := os.WriteFile(file, nil, 0o600); err != nil {
+		t.Fatal(err)
+	}
 	all.once(t)
 	kinds := map[Kind]int{}
 	for _, outcome := range all.outcomes {
 		kinds[outcome.Kind]++
 	}
-	if kinds[Waited] == 0 || kinds[Result] < windowJobs || kinds[Result]+kinds[Waited]+kinds[Dropped] != 300 {
+	if kinds[Result] != windowJobs || kinds[Dropped] != 1 || kinds[Waited] != 300-windowJobs-1 {
 		t.Errorf("kinds of outcomes: %v", kinds)
 	}
 	end(t, p)

@@ -38,7 +38,7 @@ func begin(path string, memory uint64, words ...string) (*process, error) {
 		return nil, fmt.Errorf("starting the engine: %w", err)
 	}
 	if err = p.command.Start(); err != nil {
-		return nil, fmt.Errorf("starting the engine: %w", err)
+		return nil, NotStarted(path, err)
 	}
 	if err = Bound(p.command.Process.Pid, memory); err != nil {
 		p.kill()

@@ -24,6 +24,8 @@ type Source struct {
 	Names map[string]string
 	// Types has the JSON Schema of the values of an input or a decision, by its word.
 	Types map[string]Schema
+	// Counted are the inputs and decisions whose numbers the model counts in units: the file has whole numbers of these.
+	Counted []string
 	// Title is the name of the model; it may be empty.
 	Title string
 	// Imported tells that the model came from a file.
@@ -65,6 +67,7 @@ func Read(data []byte) (Source, error) {
 		return Source{}, fmt.Errorf("reading the model: %w", err)
 	}
 	source := Source{Names: whole.Names, Types: whole.Types, Imported: whole.Names != nil, Typed: true}
+	source.takeUnits()
 	if whole.Model == nil {
 		whole.Model = data
 	}

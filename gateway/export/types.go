@@ -19,6 +19,9 @@ type Schema struct {
 	Above   json.Number `json:"exclusiveMinimum"`
 	Maximum json.Number `json:"maximum"`
 	Below   json.Number `json:"exclusiveMaximum"`
+	// How the model counts numbers: as multiples of a power of ten, or a quotient as parts of one.
+	MultipleOf json.Number `json:"multipleOf"`
+	Per        json.Number `json:"per"`
 }
 
 // kindsOf are the kinds of values of each type of JSON Schema.

@@ -1,6 +1,9 @@
 package feel
 
-import "fmt"
+import (
+	"fmt"
+	"strings"
+)
 
 // MostDepth is how deep the forms of a text may stand in each other.
 const MostDepth = 500
@@ -137,7 +140,19 @@ func (p *parser) stop(due string) {
 	if t.kind == endOfText {
 		p.fail(fmt.Sprintf("the text ends where %s", due), "")
 	}
+	if inside := juel(p.source[t.start:]); inside != "" {
+		p.fail("this is JUEL, the expression language of Camunda 7, and no FEEL", inside)
+	}
 	p.fail(fmt.Sprintf("it stops at %q, where %s", p.spell(t), due), "")
+}
+
+// juel is what stands in ${..} at the start of a text; empty where it does not begin so.
+func juel(text string) string {
+	end := strings.IndexByte(text, '}')
+	if !strings.HasPrefix(text, "${") || end < 0 {
+		return ""
+	}
+	return strings.TrimSpace(text[len("${"):end])
 }
 
 func (p *parser) fail(why, instead string) {

@@ -134,6 +134,15 @@ func invalidAt(text []byte) int {
 	return at
 }
 
+// The reasons that StopOf tells apart.
+const (
+	reasonNesting = "lists and objects are nested over 127 deep"
+	reasonDigit   = "a digit is due"
+	reasonRange   = "a number is out of range"
+	reasonKey     = "a key in quotes is due"
+	reasonColon   = "a colon is due"
+)
+
 // fail notes the first reason, and gives false.
 func (s *scanner) fail(reason string) bool {
 	if s.reason == "" {
@@ -202,7 +211,7 @@ func (v *Span) add(part Span) {
 
 func (s *scanner) enter() bool {
 	if s.nesting == 0 {
-		return s.fail("lists and objects are nested over 127 deep")
+		return s.fail(reasonNesting)
 	}
 	s.nesting--
 	s.at++
@@ -274,19 +283,13 @@ func (s *scanner) object(take func(key []byte, value Span)) bool {
 
 func (s *scanner) member() (key []byte, value Span, ok bool) {
 	start := s.at
-	if s.peek() != '"' {
-		return nil, Span{}, s.fail("a key in quotes is due")
-	}
-	if !s.str() {
+	if !s.key() {
 		return nil, Span{}, false
 	}
 	key = s.text[start:s.at]
-	s.blanks()
-	if s.peek() != ':' {
-		return nil, Span{}, s.fail("a colon is due")
+	if !s.colon() {
+		return nil, Span{}, false
 	}
-	s.at++
-	s.blanks()
 	if s.reader != nil {
 		s.reader.noteKey(key)
 		s.isInner = s.nesting == s.outermost && s.reader.takes(key)
@@ -311,7 +314,7 @@ func (s *scanner) digits() bool {
 	for s.at < len(s.text) && s.text[s.at] >= '0' && s.text[s.at] <= '9' {
 		s.at++
 	}
-	return s.at > start || s.fail("a digit is due")
+	return s.at > start || s.fail(reasonDigit)
 }
 
 // number reads a number: whole says that it has neither point nor exponent, is in range and not "-0".
@@ -359,7 +362,7 @@ func (s *scanner) ranged(start int, whole bool) (bool, bool) {
 	}
 	if _, err := strconv.ParseFloat(string(text), 64); err != nil {
 		s.at = start
-		return false, s.fail("a number is out of range")
+		return false, s.fail(reasonRange)
 	}
 	return false, true
 }

@@ -30,6 +30,10 @@ func Value(text []byte, span Span) *ValueFault {
 	if fault := badNumber(value, ""); fault != nil {
 		return fault
 	}
+	return tooLarge(value)
+}
+
+func tooLarge(value any) *ValueFault {
 	nodes, depth := measure(value)
 	if nodes > MaxNodes {
 		return &ValueFault{Reason: fmt.Sprintf("it has %d parts, and at most %d are taken", nodes, MaxNodes)}
@@ -38,6 +42,18 @@ func Value(text []byte, span Span) *ValueFault {
 		return &ValueFault{Reason: fmt.Sprintf("it is %d deep, and at most %d are taken", depth, MaxDepth)}
 	}
 	return nil
+}
+
+// Size says why a value is too large for the engine, or gives nil. Its numbers may be any.
+func Size(text []byte, span Span) *ValueFault {
+	if span.Nodes <= MaxNodes && span.Depth <= MaxDepth {
+		return nil
+	}
+	value, err := Tree(text[span.Start:span.End])
+	if err != nil {
+		return &ValueFault{Reason: err.Error()}
+	}
+	return tooLarge(value)
 }
 
 // Tree reads a lawful JSON text into Go's values, numbers as json.Number. Of several members with one key the last stays.

@@ -33,6 +33,7 @@ func Page(sum, version string, guarded bool, services []Service) ([]byte, error)
 		paths["/v1/services/"+url.PathEscape(service.Name)] = object{"post": call(service, at)}
 	}
 	paths["/v1/model"] = modelPath()
+	paths["/v1/services"] = object{"get": listed()}
 	paths["/healthz"] = object{"get": plain("health", "Whether the process is alive")}
 	paths["/readyz"] = object{"get": plain("ready", "Whether requests are best sent here; 503 where not")}
 	page := object{
@@ -139,6 +140,15 @@ func plain(id, said string) object {
 	return object{"operationId": id, "summary": said, "security": []object{}, "responses": object{
 		"200":     object{"description": said, "content": object{"application/json": object{"schema": object{"type": "object"}}}},
 		"default": object{"description": "It is not so"},
+	}}
+}
+
+func listed() object {
+	return object{"operationId": "getServices", "summary": "The services, their parameters and paths", "responses": object{
+		"200": object{"description": "The services",
+			"content": object{"application/json": object{"schema": object{"type": "object"}}}},
+		"default": object{"description": "A problem", "content": object{"application/problem+json": object{
+			"schema": object{"$ref": "#/components/schemas/Problem"}}}},
 	}}
 }
 

@@ -25,6 +25,10 @@ func translate(schema map[string]any) {
 			schema["type"] = name
 		}
 	}
+	if _, is := schema["per"]; is {
+		delete(schema, "per")
+		schema["description"] = "A quotient, to 34 significant digits"
+	}
 	if value, is := schema["const"]; is {
 		delete(schema, "const")
 		schema["enum"] = []any{value}

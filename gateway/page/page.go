@@ -1,5 +1,5 @@
 // Package page has the page that GET / gives: HTML, CSS and modules of JavaScript, embedded as they are. It shows a model and
-// how its answers come about, by what it asks the service. It knows no rule.
+// how its answers come about, by what it asks the service.
 package page
 
 import (

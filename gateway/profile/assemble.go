@@ -11,16 +11,46 @@ import (
 // mostNesting is how deep a model may nest in JSON, so that it may stand in its line.
 const mostNesting = 126
 
+// checkNesting refuses decisions that nest too deep.
+func (g *graph) checkNesting() {
+	for _, n := range g.decisions {
+		if n.logic != nil && !g.refusals.spoiled[n.element()] && n.logic.nesting(4) > mostNesting {
+			g.refusals.refuse(n.element(), n.name, fmt.Sprintf("its boxed expressions and invocations stand in each other over "+
+				"%d deep in the model", mostNesting), "a decision of its own for inner parts")
+		}
+	}
+}
+
+// nesting is how deep the JSON of a box nests, where depth is that of its own first level.
+func (b *box) nesting(depth int) int {
+	deepest := depth
+	switch b.kind {
+	case tableBox:
+		return depth + 4
+	case listBox:
+		for _, member := range b.list {
+			deepest = maximum(deepest, member.nesting(depth+2))
+		}
+	case contextBox:
+		for _, entry := range b.entries {
+			deepest = maximum(deepest, entry.value.nesting(depth+3))
+		}
+		if b.result != nil {
+			deepest = maximum(deepest, b.result.nesting(depth+1))
+		}
+	}
+	return deepest
+}
+
 // assembler makes the model of boxes, and notes where each part came from.
 type assembler struct {
+	words  *words
 	places map[string]Place
-	// deepest is how deep the JSON of the decision at hand nests.
-	deepest int
 }
 
 // assembled is the result of a graph that was translated without a refusal.
 func assembled(g *graph, services []service) *Result {
-	a := &assembler{places: map[string]Place{}}
+	a := &assembler{words: g.words, places: map[string]Place{}}
 	result := &Result{Names: g.words.names, Locals: g.words.locals, Types: map[string]json.RawMessage{}, Places: a.places,
 		Diagram: drawn(g)}
 	result.Model = model.Model{Inputs: []string{}, Decisions: []model.Decision{}, Services: []model.Service{}}
@@ -33,12 +63,7 @@ func assembled(g *graph, services []service) *Result {
 		pointer := fmt.Sprintf("/decisions/%d", i)
 		a.place(pointer, n.element())
 		result.Types[n.word] = schema(n.of, g.words)
-		a.deepest = 0
-		decision := model.Decision{Name: n.word, Needs: wordsOf(n.needs), Expr: a.box(n.logic, pointer+"/expr", 4)}
-		if a.deepest > mostNesting {
-			g.refusals.refuse(n.element(), n.name, fmt.Sprintf("its boxed expressions and invocations stand in each other over "+
-				"%d deep in the model", mostNesting), "a decision of its own for inner parts")
-		}
+		decision := model.Decision{Name: n.word, Needs: wordsOf(n.needs), Expr: a.box(n.logic, pointer+"/expr")}
 		result.Model.Decisions = append(result.Model.Decisions, decision)
 	}
 	for i, s := range services {
@@ -72,46 +97,59 @@ func (a *assembler) place(pointer string, e *dmn.Element) {
 	a.places[pointer] = Place{ID: e.ID(), Name: e.Name()}
 }
 
-// box is the expression of a box at a pointer; depth is the nesting of its own first level.
-func (a *assembler) box(b *box, pointer string, depth int) model.Expression {
-	if depth > a.deepest {
-		a.deepest = depth
+// counted notes how the values of a part are counted, where they are.
+func (a *assembler) counted(pointer string, value phrase) {
+	place := a.places[pointer]
+	switch {
+	case value.over != nil:
+		place.Over, place.Decimals = value.over.text, value.of.units.scale
+	case value.of.isCounted():
+		place.Type = schema(value.of, a.words)
+	default:
+		return
 	}
+	a.places[pointer] = place
+}
+
+// box is the expression of a box at a pointer.
+func (a *assembler) box(b *box, pointer string) model.Expression {
 	a.place(pointer, b.origin)
 	switch b.kind {
 	case tableBox:
-		return a.table(b, pointer, depth)
+		return a.table(b, pointer)
 	case listBox:
 		list := make(model.List, len(b.list))
 		for i, member := range b.list {
-			list[i] = a.box(member, fmt.Sprintf("%s/list/%d", pointer, i), depth+2)
+			list[i] = a.box(member, fmt.Sprintf("%s/list/%d", pointer, i))
 		}
 		return list
 	case contextBox:
-		return a.context(b, pointer, depth)
+		return a.context(b, pointer)
 	}
 	return model.Literal(b.value.text)
 }
 
-func (a *assembler) context(b *box, pointer string, depth int) model.Expression {
+func (a *assembler) context(b *box, pointer string) model.Expression {
 	made := model.Context{Entries: make([]model.Entry, len(b.entries))}
 	for i, entry := range b.entries {
 		at := fmt.Sprintf("%s/context/%d", pointer, i)
 		a.place(at, entry.origin)
-		made.Entries[i] = model.Entry{Name: entry.word, Expr: a.box(entry.value, at+"/expr", depth+3)}
+		if entry.of != nil && entry.of.isCounted() {
+			a.counted(at, phrase{of: entry.of})
+		}
+		made.Entries[i] = model.Entry{Name: entry.word, Expr: a.box(entry.value, at+"/expr")}
 	}
 	if b.result != nil {
-		made.Result = a.box(b.result, pointer+"/result", depth+1)
+		made.Result = a.box(b.result, pointer+"/result")
 	}
 	return made
 }
 
-func (a *assembler) table(b *box, pointer string, depth int) model.Expression {
-	if depth+4 > a.deepest {
-		a.deepest = depth + 4
-	}
+func (a *assembler) table(b *box, pointer string) model.Expression {
 	for i, e := range b.inputs {
-		a.place(fmt.Sprintf("%s/table/inputs/%d", pointer, i), e)
+		at := fmt.Sprintf("%s/table/inputs/%d", pointer, i)
+		a.place(at, e)
+		a.counted(at, b.columns[i])
 	}
 	for i, e := range b.gives {
 		a.place(fmt.Sprintf("%s/table/outputs/%d", pointer, i), e)

@@ -14,10 +14,16 @@ type box struct {
 	table         *model.Table
 	rows          []*dmn.Element
 	inputs, gives []*dmn.Element
-	list          []*box
-	entries       []boxEntry
+	// cells are the entries and the default of each output of a table.
+	cells [][]phrase
+	// columns are the values of the input columns.
+	columns []phrase
+	list    []*box
+	entries []boxEntry
 	// result is nil for a context without one.
 	result *box
+	// isRow tells that it is the row of a relation: a context whose entries don't see each other.
+	isRow bool
 	// origin is its element; nil for what was made here.
 	origin *dmn.Element
 }
@@ -36,6 +42,8 @@ type boxEntry struct {
 	value *box
 	// origin is the element of the entry; nil for what was made here.
 	origin *dmn.Element
+	// of is the type of the value; nil for what was made here.
+	of *valueType
 }
 
 func boxOf(p phrase) *box { return &box{kind: textBox, value: p} }

@@ -97,13 +97,12 @@ func (t *translator) isFEEL(x *dmn.Text) bool {
 // boxes translates the members of a list.
 func (t *translator) boxes(members []dmn.Expression, s *scope) (*box, *valueType) {
 	made := &box{kind: listBox, list: make([]*box, len(members))}
-	of := nullType
+	all := make([]*valueType, len(members))
 	for i, member := range members {
-		var memberOf *valueType
-		made.list[i], memberOf = t.expression(member, s)
-		of = joined(of, memberOf)
+		made.list[i], all[i] = t.expression(member, s)
 	}
-	return made, listOf(of)
+	refuse := func(why, instead string) { t.refusals.refuse(t.near, "", why, instead) }
+	return made, t.listOfBoxes(made, all, refuse)
 }
 
 // context translates a boxed context. An entry sees those before it; the last may have no name, and is the result.
@@ -144,16 +143,16 @@ func (t *translator) contextEntry(entry *dmn.ContextEntry, made *box, of *valueT
 	}
 	word := t.words.of(entry.Variable.Name())
 	t.wrote(len(word) + bytesOfEntry)
-	made.entries = append(made.entries, boxEntry{word: word, value: value, origin: entry.Element})
+	made.entries = append(made.entries, boxEntry{word: word, value: value, origin: entry.Element, of: valueOf})
 	of.setField(name, valueOf)
-	s.bindWord(entry.Variable.Name(), word, valueOf)
+	s.bind(entry.Variable.Name(), &binding{value: constant(word, valueOf), logic: value})
 }
 
 // relation translates a relation: a list of contexts. A cell that names an earlier column may mean that or a name
 // outside, so it is refused.
 func (t *translator) relation(x *dmn.Relation, s *scope) (*box, *valueType) {
 	made := &box{kind: listBox, list: []*box{}}
-	of := nullType
+	var all []*valueType
 	for _, row := range x.Rows {
 		if len(row.Members) != len(x.Columns) {
 			t.refusals.refuse(row.Element, "", fmt.Sprintf("the row has %d cells, and the relation %d columns",
@@ -162,13 +161,14 @@ func (t *translator) relation(x *dmn.Relation, s *scope) (*box, *valueType) {
 		}
 		b, rowOf := t.relationRow(x, row, s)
 		made.list = append(made.list, b)
-		of = joined(of, rowOf)
+		all = append(all, rowOf)
 	}
-	return made, listOf(of)
+	refuse := func(why, instead string) { t.refusals.refuse(x.Element, "", why, instead) }
+	return made, t.listOfBoxes(made, all, refuse)
 }
 
 func (t *translator) relationRow(x *dmn.Relation, row *dmn.List, s *scope) (*box, *valueType) {
-	made := &box{kind: contextBox, entries: []boxEntry{}, origin: row.Element}
+	made := &box{kind: contextBox, entries: []boxEntry{}, origin: row.Element, isRow: true}
 	of := &valueType{kind: contextKind, fields: map[string]*valueType{}}
 	for i, column := range x.Columns {
 		name := feel.Canonical(column.Name())
@@ -190,7 +190,7 @@ func (t *translator) relationRow(x *dmn.Relation, row *dmn.List, s *scope) (*box
 		}
 		word := t.words.of(column.Name())
 		t.wrote(len(word) + bytesOfEntry)
-		made.entries = append(made.entries, boxEntry{word: word, value: value})
+		made.entries = append(made.entries, boxEntry{word: word, value: value, of: valueOf})
 		of.setField(name, valueOf)
 	}
 	return made, of
@@ -289,6 +289,12 @@ func (t *translator) conditional(x *dmn.Conditional, s *scope) (*box, *valueType
 		}
 		return t.hoisted(base, b, of)
 	}
-	made := choice(part("condition", x.If), part("then", x.Then), part("else", x.Else))
+	condition := part("condition", x.If)
+	both := []phrase{
+		t.under(condition, true, func() phrase { return part("then", x.Then) }),
+		t.under(condition, false, func() phrase { return part("else", x.Else) }),
+	}
+	t.together(both, func(why, instead string) { t.refusals.refuse(x.Element, "", why, instead) })
+	made := choice(condition, both[0], both[1])
 	return t.boxed(made), made.of
 }

@@ -2,6 +2,7 @@ package profile
 
 import (
 	"fmt"
+	"math/big"
 	"strings"
 
 	"gateway/feel"
@@ -13,32 +14,28 @@ type builtin struct {
 	parameters []string
 	// variadic tells that one list may be written as several arguments.
 	variadic bool
-	make     func(t *translator, n *feel.Call, arguments []phrase) phrase
+	// quotients tells that the first argument may be a quotient, constants that all may be one by a constant.
+	quotients, constants bool
+	make                 func(t *translator, n *feel.Call, arguments []phrase) phrase
 }
 
 var builtins = map[string]builtin{
-	"abs":    {parameters: []string{"n"}, make: plainCall("abs", numberType)},
-	"modulo": {parameters: []string{"dividend", "divisor"}, make: plainCall("modulo", numberType)},
+	"abs":    {parameters: []string{"n"}, constants: true, make: absCall},
+	"modulo": {parameters: []string{"dividend", "divisor"}, make: moduloCall},
 	"not":    {parameters: []string{"negand"}, make: plainCall("not", booleanType)},
 	"sum":    {parameters: []string{"list"}, variadic: true, make: sumCall},
-	"min":    {parameters: []string{"list"}, variadic: true, make: extremeCall("min")},
-	"max":    {parameters: []string{"list"}, variadic: true, make: extremeCall("max")},
+	"min":    {parameters: []string{"list"}, variadic: true, constants: true, make: extremeCall("min")},
+	"max":    {parameters: []string{"list"}, variadic: true, constants: true, make: extremeCall("max")},
 	"count":  {parameters: []string{"list"}, make: countCall},
 }
 
 // insteadOf tells what to write in place of functions that the engine has not.
 var insteadOf = map[string]string{
-	"odd": "modulo(a, 2) > 0", "even": "modulo(a, 2) < 1",
 	"mean":          "sum(l) divided by count(l), by a boxed context: see docs/MODEL.md, Division",
-	"floor":         "amounts in the smallest unit; a - modulo(a, 100) rounds down to hundreds",
-	"ceiling":       "amounts in the smallest unit; a + modulo(-a, 100) rounds up to hundreds",
-	"decimal":       "amounts in the smallest unit",
-	"list contains": "x = 1 or x = 2, or x in (1, 2)",
-	"starts with":   `a >= "A" and a < "B", as texts stand by code points`,
+	"list contains": "a list of numbers, texts or booleans by its declared type, and a value of theirs",
 	"date":          dateInstead, "date and time": dateInstead, "time": "minutes since midnight, a number",
 	"duration": "a number of days, or of months", "years and months duration": "a number of months",
 	"now": "let the request bring the day", "today": "let the request bring the day",
-	"is defined": "a = null",
 }
 
 // call translates an invocation: of business knowledge, or of a function of FEEL.
@@ -50,13 +47,15 @@ func (t *translator) call(n *feel.Call, s *scope) phrase {
 	if name.Known {
 		return t.callKnown(n, name, s)
 	}
+	if _, rounds := roundings[name.Name]; rounds {
+		return t.roundedCall(n, name.Name, s)
+	}
+	if made, is := t.listCall(n, name.Name, s); is {
+		return made
+	}
 	function, found := builtins[name.Name]
 	if !found {
-		instead, known := insteadOf[name.Name]
-		if !known {
-			instead = "a table, or let the request bring the value; business knowledge needs its requirement drawn"
-		}
-		return t.refuse(n, "there is no function "+name.Name, instead)
+		return t.refuse(n, "there is no function "+name.Name, t.insteadOfCall(n, name.Name))
 	}
 	arguments, why := t.arranged(n, function, s)
 	if why != "" {
@@ -67,7 +66,10 @@ func (t *translator) call(n *feel.Call, s *scope) phrase {
 			return refused
 		}
 	}
-	return function.make(t, n, arguments)
+	if arguments, isFine := t.asScalars(n, name.Name, arguments); isFine {
+		return function.make(t, n, arguments)
+	}
+	return refused
 }
 
 // callKnown invokes a name of the model.
@@ -81,8 +83,8 @@ func (t *translator) callKnown(n *feel.Call, name *feel.Name, s *scope) phrase {
 	}
 	arguments := make([]argument, len(n.Arguments))
 	for i, a := range n.Arguments {
-		value := t.value(a.Value, s)
-		arguments[i] = argument{name: a.Name, value: t.boxed(value), of: value.of}
+		value := t.bounded(a.Value, t.constantQuotient(a.Value, t.value(a.Value, s)))
+		arguments[i] = argument{name: a.Name, value: t.boxed(t.conditioned(value)), of: value.of}
 	}
 	refuse := func(why, instead string) { t.refuse(n, why, instead) }
 	made, of := t.invoked(found.function, arguments, refuse)
@@ -112,7 +114,14 @@ func (t *translator) arranged(n *feel.Call, function builtin, s *scope) (argumen
 				strings.Join(function.parameters, ", "))
 		}
 		filled[place] = true
-		arguments[place] = t.operand(a.Value, s)
+		switch {
+		case function.quotients && place == 0:
+			arguments[place] = t.maybeQuotient(a.Value, s)
+		case function.constants:
+			arguments[place] = t.chosen(a.Value, s)
+		default:
+			arguments[place] = t.operand(a.Value, s)
+		}
 	}
 	return arguments, ""
 }
@@ -126,48 +135,65 @@ func indexOf(all []string, one string) int {
 	return -1
 }
 
+// absCall translates abs, which a quotient may have too.
+func absCall(t *translator, _ *feel.Call, arguments []phrase) phrase {
+	x := arguments[0]
+	made := call("abs", numberOf(uncelled(x.of.within())), x)
+	if x.number != nil {
+		made.number = new(big.Rat).Abs(x.number)
+	}
+	return made
+}
+
+// moduloCall translates modulo, whose operands have one unit.
+func moduloCall(t *translator, n *feel.Call, arguments []phrase) phrase {
+	u := unitsOf(arguments)
+	for i, a := range arguments {
+		arguments[i] = t.recountedOr(n, a, u)
+	}
+	return call("modulo", numberOf(u), arguments...)
+}
+
 func plainCall(name string, of *valueType) func(*translator, *feel.Call, []phrase) phrase {
 	return func(_ *translator, _ *feel.Call, arguments []phrase) phrase { return call(name, of, arguments...) }
 }
 
 // gathered is the one list of the arguments of sum, min or max.
-func gathered(arguments []phrase) phrase {
+func (t *translator) gathered(n *feel.Call, arguments []phrase) phrase {
 	if len(arguments) == 1 {
 		return arguments[0]
 	}
-	of := nullType
-	for _, a := range arguments {
-		of = joined(of, a.of)
-	}
-	return listing(arguments, listOf(of))
+	return listing(arguments, listOf(t.together(arguments, t.refusal(n))))
 }
 
 // sumCall translates a sum. Of one value that is no list it is the value, which the engine's sum is not.
-func sumCall(t *translator, _ *feel.Call, arguments []phrase) phrase {
-	list := gathered(arguments)
+func sumCall(t *translator, n *feel.Call, arguments []phrase) phrase {
+	list := t.gathered(n, arguments)
+	of := numberOf(uncelled(list.of.within()))
 	switch {
+	case list.of.hasQuotient():
+		return t.refuse(n, "a sum of quotients: each is rounded to 34 digits in the standard", quotientInstead)
 	case list.of.kind == listKind:
-		return call("sum", numberType, list)
+		return call("sum", of, list)
 	case list.of.kind != anyKind:
-		return call("sum", numberType, listing([]phrase{list}, listOf(list.of)))
+		return call("sum", of, listing([]phrase{list}, listOf(list.of)))
 	}
 	list = t.short(list)
 	isList := infix(call("count", numberType, list), ">=", constant("0", numberType), rankComparison, booleanType)
-	return choice(isList, call("sum", numberType, list),
-		call("sum", numberType, listing([]phrase{list}, listOf(anyType))))
+	return choice(isList, call("sum", of, list), call("sum", of, listing([]phrase{list}, listOf(anyType))))
 }
 
 // extremeCall translates min and max, of numbers alone: the standard has them of texts too.
 func extremeCall(name string) func(*translator, *feel.Call, []phrase) phrase {
 	return func(t *translator, n *feel.Call, arguments []phrase) phrase {
-		list := gathered(arguments)
+		list := t.gathered(n, arguments)
 		if list.of.isScalar() {
 			list = listing([]phrase{list}, listOf(list.of))
 		}
 		if list.of.kind == listKind {
 			switch list.of.element.kind {
 			case numberKind, nullKind, refusedKind:
-				return call(name, numberType, list)
+				return call(name, numberOf(uncelled(list.of.within())), list)
 			}
 		}
 		return t.refuse(n, fmt.Sprintf("%s of what may be no numbers: the standard has a %s of texts, the profile has not",
@@ -179,7 +205,7 @@ func extremeCall(name string) func(*translator, *feel.Call, []phrase) phrase {
 func countCall(t *translator, n *feel.Call, arguments []phrase) phrase {
 	if arguments[0].of.kind != listKind {
 		return t.refuse(n, "count of what may be no list: the standard makes a list of it, the profile doesn't",
-			"a list: count([x]), or a list type for it")
+			"a list type for it")
 	}
 	return call("count", numberType, arguments[0])
 }

@@ -2,6 +2,7 @@ package profile
 
 import (
 	"fmt"
+	"math/big"
 
 	"gateway/feel"
 	"gateway/model"
@@ -16,16 +17,13 @@ func (t *translator) conform(b *box, of, due *valueType, refuse func(why, instea
 		switch {
 		case of.kind == refusedKind:
 			return b, of
-		case t.isForbidden(b, due):
+		case t.isForbidden(b, due, of):
 			refuse("it gives a literal that is none of the allowed values of its type", "one of these")
 			return boxOf(refused), refusedType
-		case due.kind == anyKind:
-			return b, of
 		}
-		return b, due
+		return t.admitted(b, of, due, refuse)
 	case never:
-		refuse(fmt.Sprintf("it is of the type %s, where %s is declared: the standard makes null of it", of, due),
-			"a value of the declared type")
+		refuse(unfit(of, due)+": the standard makes null of it", "a value of the declared type")
 		return b, refusedType
 	case single:
 		refuse(fmt.Sprintf("it is a list, where %s is declared: the standard takes the member of a list of one, and null "+
@@ -34,65 +32,102 @@ func (t *translator) conform(b *box, of, due *valueType, refuse func(why, instea
 	}
 	switch due.kind {
 	case numberKind:
-		return t.tested(b, asNumber, numberType)
+		number, of := t.tested(b, asNumber, numberOf(uncelled(of.within())))
+		return t.admitted(number, of, due, refuse)
 	case booleanKind:
-		return t.tested(b, asBoolean, booleanType)
+		boolean, of := t.tested(b, asBoolean, booleanType)
+		return t.admitted(boolean, of, due, refuse)
 	}
 	refuse(fmt.Sprintf("it may be of another type than %s, which is declared: the standard makes null of that", due),
 		"a declared type for what it is made of")
 	return b, refusedType
 }
 
+// unfit tells why no value of a type is of a declared one.
+func unfit(of, due *valueType) string {
+	if of.kind == listKind && due.kind == listKind {
+		return "a member: " + unfit(of.element, due.element)
+	}
+	if of.kind == contextKind && due.kind == contextKind {
+		for _, name := range due.order {
+			own, found := of.fields[name]
+			switch {
+			case !found:
+				return fmt.Sprintf("it has no component %s, which the declared type has", name)
+			case own.fitOf(due.fields[name]) == never:
+				return fmt.Sprintf("its component %s: %s", name, unfit(own, due.fields[name]))
+			}
+		}
+	}
+	return fmt.Sprintf("it is of the type %s, where %s is declared", of, due)
+}
+
 // isForbidden tells whether a value may be a literal that its type doesn't allow.
-func (t *translator) isForbidden(b *box, due *valueType) bool {
+func (t *translator) isForbidden(b *box, due, of *valueType) bool {
 	switch b.kind {
 	case listBox:
 		for _, member := range b.list {
-			if due.kind == listKind && t.isForbidden(member, due.element) {
+			if due.kind == listKind && t.isForbidden(member, due.element, of.memberType()) {
 				return true
 			}
 		}
 		return false
 	case tableBox:
-		return t.tableIsForbidden(b.table, due)
+		return t.tableIsForbidden(b.table, due, of)
 	case contextBox:
 		if b.result != nil {
-			return t.isForbidden(b.result, due)
+			return t.isForbidden(b.result, due, of)
 		}
 		for _, entry := range b.entries {
-			if of := t.field(due, entry.word); of != nil && t.isForbidden(entry.value, of) {
+			if field := t.field(due, entry.word); field != nil && t.isForbidden(entry.value, field, t.fieldOr(of, entry.word)) {
 				return true
 			}
 		}
 		return false
 	}
-	return textIsForbidden(b.value.text, due)
+	return textIsForbidden(b.value.text, due, of)
+}
+
+// memberType is the type of a list's members; of what is no list, the type itself.
+func (t *valueType) memberType() *valueType {
+	if t.kind == listKind {
+		return t.element
+	}
+	return t
+}
+
+// fieldOr is the type of the entry with a word; where there is none, the type itself.
+func (t *translator) fieldOr(of *valueType, word string) *valueType {
+	if field := t.field(of, word); field != nil {
+		return field
+	}
+	return of
 }
 
 // tableIsForbidden looks at the output entries and the defaults.
-func (t *translator) tableIsForbidden(table *model.Table, due *valueType) bool {
+func (t *translator) tableIsForbidden(table *model.Table, due, given *valueType) bool {
 	switch table.Hit {
 	case "C", "R", "O":
 		if due.kind != listKind {
 			return false
 		}
-		due = due.element
+		due, given = due.element, given.memberType()
 	case "C#", "C+":
 		return false
 	}
 	for i, output := range table.Outputs {
-		of := due
+		of, own := due, given
 		if len(table.Outputs) > 1 {
-			of = t.field(due, output.Name)
+			of, own = t.field(due, output.Name), t.fieldOr(given, output.Name)
 		}
 		if of == nil {
 			continue
 		}
-		if output.Default != nil && textIsForbidden(*output.Default, of) {
+		if output.Default != nil && textIsForbidden(*output.Default, of, own) {
 			return true
 		}
 		for _, rule := range table.Rules {
-			if textIsForbidden(rule.Then[i], of) {
+			if textIsForbidden(rule.Then[i], of, own) {
 				return true
 			}
 		}
@@ -105,28 +140,44 @@ func (t *translator) field(of *valueType, word string) *valueType {
 	return of.fields[feel.Canonical(t.words.names[word])]
 }
 
-func textIsForbidden(text string, due *valueType) bool {
+func textIsForbidden(text string, due, of *valueType) bool {
 	if len(due.allowed.all) == 0 && (due.kind != listKind || len(due.element.allowed.all) == 0) {
 		return false
 	}
 	node, fault := feel.Expression(text, nil, nil)
-	return fault == nil && literalIsForbidden(node, due)
+	return fault == nil && literalIsForbidden(node, due, of.within())
 }
 
 // literalIsForbidden tells whether a form, a branch of it or a member is a literal that a type doesn't allow.
-func literalIsForbidden(n feel.Node, due *valueType) bool {
+//
+// A number is counted in some units.
+func literalIsForbidden(n feel.Node, due *valueType, u units) bool {
 	switch n := n.(type) {
 	case *feel.If:
-		return literalIsForbidden(n.Then, due) || literalIsForbidden(n.Else, due)
+		return literalIsForbidden(n.Then, due, u) || literalIsForbidden(n.Else, due, u)
 	case *feel.List:
 		for _, item := range n.Items {
-			if due.kind == listKind && literalIsForbidden(item, due.element) {
+			if due.kind == listKind && literalIsForbidden(item, due.element, u) {
 				return true
 			}
 		}
 		return false
 	}
-	return !due.allowed.allows(n)
+	return !due.allowed.allows(uncounted(n, u))
+}
+
+// uncounted is the literal that a number stands for which is counted in some units.
+func uncounted(n feel.Node, u units) feel.Node {
+	value := rational(n)
+	if value == nil || u.isPlain() {
+		return n
+	}
+	value.Quo(scaledBy(value, -u.scale), new(big.Rat).SetInt64(u.parts()))
+	made := feel.Node(&feel.Number{Text: shortest(new(big.Rat).Abs(value))})
+	if value.Sign() < 0 {
+		made = &feel.Negation{Operand: made}
+	}
+	return made
 }
 
 // tested puts a test of its type round a value.

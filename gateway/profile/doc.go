@@ -15,5 +15,22 @@
 // JSON Schema. An input without a declared type takes the type of the column or decision that it is given to as it is.
 // Null conforms to each type.
 //
-// An import makes two passes: the first finds the types of inputs that declare none, the second translates.
+// Units. The engine has whole numbers alone, and numbers of FEEL are decimals of 34 digits. So a number of a file is counted:
+// in the model it is a whole number of 10^-scale. A scale is a part of a type, and known from the text. Literals have that of
+// their digits; a product has the sum of its operands' scales; what meets in a sum, a branch, a list or a column is multiplied
+// to the finest scale of them; a comparison brings a constant to the unit of the value. Each whole number of the engine has
+// at most 19 digits, so what is calculated is exact in the standard too.
+//
+// Lists, contexts and values of the type Any can't be multiplied. They have to be counted alike where they meet: where they
+// come from an input, that input gets the finer scale, else the place is refused.
+//
+// A division by a constant of twos and fives changes the scale. By another one it is a quotient: a whole number of one part
+// of per, as a part of the type. By a variable it is a phrase over a divisor above 0. Quotients are refused wherever they
+// stand but where they keep their meaning: they are compared by multiplying both sides with the divisors, rounded by an
+// exact division, or a result, which is written to 34 digits. A rounding divides: see division.go. Its steps stand in front
+// of the expression, under the condition of its branch or rule: see steps.go.
+//
+// An import makes two passes: the first finds the types of inputs that declare none, the last translates. Where the files ask
+// for fractions, others between find the scales of inputs: one what meets fractions, and then as many as make some scale
+// finer. Files that ask for none are counted in ones, and become the model that they became before.
 package profile

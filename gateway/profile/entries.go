@@ -60,16 +60,20 @@ func (r *tableReader) testList(nodes []feel.Node, c column, underNot bool) strin
 
 // test is one test; empty where it needs a condition.
 func (r *tableReader) test(n feel.Node, c column, underNot bool) string {
-	switch n := n.(type) {
-	case *feel.Anything:
+	if _, is := n.(*feel.Anything); is {
 		return "-"
+	}
+	if c.value.isQuotient() {
+		return ""
+	}
+	switch n := n.(type) {
 	case *feel.Unary:
 		return r.signTest(n.Operator, n.Operand, c, underNot)
 	case *feel.Range:
 		if usesInput(n) {
 			return ""
 		}
-		return r.rangeTest(n)
+		return r.rangeTest(n, c)
 	case *feel.Binary:
 		if _, input := n.Left.(*feel.Input); input && n.Operator != "**" && !usesInput(n.Right) {
 			return r.signTest(n.Operator, n.Right, c, underNot)
@@ -87,22 +91,51 @@ func (r *tableReader) signTest(operator string, operand feel.Node, c column, und
 	case usesInput(operand), operator == "!=":
 		return ""
 	case operator == "=":
-		value := r.operand(operand, r.scope)
+		value := r.maybeQuotient(operand, r.scope)
+		if r.countsOtherwise(value, c) {
+			return ""
+		}
 		if value.of.isScalar() && (!underNot || value.of.kind == c.value.of.kind) || value.of.kind == nullKind {
-			return asTest(value)
+			return r.equalTest(operand, value, c)
 		}
 		return ""
 	}
-	return operator + " " + r.operand(operand, r.scope).within(rankSum).text
+	value := r.maybeQuotient(operand, r.scope)
+	if r.countsOtherwise(value, c) {
+		return ""
+	}
+	operator, limit := r.bound(operand, operator, value, c)
+	return operator + " " + limit.text
 }
 
-func (r *tableReader) rangeTest(n *feel.Range) string {
-	low, high := r.operand(n.Low, r.scope).within(rankSum), r.operand(n.High, r.scope).within(rankSum)
-	from, to := "[", "]"
+// equalTest is a value as a test; empty where the column has no such value in its unit.
+func (r *tableReader) equalTest(n feel.Node, value phrase, c column) string {
+	made, fine := r.equalIn(n, value, c)
+	if !fine {
+		return ""
+	}
+	return asTest(made)
+}
+
+func (r *tableReader) rangeTest(n *feel.Range, c column) string {
+	low, high := r.maybeQuotient(n.Low, r.scope), r.maybeQuotient(n.High, r.scope)
+	if r.countsOtherwise(low, c) || r.countsOtherwise(high, c) {
+		return ""
+	}
+	above, below := ">=", "<="
 	if n.LowOpen {
-		from = "("
+		above = ">"
 	}
 	if n.HighOpen {
+		below = "<"
+	}
+	above, low = r.bound(n.Low, above, low, c)
+	below, high = r.bound(n.High, below, high, c)
+	from, to := "[", "]"
+	if above == ">" {
+		from = "("
+	}
+	if below == "<" {
 		to = ")"
 	}
 	return from + low.text + ".." + high.text + to
@@ -117,17 +150,25 @@ func (r *tableReader) valueTest(n feel.Node, c column, underNot bool) string {
 		if underNot && literal.kind != nullKind && literal.kind != c.value.of.kind {
 			return ""
 		}
-		return r.operand(n, r.scope).text
+		value := r.value(n, r.scope)
+		if r.countsOtherwise(value, c) {
+			return ""
+		}
+		made, fine := r.equalIn(n, value, c)
+		if !fine {
+			return ""
+		}
+		return made.text
 	}
-	value := r.operand(n, r.scope)
+	value := r.maybeQuotient(n, r.scope)
 	if why := doubtfulTest(n, value); why != "" {
 		r.refuse(n, why, "? = "+r.slice(n)+", or a column of its own")
 		return "-"
 	}
-	if underNot && value.of.kind != c.value.of.kind {
+	if underNot && value.of.kind != c.value.of.kind || r.countsOtherwise(value, c) {
 		return ""
 	}
-	return asTest(value)
+	return r.equalTest(n, value, c)
 }
 
 // listTest is a list that is written out: the column's value is one of its members, or is the list itself.
@@ -139,6 +180,9 @@ func (r *tableReader) listTest(n *feel.List, c column, underNot bool) string {
 	members := r.testList(n.Items, c, underNot)
 	if members == "" || !c.value.of.mayBe(listKind) {
 		return members
+	}
+	if r.counts && (c.value.of.isCounted() || r.operand(n, r.scope).of.isCounted()) {
+		return ""
 	}
 	return r.operand(n, r.scope).text
 }
@@ -200,7 +244,7 @@ func (r *tableReader) checkAllowed(entry *dmn.Text, allowed valueList, which str
 	if kept == nil || kept.fault != nil || len(kept.nodes) != 1 {
 		return
 	}
-	if literalIsForbidden(kept.nodes[0], &valueType{allowed: allowed}) {
+	if literalIsForbidden(kept.nodes[0], &valueType{allowed: allowed}, units{}) {
 		r.refusals.refuse(entry.Element, entry.Text, "it is none of "+which, "one of these")
 	}
 }

@@ -1,6 +1,7 @@
 package profile
 
 import (
+	"math/big"
 	"strings"
 
 	"gateway/feel"
@@ -15,7 +16,7 @@ func (t *translator) value(n feel.Node, s *scope) phrase {
 	case *feel.Number:
 		return t.number(n)
 	case *feel.String:
-		return constant(quotedText(n.Value), textType)
+		return constant(quotedText(n.Value), &valueType{kind: textKind, common: valueList{all: []feel.Node{n}}})
 	case *feel.Boolean:
 		return constant(literalText(n), booleanType)
 	case *feel.Null:
@@ -36,8 +37,8 @@ func (t *translator) value(n feel.Node, s *scope) phrase {
 	case *feel.Negation:
 		return t.negation(n, s)
 	case *feel.Between:
-		x, low, high := t.operand(n.Operand, s), t.operand(n.Low, s), t.operand(n.High, s)
-		return between(x, low, high)
+		x, low, high := t.maybeQuotient(n.Operand, s), t.maybeQuotient(n.Low, s), t.maybeQuotient(n.High, s)
+		return t.between(n, x, low, high)
 	case *feel.In:
 		return t.in(n, s)
 	case *feel.Path:
@@ -45,21 +46,31 @@ func (t *translator) value(n feel.Node, s *scope) phrase {
 	case *feel.Call:
 		return t.call(n, s)
 	case *feel.If:
-		return choice(t.operand(n.Condition, s), t.operand(n.Then, s), t.operand(n.Else, s))
+		return t.branches(n, s)
 	}
-	return t.left(n)
+	return t.listForm(n, s)
 }
 
-// operand translates a form that stands in another one.
-func (t *translator) operand(n feel.Node, s *scope) phrase { return t.shallow(t.value(n, s)) }
+// operand translates a form that stands in another one, and is no quotient.
+func (t *translator) operand(n feel.Node, s *scope) phrase { return t.exact(n, t.maybeQuotient(n, s)) }
 
-// number translates a numeric literal, which has to be whole: 1.0 is 1.
+// branches translates an if.
+func (t *translator) branches(n *feel.If, s *scope) phrase {
+	condition := t.operand(n.Condition, s)
+	both := []phrase{
+		t.under(condition, true, func() phrase { return t.chosen(n.Then, s) }),
+		t.under(condition, false, func() phrase { return t.chosen(n.Else, s) }),
+	}
+	t.together(both, t.refusal(n))
+	return choice(condition, both[0], both[1])
+}
+
+// number translates a numeric literal: 1.0 is 1.
 func (t *translator) number(n *feel.Number) phrase {
 	whole := n.Text
 	if point := strings.IndexByte(whole, '.'); point >= 0 {
 		if strings.Trim(whole[point+1:], "0") != "" {
-			return t.refuse(n, "numbers are whole: there are no decimals",
-				"the smallest unit: amounts in cents, rates in hundredths of a percent")
+			return t.fraction(n)
 		}
 		whole = whole[:point]
 	}
@@ -70,14 +81,18 @@ func (t *translator) number(n *feel.Number) phrase {
 	if len(whole) > len(largestNumber) || len(whole) == len(largestNumber) && whole > largestNumber {
 		return t.refuse(n, "the number is past "+largestNumber, "")
 	}
-	return constant(whole, numberType)
+	made := constant(whole, numberType)
+	made.number, _ = new(big.Rat).SetString(whole)
+	return made
 }
 
 // name translates a name in scope.
 func (t *translator) name(n *feel.Name, s *scope) phrase {
 	if !n.Known {
-		return t.refuse(n, "it is no name in scope",
-			`a text stands in quotes; a decision or an input needs its requirement drawn, and is called by its name`)
+		if found := s.find(n.Name); found != nil && found.member {
+			return found.value
+		}
+		return t.unknown(n)
 	}
 	if n.Doubtful {
 		return t.refuse(n, "it may be one name or a calculation with another one", "parentheses round each name, or the name "+
@@ -91,6 +106,9 @@ func (t *translator) name(n *feel.Name, s *scope) phrase {
 		return t.refuse(n, "functions are no values of the profile", "invoke it, with its arguments in parentheses")
 	case found.service:
 		return t.refuse(n, "decision services are not invoked", "need its output decision")
+	case found.free != nil:
+		t.node.need(found.free)
+		return constant(found.free.word, found.free.of)
 	}
 	return found.value
 }
@@ -106,12 +124,13 @@ func (t *translator) list(n *feel.List, s *scope) phrase {
 	members := make([]phrase, len(n.Items))
 	of := nullType
 	for i, item := range n.Items {
-		members[i] = t.operand(item, s)
+		members[i] = t.chosen(item, s)
 		of = joined(of, members[i].of)
 	}
 	if len(members) == 0 {
 		of = nullType
 	}
+	t.together(members, t.refusal(n))
 	return listing(members, listOf(of))
 }
 
@@ -129,12 +148,12 @@ func (t *translator) contextLiteral(n *feel.Context, s *scope) (*box, *valueType
 		var valueOf *valueType
 		value = t.framed(func() *box {
 			var b *box
-			b, valueOf = t.boxedForm(entry.Value, inside)
+			b, valueOf = t.boxedPart(entry.Value, inside)
 			return b
 		})
 		word := t.words.of(entry.Key)
 		t.wrote(len(word) + bytesOfEntry)
-		made.entries = append(made.entries, boxEntry{word: word, value: value})
+		made.entries = append(made.entries, boxEntry{word: word, value: value, of: valueOf})
 		of.setField(entry.Key, valueOf)
 		inside.bindWord(entry.Key, word, valueOf)
 	}
@@ -152,24 +171,33 @@ func (t *translator) boxedForm(n feel.Node, s *scope) (*box, *valueType) {
 			return t.boxedList(n, s)
 		}
 	}
-	p := t.value(n, s)
+	p := t.bounded(n, t.constantQuotient(n, t.value(n, s)))
 	return t.boxed(p), p.of
+}
+
+// boxedPart translates a part of a context or a list, which is evaluated in front of the expression.
+func (t *translator) boxedPart(n feel.Node, s *scope) (*box, *valueType) {
+	made, of := t.boxedForm(n, s)
+	if made.kind == textBox {
+		made.value = t.conditioned(made.value)
+	}
+	return made, of
 }
 
 func (t *translator) boxedList(n *feel.List, s *scope) (*box, *valueType) {
 	made := &box{kind: listBox, list: []*box{}}
-	of := nullType
+	var all []*valueType
 	for _, item := range n.Items {
 		var itemOf *valueType
 		item := item
 		made.list = append(made.list, t.framed(func() *box {
 			var b *box
-			b, itemOf = t.boxedForm(item, s)
+			b, itemOf = t.boxedPart(item, s)
 			return b
 		}))
-		of = joined(of, itemOf)
+		all = append(all, itemOf)
 	}
-	return made, listOf(of)
+	return made, t.listOfBoxes(made, all, t.refusal(n))
 }
 
 func holdsContext(n *feel.List) bool {
@@ -182,9 +210,16 @@ func holdsContext(n *feel.List) bool {
 }
 
 func (t *translator) negation(n *feel.Negation, s *scope) phrase {
-	inside := t.operand(n.Operand, s)
+	inside := t.maybeQuotient(n.Operand, s)
+	if inside.of.kind == refusedKind {
+		return inside
+	}
 	o := inside.within(rankNegation)
-	return phrase{text: "-" + o.text, rank: rankNegation, depth: 1 + o.depth, of: numberType}
+	made := phrase{text: "-" + o.text, rank: rankNegation, depth: 1 + o.depth, of: numberOf(uncelled(inside.of.units)), over: inside.over}
+	if inside.number != nil {
+		made.number = new(big.Rat).Neg(inside.number)
+	}
+	return made
 }
 
 // path translates a.name.
@@ -215,19 +250,19 @@ func between(x, low, high phrase) phrase {
 
 // left tells of the forms that the profile has not.
 func (t *translator) left(n feel.Node) phrase {
-	switch n.(type) {
+	switch n := n.(type) {
 	case *feel.AtLiteral:
 		return t.refuse(n, "there are no dates, times or durations", dateInstead)
 	case *feel.Filter:
 		return t.refuse(n, "there are no filters and no indexes", "let the request bring what is wanted under its own name")
 	case *feel.For:
-		return t.refuse(n, "there is no for", "order.lines.price for a component of each; let the request bring products")
+		return t.refuse(n, "there is no for", t.insteadOfFor(n))
 	case *feel.Quantified:
-		return t.refuse(n, "there is no some and no every", "max(l) > 3, min(l) > 0")
+		return t.refuse(n, "there is no some and no every of such a list", "let the request bring whether it is so")
 	case *feel.Function:
 		return t.refuse(n, "functions are no values of the profile", "a business knowledge model")
 	case *feel.InstanceOf:
-		return t.refuse(n, "there is no instance of", "x - x = 0 is true of numbers alone")
+		return t.refuse(n, "there is no instance of this type", "number, string, boolean or list")
 	case *feel.Range, *feel.Unary:
 		return t.refuse(n, "ranges and tests are no values here", "x between low and high, or a test of a table")
 	}

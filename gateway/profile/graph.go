@@ -22,6 +22,10 @@ type node struct {
 	services []string
 	logic    *box
 	needed   bool
+	// free tells that nothing declares it: it is an input for the name of a column.
+	free bool
+	// freeNeeds are those of what a decision needs that nothing declares.
+	freeNeeds map[*node]bool
 	// seen is the number of the last walk that came here.
 	seen int
 }
@@ -53,9 +57,10 @@ type graph struct {
 	byID map[string]interface{}
 	// walks counts the walks over the nodes.
 	walks int
+	free  *freeNames
 }
 
-func newGraph(files []*dmn.File, r *refusals, w *words) *graph {
+func newGraph(files []*dmn.File, r *refusals, w *words, freeInputs bool) *graph {
 	g := &graph{refusals: r, words: w, byID: map[string]interface{}{}}
 	for i, file := range files {
 		r.know(file, i)
@@ -72,6 +77,7 @@ func newGraph(files []*dmn.File, r *refusals, w *words) *graph {
 	}
 	g.refuseTwice()
 	g.order()
+	g.free = newFreeNames(g, freeInputs)
 	return g
 }
 
@@ -135,11 +141,24 @@ func (g *graph) identify(s *source, e *dmn.Element, part interface{}) {
 	if e.ID() == "" {
 		return
 	}
-	if g.byID[key] != nil {
-		g.refusals.refuse(e, e.ID(), "the id stands twice", "another id")
+	if before := g.byID[key]; before != nil {
+		g.refusals.refuse(e, e.ID(), "the id stands twice", "another id", elementOf(before))
 		return
 	}
 	g.byID[key] = part
+}
+
+// elementOf is the element of a part.
+func elementOf(part interface{}) *dmn.Element {
+	switch part := part.(type) {
+	case *node:
+		return part.element()
+	case *knowledge:
+		return part.Element
+	case *dmn.DecisionService:
+		return part.Element
+	}
+	return nil
 }
 
 // checkFunction refuses what is no function of FEEL with a body.
@@ -245,7 +264,7 @@ func (g *graph) refuseTwice() {
 		canonical := feel.Canonical(n.name)
 		if before := byName[canonical]; before != nil {
 			g.refusals.refuse(n.element(), n.name, fmt.Sprintf("its name is that of %q, at line %d: blanks round signs make no "+
-				"other name", before.name, before.element().Place.Line), "another name")
+				"other name", before.name, before.element().Place.Line), "another name", before.element())
 			continue
 		}
 		byName[canonical] = n
@@ -255,7 +274,7 @@ func (g *graph) refuseTwice() {
 		canonical := feel.Canonical(k.name)
 		if before := functions[canonical]; before != nil {
 			g.refusals.refuse(k.Element, k.name, fmt.Sprintf("its name is that of the business knowledge at line %d",
-				before.Place.Line), "another name")
+				before.Place.Line), "another name", before.Element)
 			continue
 		}
 		functions[canonical] = k

@@ -2,21 +2,11 @@ package profile
 
 import (
 	"encoding/json"
-	"fmt"
 
 	"gateway/dmn"
 	"gateway/feel"
 	"gateway/model"
 )
-
-// mostDecisions is how many decisions a model may have.
-const mostDecisions = 1000
-
-// Options say what of the files is wanted.
-type Options struct {
-	// Service is the name of the only service that the model gets; empty for all of them.
-	Service string
-}
 
 // A Result is a model with what its files say beside it.
 type Result struct {
@@ -42,70 +32,79 @@ type Result struct {
 type Place struct {
 	ID   string `json:"id"`
 	Name string `json:"name"`
+	// Type is the JSON Schema of its values, where their numbers are counted in a unit. Those of a quotient are over the
+	// value of another entry of the same context: Over is its word, and Decimals how many the numerator has more than it.
+	Type     json.RawMessage `json:"type,omitempty"`
+	Over     string          `json:"over,omitempty"`
+	Decimals int             `json:"decimals,omitempty"`
 }
 
-// Import translates files to one model. Where a place of them can't be taken it gives each such place, and no result.
-func Import(files []*dmn.File, options Options) (*Result, []Refusal) {
-	r := newRefusals()
-	w := newWords()
-	g := newGraph(files, r, w)
-	trees := map[*dmn.Text]*tree{}
-	r.muted = true
-	translate(g, trees)
-	w.forgetFresh()
+// mostPasses is how many passes look for units that fit: each makes some unit finer.
+const mostPasses = 20
+
+// findUnits finds how many decimals the numbers of inputs have: a pass finds what meets fractions, and others what has to be
+// counted alike.
+func findUnits(g *graph, trees map[*dmn.Text]*tree, said *Decimals) *cells {
+	if said == nil {
+		none := NoDecimals()
+		said = &none
+	}
+	c := newCells(g, *said)
+	passOver(g, trees, true)
+	c.begin()
+	for pass := 0; pass < mostPasses; pass++ {
+		passOver(g, trees, true)
+		if !c.settle() {
+			break
+		}
+	}
+	return c
+}
+
+// passOver makes a pass whose texts are not kept, and tells whether fractions are counted in the files.
+func passOver(g *graph, trees map[*dmn.Text]*tree, counts bool) bool {
+	fractions := translate(g, trees, counts)
+	for _, s := range g.sources {
+		fractions = fractions || s.types.fractions
+	}
+	g.words.forgetFresh()
 	g.forgetTypes()
-	r.muted = false
-	translate(g, trees)
-	if len(g.decisions) > mostDecisions {
-		r.refuse(g.decisions[mostDecisions].element(), "", fmt.Sprintf("there are over %d decisions", mostDecisions),
-			"several models")
-	}
-	if len(g.decisions) == 0 && len(files) > 0 {
-		r.refuse(files[0].Root, "", "there is no decision", "a decision")
-	}
-	services := newServices(g).all(options.Service)
-	if len(r.all) > 0 {
-		return nil, r.inOrder(files)
-	}
-	result := assembled(g, services)
-	result.Notes = r.notes
-	if options.Service == "" && len(services) == 0 {
-		defaultServices(g, result)
-	}
-	if len(r.all) > 0 || !fitsLine(result, r, files) {
-		return nil, r.inOrder(files)
-	}
-	return result, nil
+	return fractions
 }
 
-// translate makes one pass: each decision behind what it needs, then the business knowledge that none invoked.
-func translate(g *graph, trees map[*dmn.Text]*tree) {
+// translate makes one pass: each decision behind what it needs, then the business knowledge that none invoked. It tells
+// whether something asks for fractions.
+func translate(g *graph, trees map[*dmn.Text]*tree, counts bool) (fractions bool) {
 	files := make([]*dmn.File, len(g.sources))
 	for i, s := range g.sources {
 		files[i] = s.file
 	}
 	t := &translator{words: g.words, refusals: g.refusals, members: membersOf(files), trees: trees, frame: &frame{},
-		active: map[*knowledge]bool{}}
+		active: map[*knowledge]bool{}, free: g.free, counts: counts}
 	for _, n := range g.ordered {
 		t.decision(n)
+		if t.full {
+			g.refusals.spoil(n.element())
+		}
 	}
 	for _, k := range g.knowledge {
 		if !k.used {
 			t.unused(k)
 		}
 	}
+	return t.fractions
 }
 
 // decision translates a decision over what it needs.
 func (t *translator) decision(n *node) {
-	n.logic = boxOf(refused)
-	t.types, t.near = n.file.types, n.element()
+	n.logic, t.finest = boxOf(refused), 0
+	t.types, t.near, t.node = n.file.types, n.element(), n
 	if n.decision.Logic == nil {
 		t.refusals.refuse(n.element(), n.name, "the decision has no logic", "an expression or a table")
 		n.of = refusedType
 		return
 	}
-	s := newScope(nil)
+	s := newScope(t.free.scope)
 	for _, k := range n.known {
 		s.bind(k.name, &binding{function: k})
 	}
@@ -113,6 +112,9 @@ func (t *translator) decision(n *node) {
 		s.bind(service, &binding{service: true})
 	}
 	for _, need := range n.needs {
+		if need.free {
+			continue
+		}
 		if s.find(feel.Canonical(need.name)) != nil {
 			t.refusals.refuse(n.element(), need.name, "it needs a value and a function of this name", "another name for one of them")
 		}
@@ -120,10 +122,11 @@ func (t *translator) decision(n *node) {
 		if of == nil {
 			of = refusedType
 		}
-		s.bind(need.name, &binding{value: constant(need.word, of), input: need.input != nil})
+		s.bind(need.name, &binding{value: constant(need.word, of), input: need.input != nil, logic: need.logic})
 	}
 	n.logic, n.of = t.expression(n.decision.Logic, s)
 	t.declared(n)
+	t.noteRange(n)
 }
 
 // declared holds a decision's logic against the type of its variable.
@@ -158,18 +161,4 @@ func (t *translator) unused(k *knowledge) {
 	t.types, t.near = k.types, k.Element
 	t.invoked(k, arguments, func(why, instead string) { t.refusals.refuse(k.Element, k.name, why, instead) })
 	k.used = used
-}
-
-// fitsLine tells whether a model fits in a line, and refuses it where it doesn't.
-func fitsLine(result *Result, r *refusals, files []*dmn.File) bool {
-	bytes, err := Line(&result.Model)
-	if err == nil && len(bytes) <= MostLine {
-		return true
-	}
-	why := fmt.Sprintf("the model takes %d bytes, and a line has %d at most", len(bytes), MostLine)
-	if err != nil {
-		why = err.Error()
-	}
-	r.refuse(files[0].Root, "", why, "several models, each with fewer decisions")
-	return false
 }

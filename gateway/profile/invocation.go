@@ -44,7 +44,7 @@ func (t *translator) invoked(k *knowledge, arguments []argument, refuse func(why
 	before, column, near := t.types, t.column, t.near
 	t.types, t.column, t.near = k.types, nil, k.Element
 	body, of := t.expression(k.Logic.Body, inside)
-	t.checkReturned(k, of)
+	t.checkReturned(k, body, of)
 	t.types, t.column, t.near = before, column, near
 	delete(t.active, k)
 	if len(entries) == 0 {
@@ -55,7 +55,7 @@ func (t *translator) invoked(k *knowledge, arguments []argument, refuse func(why
 
 // checkReturned holds the type of a body against that of the variable: some take it for the type of what is returned,
 // and others for that of the function.
-func (t *translator) checkReturned(k *knowledge, of *valueType) {
+func (t *translator) checkReturned(k *knowledge, body *box, of *valueType) {
 	if k.Variable == nil || t.types.isFunction(k.Variable.TypeRef) {
 		return
 	}
@@ -63,9 +63,13 @@ func (t *translator) checkReturned(k *knowledge, of *valueType) {
 	if due == nil {
 		return
 	}
-	if fit := of.fitOf(due); fit == never || fit == single {
+	switch fit := of.fitOf(due); {
+	case fit == never || fit == single:
 		t.refusals.refuse(k.Variable.Element, "", fmt.Sprintf("the body is of the type %s, where %s is declared", of, due),
 			"the type of the body, or none")
+	case of.kind != refusedKind && due.isNarrow() && !t.isSure(body, of, due):
+		t.refusals.refuse(k.Variable.Element, "", "the body may be none of the allowed values of its declared type",
+			"this type at the expression of the body, where what is none becomes null")
 	}
 }
 
@@ -82,7 +86,7 @@ func (t *translator) bound(k *knowledge, placed []argument, refuse func(why, ins
 		}
 		word := t.words.local(parameter.Name())
 		t.wrote(len(word) + bytesOfEntry)
-		entries[i] = boxEntry{word: word, value: a.value}
+		entries[i] = boxEntry{word: word, value: a.value, of: a.of}
 		inside.bindWord(parameter.Name(), word, a.of)
 	}
 	return inside, entries

@@ -7,8 +7,12 @@ import (
 // chain translates operands with operators of one rank between them.
 func (t *translator) chain(n *feel.Chain, s *scope) phrase {
 	operands := make([]phrase, len(n.Operands))
+	isProduct := n.Operators[0] == "*" || n.Operators[0] == "/"
 	for i, operand := range n.Operands {
-		operands[i] = t.operand(operand, s)
+		operands[i] = t.maybeQuotient(operand, s)
+		if !isProduct {
+			operands[i] = t.exact(operand, operands[i])
+		}
 	}
 	switch n.Operators[0] {
 	case "or":
@@ -22,12 +26,19 @@ func (t *translator) chain(n *feel.Chain, s *scope) phrase {
 }
 
 func (t *translator) product(n *feel.Chain, operands []phrase) phrase {
-	for _, operator := range n.Operators {
-		if operator == "/" {
-			return t.refuse(n, "there is no division", "division by a boxed context: see docs/MODEL.md, Division")
+	for i, operand := range operands {
+		if operand.of.kind == refusedKind {
+			return refused
+		}
+		if operand.isQuotient() || i > 0 && n.Operators[i-1] == "/" {
+			t.fractions = true
+			return t.productWithQuotients(n, operands)
 		}
 	}
-	return chained(operands, n.Operators, rankProduct, numberType)
+	for i, operand := range operands {
+		operands[i] = t.bounded(n.Operands[i], operand)
+	}
+	return t.countedProduct(n, operands)
 }
 
 // sum translates + and -. Where both sides of a + may be texts the standard joins them, and the engine doesn't.
@@ -44,22 +55,20 @@ func (t *translator) sum(n *feel.Chain, operands []phrase) phrase {
 		}
 		soFar = numberType
 	}
-	return chained(operands, n.Operators, rankSum, numberType)
+	return t.countedSum(n, operands)
 }
 
 // binary translates a comparison.
 func (t *translator) binary(n *feel.Binary, s *scope) phrase {
 	if n.Operator == "**" {
-		t.operand(n.Left, s)
-		t.operand(n.Right, s)
-		return t.refuse(n, "there are no powers", "a * a for a ** 2")
+		return t.powered(n, s)
 	}
-	return infix(t.operand(n.Left, s), n.Operator, t.operand(n.Right, s), rankComparison, booleanType)
+	return t.compare(n, t.maybeQuotient(n.Left, s), n.Operator, t.maybeQuotient(n.Right, s))
 }
 
 // in translates "x in tests" to comparisons.
 func (t *translator) in(n *feel.In, s *scope) phrase {
-	x := t.short(t.operand(n.Operand, s))
+	x := t.short(t.maybeQuotient(n.Operand, s))
 	alternatives := make([]phrase, 0, len(n.Tests))
 	for _, test := range n.Tests {
 		alternatives = append(alternatives, t.shallow(t.condition(test, x, s)))
@@ -93,7 +102,7 @@ func (t *translator) condition(test feel.Node, x phrase, s *scope) phrase {
 	case *feel.Anything:
 		return constant("true", booleanType)
 	case *feel.Unary:
-		return infix(x, n.Operator, t.operand(n.Operand, s), rankComparison, booleanType)
+		return t.compare(n, x, n.Operator, t.maybeQuotient(n.Operand, s))
 	case *feel.Range:
 		return t.inRange(n, x, s)
 	case *feel.List:
@@ -104,11 +113,14 @@ func (t *translator) condition(test feel.Node, x phrase, s *scope) phrase {
 	if usesInput(test) {
 		return t.ownCondition(test, x, s)
 	}
-	value := t.operand(test, s)
+	value := t.maybeQuotient(test, s)
 	if why := doubtfulTest(test, value); why != "" {
+		if made, is := t.contains(test, value, x); is && value.of.kind == listKind {
+			return made
+		}
 		return t.refuse(test, why, "? = "+t.slice(test)+", or a column of its own")
 	}
-	return infix(x, "=", value, rankComparison, booleanType)
+	return t.compare(test, x, "=", value)
 }
 
 // conditions is the or of tests.
@@ -133,9 +145,9 @@ func (t *translator) ownCondition(test feel.Node, x phrase, s *scope) phrase {
 }
 
 func (t *translator) inRange(n *feel.Range, x phrase, s *scope) phrase {
-	low, high := t.operand(n.Low, s), t.operand(n.High, s)
+	low, high := t.maybeQuotient(n.Low, s), t.maybeQuotient(n.High, s)
 	if !n.LowOpen && !n.HighOpen {
-		return between(x, low, high)
+		return t.between(n, x, low, high)
 	}
 	from, to := ">=", "<="
 	if n.LowOpen {
@@ -144,8 +156,7 @@ func (t *translator) inRange(n *feel.Range, x phrase, s *scope) phrase {
 	if n.HighOpen {
 		to = "<"
 	}
-	return allOf([]phrase{infix(x, from, low, rankComparison, booleanType),
-		infix(x, to, high, rankComparison, booleanType)})
+	return allOf([]phrase{t.compare(n, x, from, low), t.compare(n, x, to, high)})
 }
 
 // oneOf translates a list that is written out as a test: x is one of its members, or is the list itself. It is true or
@@ -156,18 +167,18 @@ func (t *translator) oneOf(n *feel.List, x phrase, s *scope) phrase {
 	}
 	all := make([]phrase, 0, len(n.Items)+1)
 	for _, item := range n.Items {
-		value := t.operand(item, s)
+		value := t.maybeQuotient(item, s)
 		if why := doubtfulTest(item, value); why != "" {
 			return t.refuse(item, why, "? = "+t.slice(item)+", or a column of its own")
 		}
-		made := infix(x, "=", value, rankComparison, booleanType)
+		made := t.compare(item, x, "=", value)
 		if value.of.kind != nullKind && value.of.kind != x.of.kind {
 			made = isTrue(made)
 		}
 		all = append(all, t.shallow(made))
 	}
 	if x.of.mayBe(listKind) {
-		all = append(all, t.shallow(isTrue(infix(x, "=", t.shallow(t.list(n, s)), rankComparison, booleanType))))
+		all = append(all, t.shallow(isTrue(t.compare(n, x, "=", t.shallow(t.list(n, s))))))
 	}
 	return anyOf(all)
 }

@@ -1,6 +1,9 @@
 package profile
 
-import "strings"
+import (
+	"math/big"
+	"strings"
+)
 
 // The ranks of the engine's language, the loosest first.
 const (
@@ -32,7 +35,18 @@ type phrase struct {
 	rank, depth int
 	// of is the type of its values.
 	of *valueType
+	// number is the value of a constant number; nil of what is none.
+	number *big.Rat
+	// over is the divisor of a quotient by a variable, which is above 0 or the quotient null; nil of what is none.
+	over *phrase
+	// members are those of a list that is written out.
+	members []phrase
+	// branches are those of a choice; nil of what is none.
+	branches *branches
 }
+
+// branches are the parts of an if.
+type branches struct{ condition, then, otherwise phrase }
 
 // refused stands for what was refused.
 var refused = phrase{text: "null", rank: rankPrimary, depth: 1, of: refusedType}
@@ -47,7 +61,7 @@ func (p phrase) within(rank int) phrase {
 	if p.rank >= rank {
 		return p
 	}
-	return phrase{text: "(" + p.text + ")", rank: rankPrimary, depth: p.depth + 1, of: p.of}
+	return phrase{text: "(" + p.text + ")", rank: rankPrimary, depth: p.depth + 1, of: p.of, number: p.number}
 }
 
 // isShort tells whether a phrase may be written more than once.
@@ -80,13 +94,15 @@ func listing(members []phrase, of *valueType) phrase {
 	for i, m := range members {
 		texts[i] = m.text
 	}
-	return phrase{text: "[" + strings.Join(texts, ", ") + "]", rank: rankPrimary, depth: 1 + deepest(members...), of: of}
+	return phrase{text: "[" + strings.Join(texts, ", ") + "]", rank: rankPrimary, depth: 1 + deepest(members...), of: of,
+		members: members}
 }
 
 // choice is an if.
 func choice(condition, then, otherwise phrase) phrase {
 	return phrase{text: "if " + condition.text + " then " + then.text + " else " + otherwise.text, rank: rankIf,
-		depth: 1 + deepest(condition, then, otherwise), of: joined(then.of, otherwise.of)}
+		depth: 1 + deepest(condition, then, otherwise), of: joined(then.of, otherwise.of),
+		branches: &branches{condition, then, otherwise}}
 }
 
 // negated is the not of a phrase.

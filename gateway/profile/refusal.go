@@ -10,12 +10,14 @@ import (
 
 // A Refusal is a place of a file that can't be taken.
 type Refusal struct {
-	// File is the path of the file; Line and Column are numbered from 1.
+	// File is the path of the file; Line and Column are numbered from 1, and 0 for the file as a whole.
 	File         string
 	Line, Column int
 	// Element is the tag of the element, Name and ID its own or those of the nearest element around it that has any;
 	// each may be empty.
 	Element, Name, ID string
+	// Where is the place as an editor shows it; empty for the file itself.
+	Where string
 	// Text is what stands there; it may be empty.
 	Text string
 	// Why tells why it can't be taken, Instead what to write; Instead may be empty.
@@ -28,15 +30,14 @@ const mostText = 100
 // String is the refusal on one line.
 func (r Refusal) String() string {
 	var line strings.Builder
-	fmt.Fprintf(&line, "%s:%d:%d:", r.File, r.Line, r.Column)
-	if r.Element != "" {
+	line.WriteString(r.File + ":")
+	if r.Line > 0 {
+		fmt.Fprintf(&line, "%d:%d:", r.Line, r.Column)
+	}
+	if r.Where != "" {
+		fmt.Fprintf(&line, " %s", r.Where)
+	} else if r.Element != "" {
 		fmt.Fprintf(&line, " %s", r.Element)
-	}
-	if r.Name != "" {
-		fmt.Fprintf(&line, " %q", r.Name)
-	}
-	if r.ID != "" {
-		fmt.Fprintf(&line, " (%s)", r.ID)
 	}
 	if r.Text != "" {
 		fmt.Fprintf(&line, "%s %q", colon(&line), shortened(r.Text))
@@ -67,6 +68,9 @@ func shortened(text string) string {
 // refusals collects the places of one run, none twice.
 type refusals struct {
 	all []Refusal
+	// owners has, for each of them, the parts of the files that can't be made with it; spoiled has all such parts.
+	owners  [][]*dmn.Element
+	spoiled map[*dmn.Element]bool
 	// notes are of places that are taken, with something to be told.
 	notes []Refusal
 	seen  map[Refusal]bool
@@ -76,33 +80,48 @@ type refusals struct {
 	homes map[*dmn.Element]home
 }
 
+// A home is where an element stands: index counts the elements of its tag before it in its parent, place all of them.
 type home struct {
-	path   string
-	order  int
-	parent *dmn.Element
+	path         string
+	order        int
+	parent       *dmn.Element
+	index, place int
 }
 
 func newRefusals() *refusals {
-	return &refusals{seen: map[Refusal]bool{}, homes: map[*dmn.Element]home{}}
+	return &refusals{seen: map[Refusal]bool{}, homes: map[*dmn.Element]home{}, spoiled: map[*dmn.Element]bool{}}
 }
 
 // know notes where the elements of a file stand.
 func (r *refusals) know(file *dmn.File, order int) {
-	var walk func(e, parent *dmn.Element)
-	walk = func(e, parent *dmn.Element) {
-		r.homes[e] = home{file.Path, order, parent}
-		for _, child := range e.Children {
-			walk(child, e)
+	var walk func(e *dmn.Element, at home)
+	walk = func(e *dmn.Element, at home) {
+		r.homes[e] = at
+		if len(e.Children) == 0 {
+			return
+		}
+		counts := map[string]int{}
+		for i, child := range e.Children {
+			walk(child, home{file.Path, order, e, counts[child.Tag], i})
+			counts[child.Tag]++
 		}
 	}
-	walk(file.Root, nil)
+	walk(file.Root, home{path: file.Path, order: order})
 }
 
 // mostTold is how many places are told of a run.
 const mostTold = 100_000
 
-// refuse notes that an element can't be taken.
-func (r *refusals) refuse(e *dmn.Element, text, why, instead string) {
+// refuse notes that an element can't be taken, and with it the part of the file that it is in; nor can the parts of other
+// elements that it concerns.
+func (r *refusals) refuse(e *dmn.Element, text, why, instead string, concerned ...*dmn.Element) {
+	if r.muted {
+		return
+	}
+	owners := []*dmn.Element{r.spoil(e)}
+	for _, other := range concerned {
+		owners = append(owners, r.spoil(other))
+	}
 	if len(r.all) > mostTold {
 		return
 	}
@@ -110,10 +129,30 @@ func (r *refusals) refuse(e *dmn.Element, text, why, instead string) {
 	if !fresh {
 		return
 	}
-	r.all = append(r.all, made)
+	r.all, r.owners = append(r.all, made), append(r.owners, owners)
 	if len(r.all) == mostTold {
 		made, _ = r.made(e, "", fmt.Sprintf("over %d places can't be taken: those that were looked at later are not told", mostTold), "")
-		r.all = append(r.all, made)
+		r.all, r.owners = append(r.all, made), append(r.owners, owners)
+	}
+}
+
+// spoil notes that the part of the file that an element is in can't be made, and gives this part.
+func (r *refusals) spoil(e *dmn.Element) *dmn.Element {
+	part := r.partOf(e)
+	if !r.muted {
+		r.spoiled[part] = true
+	}
+	return part
+}
+
+// partOf is the input, decision, type, service or other part of the file that an element is in, or is.
+func (r *refusals) partOf(e *dmn.Element) *dmn.Element {
+	for {
+		parent := r.homes[e].parent
+		if parent == nil || r.homes[parent].parent == nil {
+			return e
+		}
+		e = parent
 	}
 }
 
@@ -132,6 +171,7 @@ func (r *refusals) made(e *dmn.Element, text, why, instead string) (made Refusal
 	made = Refusal{File: r.homes[e].path, Line: e.Place.Line, Column: e.Place.Column, Element: e.Tag, Text: text,
 		Why: why, Instead: instead}
 	made.Name, made.ID = r.called(e)
+	made.Where = r.where(e)
 	fresh = !r.seen[made]
 	r.seen[made] = true
 	return made, fresh

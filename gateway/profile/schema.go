@@ -2,7 +2,9 @@ package profile
 
 import (
 	"encoding/json"
+	"math/big"
 
+	"gateway/decimal"
 	"gateway/feel"
 )
 
@@ -20,6 +22,12 @@ func schemaOf(of *valueType, w *words) map[string]interface{} {
 	switch of.kind {
 	case numberKind:
 		made["type"] = []string{"integer", "null"}
+		if !of.units.isPlain() {
+			made["type"] = []string{"number", "null"}
+		}
+		of.units.describe(made)
+	case anyKind:
+		of.units.describe(made)
 	case textKind:
 		made["type"] = []string{"string", "null"}
 	case booleanKind:
@@ -33,6 +41,11 @@ func schemaOf(of *valueType, w *words) map[string]interface{} {
 		for _, name := range of.order {
 			properties[w.of(name)] = schemaOf(of.fields[name], w)
 		}
+		for name, part := range of.more {
+			if part.isCounted() {
+				properties[w.of(name)] = schemaOf(part, w)
+			}
+		}
 		made["properties"] = properties
 	}
 	if len(of.allowed.all) == 0 {
@@ -40,6 +53,17 @@ func schemaOf(of *valueType, w *words) map[string]interface{} {
 	}
 	narrow(made, of.allowed.all)
 	return made
+}
+
+// describe says in a schema how numbers are counted: as multiples of a power of ten, or a quotient as parts of one.
+func (u units) describe(made map[string]interface{}) {
+	switch {
+	case u.isPlain():
+	case u.per > 1:
+		made["per"] = json.Number(new(big.Int).Mul(decimal.Power(u.scale), big.NewInt(u.per)).String())
+	default:
+		made["multipleOf"] = json.Number(decimal.Unit{Decimals: u.scale}.Text("1"))
+	}
 }
 
 // narrow adds allowed values to a schema: literals as an enumeration, one range as its ends. What is neither is left
@@ -67,6 +91,13 @@ func narrow(made map[string]interface{}, allowed []feel.Node) {
 		values = append(values, nil)
 	}
 	made["enum"] = values
+}
+
+// isSchema tells whether a schema says all of allowed values: they are literals, or a range of numbers.
+func isSchema(allowed []feel.Node) bool {
+	made := map[string]interface{}{}
+	narrow(made, allowed)
+	return made["enum"] != nil || len(made) == 2
 }
 
 // limit adds an end of a range, where it is a whole number.

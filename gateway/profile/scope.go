@@ -14,6 +14,12 @@ type binding struct {
 	input bool
 	// service tells that it is a decision service, which can't be invoked.
 	service bool
+	// member tells that it is an entry of the member that a filter looks at.
+	member bool
+	// logic is that of a decision or an entry; nil of others.
+	logic *box
+	// free is the node of an input that nothing declares; nil for others.
+	free *node
 }
 
 // A scope is the names that an expression sees, canonical, inner ones before outer ones.

@@ -16,10 +16,13 @@ type services struct {
 	written int
 }
 
-// A service is one with the element that it came from; nil for one that the files don't have.
+// A service is one of the files with the element that it came from; nil for one that the files don't have.
 type service struct {
 	model.Service
+	name   string
 	origin *dmn.Element
+	// nodes are what it lists and what that needs.
+	nodes []*node
 }
 
 func newServices(g *graph) *services { return &services{graph: g, names: map[string]bool{}} }
@@ -30,12 +33,10 @@ func (s *services) all(only string) []service {
 	for _, source := range s.graph.sources {
 		for _, d := range source.file.Services {
 			name := nameOf(d.Element, d.Variable)
-			if only != "" && feel.Canonical(only) != feel.Canonical(name) && only != s.graph.words.of(name) {
+			if only != "" && !s.graph.isCalled(name, only) {
 				continue
 			}
-			if one, fine := s.declared(source, d, name); fine {
-				made = append(made, one)
-			}
+			made = append(made, s.declared(source, d, name))
 			if s.written > MostLine {
 				s.graph.refusals.refuse(d.Element, name, fmt.Sprintf("with this service the model is longer than a line of %d bytes",
 					MostLine), "fewer services, or --service NAME")
@@ -47,19 +48,24 @@ func (s *services) all(only string) []service {
 		return made
 	}
 	for _, n := range s.graph.decisions {
-		if feel.Canonical(n.name) == feel.Canonical(only) || n.word == only {
-			return []service{{Service: s.graph.serviceOf(n), origin: nil}}
+		if s.graph.isCalled(n.name, only) {
+			return []service{s.graph.serviceOf(n)}
 		}
 	}
-	s.graph.refusals.refuse(s.graph.sources[0].file.Root, only, "no decision service and no decision has this name",
-		"one of the names of the files")
+	s.graph.refusals.refuse(s.graph.sources[0].file.Root, only, noSuchService, "one of the names of the files")
 	return nil
 }
 
+const noSuchService = "no decision service and no decision has this name"
+
+// isCalled tells whether a name, or its word, is the one that is asked for.
+func (g *graph) isCalled(name, asked string) bool {
+	return feel.Canonical(name) == feel.Canonical(asked) || g.words.of(name) == asked
+}
+
 // declared translates a decisionService.
-func (s *services) declared(source *source, d *dmn.DecisionService, name string) (made service, fine bool) {
-	made = service{Service: model.Service{Name: s.graph.words.of(name)}, origin: d.Element}
-	before := len(s.graph.refusals.all)
+func (s *services) declared(source *source, d *dmn.DecisionService, name string) service {
+	made := service{Service: model.Service{Name: s.graph.words.of(name)}, name: name, origin: d.Element}
 	if s.names[made.Name] || name == "" {
 		s.graph.refusals.refuse(d.Element, name, "the service has no name of its own", "another name")
 	}
@@ -71,7 +77,8 @@ func (s *services) declared(source *source, d *dmn.DecisionService, name string)
 	if len(outputs) == 0 {
 		s.graph.refusals.refuse(d.Element, name, "the service has no output decision", "an outputDecision")
 	}
-	encapsulated = append(encapsulated, s.unlisted(d.Element, outputs, encapsulated, given, inputs)...)
+	further, free := s.unlisted(d.Element, outputs, encapsulated, given, inputs)
+	encapsulated, inputs = append(encapsulated, further...), append(inputs, free...)
 	made.Outputs, made.Encapsulated = wordsOf(outputs), wordsOf(encapsulated)
 	made.InputDecisions, made.InputData = wordsOf(given), wordsOf(inputs)
 	for _, list := range [][]string{{made.Name}, made.Outputs, made.Encapsulated, made.InputDecisions, made.InputData} {
@@ -79,29 +86,33 @@ func (s *services) declared(source *source, d *dmn.DecisionService, name string)
 			s.written += len(word) + 3
 		}
 	}
-	return made, len(s.graph.refusals.all) == before
+	listed := append(append(append([]*node(nil), outputs...), encapsulated...), given...)
+	made.nodes = append(s.graph.reach(listed, nil), inputs...)
+	return made
 }
 
 // unlisted finds the decisions that a service reaches and doesn't list: they are evaluated all the same. An input that
-// it doesn't list is refused, for no request would bring it; so is a decision that is given and evaluated too.
-func (s *services) unlisted(e *dmn.Element, outputs, encapsulated, given, inputs []*node) []*node {
+// it doesn't list is refused, for no request would bring it, unless nothing declares it; so is a decision that is given
+// and evaluated too.
+func (s *services) unlisted(e *dmn.Element, outputs, encapsulated, given, inputs []*node) (further, free []*node) {
 	isGiven, isListed := setOf(given), setOf(outputs, encapsulated, given, inputs)
 	for _, n := range append(append([]*node(nil), outputs...), encapsulated...) {
 		if isGiven[n] {
 			s.graph.refusals.refuse(e, n.name, "it is an input decision, and an output or encapsulated too", "one of these")
 		}
 	}
-	var added []*node
 	for _, n := range s.graph.reach(outputs, isGiven) {
 		switch {
 		case isListed[n]:
+		case n.free:
+			free = append(free, n)
 		case n.input != nil:
 			s.graph.refusals.refuse(e, n.name, "the service needs this input, and doesn't list it", "it among its inputData")
 		default:
-			added = append(added, n)
+			further = append(further, n)
 		}
 	}
-	return added
+	return further, free
 }
 
 func setOf(lists ...[]*node) map[*node]bool {
@@ -162,10 +173,10 @@ func (g *graph) reach(outputs []*node, given map[*node]bool) []*node {
 }
 
 // serviceOf is the service that answers one decision, on the inputs that it needs.
-func (g *graph) serviceOf(n *node) model.Service {
-	made := model.Service{Name: n.word, Outputs: []string{n.word}, Encapsulated: []string{}, InputDecisions: []string{},
-		InputData: []string{}}
-	for _, reached := range g.reach([]*node{n}, nil) {
+func (g *graph) serviceOf(n *node) service {
+	made := service{Service: model.Service{Name: n.word, Outputs: []string{n.word}, Encapsulated: []string{},
+		InputDecisions: []string{}, InputData: []string{}}, name: n.name, nodes: g.reach([]*node{n}, nil)}
+	for _, reached := range made.nodes {
 		switch {
 		case reached.input != nil:
 			made.InputData = append(made.InputData, reached.word)
@@ -189,7 +200,7 @@ func defaultServices(g *graph, result *Result) {
 			if n.needed != needed {
 				continue
 			}
-			one := g.serviceOf(n)
+			one := g.serviceOf(n).Service
 			text, err := (&model.Model{Services: []model.Service{one}}).JSON()
 			// What stands round the service in this text is more than the comma behind it.
 			if err != nil || size+len(text) > MostLine {

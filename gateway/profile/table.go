@@ -26,6 +26,9 @@ type output struct {
 	// of is the declared type, nil where there is none; gives joins the types of the entries.
 	of, gives *valueType
 	allowed   valueList
+	// cells are the entries of the rules, other is the default; nil where there is none.
+	cells []phrase
+	other *phrase
 }
 
 // tableReader translates one table.
@@ -58,10 +61,11 @@ func (t *translator) table(x *dmn.Table, s *scope) (*box, *valueType) {
 	for _, rule := range x.Rules {
 		r.rule(rule)
 	}
-	r.furtherColumn()
 	for i := range r.outputs {
 		r.defaultOf(i)
 	}
+	r.furtherColumn()
+	r.alignOutputs()
 	r.noteNoHit(hit)
 	return r.made, r.typeOf(hit)
 }
@@ -119,20 +123,26 @@ func (r *tableReader) inputColumn(clause *dmn.InputClause) {
 		r.refusals.refuse(clause.Element, "", "the input has no expression", "what the tests of the column are asked of")
 	} else {
 		c.value, c.text = r.inputExpression(clause.Expression)
+		r.propose(clause.Expression)
 	}
 	if clause.Values != nil {
 		c.allowed = r.types.values(clause.Values, c.value.of)
 		if len(c.allowed.all) > 0 && clause.Expression != nil {
 			r.noted(c)
 		}
+		r.asInput(&c)
 	}
 	r.columns = append(r.columns, c)
+	r.made.columns = append(r.made.columns, c.value)
 	r.made.table.Inputs = append(r.made.table.Inputs, c.text)
 	r.made.inputs = append(r.made.inputs, clause.Element)
 }
 
 // inputExpression translates an input expression: how conditions of its entries write it, and how the table does.
 func (r *tableReader) inputExpression(x *dmn.Text) (value phrase, text string) {
+	if value, is := r.ratioExpression(x); is {
+		return value, value.text
+	}
 	b, of := r.expression(x, r.scope)
 	if b.kind != textBox {
 		value = r.hoisted("input", b, of)
@@ -154,17 +164,40 @@ func (r *tableReader) columnValue(i int) phrase {
 
 // noted notes the input values of a column that is an input of the model by itself, for who calls.
 func (r *tableReader) noted(c column) {
+	of := r.inputOf(c)
+	switch {
+	case of == nil:
+	case of.noted.text != nil && of.noted.text != c.allowed.text && !(of.noted.includes(c.allowed) && c.allowed.includes(of.noted)):
+		of.notedTwice, of.noted = true, valueList{}
+	case !of.notedTwice:
+		of.noted = c.allowed
+	}
+}
+
+// isPromised tells whether who calls keeps the input values of a column.
+func (r *tableReader) isPromised(c column) bool {
+	of := r.inputOf(c)
+	return of != nil && !of.notedTwice && len(of.allowed.all) == 0 && isSchema(c.allowed.all)
+}
+
+// inputOf is the type of the input that a column is by itself; nil where it is none.
+func (r *tableReader) inputOf(c column) *valueType {
 	kept := r.trees[c.clause.Expression]
 	if kept == nil || kept.fault != nil {
-		return
+		return nil
 	}
 	name, is := kept.nodes[0].(*feel.Name)
 	if !is {
-		return
+		return nil
 	}
-	if found := r.scope.find(name.Name); found != nil && found.input {
-		found.value.of.noted = c.allowed
+	found := r.scope.find(name.Name)
+	switch {
+	case found == nil || !found.input:
+		return nil
+	case found.free != nil:
+		return found.free.of
 	}
+	return found.value.of
 }
 
 // outputColumn translates an output clause.
@@ -224,6 +257,7 @@ func listed(values []feel.Node) []string {
 // rule translates a row.
 func (r *tableReader) rule(rule *dmn.Rule) {
 	row := model.Rule{When: make([]string, len(rule.When)), Then: make([]string, len(rule.Then))}
+	number := len(r.made.table.Rules)
 	var conditions []phrase
 	for i, entry := range rule.When {
 		test, condition := r.entry(entry, i)
@@ -233,11 +267,11 @@ func (r *tableReader) rule(rule *dmn.Rule) {
 			conditions = append(conditions, *condition)
 		}
 	}
-	for i, entry := range rule.Then {
-		row.Then[i] = r.outputEntry(entry, i)
-	}
 	r.conditions = append(r.conditions, conditionText(conditions))
 	r.made.table.Rules = append(r.made.table.Rules, row)
+	for i, entry := range rule.Then {
+		r.outputEntry(entry, i, number)
+	}
 	r.made.rows = append(r.made.rows, rule.Element)
 }
 
@@ -275,18 +309,21 @@ func (r *tableReader) furtherColumn() {
 }
 
 // outputEntry translates an output entry.
-func (r *tableReader) outputEntry(entry *dmn.Text, i int) string {
+func (r *tableReader) outputEntry(entry *dmn.Text, i, rule int) {
 	o := &r.outputs[i]
-	value := r.cell(entry, o.of)
+	value := r.underRule(entry, o.of, []int{rule}, true)
 	r.checkAllowed(entry, o.allowed, "the output values")
+	value = r.asOutput(entry, value, o)
 	o.gives = joined(o.gives, value.of)
-	return value.text
+	o.cells = append(o.cells, value)
 }
 
 // cell translates an expression in a table, which is a text in any case, and holds it against its own declared type and
 // that of its column.
 func (r *tableReader) cell(entry *dmn.Text, ofColumn *valueType) phrase {
 	b, of := r.literal(entry, r.scope)
+	r.inCell = true
+	defer func() { r.inCell = false }()
 	for _, due := range []*valueType{r.types.resolve(entry.Element, entry.TypeRef), ofColumn} {
 		if due != nil {
 			b, of = r.conform(b, of, due, func(why, instead string) {
@@ -320,10 +357,19 @@ func (r *tableReader) defaultOf(i int) {
 	if hit == "C#" {
 		due = numberType
 	}
-	value := r.cell(o.clause.Default, due)
+	every := make([]int, len(r.made.table.Rules))
+	for rule := range every {
+		every[rule] = rule
+	}
+	value := r.underRule(o.clause.Default, due, every, false)
 	r.checkAllowed(o.clause.Default, o.allowed, "the output values")
-	o.gives = joined(o.gives, value.of)
-	r.made.table.Outputs[i].Default = &value.text
+	if hit != "C#" {
+		value = r.asOutput(o.clause.Default, value, o)
+	}
+	if hit != "C#" {
+		o.gives = joined(o.gives, value.of)
+	}
+	o.other = &value
 }
 
 // noteNoHit tells what comes of no hit where tools differ: the standard has null for a table without a default.
@@ -357,22 +403,38 @@ func (r *tableReader) typeOf(hit string) *valueType {
 	switch hit {
 	case "C", "R", "O":
 		return listOf(of)
-	case "C+", "C#":
+	case "C#":
 		return numberType
+	case "C+":
+		if of.hasQuotient() {
+			r.refusals.refuse(r.source.Element, r.source.Aggregation, "a sum of quotients: each is rounded to 34 digits in the standard",
+				"a rounding in each output entry")
+		}
+		return numberOf(uncelled(of.within()))
 	case "C<", "C>":
 		if of.kind != numberKind && of.kind != nullKind && of.kind != refusedKind {
 			r.refusals.refuse(r.source.Element, r.source.Aggregation,
 				"MIN and MAX of what may be no numbers: the standard has them of texts, the profile has not",
 				"the type number for the output")
 		}
-		return numberType
+		return numberOf(uncelled(of.within()))
 	}
 	return of
 }
 
 func (r *tableReader) outputType(i int) *valueType {
-	if of := r.outputs[i].of; of != nil && of.kind != anyKind {
+	o := &r.outputs[i]
+	of, values := o.gives, o.gives.values()
+	if o.of != nil && o.of.kind != anyKind {
+		of = countedAs(o.of, o.gives)
+	}
+	if len(values.all) == 0 {
+		values = o.allowed
+	}
+	if !of.isScalar() || len(values.all) == 0 || len(of.values().all) > 0 {
 		return of
 	}
-	return r.outputs[i].gives
+	own := *of
+	own.common = values
+	return &own
 }

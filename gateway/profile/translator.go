@@ -28,8 +28,22 @@ type translator struct {
 	column *phrase
 	// near is the element of the decision or business knowledge that is translated.
 	near *dmn.Element
+	// free are the names that nothing declares, node is the decision at hand.
+	free *freeNames
+	node *node
+	// gone counts the members of lists that were gone through.
+	gone int
+	// inCell tells that an output entry is held against its types: what it needs goes in front of the table.
+	inCell bool
 	// active is the business knowledge that is being invoked, one in the other.
 	active map[*knowledge]bool
+	// counts tells that numbers are counted in units, fractions that the files have what asks for it: decimals, a division,
+	// a power, a rounding.
+	counts, fractions bool
+	// finest is the most decimals with which a number of the decision at hand is counted.
+	finest int
+	// guard is the condition of the branch or the rule at hand; nil where there is none.
+	guard *guard
 	// written counts the bytes of the model so far.
 	written int
 	full    bool
@@ -64,10 +78,17 @@ func (t *translator) inFront(word string, b *box, of *valueType) phrase {
 
 // short is a phrase that may be written more than once.
 func (t *translator) short(p phrase) phrase {
-	if p.isShort() {
+	if p.isShort() || p.number != nil && t.counts {
 		return p
 	}
-	return t.hoisted("part", t.boxed(p), p.of)
+	return t.part(p)
+}
+
+// part makes a phrase an entry in front of the expression, under the condition of its branch.
+func (t *translator) part(p phrase) phrase {
+	made := t.hoisted("part", t.boxed(t.conditioned(p)), p.of)
+	made.number, made.over, made.branches = p.number, p.over, p.branches
+	return made
 }
 
 // shallow is a phrase that may stand in another one.
@@ -75,7 +96,7 @@ func (t *translator) shallow(p phrase) phrase {
 	if p.depth <= mostOperandDepth {
 		return p
 	}
-	return t.hoisted("part", t.boxed(p), p.of)
+	return t.part(p)
 }
 
 // boxed is the box of a phrase, whose text is counted.

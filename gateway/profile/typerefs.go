@@ -15,6 +15,14 @@ type types struct {
 	resolved map[*dmn.ItemDefinition]*valueType
 	// active are the definitions that are being resolved: one of them again is a cycle.
 	active map[*dmn.ItemDefinition]bool
+	// fractions tells that some allowed value has decimals.
+	fractions bool
+}
+
+// isFraction tells whether a form is a number with decimals.
+func isFraction(n feel.Node) bool {
+	number, is := n.(*feel.Number)
+	return is && strings.Contains(strings.TrimRight(number.Text, "0"), ".") && !strings.HasSuffix(strings.TrimRight(number.Text, "0"), ".")
 }
 
 func newTypes(r *refusals, file *dmn.File) *types {
@@ -23,7 +31,7 @@ func newTypes(r *refusals, file *dmn.File) *types {
 	for _, item := range file.Types {
 		name := feel.Canonical(item.Name())
 		if t.items[name] != nil {
-			r.refuse(item.Element, item.Name(), "a type of this name stands before", "another name")
+			r.refuse(item.Element, item.Name(), "a type of this name stands before", "another name", t.items[name].Element)
 			continue
 		}
 		t.items[name] = item
@@ -160,7 +168,7 @@ func (t *types) narrowed(item *dmn.ItemDefinition, plain *valueType) *valueType 
 		return plain
 	}
 	narrow := *plain
-	narrow.allowed = allowed
+	narrow.allowed, narrow.narrow, narrow.implying = allowed, unknown, nil
 	return &narrow
 }
 
@@ -178,13 +186,18 @@ func (t *types) values(text *dmn.Text, of *valueType) valueList {
 		t.refusals.refuse(text.Element, text.Text, fault.Why, fault.Instead)
 		return valueList{}
 	}
+	if _, all := nodes[0].(*feel.Anything); all {
+		return valueList{}
+	}
 	for _, node := range nodes {
+		t.fractions = t.fractions || feel.Any(node, isFraction)
 		if why, instead := notOfType(node, of); why != "" {
 			t.refusals.refuse(text.Element, text.Text, why, instead)
 			return valueList{}
 		}
 	}
 	made := listOfValues(nodes)
+	made.text = text
 	if len(made.others) > mostOthers {
 		t.refusals.refuse(text.Element, text.Text, fmt.Sprintf("over %d ranges and tests", mostOthers), "fewer, wider ones")
 		return valueList{}

@@ -27,8 +27,22 @@ type valueType struct {
 	// allowed are the values that the type is narrowed to; none where it isn't.
 	allowed valueList
 
+	// narrow is whether the type or a part of it has allowed values, implying keeps of which types all values are allowed.
+	narrow   narrowness
+	implying map[*valueType]bool
+
+	// common are values that all those of a type are among which was joined of two.
+	common valueList
+
 	// noted are the input values of a column that is an input of the model by itself: they are for who calls.
 	noted valueList
+	// notedTwice tells that columns have different input values for it: then none is for who calls.
+	notedTwice bool
+
+	// units are how numbers of the type are counted; of Any, all numbers within it. Those of a list or a context are its parts'.
+	units units
+	// more are entries that values have beside those of a declared type: they can't be named, but they are counted too.
+	more map[string]*valueType
 
 	// open tells that it is of an input without a declared type: what it is given to may tell its type. For an entry of
 	// such an input, parent and field tell which.
@@ -156,7 +170,7 @@ func (t *valueType) becomes(due *valueType) {
 			t.parent.setField(t.field, t)
 		}
 	}
-	t.kind, t.element, t.allowed = due.kind, due.element, due.allowed
+	t.kind, t.element, t.allowed, t.narrow, t.implying = due.kind, due.element, due.allowed, unknown, nil
 	if due.kind == contextKind {
 		t.fields = make(map[string]*valueType, len(due.fields))
 		t.order = nil
@@ -170,7 +184,7 @@ func (t *valueType) setField(name string, field *valueType) {
 	if _, found := t.fields[name]; !found {
 		t.order = append(t.order, name)
 	}
-	t.fields[name] = field
+	t.fields[name], t.narrow, t.implying = field, unknown, nil
 }
 
 // joined is a type that the values of both types have.
@@ -181,13 +195,13 @@ func joined(a, b *valueType) *valueType {
 	case a.kind == nullKind, b.kind == refusedKind:
 		return b
 	case a.kind != b.kind || a.kind == anyKind:
-		return anyType
+		return anyOfUnits(a, b)
 	case a.kind == listKind:
 		return listOf(joined(a.element, b.element))
 	case a.kind == contextKind:
 		return joinedContexts(a, b)
 	}
-	return &valueType{kind: a.kind}
+	return &valueType{kind: a.kind, units: joinedUnits(a.units, b.units), common: commonValues(a.values(), b.values())}
 }
 
 // mostJoined is how many entries two contexts may have that are joined entry by entry; of greater ones nothing is known.
@@ -195,13 +209,13 @@ const mostJoined = 100
 
 func joinedContexts(a, b *valueType) *valueType {
 	if len(a.fields) != len(b.fields) || len(a.fields) > mostJoined {
-		return anyType
+		return anyOfUnits(a, b)
 	}
 	both := &valueType{kind: contextKind, fields: map[string]*valueType{}}
 	for _, name := range a.order {
 		other, found := b.fields[name]
 		if !found {
-			return anyType
+			return anyOfUnits(a, b)
 		}
 		both.setField(name, joined(a.fields[name], other))
 	}
@@ -214,7 +228,10 @@ func (t *valueType) member(name string) *valueType {
 	switch t.kind {
 	case anyKind:
 		if t.open {
-			return &valueType{kind: anyKind, open: true, parent: t, field: name}
+			return &valueType{kind: anyKind, open: true, parent: t, field: name, units: t.units}
+		}
+		if t.units != (units{}) {
+			return &valueType{kind: anyKind, units: t.units}
 		}
 		return anyType
 	case nullKind, refusedKind:

@@ -2,7 +2,9 @@ package profile
 
 import (
 	"math/big"
+	"strings"
 
+	"gateway/dmn"
 	"gateway/feel"
 )
 
@@ -12,6 +14,8 @@ type valueList struct {
 	// literals has the literals as the engine reads them; others are the ranges and tests.
 	literals map[string]bool
 	others   []feel.Node
+	// text is where they stand.
+	text *dmn.Text
 }
 
 // mostOthers is how many ranges and tests a list may have: each literal is held against each of them.
@@ -73,7 +77,13 @@ func rational(n feel.Node) *big.Rat {
 	return value
 }
 
-// literalText is a literal as the engine reads it; empty where it is none, or no whole number.
+// shortest is a number that ends as a decimal in its shortest form.
+func shortest(value *big.Rat) string {
+	text := value.FloatString(2 * mostScale)
+	return strings.TrimSuffix(strings.TrimRight(text, "0"), ".")
+}
+
+// literalText is a literal in its shortest form; empty where it is none, or a number past the range or of too many decimals.
 func literalText(n feel.Node) string {
 	switch n := n.(type) {
 	case *feel.String:
@@ -89,6 +99,9 @@ func literalText(n feel.Node) string {
 		value := rational(n)
 		if value != nil && value.IsInt() && value.Num().BitLen() < 64 {
 			return value.Num().String()
+		}
+		if value != nil && ends(value) && !value.IsInt() {
+			return shortest(value)
 		}
 	}
 	return ""

@@ -9,6 +9,7 @@ import (
 
 	"gateway/engine"
 	"gateway/lines"
+	"gateway/types"
 )
 
 // maxAnswers is the most bytes of results and explanations of one call.
@@ -18,8 +19,10 @@ const maxAnswers = 64 << 20
 type call struct {
 	service *Service
 	model   *served
-	client  *client
-	isList  bool
+	// result is the type of the results where their numbers are counted, else nil.
+	result *types.Type
+	client *client
+	isList bool
 	// isUnasked says that no engine of the pool is asked: the answers come with their explanations.
 	isUnasked bool
 	// problems has those of the requests that no engine is asked, outcomes what became of the others.
@@ -50,7 +53,7 @@ func (s *Service) newCall(model *served, name string, body []byte) (*call, *prob
 		p.Services = model.serviceNames()
 		return nil, p
 	}
-	c := &call{service: s, model: model, done: make(chan struct{})}
+	c := &call{service: s, model: model, result: service.result, done: make(chan struct{})}
 	if lines.Begins(body) != '[' {
 		if _, p := model.request(service, body, &c.one.job, service.room(1, len(body))); p != nil {
 			return nil, p
@@ -239,7 +242,7 @@ func problemOf(outcome engine.Outcome) *problem {
 
 // appendResult adds a result as an object, with how it came about where that was asked for.
 func (c *call) appendResult(to []byte, at int) []byte {
-	value := c.outcomes[at].Value
+	value := decimals(c.result, c.outcomes[at].Value)
 	if len(c.model.words) > 0 {
 		if renamed, err := lines.Rename(value, c.model.source.Names); err == nil {
 			value = renamed

@@ -10,6 +10,7 @@ import (
 	"gateway/coverage"
 	"gateway/engine"
 	"gateway/lines"
+	"gateway/types"
 )
 
 // A lineAsked is a line of a file of requests, with what is said of it.
@@ -19,6 +20,8 @@ type lineAsked struct {
 	problem         *problem
 	job             *engine.Job
 	answer          []byte
+	// result is the type of the answer where its numbers are counted, else nil.
+	result *types.Type
 }
 
 // A covering is what is asked over the lines of one body.
@@ -138,7 +141,7 @@ func (c *covering) line(number int, text []byte) {
 			c.room, it.problem = c.model.worded(service, inputs, text, members, job, c.room)
 		}
 		if it.problem == nil {
-			it.job = job
+			it.job, it.result = job, service.result
 		}
 	}
 	c.lines = append(c.lines, it)
@@ -264,7 +267,7 @@ func (c *counting) told(it *lineAsked, text []byte) error {
 	case answer.Fault != "":
 		it.problem = problemLimit.with("")
 	default:
-		it.answer = c.named(answer.Result)
+		it.answer = c.named(decimals(it.result, answer.Result))
 	}
 	return nil
 }

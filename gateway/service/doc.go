@@ -1,4 +1,4 @@
-// Package service puts HTTP before a pool of engines. It knows no rule: it holds requests to what the engines take,
+// Package service puts HTTP before a pool of engines. It decides nothing: it checks that engines would take a request,
 // carries them there as lines, and carries the answers back.
 //
 // docs/HTTP.md has each path, header and error.

@@ -20,7 +20,11 @@ import (
 	"gateway/page"
 )
 
-const servicesPath = "/v1/services/"
+// servicesPath is before the name of a service; listStart is the path of their list.
+const (
+	servicesPath = "/v1/services/"
+	listStart    = "/v1/services"
+)
 
 func servicePath(name string) string {
 	return servicesPath + url.PathEscape(name)
@@ -30,6 +34,8 @@ func servicePath(name string) string {
 func (s *Service) handler() http.Handler {
 	pages := map[string]http.HandlerFunc{
 		"/v1/model":     s.modelPath,
+		listStart:       s.listPath,
+		servicesPath:    s.listPath,
 		"/openapi.json": s.openAPIPath,
 		"/healthz":      s.healthPath,
 		"/readyz":       s.readyPath,
@@ -50,7 +56,7 @@ func (s *Service) handler() http.Handler {
 		if s.stopping.Load() {
 			header["Connection"] = []string{"close"}
 		}
-		if strings.HasPrefix(r.URL.Path, servicesPath) {
+		if strings.HasPrefix(r.URL.Path, servicesPath) && len(r.URL.Path) > len(servicesPath) {
 			s.metrics.called(s.servicesPath(w, r, id), time.Since(start))
 			return
 		}

@@ -43,6 +43,20 @@ func (s *Service) modelPath(w http.ResponseWriter, r *http.Request) {
 	writePage(w, http.StatusOK, model.page(s.version))
 }
 
+// listPath answers GET /v1/services, also with a slash at its end.
+func (s *Service) listPath(w http.ResponseWriter, r *http.Request) {
+	if !takes(w, r, http.MethodGet, http.MethodHead) {
+		return
+	}
+	if _, p := s.caller(r); p != nil {
+		p.write(w, w.Header().Get("X-Request-Id"))
+		return
+	}
+	model := s.model.Load()
+	w.Header()["Desk-Model"] = model.sum
+	writePage(w, http.StatusOK, map[string]any{"services": model.servicePages()})
+}
+
 // A putPage is what PUT /v1/model answers.
 type putPage struct {
 	Sum      string            `json:"sha256"`

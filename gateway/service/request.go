@@ -46,7 +46,13 @@ func (m *served) renamed(service *decisionService, text []byte, job *engine.Job,
 // worded makes a request from inputs with the model's words. Their members are bounded within whole, of which they are a part.
 func (m *served) worded(service *decisionService, text, whole []byte, members []lines.Member, job *engine.Job,
 	room []byte) ([]byte, *problem) {
-	if p := m.values(service, whole, members); p != nil {
+	if m.counts {
+		counted, p := m.countedInputs(service, whole, members)
+		if p != nil {
+			return room, p
+		}
+		text = counted
+	} else if p := m.values(service, whole, members); p != nil {
 		return room, p
 	}
 	most := lines.MaxLine - lineOverhead - len(inputsKey) - len(service.tail)

@@ -3,11 +3,13 @@ package service
 import (
 	"context"
 	"encoding/json"
+	"errors"
 	"fmt"
 	"time"
 
 	"gateway/engine"
 	"gateway/lines"
+	"gateway/tell"
 	"gateway/types"
 )
 
@@ -23,6 +25,12 @@ type served struct {
 	words map[string]string
 	// types has the type of each input of which the file says one, by its word.
 	types map[string]*types.Type
+	// counts says that some number is counted in a unit: requests and results have decimals.
+	counts bool
+	// parts say how values at JSON Pointers into the model are counted, pointers where the expression of a decision is; nil
+	// where nothing is counted.
+	parts    map[string]countedPart
+	pointers map[string]string
 	// origin says where the model came from, and since when it is in force.
 	origin string
 	since  time.Time
@@ -36,6 +44,8 @@ type served struct {
 type decisionService struct {
 	word, name string
 	parameters map[string]bool
+	// result is the type of its results where their numbers are counted, else nil.
+	result *types.Type
 	// tail is what stands behind the inputs on the line of a request.
 	tail []byte
 }
@@ -47,7 +57,7 @@ func (d *decisionService) room(requests, bytes int) []byte {
 
 // read asks the engine what a model is. Where it has a fault the error is a *engine.FaultyModel.
 func (s *Service) read(ctx context.Context, source *Source, origin string) (*served, error) {
-	lawful, warnings, err := engine.Check(ctx, s.options.Engine, s.options.Memory, source.Text)
+	lawful, warnings, err := s.check(ctx, source.Text)
 	if err != nil {
 		return nil, err
 	}
@@ -65,6 +75,28 @@ func (s *Service) read(ctx context.Context, source *Source, origin string) (*ser
 		return nil, err
 	}
 	return it, engine.Try(ctx, s.options.Engine, s.options.Memory, it.engine)
+}
+
+// check asks the engine what a model is, and words what it found. What can't be worded is as the engine wrote it.
+func (s *Service) check(ctx context.Context, text []byte) (*engine.Lawful, []engine.Place, error) {
+	lawful, found, err := engine.Check(ctx, s.options.Engine, s.options.Memory, text)
+	var faulty *engine.FaultyModel
+	if err != nil && !errors.As(err, &faulty) {
+		return nil, nil, err
+	}
+	fault := ""
+	if faulty != nil {
+		fault, found = faulty.Fault, faulty.Places
+	}
+	worded, failed := tell.Findings(text, fault, found)
+	if failed != nil {
+		s.options.Log("wording what was found in a model: %v", failed)
+		worded = found
+	}
+	if faulty != nil {
+		return nil, nil, &engine.FaultyModel{Fault: fault, Places: worded}
+	}
+	return lawful, worded, nil
 }
 
 // index makes the tables by which names, types and services are found.
@@ -87,6 +119,12 @@ func (m *served) index() (err error) {
 		service.tail = append(lines.AppendQuoted([]byte(`,"service":`), form.Name), '}')
 		m.services[service.word] = service
 		m.services[service.name] = service
+	}
+	if m.counts = m.isCounted(); m.counts {
+		if err := m.countParts(); err != nil {
+			return err
+		}
+		return m.countResults()
 	}
 	return nil
 }
@@ -138,7 +176,7 @@ type servicePage struct {
 func (m *served) page(version string) *modelPage {
 	page := &modelPage{
 		Sum: m.engine.Sum, Engine: version, Origin: m.origin, Since: m.since.UTC(), Inputs: m.names(m.lawful.Inputs),
-		Decision: []decisionPage{}, Services: []servicePage{}, Warnings: m.warnings,
+		Decision: []decisionPage{}, Warnings: m.warnings,
 	}
 	if page.Warnings == nil {
 		page.Warnings = []json.RawMessage{}
@@ -146,10 +184,7 @@ func (m *served) page(version string) *modelPage {
 	for _, decision := range m.lawful.Decisions {
 		page.Decision = append(page.Decision, decisionPage{m.nameOf(decision.Name), decision.Kind})
 	}
-	for _, form := range m.lawful.Services {
-		name := m.nameOf(form.Name)
-		page.Services = append(page.Services, servicePage{name, m.names(form.Parameters), servicePath(name)})
-	}
+	page.Services = m.servicePages()
 	if len(m.source.Types) > 0 {
 		page.Types = map[string]json.RawMessage{}
 		for word := range m.source.Types {
@@ -157,6 +192,16 @@ func (m *served) page(version string) *modelPage {
 		}
 	}
 	return page
+}
+
+// servicePages describes the services, in the model's order.
+func (m *served) servicePages() []servicePage {
+	pages := []servicePage{}
+	for _, form := range m.lawful.Services {
+		name := m.nameOf(form.Name)
+		pages = append(pages, servicePage{name, m.names(form.Parameters), servicePath(name)})
+	}
+	return pages
 }
 
 // schema is the JSON Schema of an input with the names of the file; nil where the file says none.

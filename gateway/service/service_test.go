@@ -1,6 +1,7 @@
 package service
 
 import (
+	"bufio"
 	"bytes"
 	"context"
 	"crypto/sha256"
@@ -19,7 +20,11 @@ import (
 	"syscall"
 	"testing"
 	"time"
+
+	"gateway/engine/enginetest"
 )
+
+func TestMain(m *testing.M) { enginetest.Main(m) }
 
 func desk() string {
 	if path := os.Getenv("DESK_ENGINE"); path != "" {
@@ -182,6 +187,9 @@ func TestCalls(t *testing.T) {
 		{"GET", "/healthz", ``, 200, `alive`},
 		{"GET", "/readyz", ``, 200, `ready`},
 		{"GET", "/v1/model", ``, 200, `"services":[{"name":"s","parameters":["a"],"path":"/v1/services/s"}]`},
+		{"GET", "/v1/services", ``, 200, `{"services":[{"name":"s","parameters":["a"],"path":"/v1/services/s"}]}`},
+		{"GET", "/v1/services/", ``, 200, `{"services":[{"name":"s","parameters":["a"],"path":"/v1/services/s"}]}`},
+		{"POST", "/v1/services", ``, 405, `GET, HEAD`},
 		{"GET", "/openapi.json", ``, 200, `"openapi": "3.0.3"`},
 		{"GET", "/metrics", ``, 200, `desk_http_calls_total`},
 		{"GET", "/problems/value", ``, 200, `pointer`},
@@ -258,41 +266,82 @@ func TestPutUnderLoad(t *testing.T) {
 	callers.Wait()
 }
 
-// A client's answers come in the order of its requests, on every connection; without a name a slow request holds up nobody
-// else.
+// A client's answers come in the order of its requests, on every connection.
 func TestOrder(t *testing.T) {
-	r := serve(t, slow(2000), Options{Processes: 2})
+	r := serve(t, adding(0), Options{Processes: 2, Engine: enginetest.Waiting(t, desk())})
 	defer r.stop(t)
-	// The answers of a client come on connections of their own, so they are told apart by the time that each request takes.
-	order := func(rest int, headers ...string) (order []int) {
-		var mu sync.Mutex
-		var calls sync.WaitGroup
-		for n := 0; n < 6; n++ {
-			n := n
-			length := rest
-			if n == 0 {
-				length = 4990
+	file := filepath.Join(t.TempDir(), "go")
+	calls := []net.Conn{r.begin(t, `{"a":0,`+enginetest.Until(file)+`}`, "X-Client: ann")}
+	for n := 1; n < 6; n++ {
+		r.outstanding(t, n)
+		calls = append(calls, r.begin(t, fmt.Sprintf(`{"a":%d}`, n), "X-Client: ann"))
+	}
+	r.outstanding(t, 6)
+	if err := os.WriteFile(file, nil, 0o600); err != nil {
+		t.Fatal(err)
+	}
+	for n := len(calls) - 1; n >= 0; n-- {
+		result(t, calls[n], n)
+		for earlier := 0; earlier < n; earlier++ {
+			if !hasCome(t, calls[earlier]) {
+				t.Errorf("answer %d came before answer %d", n, earlier)
 			}
-			calls.Add(1)
-			go func() {
-				defer calls.Done()
-				if status, text, _ := send(t, "POST", r.url+"/v1/services/s", long(length), headers...); status != 200 {
-					t.Errorf("%d %s", status, text)
-				}
-				mu.Lock()
-				order = append(order, n)
-				mu.Unlock()
-			}()
-			time.Sleep(50 * time.Millisecond)
 		}
-		calls.Wait()
-		return order
 	}
-	if got := fmt.Sprint(order(2500, "X-Client", "ann")); got != "[0 1 2 3 4 5]" {
-		t.Errorf("the answers of a client came in the order %v", got)
+}
+
+// Without a name a slow request holds up nobody else.
+func TestNoOrder(t *testing.T) {
+	r := serve(t, adding(0), Options{Processes: 2, Engine: enginetest.Waiting(t, desk())})
+	defer r.stop(t)
+	file := filepath.Join(t.TempDir(), "go")
+	slow := r.begin(t, `{"a":0,`+enginetest.Until(file)+`}`, "X-None: none")
+	r.outstanding(t, 1)
+	for n := 1; n < 6; n++ {
+		result(t, r.begin(t, fmt.Sprintf(`{"a":%d}`, n), "X-None: none"), n)
 	}
-	if got := order(1); got[0] == 0 {
-		t.Errorf("without a name the slow request held up all others: %v", got)
+	if hasCome(t, slow) {
+		t.Error("the slow request is answered before it may be")
+	}
+	if err := os.WriteFile(file, nil, 0o600); err != nil {
+		t.Fatal(err)
+	}
+	result(t, slow, 0)
+}
+
+// begin sends a request on a connection of its own, and waits for nothing.
+func (r *running) begin(t *testing.T, inputs, header string) net.Conn {
+	t.Helper()
+	connection, err := net.Dial("tcp", strings.TrimPrefix(r.url, "http://"))
+	if err != nil {
+		t.Fatal(err)
+	}
+	t.Cleanup(func() { connection.Close() })
+	fmt.Fprintf(connection, "POST /v1/services/s HTTP/1.1\r\nHost: x\r\n%s\r\nContent-Length: %d\r\n\r\n%s", header, len(inputs), inputs)
+	return connection
+}
+
+// outstanding waits until so many requests are taken and not answered.
+func (r *running) outstanding(t *testing.T, count int) {
+	t.Helper()
+	for until := time.Now().Add(time.Minute); r.metric(t, "desk_http_outstanding") != float64(count); {
+		if time.Now().After(until) {
+			t.Fatalf("%d requests are not taken", count)
+		}
+	}
+}
+
+// result waits for the answer on a connection, which has this result.
+func result(t *testing.T, connection net.Conn, due int) {
+	t.Helper()
+	answer, err := http.ReadResponse(bufio.NewReader(connection), nil)
+	if err != nil {
+		t.Fatal(err)
+	}
+	defer answer.Body.Close()
+	text, err := io.ReadAll(answer.Body)
+	if got := strings.TrimSpace(string(text)); err != nil || got != fmt.Sprintf(`{"result":%d}`, due) {
+		t.Errorf("%s, %v: %d is due", got, err, due)
 	}
 }
 
@@ -323,6 +372,8 @@ func TestTokens(t *testing.T) {
 		{"PUT", "/v1/model", "Bearer two", 200},
 		{"GET", "/v1/model", "Bearer one", 200},
 		{"GET", "/v1/model", "", 401},
+		{"GET", "/v1/services", "", 401},
+		{"GET", "/v1/services", "Bearer one", 200},
 		{"GET", "/healthz", "", 200},
 	} {
 		headers := []string{"Authorization", it.token}

@@ -18,6 +18,8 @@ const instanceSpace = "http://www.w3.org/2001/XMLSchema-instance"
 // Cases is a file of test cases.
 type Cases struct {
 	XMLName xml.Name `xml:"http://www.omg.org/spec/DMN/20160719/testcase testCases"`
+	// Path is the name that the file was read under.
+	Path string `xml:"-"`
 	// Model is the name of the file that they are for; it may be empty.
 	Model string `xml:"modelName"`
 	Cases []Case `xml:"testCase"`
@@ -34,15 +36,20 @@ type Case struct {
 	Results   []Result `xml:"resultNode"`
 }
 
+// A Place is a line and a column of the file of cases, both numbered from 1.
+type Place struct{ Line, Column int }
+
 // An Input is a value for an input or a decision of this name.
 type Input struct {
-	Name string `xml:"name,attr"`
+	Name  string `xml:"name,attr"`
+	Place Place  `xml:"-"`
 	Value
 }
 
 // A Result is what is due of a decision or a service of this name.
 type Result struct {
-	Name string `xml:"name,attr"`
+	Name  string `xml:"name,attr"`
+	Place Place  `xml:"-"`
 	// Error tells that no value is due: the answer is null.
 	Error    bool   `xml:"errorResult,attr"`
 	Expected *Value `xml:"expected"`
@@ -83,7 +90,8 @@ func Read(path string, from io.Reader) (*Cases, error) {
 	limited := &io.LimitedReader{R: from, N: mostBytes + 1}
 	decoder := xml.NewDecoder(limited)
 	var cases Cases
-	err := xml.NewTokenDecoder(plainTokens{decoder}).Decode(&cases)
+	tokens := &plainTokens{decoder: decoder}
+	err := xml.NewTokenDecoder(tokens).Decode(&cases)
 	if limited.N == 0 {
 		return nil, fmt.Errorf("%s: the file has over %d bytes", path, mostBytes)
 	}
@@ -91,16 +99,59 @@ func Read(path string, from io.Reader) (*Cases, error) {
 		line, column := decoder.InputPos()
 		return nil, fmt.Errorf("%s:%d:%d: no test cases: %w", path, line, column, err)
 	}
+	cases.Path = path
+	tokens.place(&cases)
 	return &cases, nil
 }
 
-// plainTokens are the tokens of a decoder without declarations of document types, which are refused.
-type plainTokens struct{ decoder *xml.Decoder }
+// plainTokens are the tokens of a decoder without declarations of document types, which are refused. It notes where the
+// nodes of test cases stand.
+type plainTokens struct {
+	decoder         *xml.Decoder
+	depth           int
+	inputs, results []Place
+}
 
-func (p plainTokens) Token() (xml.Token, error) {
+// depthOfNodes is how deep the nodes of a test case stand: testCases, testCase, inputNode.
+const depthOfNodes = 3
+
+func (p *plainTokens) Token() (xml.Token, error) {
+	line, column := p.decoder.InputPos()
 	token, err := p.decoder.RawToken()
-	if _, directive := token.(xml.Directive); directive {
+	switch token := token.(type) {
+	case xml.Directive:
 		return nil, errors.New("a document type or entities of its own are not read")
+	case xml.StartElement:
+		p.depth++
+		if p.depth == depthOfNodes && token.Name.Local == "inputNode" {
+			p.inputs = append(p.inputs, Place{line, column})
+		} else if p.depth == depthOfNodes && token.Name.Local == "resultNode" {
+			p.results = append(p.results, Place{line, column})
+		}
+	case xml.EndElement:
+		p.depth--
 	}
 	return token, err
+}
+
+// place gives the nodes of test cases their places, which were noted in the order of the file.
+func (p *plainTokens) place(cases *Cases) {
+	for i := range cases.Cases {
+		c := &cases.Cases[i]
+		for j := range c.Inputs {
+			p.inputs = taken(p.inputs, &c.Inputs[j].Place)
+		}
+		for j := range c.Results {
+			p.results = taken(p.results, &c.Results[j].Place)
+		}
+	}
+}
+
+// taken takes the first of some places.
+func taken(places []Place, into *Place) []Place {
+	if len(places) == 0 {
+		return nil
+	}
+	*into = places[0]
+	return places[1:]
 }

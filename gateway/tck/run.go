@@ -2,6 +2,7 @@ package tck
 
 import (
 	"context"
+	"encoding/json"
 	"fmt"
 	"strings"
 
@@ -39,8 +40,10 @@ func (v Verdict) String() string {
 // A Translation is what an import makes of a file: a model with the words of its names, or the places that can't be
 // taken, one line each.
 type Translation struct {
-	Model    *model.Model
-	Names    map[string]string
+	Model *model.Model
+	Names map[string]string
+	// Types has the JSON Schema of each input and decision by its word; it says how the model counts its numbers.
+	Types    map[string]json.RawMessage
 	Refusals []string
 }
 
@@ -106,14 +109,17 @@ func (r *runner) plan(c *Case, result *Result) *test {
 		if err != nil {
 			return t.refuse(fmt.Sprintf("input %s: %v", c.Inputs[i].Name, err))
 		}
-		t.inputs[s.words.of(c.Inputs[i].Name)] = value
+		word := s.words.of(c.Inputs[i].Name)
+		if !s.has(word) {
+			continue
+		}
+		if value, err = s.counted(word, value); err != nil {
+			return t.refuse(fmt.Sprintf("input %s: %v", c.Inputs[i].Name, err))
+		}
+		t.inputs[word] = value
 	}
 	if !result.Error {
-		due, err := result.Expected.json(s.words)
-		if err != nil {
-			return t.refuse(fmt.Sprintf("due: %v", err))
-		}
-		t.due = due
+		t.due = result.Expected.due(s.words)
 	}
 	t.of, t.question = s, len(s.questions)
 	s.questions = append(s.questions, t.inputs)
@@ -153,10 +159,7 @@ func (r *runner) newSubject(c *Case, node string, given []*dmn.Decision) *subjec
 	if c.Type == "bkm" {
 		return &subject{refused: "a business knowledge model is not asked by itself"}
 	}
-	name := node
-	if c.Type == "decisionService" && c.Invocable != "" {
-		name = c.Invocable
-	}
+	name := c.asked(node)
 	decision, service := decisionNamed(r.file, name), serviceNamed(r.file, name)
 	if service != nil && (c.Type == "decisionService" || decision == nil) {
 		return r.ofService(service)
@@ -190,6 +193,7 @@ func (r *runner) ofDecision(decision *dmn.Decision, given []*dmn.Decision) *subj
 		}
 	}
 	s.model.Services, s.service = []model.Service{asked}, "asked"
+	s.count(made.Types)
 	return s
 }
 
@@ -213,7 +217,9 @@ func (r *runner) ofService(service *dmn.DecisionService) *subject {
 	if len(made.Model.Services) != 1 {
 		return &subject{refused: fmt.Sprintf("the service %q is not imported", service.Name())}
 	}
-	return &subject{model: *made.Model, words: wordsOf(made.Names), service: made.Model.Services[0].Name}
+	s := &subject{model: *made.Model, words: wordsOf(made.Names), service: made.Model.Services[0].Name}
+	s.count(made.Types)
+	return s
 }
 
 // wordsOf turns the names of the words round.

@@ -8,14 +8,18 @@ import (
 
 	"gateway/engine"
 	"gateway/model"
+	"gateway/types"
 )
 
 // A subject is a service of a model that tests ask.
 type subject struct {
-	model     model.Model
-	words     words
-	service   string
-	refused   string
+	model   model.Model
+	words   words
+	service string
+	refused string
+	// types are those of inputs and decisions, result that of what the service answers; nil where none is known.
+	types     map[string]*types.Type
+	result    *types.Type
 	questions []map[string]any
 	answers   []answer
 }
@@ -49,6 +53,7 @@ func (s *subject) ask(ctx context.Context) error {
 			return fmt.Errorf("reading the engine's answers: %w", err)
 		}
 		if a.Client != "" {
+			a.Result = s.decimals(a.Result)
 			s.answers = append(s.answers, a)
 		} else if a.Refused != "" {
 			s.refused = fmt.Sprintf("the engine refuses the %s: %s", a.Refused, a.Fault)

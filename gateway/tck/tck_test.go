@@ -74,14 +74,15 @@ func TestEachResultNodeHasAVerdict(t *testing.T) {
 		`<testCase id="3">` + price + `10</value></inputNode><resultNode name="All"><expected>` +
 			`<component name="Net Price"><value xsi:type="xsd:decimal">9.0</value></component></expected></resultNode></testCase>`: "3/All PASS",
 		`<testCase id="4">` + price + `10.5</value></inputNode><resultNode name="All"><expected>` +
-			`<value xsi:nil="true"/></expected></resultNode></testCase>`: "4/All UNSUPPORTED input Full Price: the profile has no number 10.5",
+			`<value xsi:nil="true"/></expected></resultNode></testCase>`: "4/All UNSUPPORTED input Full Price: 10.5 is not whole, and it is not rounded",
 		`<testCase id="5"><inputNode name="Net Price"><value xsi:type="xsd:integer">3</value></inputNode><resultNode name="All">` +
 			`<expected><component name="Net Price"><value xsi:type="xsd:decimal">3</value></component></expected></resultNode></testCase>`: "5/All PASS",
 		`<testCase id="6">` + price + `10</value></inputNode><resultNode name="Half"><expected>` +
 			`<value xsi:type="xsd:decimal">5</value></expected></resultNode></testCase>`: "6/Half UNSUPPORTED file:8:1: division",
-		`<testCase id="7"><resultNode name="Net Price" errorResult="true"><expected/></resultNode></testCase>`:                                    "7/Net Price PASS",
-		`<testCase id="8"><resultNode name="Nobody"><expected><value xsi:nil="true"/></expected></resultNode></testCase>`:                         `8/Nobody UNSUPPORTED file has no decision "Nobody"`,
-		`<testCase id="9">` + price + `9223372036854775808</value></inputNode><resultNode name="All"><expected/></resultNode></testCase>`:         "9/All UNSUPPORTED the engine refuses the values: value",
+		`<testCase id="7"><resultNode name="Net Price" errorResult="true"><expected/></resultNode></testCase>`: "7/Net Price PASS",
+		`<testCase id="8">` + price + `10</value></inputNode><resultNode name="Net Price"><expected>` +
+			`<value xsi:type="xsd:decimal">9.5</value></expected></resultNode></testCase>`: `8/Net Price FAIL due 9.5, came 9`,
+		`<testCase id="9">` + price + `9223372036854775808</value></inputNode><resultNode name="All"><expected/></resultNode></testCase>`:         "9/All UNSUPPORTED input Full Price: 9223372036854775808 is past the range: from -9223372036854775807 to 9223372036854775807 are taken",
 		`<testCase id="10">` + price + `-9223372036854775807</value></inputNode><resultNode name="Net Price"><expected/></resultNode></testCase>`: "10/Net Price FAIL due null, came a value past the limits",
 		`<testCase id="11" type="bkm" invocableName="f"><resultNode name="f"><expected/></resultNode></testCase>`:                                 "11/f UNSUPPORTED a business knowledge model is not asked by itself",
 		`<testCase id="12"><inputNode name="Full Price"><list><item><value xsi:type="xsd:date">2020-01-01</value></item></list></inputNode>` +
@@ -93,6 +94,55 @@ func TestEachResultNodeHasAVerdict(t *testing.T) {
 		if got := verdicts(t, cases); len(got) != 1 || got[0] != due {
 			t.Errorf("%q\n due %q", got, due)
 		}
+	}
+}
+
+// TestWhatCantComeFails has results that are due and that no answer can be.
+func TestWhatCantComeFails(t *testing.T) {
+	for due, said := range map[string]string{
+		`<value xsi:type="xsd:date">2020-01-01</value>`:                        `due "2020-01-01", came 9`,
+		`<value xsi:type="xsd:decimal">9.000001</value>`:                       `due 9.000001, came 9`,
+		`<value xsi:type="xsd:decimal">1e-300</value>`:                         `due "1e-300", came 9`,
+		`<value xsi:type="xsd:decimal">nine</value>`:                           `due "nine", came 9`,
+		`<value xsi:type="xsd:duration">P1D</value>`:                           `due "P1D", came 9`,
+		`<list><item><value xsi:type="xsd:date">x</value></item></list>`:       `due ["x"], came 9`,
+		`<component name="a"><value xsi:type="xsd:time">1</value></component>`: `due {"a":"1"}, came 9`,
+	} {
+		got := verdicts(t, `<testCase id="1">`+price+`10</value></inputNode><resultNode name="Net Price"><expected>`+due+
+			`</expected></resultNode></testCase>`)
+		if len(got) != 1 || got[0] != "1/Net Price FAIL "+said {
+			t.Errorf("%q, due %s", got, said)
+		}
+	}
+}
+
+// TestUnknownNodesAreFaultsOfTheCases has nodes whose names the file doesn't have.
+func TestUnknownNodesAreFaultsOfTheCases(t *testing.T) {
+	read, err := dmn.Read("file", strings.NewReader(file))
+	if err != nil {
+		t.Fatal(err)
+	}
+	text := head + "\n" + `<testCase id="1"><inputNode name="full price"><value>1</value></inputNode>` + "\n" +
+		` <inputNode name="Net Price"><value>1</value></inputNode><resultNode name="Net Prise"/><resultNode name="All"/></testCase>` +
+		"\n" + `<testCase id="2" type="bkm"><inputNode name="x"/><resultNode name="f"/></testCase>` +
+		`<testCase id="3" type="decisionService" invocableName="Half"><resultNode name="whatever"/></testCase>` +
+		`<testCase id="4"><inputNode name="Free"/><resultNode name="Elsewhere"/></testCase></testCases>`
+	cases, err := Read("c.xml", strings.NewReader(text))
+	if err != nil {
+		t.Fatal(err)
+	}
+	var lines []string
+	for _, fault := range Faults(read, cases, []string{"Free"}) {
+		lines = append(lines, fault.String())
+	}
+	due := []string{
+		`c.xml:2:18: inputNode "full price": no input and no decision has this name; instead: "Full Price"`,
+		`c.xml:3:58: resultNode "Net Prise": no decision and no service has this name; instead: "Net Price"`,
+		`c.xml:4:50: resultNode "f": no decision and no service has this name`,
+		`c.xml:4:225: resultNode "Elsewhere": no decision and no service has this name`,
+	}
+	if strings.Join(lines, "\n") != strings.Join(due, "\n") {
+		t.Errorf("%s\ndue\n%s", strings.Join(lines, "\n"), strings.Join(due, "\n"))
 	}
 }
 

@@ -27,6 +27,47 @@ func (v *Value) json(w words) (any, error) {
 	return nil, nil
 }
 
+// A foreign value is due, and no value of the profile is the same.
+type foreign string
+
+// due is a value as it is compared with an answer. What no answer can be is a foreign value.
+func (v *Value) due(w words) any {
+	switch {
+	case v == nil || v.Nil:
+		return nil
+	case v.Scalar != nil:
+		return v.Scalar.due()
+	case v.List != nil:
+		return v.List.due(w)
+	}
+	if len(v.Components) == 0 {
+		return nil
+	}
+	all := make(map[string]any, len(v.Components))
+	for i := range v.Components {
+		all[w.of(v.Components[i].Name)] = v.Components[i].Value.due(w)
+	}
+	return all
+}
+
+func (l *List) due(w words) any {
+	if l.Nil {
+		return nil
+	}
+	all := make([]any, 0, len(l.Items))
+	for i := range l.Items {
+		all = append(all, l.Items[i].due(w))
+	}
+	return all
+}
+
+func (s *Scalar) due() any {
+	if value, err := s.json(); err == nil {
+		return value
+	}
+	return foreign(strings.TrimSpace(s.Text))
+}
+
 func entries(components []Component, w words) (any, error) {
 	all := make(map[string]any, len(components))
 	for _, c := range components {
@@ -59,34 +100,58 @@ func (s *Scalar) json() (any, error) {
 	if s.Nil {
 		return nil, nil
 	}
-	kind := s.Type[strings.LastIndexByte(s.Type, ':')+1:]
-	switch kind {
-	case "", "string":
+	switch kind := s.kind(); {
+	case kind == "", kind == "string":
 		return s.Text, nil
-	case "boolean":
+	case kind == "boolean":
 		return strings.TrimSpace(s.Text) == "true", nil
-	case "decimal", "double", "float", "integer", "int", "long", "short", "byte":
-		return whole(strings.TrimSpace(s.Text))
+	case s.isNumber():
+		return number(strings.TrimSpace(s.Text))
+	default:
+		return nil, fmt.Errorf("the profile has no values of the type %s", kind)
 	}
-	return nil, fmt.Errorf("the profile has no values of the type %s", kind)
+}
+
+// kind is the name of the scalar's type without its prefix.
+func (s *Scalar) kind() string { return s.Type[strings.LastIndexByte(s.Type, ':')+1:] }
+
+func (s *Scalar) isNumber() bool {
+	switch s.kind() {
+	case "decimal", "double", "float", "integer", "int", "long", "short", "byte":
+		return true
+	}
+	return false
 }
 
 // decimal is a number as XML Schema writes it, with an exponent that is not far out.
 var decimal = regexp.MustCompile(`^[-+]?([0-9]+\.?[0-9]*|\.[0-9]+)([eE][-+]?[0-9]{1,3})?$`)
 
-// whole is a number; one that is not whole is an error.
-func whole(text string) (any, error) {
-	number, ok := new(big.Rat), len(text) <= 64 && decimal.MatchString(text)
-	if ok {
-		_, ok = number.SetString(text)
+// mostDigits is how many digits behind the point a number has that is shown.
+const mostDigits = 64
+
+// rational is the number of a text; nil where it is none.
+func rational(text string) *big.Rat {
+	if len(text) > 2*mostDigits || !decimal.MatchString(text) {
+		return nil
 	}
-	if !ok {
+	number, fine := new(big.Rat).SetString(text)
+	if !fine {
+		return nil
+	}
+	return number
+}
+
+// number is a number in its shortest form; one with too many digits is an error.
+func number(text string) (any, error) {
+	value := rational(text)
+	if value == nil {
 		return nil, fmt.Errorf("%q is no number", text)
 	}
-	if !number.IsInt() {
+	shortest := strings.TrimSuffix(strings.TrimRight(value.FloatString(mostDigits), "0"), ".")
+	if again := rational(shortest); again == nil || again.Cmp(value) != 0 {
 		return nil, fmt.Errorf("the profile has no number %s", text)
 	}
-	return json.Number(number.Num().String()), nil
+	return json.Number(shortest), nil
 }
 
 // same tells whether two values are the same, as JSON with json.Number for its numbers.

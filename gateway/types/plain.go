@@ -9,13 +9,13 @@ func (t *Type) HoldsPlain(text []byte) bool {
 	return t.holds(&r) && r.at == len(text)
 }
 
-// anything is the type of what has none.
-var anything = &Type{}
+// Any is the type of what has none.
+var Any = &Type{}
 
-// or is the type itself, or anything where there is none.
+// or is the type itself, or Any where there is none.
 func (t *Type) or() *Type {
 	if t == nil {
-		return anything
+		return Any
 	}
 	return t
 }

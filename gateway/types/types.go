@@ -1,5 +1,8 @@
 // Package types holds values to the JSON Schemas that desk import writes of the types of DMN files: the keywords type, enum,
-// minimum, maximum, exclusiveMinimum, exclusiveMaximum, items and properties. Other keywords say nothing.
+// minimum, maximum, exclusiveMinimum, exclusiveMaximum, multipleOf, items and properties, and per. Other keywords say nothing.
+//
+// The engine counts in whole numbers. Of a type with multipleOf 0.01 they are hundredths; of one with per 1200 they are 1200ths:
+// quotients, whose decimals need not end.
 package types
 
 import (
@@ -8,6 +11,7 @@ import (
 	"math/big"
 	"strings"
 
+	"gateway/decimal"
 	"gateway/lines"
 )
 
@@ -22,6 +26,8 @@ type Type struct {
 	properties map[string]*Type
 	// order has the names of the properties in the order of their bytes.
 	order []string
+	// unit is what whole numbers of the engine count: of a type without kinds, in all its parts.
+	unit decimal.Unit
 }
 
 // A bound is one end of a range of numbers.
@@ -42,6 +48,8 @@ type form struct {
 	Maximum          json.Number     `json:"maximum"`
 	ExclusiveMinimum json.Number     `json:"exclusiveMinimum"`
 	ExclusiveMaximum json.Number     `json:"exclusiveMaximum"`
+	MultipleOf       json.Number     `json:"multipleOf"`
+	Per              json.Number     `json:"per"`
 	Items            json.RawMessage `json:"items"`
 	Properties       map[string]json.RawMessage
 }
@@ -65,6 +73,9 @@ func Read(text json.RawMessage) (*Type, error) {
 	}
 	for _, value := range it.Enum {
 		t.listed = append(t.listed, string(lines.Compact(nil, value)))
+	}
+	if err := t.countedBy(&it); err != nil {
+		return nil, fmt.Errorf("reading a type: %w", err)
 	}
 	t.bound(it.Minimum, true, false)
 	t.bound(it.Maximum, false, false)

@@ -103,11 +103,10 @@ class Found:
     def one_of_each(self, service) -> str:
         """A gap and an overlap stand at their table, and their values are tried."""
         self.browser.open(service)
-        self.browser.wait(self.verdicts, "what is found of the table")
-        assert self.verdicts() == ["not complete; rules overlap"], self.verdicts()
+        self.browser.comes(self.verdicts, ["not complete; rules overlap"], "what is found of the table")
         overlap = "rules 2 and 3 both hit, which gives null: a >= 20, b 5"
-        self.browser.wait(lambda: self.listed()[:2] == [overlap, "no rule hits: a [10..19], b >= 6"], f"the list, {self.listed()}")
-        assert self.marks() == {"2": overlap, "3": overlap}, self.marks()
+        self.browser.comes(lambda: self.listed()[:2], [overlap, "no rule hits: a [10..19], b >= 6"], "the list")
+        self.browser.comes(self.marks, {"2": overlap, "3": overlap}, "the marks")
         tries = self.browser.js("""return [...document.querySelectorAll(".found > ul > li > button")].map((it) => it.textContent)""")
         tries = [it.removeprefix("Try ") for it in tries if it.startswith("Try ")]
         for values, is_inside, hits in ((tries[0], lambda a, b: a >= 20 and b == 5, [2, 3]),
@@ -116,8 +115,9 @@ class Found:
             assert is_inside(a, b), values
             self.press(f"Try {values}")
             self.browser.wait(lambda: self.said().startswith(f"The form has a {a}, b {b}."), "that the form is filled")
-            assert self.browser.answer() is None and self.browser.lit()["d"] == {"hits": hits, "decided": []}, self.browser.lit()
-        assert self.browser.text("tables") == "What was found of 1 table:d: not complete; rules overlap Show", self.browser.text("tables")
+            self.browser.comes(self.browser.answer, None, "the result")
+            self.browser.comes(lambda: self.browser.lit()["d"], {"hits": hits, "decided": []}, "the rules")
+        self.browser.comes(lambda: self.browser.text("tables"), "What was found of 1 table:d: not complete; rules overlap Show", "the sum")
         return ""
 
     def stand_in(self) -> str:
@@ -135,9 +135,8 @@ class Found:
     def several(self) -> str:
         """Rules that never decide, texts, and values that the form has no fields for."""
         self.browser.open(self.stood_in("several", SEVERAL, TOLD_OF_SEVERAL), {"a": {"b": 1, "c": 2}, "t": "old"})
-        self.browser.wait(lambda: len(self.verdicts()) == 2 and all(self.verdicts()), "what is found of the tables")
-        assert self.verdicts() == ["complete for the words that its rules ask for",
-                                   "complete: some rule hits, whatever the values; no two rules overlap"], self.verdicts()
+        self.browser.comes(self.verdicts, ["complete for the words that its rules ask for",
+                                           "complete: some rule hits, whatever the values; no two rules overlap"], "what is found")
         assert self.listed() == ['no rule hits: a.b >= 5 or null, t any text but "x", "w" or ["a".."c") or ["k".."m"]',
                                  "and 7 more gaps",
                                  "rule 4 never hits", "rule 3 never decides: rules 1, 2 go before it"], self.listed()
@@ -159,7 +158,7 @@ class Found:
         self.browser.open(self.stood_in("each", ONE_OF_EACH, TOLD_OF_EACH))
         self.browser.drop("changed.json", json.dumps(ONE_OF_EACH | {"inputs": ["b", "a"]}))
         self.browser.wait(lambda: "the model has no fault" in self.browser.text("changed"), "that it is checked")
-        self.browser.wait(lambda: self.verdicts() == ["not complete; rules overlap"], "what is found of its table")
+        self.browser.comes(self.verdicts, ["not complete; rules overlap"], "what is found of its table")
         return ""
 
 

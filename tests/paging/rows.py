@@ -7,19 +7,19 @@ import copy
 import json
 import random
 import re
-import statistics
-import time
 from hashlib import sha256
 from pathlib import Path
-
-from . import machine
 
 HERE = Path(__file__).resolve().parent.parent.parent
 DMN = HERE / "examples" / "dmn"
 LOAN = DMN / "loan.dmn"
 SERVICE = "Bureau Strategy Decision Service"
-# How many seconds a table of 2,000 rules, a step of scrolling in it, and 100,000 requests may take: see machine.py.
-TABLE, STEP, REQUESTS = 1, 0.08, 3
+# How many rows of a long table are made at once at most.
+MOST_ROWS = 120
+# The page reads a file of requests in pieces of so many bytes.
+PIECE = 512 * 1024
+# How much memory the gateway may take for them, in bytes.
+MOST_MEMORY = 400_000_000
 # The second applicant of examples/dmn/README.md, who is declined.
 DECLINED = {"Applicant data": {"Age": 20, "Marital Status": "S", "Employment Status": "STUDENT", "Existing Customer": False,
                                "Monthly": {"Income": 1000, "Repayments": 0, "Expenses": 700}},
@@ -230,28 +230,35 @@ class Rows:
 
     def many(self) -> str:
         """100,000 requests are counted, with progress; and are stopped."""
-        self.loan()
+        service = self.loan()
         some = applicants(1000)
         path = self.suite.folder / "many.jsonl"
         path.write_text(lines(some) * 100)
 
-        def count() -> float:
-            self.browser.file("coverage-file", path)
-            self.browser.wait(lambda: self.browser.js("return document.getElementById('progress').value") > 0, "progress")
-            due = "100,000 requests, 100,000 with a result"
-            self.browser.wait(lambda: due in self.browser.text("counted"), "the counts", 300)
-            return float(re.search(r"in ([\d.]+) s", self.browser.text("counted"))[1])
-        is_within, said = machine.in_turn(machine.computes, count, REQUESTS)
+        said = self.counted_at_once(service, path)
         model = json.loads(self.suite.service("dmn/loan.dmn").get("/v1/model?whole=true")[1])["model"]
         hit = by_pointer(model, counted(self.suite.explained(LOAN, some))[0])
         for row in self.browser.saved("Rules as CSV"):
             assert int(row["hit"]) == 100 * hit[(row["table"], row["rule"])], row
+        self.browser.js("window.onprogress = () => document.getElementById('stop').click()")
         self.browser.file("coverage-file", path)
-        self.browser.wait(lambda: self.browser.js("return document.getElementById('progress').value") > 0, "progress")
-        self.browser.js("document.getElementById('stop').click()")
         self.browser.wait(lambda: "Stopped before the end" in self.browser.text("counted"), "that it was stopped")
-        assert is_within, f"100,000 in {said}"
-        return f"100,000 in {said}"
+        return said
+
+    def counted_at_once(self, service, path: Path) -> str:
+        """Counts a file in its pieces, each sent once, with progress that only grows, in bounded memory."""
+        self.browser.js(PROGRESS)
+        self.browser.file("coverage-file", path)
+        self.browser.wait(lambda: "100,000 requests, 100,000 with a result" in self.browser.text("counted"), "the counts", 300)
+        parts = self.browser.js("return window.parts")
+        assert parts and parts == sorted(parts) and 0 < parts[0] and parts[-1] <= 1, parts
+        calls = self.browser.js("return performance.getEntriesByType('resource').filter((it) => it.name.includes('/v1/coverage')).length")
+        pieces = path.stat().st_size // PIECE
+        assert pieces <= calls <= pieces + 2, f"{calls} calls for {pieces} pieces"
+        memory = service.most_memory()
+        assert memory < MOST_MEMORY, f"the gateway takes {memory:,} bytes"
+        took = re.search(r"in ([\d.]+) s", self.browser.text("counted"))[1]
+        return f"100,000 in {took} s, {memory / 1e6:.0f} MB"
 
     def markup(self) -> str:
         """Names and values that are markup are shown as texts, and run nothing."""
@@ -264,7 +271,7 @@ class Rows:
             assert answer == ("<iframe srcdoc='<script>parent.ran=4</script>'>" if "svg" in value else value), answer
         self.browser.drop("some.jsonl", lines([{"a": "<img src=x onerror=window.ran=6>"}]))
         self.browser.wait(lambda: "1 request" in self.browser.text("counted"), "the counts")
-        time.sleep(0.2)
+        self.browser.drawn()
         assert self.browser.js("return window.ran") is None
         names = self.browser.js("return [...document.querySelectorAll('img, iframe, #main script, #main svg svg')].length")
         assert names == 0, names
@@ -327,15 +334,11 @@ class Rows:
         return ""
 
     def long(self) -> str:
-        """A table of 2,000 rules is there within a second, and the rule that decided is in view."""
-        service = self.suite.service("long", long_table())
-
-        def show() -> float:
-            self.browser.open(service, {"a": 1500, "b": "k7"})
-            self.browser.answer()
-            return self.browser.js("""return performance.getEntriesByName("shown")[0].startTime""") / 1000
-        is_shown, said = machine.in_turn(machine.begins, show, TABLE)
-        assert self.browser.js("return document.querySelectorAll('.rules tbody tr').length") < 120
+        """Of a table of 2,000 rules the rows in view are made, and no others; and the rule that decided is in view."""
+        self.browser.open(self.suite.service("long", long_table()), {"a": 1500, "b": "k7"})
+        self.browser.answer()
+        made = self.browser.js("return document.querySelectorAll('.rules tbody tr').length")
+        assert made < MOST_ROWS, made
         lit = self.browser.lit()["d"]
         assert lit["hits"] == [1501], lit
         inside = self.browser.js("""const row = document.querySelector(".rules tr.hit, .rules tr.decided").getBoundingClientRect();
@@ -344,9 +347,10 @@ class Rows:
         assert inside, "the rule is not in view"
         self.browser.js("document.querySelector('.table .scroll').scrollTop = 1e9")
         self.browser.wait(lambda: self.browser.js("return !!document.querySelector('[data-at=\"1999\"]')"), "the last rule")
-        is_scrolled, step = machine.in_turn(machine.begins, lambda: statistics.median(self.browser.js(SCROLL)) / 1000, STEP)
-        assert is_shown and is_scrolled, f"it is shown after {said}; a step of scrolling takes {step}"
-        return f"{said}; a step of scrolling {step}"
+        steps = self.browser.js(SCROLL)
+        assert len(steps) == 40 and all(made < MOST_ROWS and is_filled for made, is_filled in steps), steps
+        shown = self.browser.js("""return performance.getEntriesByName("shown")[0].startTime""")
+        return f"shown after {shown:.0f} ms"
 
     def contrast(self) -> str:
         """Each text stands out by 4.5 or more, in the light and in the dark."""
@@ -414,8 +418,8 @@ class Rows:
     def warnings(self) -> str:
         """A warning stands at its cell, and in the list, from where it is gone to."""
         self.browser.open(self.suite.service("warned", warned()))
-        mark = self.browser.js("""const it = document.querySelector("tbody .mark");
-            return [it.closest("tr").querySelector("[data-at]").dataset.at, it.getAttribute("aria-label")]""")
+        mark = self.browser.wait(lambda: self.browser.js("""const it = document.querySelector("tbody .mark");
+            return it && [it.closest("tr").querySelector("[data-at]").dataset.at, it.getAttribute("aria-label")]"""), "the mark")
         assert mark[0] == "1" and mark[1].startswith("warning: "), mark
         self.browser.js("[...document.querySelectorAll('#checks button')].find((it) => it.textContent === 'Show').click()")
         assert self.browser.js("return document.activeElement.dataset.at") == "1"
@@ -556,15 +560,25 @@ MARKUP = """<definitions xmlns="https://www.omg.org/spec/DMN/20191111/MODEL/" na
 <rule><inputEntry><text>-</text></inputEntry><outputEntry><text>a</text></outputEntry></rule></decisionTable></decision>
 </definitions>"""
 
-# How many milliseconds each of forty steps takes in which the table is scrolled and laid out.
+# Of each of forty steps in which the table is scrolled: how many rows are made, and whether a rule stands in the middle of the view.
 SCROLL = """const frame = document.querySelector(".table .scroll");
 return Array.from({length: 40}, (_, at) => {
-  const start = performance.now();
   frame.scrollTop = frame.scrollHeight * at / 40;
   frame.dispatchEvent(new Event("scroll"));
-  frame.querySelector("tbody").offsetHeight;
-  return performance.now() - start;
+  const {top, bottom} = frame.getBoundingClientRect();
+  const rows = [...frame.querySelectorAll("tbody tr")];
+  const isInside = (box) => box.top <= (top + bottom) / 2 && box.bottom >= (top + bottom) / 2;
+  return [rows.length, rows.some((row) => row.querySelector("[data-at]") && isInside(row.getBoundingClientRect()))];
 });"""
+
+# Keeps under `parts` each progress that the page shows, and calls `onprogress` then.
+PROGRESS = """window.parts = [];
+new MutationObserver(() => {
+  const progress = document.getElementById("progress");
+  if (progress.hidden || progress.value === 0) return;
+  window.parts.push(progress.value);
+  window.onprogress?.();
+}).observe(document.getElementById("counted"), {childList: true});"""
 
 # The contrast of each text that is seen with what stands behind it, as WCAG 2 has it.
 CONTRAST = """

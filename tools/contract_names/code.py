@@ -139,20 +139,26 @@ class CodeFile:
     def read_type(self, item: Item, start: int, end: int) -> None:
         text = self.text(start, end)
         item.kept |= self.ghost_names("\n".join(GHOST_FIELD.findall(text)), self.scope)
-        item.refs |= self.types_in(GHOST_FIELD.sub("", text)) - {item.key} - self.hidden_in(item.key[1], text)
+        private = self.private_in(text)
+        if self.has_model(item.key[1]):
+            item.hidden |= private - {item.key}
+        else:
+            exports = self.sources.exports[self.crate]
+            private = {key for key in private if key[1] not in exports}
+        item.refs |= self.types_in(GHOST_FIELD.sub("", text)) - {item.key} - private
         if self.is_public(start, item.key[1]):
             self.sources.public.append(Item(item.key, set(), {item.key}))
 
-    def hidden_in(self, name: str, text: str) -> set[Key]:
-        """The types of this crate alone that only private fields of a type have. A definition that looks at such a field names
-        the type itself, and so does a model of the type."""
-        if any(re.match(rf"impl\b.* Model for {name}\b", line) for line in self.lines):
-            return set()
+    def has_model(self, name: str) -> bool:
+        """Whether contracts see a type of this file by a model. Then its private fields are no part of what they say."""
+        return any(re.match(rf"impl\b.* Model for {name}\b", line) for line in self.lines)
+
+    def private_in(self, text: str) -> set[Key]:
+        """The types that only private fields of a type have. A definition that looks at such a field names the type itself."""
         fields = [line for line in text.splitlines()[1:] if line.startswith("    ")]
         shown = "\n".join(line for line in fields if line.startswith("    pub "))
         kept = "\n".join(line for line in fields if not line.startswith("    pub "))
-        exports = self.sources.exports[self.crate]
-        return {key for key in self.types_in(kept) if key[1] not in exports} - self.types_in(shown)
+        return self.types_in(kept) - self.types_in(shown)
 
     def contract_end(self, start: int, end: int, indent: int) -> int:
         """Where the body of a function begins."""

@@ -64,7 +64,8 @@ class Reach:
                 self.add_law(name, file.split("/")[1])
         # What the public contracts reach: all, and without what stands behind laws.
         public = {key for item in sources.public for key in item.refs}
-        self.public_all, self.public = self.closure(public, False), self.closure(public)
+        # The marks count private fields too, since they are about where a definition is used.
+        self.public_all, self.public = self.closure(public, False, hidden=True), self.closure(public, hidden=True)
 
     def add_law(self, name: str, crate: str) -> None:
         """Reads a law in the proofs of a crate. It ties those of its words that reach a file behind it."""
@@ -82,7 +83,7 @@ class Reach:
             for key in tied:
                 self.law_of[key] = [*self.law_of.get(key, []), self.laws[name]]
 
-    def closure(self, roots: Iterable[Key], by_laws: bool = True, with_kept: bool = False) -> set[Key]:
+    def closure(self, roots: Iterable[Key], by_laws: bool = True, with_kept: bool = False, hidden: bool = False) -> set[Key]:
         """All that is reached from here. By laws, what a law ties reaches the law's other words in place of its own."""
         seen: set[Key] = set()
         todo = list(roots)
@@ -90,17 +91,17 @@ class Reach:
             key = todo.pop()
             if key not in seen:
                 seen.add(key)
-                todo += self.next_from(key, by_laws, with_kept)
+                todo += self.next_from(key, by_laws, with_kept, hidden)
             if not todo:
                 instances = self.sources.instances
                 todo = [item.key for both, item in instances if both <= seen and item.key not in seen]
         return seen
 
-    def next_from(self, key: Key, by_laws: bool, with_kept: bool) -> set[Key]:
+    def next_from(self, key: Key, by_laws: bool, with_kept: bool, hidden: bool) -> set[Key]:
         item = self.sources.items.get(key, Item(key))
         laws = self.law_of.get(key, []) if by_laws else []
         refs = {word for law in laws for word in law.words} or item.refs
-        return refs | (item.kept if with_kept else set())
+        return refs | (item.kept if with_kept else set()) | (item.hidden if hidden else set())
 
     def laws_above(self, key: Key) -> list[Law]:
         """The laws that a definition stands behind: those whose words reach it by themselves."""

@@ -28,6 +28,8 @@ class Item:
     refs: set[Key] = field(default_factory=set)
     # What those facts name that every value of a type keeps.
     kept: set[Key] = field(default_factory=set)
+    # The types of private fields, of a type that contracts see by a model.
+    hidden: set[Key] = field(default_factory=set)
     # The line that opens a section of definitions, and no definition itself.
     is_header: bool = False
 

@@ -91,7 +91,8 @@ serve. With --requests it is the first line, and behind it stand lines of reques
 Of a lawful model it tells the inputs, the decisions with their kinds, and the services with their
 parameters; then warnings, of what is lawful and mostly a mistake, at most 100 of each kind; and then
 what is odd in the requests, the first 1,000 of these: a name that is no parameter, a parameter that is
-missing, an unknown service, and what is no value. Otherwise it tells the first fault, and the places of
+missing, and each line that serve refuses: for its form, an unknown service, what is no value, a client
+that was closed, a capacity that is not 1 to 4096. Otherwise it tells the first fault, and the places of
 this fault and of later ones, at most 100 of each (of table 100 tables and 100 rules). Of a text it tells
 where its reading stops and what could stand there, and what to write in its place, where that is known:
 
@@ -103,7 +104,7 @@ where its reading stops and what could stand there, and what to write in its pla
 
 With --tables it tells behind the warnings of each decision table whether it answers every case: values for which no
 rule applies, rules that overlap where that makes the result null (under U, and under A where they give other
-outputs), rules that never apply, and under F those that never decide. At most 100 of each kind a table:
+outputs), rules that never apply, and under F and P those that never decide. At most 100 of each kind a table:
 
   table: decisions[0] "risk": 4 rules, U: not complete, rules overlap
     rules 2 and 3 both apply: age 50, region any    U gives null

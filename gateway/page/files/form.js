@@ -102,6 +102,11 @@ function readField({ shape, input }) {
     if (!/^-?\d{1,19}$/.test(text)) return { fault: "a whole number is due, in digits alone" };
     return { value: readJSON(text.replace(/^(-?)0+(?=\d)/, "$1")) };
   }
+  if (shape.kind === "decimal") {
+    if (!/^-?\d+(\.\d+)?$/.test(text)) return { fault: "a number is due, as 12.50" };
+    if (text.replace(/\D/g, "").length > 15) return { fault: "a number of at most 15 digits is due here" };
+    return { value: Number(text) };
+  }
   if (shape.kind === "text") return { value: text === '""' ? "" : input.value };
   try {
     return { value: readJSON(text) };
@@ -146,7 +151,7 @@ function shapeOfType(type) {
   if (kinds.length === 1 && kinds[0] === "object" && type.properties) {
     return { members: Object.entries(type.properties).map(([word, inner]) => [word, shapeOfType(inner)]) };
   }
-  const kind = { integer: "number", string: "text" }[kinds.length === 1 ? kinds[0] : ""];
+  const kind = { integer: "number", number: "decimal", string: "text" }[kinds.length === 1 ? kinds[0] : ""];
   return { kind: kind ?? "any" };
 }
 

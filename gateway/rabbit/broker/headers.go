@@ -3,6 +3,7 @@ package broker
 import (
 	"errors"
 	"fmt"
+	"time"
 	"unicode/utf8"
 
 	amqp "github.com/rabbitmq/amqp091-go"
@@ -17,12 +18,16 @@ const MaximumSenderBytes = 255
 // read all that was there.
 const MarkHeader = "mark"
 
-// The headers of a message of lines.
+// MaximumBatchBytes is the length of a batch's id at most.
+const MaximumBatchBytes = 255
+
+// The headers of a message of a log. Its time stamp says when it was sent.
 const (
 	senderHeader = "sender"
-	numberHeader = "number"
-	firstHeader  = "first"
 	namedHeader  = "named"
+	epochHeader  = "epoch"
+	batchHeader  = "batch"
+	numberHeader = "number"
 )
 
 // The headers of a message of answers or of a snapshot.
@@ -39,29 +44,38 @@ const (
 // ErrForeign tells that a message's headers are not those that the programs write.
 var ErrForeign = errors.New("not from desk send")
 
-// ClaimHeaders are the headers of a message of lines.
-func ClaimHeaders(claim ledger.Claim) amqp.Table {
-	return amqp.Table{senderHeader: claim.Sender, numberHeader: claim.Number,
-		firstHeader: claim.First, namedHeader: claim.Named}
+// OriginHeaders are the headers of a message of a log.
+func OriginHeaders(from ledger.Origin) amqp.Table {
+	return amqp.Table{kindHeader: string(from.Kind), senderHeader: from.Sender, namedHeader: from.Named,
+		epochHeader: from.Epoch, batchHeader: from.Batch, numberHeader: from.Number}
 }
 
-// IsSender tells whether a sender may have this name: UTF-8 of 1 to MaximumSenderBytes bytes, as a snapshot can hold it.
+// IsSender says whether a sender may have this name: UTF-8 of 1 to MaximumSenderBytes bytes, as a snapshot can hold it.
 func IsSender(name string) bool {
 	return len(name) > 0 && len(name) <= MaximumSenderBytes && utf8.ValidString(name)
 }
 
-// ReadClaim reads the headers of a message of lines.
-func ReadClaim(headers amqp.Table) (ledger.Claim, error) {
-	var claim ledger.Claim
-	var is [4]bool
-	claim.Sender, is[0] = headers[senderHeader].(string)
-	claim.Number, is[1] = number(headers[numberHeader])
-	claim.First, is[2] = number(headers[firstHeader])
-	claim.Named, is[3] = headers[namedHeader].(bool)
-	if is != [4]bool{true, true, true, true} || !IsSender(claim.Sender) || claim.Number < 0 || claim.First < 0 {
-		return claim, ErrForeign
+// IsBatch says whether a batch may have this id: UTF-8 of at most MaximumBatchBytes bytes.
+func IsBatch(id string) bool { return len(id) <= MaximumBatchBytes && utf8.ValidString(id) }
+
+// ReadOrigin reads the headers of a message of a log, which was sent at this time.
+func ReadOrigin(headers amqp.Table, sent time.Time) (ledger.Origin, error) {
+	from := ledger.Origin{Sent: sent}
+	var is [6]bool
+	var kind string
+	kind, is[0] = headers[kindHeader].(string)
+	from.Sender, is[1] = headers[senderHeader].(string)
+	from.Named, is[2] = headers[namedHeader].(bool)
+	from.Epoch, is[3] = number(headers[epochHeader])
+	from.Batch, is[4] = headers[batchHeader].(string)
+	from.Number, is[5] = number(headers[numberHeader])
+	from.Kind = ledger.Kind(kind)
+	isKind := from.Kind == ledger.Lines || from.Kind == ledger.Claim || from.Kind == ledger.End
+	if is != [6]bool{true, true, true, true, true, true} || !isKind || !IsSender(from.Sender) || !IsBatch(from.Batch) ||
+		from.Number < 0 || from.Epoch < 0 {
+		return from, ErrForeign
 	}
-	return claim, nil
+	return from, nil
 }
 
 // number is a whole number, of whichever width a client's library has chosen.

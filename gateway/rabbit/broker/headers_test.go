@@ -1,7 +1,9 @@
 package broker
 
 import (
+	"strings"
 	"testing"
+	"time"
 
 	amqp "github.com/rabbitmq/amqp091-go"
 
@@ -9,9 +11,15 @@ import (
 )
 
 func TestHeadersComeBack(t *testing.T) {
-	claim := ledger.Claim{Sender: "a", Number: 5, First: 3, Named: true}
-	if back, err := ReadClaim(ClaimHeaders(claim)); err != nil || back != claim {
-		t.Errorf("%+v, %v", back, err)
+	sent := time.Unix(5, 0)
+	for _, from := range []ledger.Origin{
+		{Kind: ledger.Lines, Sender: "a", Named: true, Epoch: 3, Batch: "night 1", Number: 5, Sent: sent},
+		{Kind: ledger.Claim, Sender: "a", Named: true, Epoch: 3, Sent: sent},
+		{Kind: ledger.End, Sender: "b", Number: 5, Sent: sent},
+	} {
+		if back, err := ReadOrigin(OriginHeaders(from), sent); err != nil || back != from {
+			t.Errorf("%+v, %v", back, err)
+		}
 	}
 	for _, part := range []Part{
 		{After: ledger.Start, Upto: ledger.Place{Offset: 7, Index: 2}},
@@ -25,13 +33,23 @@ func TestHeadersComeBack(t *testing.T) {
 }
 
 func TestForeignHeaders(t *testing.T) {
-	for _, headers := range []amqp.Table{nil, {"sender": "a"},
-		{"sender": "a", "number": "0", "first": int64(0), "named": false},
-		{"sender": "\xff", "number": int64(0), "first": int64(0), "named": false},
-		{"sender": "", "number": int64(0), "first": int64(0), "named": false},
-		{"sender": "a", "number": int64(-1), "first": int64(0), "named": false}} {
-		if claim, err := ReadClaim(headers); err == nil {
-			t.Errorf("%v is read as %+v", headers, claim)
+	valid := amqp.Table{"kind": "lines", "sender": "a", "named": false, "epoch": int64(0), "batch": "", "number": int32(4)}
+	if from, err := ReadOrigin(valid, time.Time{}); err != nil || from.Number != 4 {
+		t.Errorf("narrow numbers: %+v, %v", from, err)
+	}
+	for name, value := range map[string]interface{}{"kind": "x", "sender": "\xff", "named": 1, "epoch": int64(-1),
+		"batch": strings.Repeat("x", 256), "number": "0"} {
+		headers := amqp.Table{}
+		for key, own := range valid {
+			headers[key] = own
+		}
+		headers[name] = value
+		if from, err := ReadOrigin(headers, time.Time{}); err == nil {
+			t.Errorf("%v is read as %+v", headers, from)
+		}
+		delete(headers, name)
+		if from, err := ReadOrigin(headers, time.Time{}); err == nil {
+			t.Errorf("%v is read as %+v", headers, from)
 		}
 	}
 	if _, is, err := ReadPart(amqp.Table{MarkHeader: "x"}); is || err != nil {
@@ -39,8 +57,5 @@ func TestForeignHeaders(t *testing.T) {
 	}
 	if _, _, err := ReadPart(amqp.Table{"kind": "answers", "offset": int64(1)}); err == nil {
 		t.Error("answers without a place are read")
-	}
-	if claim, err := ReadClaim(amqp.Table{"sender": "a", "number": int32(4), "first": int8(0), "named": false}); err != nil || claim.Number != 4 {
-		t.Errorf("narrow numbers: %+v, %v", claim, err)
 	}
 }

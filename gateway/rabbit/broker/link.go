@@ -191,9 +191,9 @@ func (l *Link) Because(err error) error {
 // message by message before it does anything else, which takes long with the 500 MB that are RabbitMQ's own.
 const SegmentBytes = 8 << 20
 
-// DeclareStreams makes the streams of a partition that aren't there, with files so long, or as long as RabbitMQ makes them
+// DeclareStreams makes the streams of a partition and the registry that aren't there, with files so long, or as long as RabbitMQ makes them
 // where that is 0. The broker isn't asked for how many messages they have: it would ask the node of a stream's leader, and
-// wait for it without end. That the channel ends in good order says that all is done.
+// wait for it without end. The streams are there once the channel has ended.
 func (l *Link) DeclareStreams(settings Settings, partition int, segment int64) error {
 	channel, err := l.Channel()
 	if err != nil {
@@ -203,14 +203,26 @@ func (l *Link) DeclareStreams(settings Settings, partition int, segment int64) e
 	if segment > 0 {
 		stream["x-stream-max-segment-size-bytes"] = segment
 	}
-	for _, kind := range []Kind{Lines, Answers} {
-		queue := settings.Queue(kind, partition)
+	for _, queue := range []string{settings.Queue(Lines, partition), settings.Queue(Answers, partition), Registry} {
 		if _, err := channel.QueueDeclare(queue, true, false, false, true, stream); err != nil {
 			return l.Because(fmt.Errorf("queue %s: %w", queue, err))
 		}
 	}
+	if err := l.end(channel); err != nil {
+		return fmt.Errorf("the streams of partition %d: %w", partition, err)
+	}
+	return nil
+}
+
+// end closes a channel once the broker has done all that was asked on it. The client library loses the broker's reason
+// for closing a channel where it has read that reason but not yet reported it when Close is called. So end first asks for
+// something that is answered: the broker answers in order, and after that answer nothing is left that it could refuse.
+func (l *Link) end(channel *amqp.Channel) error {
+	if err := channel.Qos(1, 0, false); err != nil {
+		return l.Because(fmt.Errorf("closing a channel: %w", err))
+	}
 	if err := channel.Close(); err != nil {
-		return l.Because(fmt.Errorf("the streams of partition %d: %w", partition, err))
+		return l.Because(fmt.Errorf("closing a channel: %w", err))
 	}
 	return nil
 }

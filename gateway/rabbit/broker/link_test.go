@@ -6,16 +6,16 @@ import (
 	"testing"
 	"time"
 
-	"gateway/rabbit/fake"
+	"gateway/rabbit/brokertest"
 )
 
 // Brokers that are there and do not answer hold a connection up for no longer than their turns are.
 func TestConnectingBesideSilentBrokers(t *testing.T) {
 	settings := Settings{Partitions: 1}
 	for range make([]int, 5) {
-		settings.Addresses = append(settings.Addresses, fake.Silent(t))
+		settings.Addresses = append(settings.Addresses, brokertest.Silent(t))
 	}
-	settings.Addresses = append(settings.Addresses, fake.Start(t).Address)
+	settings.Addresses = append(settings.Addresses, brokertest.Start(t).Address)
 	begun := time.Now()
 	link, err := Connect(context.Background(), settings, "test")
 	if err != nil {
@@ -37,7 +37,7 @@ func TestNoBroker(t *testing.T) {
 
 // Streams whose leader does not tell how many messages there are hold nothing up.
 func TestStreamsThatAreNotCounted(t *testing.T) {
-	b := fake.Start(t)
+	b := brokertest.Start(t)
 	b.Counts = func(string) bool { return false }
 	settings := Settings{Addresses: []string{b.Address}, Partitions: 1}
 	link, err := Connect(context.Background(), settings, "test")

@@ -101,9 +101,4 @@ func (p *Publisher) Settle() error {
 }
 
 // Close ends the publisher's channel.
-func (p *Publisher) Close() error {
-	if err := p.channel.Close(); err != nil {
-		return p.link.Because(fmt.Errorf("ending a channel: %w", err))
-	}
-	return nil
-}
+func (p *Publisher) Close() error { return p.link.end(p.channel) }

@@ -30,6 +30,13 @@ const MessageBytes = 256 << 10
 // MessageLines is how many lines a message carries at most.
 const MessageLines = 2048
 
+// prefix begins the name of every queue. Its number rises with the form of their messages, so that no program reads those
+// of another form.
+const prefix = "desk.2."
+
+// Registry is the stream in which senders with names of their own claim these.
+const Registry = prefix + "senders"
+
 // A Kind is one of the three queues of a partition.
 type Kind string
 
@@ -84,5 +91,5 @@ func (s Settings) order() []string {
 
 // Queue is the name of a partition's queue. It has the number of partitions: who counts with another finds no queue.
 func (s Settings) Queue(kind Kind, partition int) string {
-	return fmt.Sprintf("desk.%s.%d.of.%d", kind, partition, s.Partitions)
+	return fmt.Sprintf("%s%s.%d.of.%d", prefix, kind, partition, s.Partitions)
 }

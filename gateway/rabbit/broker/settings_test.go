@@ -13,7 +13,7 @@ func TestSettings(t *testing.T) {
 	t.Setenv(BrokersVariable, "amqp://a:1,amqps://user:secret@b")
 	t.Setenv(PartitionsVariable, "8")
 	settings, err = ReadSettings()
-	if err != nil || len(settings.Addresses) != 2 || settings.Queue(Lines, 3) != "desk.lines.3.of.8" {
+	if err != nil || len(settings.Addresses) != 2 || settings.Queue(Lines, 3) != "desk.2.lines.3.of.8" {
 		t.Errorf("%+v, %v", settings, err)
 	}
 	for _, number := range []string{"0", "1025", "x"} {

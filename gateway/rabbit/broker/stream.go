@@ -102,9 +102,4 @@ func (s *Stream) Next() (amqp.Delivery, int64, error) {
 }
 
 // Close ends the reading.
-func (s *Stream) Close() error {
-	if err := s.channel.Close(); err != nil {
-		return s.link.Because(fmt.Errorf("ending a reader: %w", err))
-	}
-	return nil
-}
+func (s *Stream) Close() error { return s.link.end(s.channel) }

@@ -7,6 +7,7 @@ import (
 	"encoding/hex"
 	"errors"
 	"fmt"
+	"time"
 
 	amqp "github.com/rabbitmq/amqp091-go"
 
@@ -21,8 +22,11 @@ type History struct {
 	Records []answer.Record // the answers behind it, in order
 	// Messages is how many messages stand behind it.
 	Messages int
-	chain    ledger.Chain
-	found    bool // whether there is a snapshot, or the stream's beginning was read
+	// Unread are the faults of the snapshots that could not be read. The one before each counts.
+	Unread []error
+	keep   time.Duration
+	chain  ledger.Chain
+	found  bool // whether there is a snapshot, or the stream's beginning was read
 }
 
 // Upto is the place up to which all is answered.
@@ -53,7 +57,9 @@ type Progress interface {
 // Read publishes a mark in the stream, and reads the stream up to it from the last snapshot on: it begins with the
 // last messages, and goes further and further back until a snapshot is there. So it takes as long as the way from the
 // last snapshot is, whatever stands before it. So many messages are on their way at a time. The progress may be nil.
-func Read(link *broker.Link, publisher *broker.Publisher, queue string, open int, progress Progress) (*History, error) {
+//
+// Named senders are known for so long after their last message.
+func Read(link *broker.Link, publisher *broker.Publisher, queue string, open int, keep time.Duration, progress Progress) (*History, error) {
 	if progress == nil {
 		progress = unwatched{}
 	}
@@ -69,7 +75,7 @@ func Read(link *broker.Link, publisher *broker.Publisher, queue string, open int
 	if err := publisher.Publish(queue, amqp.Table{broker.MarkHeader: mark}, nil); err != nil {
 		return nil, err
 	}
-	p := &reader{mark: mark, progress: progress}
+	p := &reader{mark: mark, keep: keep, progress: progress}
 	h, end, err := p.pass(stream, -1)
 	progress.Passed("the mark is there")
 	for back := int64(firstStep); err == nil && !h.found; back *= step {
@@ -97,13 +103,14 @@ func (unwatched) Passed(string) {}
 
 type reader struct {
 	mark     string
+	keep     time.Duration
 	progress Progress
 }
 
 // pass reads the stream up to the mark, whose offset it tells. It was begun at the offset from, or at the last
 // messages where that is negative.
 func (r *reader) pass(stream *broker.Stream, from int64) (*History, int64, error) {
-	h := New(false)
+	h := New(false, r.keep)
 	cut := false
 	for first := true; ; first = false {
 		delivery, offset, err := stream.Next()
@@ -113,7 +120,7 @@ func (r *reader) pass(stream *broker.Stream, from int64) (*History, int64, error
 		r.progress.Moved()
 		switch {
 		case first && offset == 0:
-			h = New(true)
+			h = New(true, r.keep)
 		case first:
 			cut = from == 0
 		}
@@ -130,9 +137,10 @@ func (r *reader) pass(stream *broker.Stream, from int64) (*History, int64, error
 	}
 }
 
-// New is a history without a message, at the beginning of a stream or somewhere in it.
-func New(beginning bool) *History {
-	h := &History{Ledger: ledger.New(), found: beginning}
+// New is a history without a message, at the beginning of a stream or somewhere in it. Named senders are known for so long
+// after their last message.
+func New(beginning bool, keep time.Duration) *History {
+	h := &History{Ledger: ledger.New(keep), keep: keep, found: beginning}
 	if beginning {
 		h.chain.Reach(ledger.Start)
 	}
@@ -170,9 +178,10 @@ func (h *History) takeSnapshot(part broker.Part, body []byte) error {
 	if h.found && !h.Ledger.Place.Before(part.Upto) {
 		return nil
 	}
-	l, err := ledger.Read(body)
-	if err != nil {
-		return err
+	l, err := ledger.Read(body, h.keep)
+	if err != nil { // the snapshot before it counts, which may stand further back
+		h.Unread = append(h.Unread, err)
+		return nil
 	}
 	h.found, h.Ledger, h.Messages = true, l, 0
 	h.chain.Reach(part.Upto)

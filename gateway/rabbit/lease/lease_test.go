@@ -7,10 +7,10 @@ import (
 	"time"
 
 	"gateway/rabbit/broker"
-	"gateway/rabbit/fake"
+	"gateway/rabbit/brokertest"
 )
 
-func connected(t *testing.T, b *fake.Broker, partitions int) (*broker.Link, broker.Settings) {
+func connected(t *testing.T, b *brokertest.Broker, partitions int) (*broker.Link, broker.Settings) {
 	t.Helper()
 	ctx, stop := context.WithCancel(context.Background())
 	t.Cleanup(stop)
@@ -25,21 +25,21 @@ func connected(t *testing.T, b *fake.Broker, partitions int) (*broker.Link, brok
 
 // A partition that is free is taken at once, also where the queues of others do not confirm, and these are given up.
 func TestALeaseBesideQueuesThatDoNotConfirm(t *testing.T) {
-	b := fake.Start(t)
-	b.Confirms = func(queue string) bool { return fake.Is(queue, "lease", "3") }
-	b.Full = func(queue string) bool { return fake.Is(queue, "lease", "3") }
+	b := brokertest.Start(t)
+	b.Confirms = func(queue string) bool { return brokertest.Is(queue, "lease", "3") }
+	b.Full = func(queue string) bool { return brokertest.Is(queue, "lease", "3") }
 	b.Counts = b.Confirms
 	link, settings := connected(t, b, 8)
 	begun := time.Now()
 	held, err := Wait(context.Background(), link, settings)
-	if err != nil || held.Partition != 3 || time.Since(begun) > 5*time.Second {
+	if err != nil || held.Partition != 3 || time.Since(begun) >= broker.Patience {
 		t.Fatalf("%+v, %v, after %v", held, err, time.Since(begun))
 	}
 	givenUp(t, b, 7)
 }
 
 // givenUp waits until so many consumers were cancelled.
-func givenUp(t *testing.T, b *fake.Broker, count int) {
+func givenUp(t *testing.T, b *brokertest.Broker, count int) {
 	t.Helper()
 	for begun := time.Now(); len(b.Cancelled()) < count; time.Sleep(10 * time.Millisecond) {
 		if time.Since(begun) > 10*time.Second {
@@ -50,8 +50,10 @@ func givenUp(t *testing.T, b *fake.Broker, count int) {
 
 // The partitions that were asked for are given up once one is held.
 func TestTheOthersAreGivenUp(t *testing.T) {
-	b := fake.Start(t)
-	b.Full = func(queue string) bool { return fake.Is(queue, "lease", "1") || fake.Is(queue, "lease", "2") }
+	b := brokertest.Start(t)
+	b.Full = func(queue string) bool {
+		return brokertest.Is(queue, "lease", "1") || brokertest.Is(queue, "lease", "2")
+	}
 	link, settings := connected(t, b, 4)
 	if _, err := Wait(context.Background(), link, settings); err != nil {
 		t.Fatal(err)
@@ -61,8 +63,8 @@ func TestTheOthersAreGivenUp(t *testing.T) {
 
 // Where the broker ends the waiting for a lease, all is begun anew.
 func TestAWaitingThatTheBrokerEnds(t *testing.T) {
-	b := fake.Start(t)
-	b.Ends = func(queue string) bool { return fake.Is(queue, "lease", "1") }
+	b := brokertest.Start(t)
+	b.Ends = func(queue string) bool { return brokertest.Is(queue, "lease", "1") }
 	link, settings := connected(t, b, 2)
 	if _, err := Wait(context.Background(), link, settings); err == nil || !strings.Contains(err.Error(), "partition 1") {
 		t.Error(err)

@@ -1,9 +1,7 @@
 package ledger
 
 import (
-	"bytes"
-	"encoding/json"
-	"fmt"
+	"time"
 
 	"gateway/rabbit/line"
 )
@@ -12,119 +10,40 @@ import (
 type Ledger struct {
 	Place   Place // up to which all lines are answered
 	Lines   int64 // how many lines were given to the engine, or refused in its stead
-	Model   []byte
+	Models  *Models
 	Tickets [line.Clients]int64 // the next ticket of each client
 	Senders *Senders
 }
 
-// New is the ledger of an empty log.
-func New() *Ledger { return &Ledger{Place: Start, Senders: NewSenders(nil)} }
+// New is the ledger of an empty log. Named senders are known for so long after their last message; 0 says for ever.
+func New(keep time.Duration) *Ledger {
+	return (&Ledger{Place: Start, Models: NewModels()}).with(NewSenders(nil, time.Time{}, keep))
+}
 
-// An Outcome is what an answer changes for the lines behind it.
+func (l *Ledger) with(senders *Senders) *Ledger {
+	l.Senders = senders
+	senders.forget = func(batch BatchKey) { l.Models.Forget(batch) }
+	return l
+}
+
+// An Outcome is what an answer changes for the lines after it.
 type Outcome struct {
 	HasTicket bool
 	Ticket    int64 // the ticket of the answer, where it has one
 	InForce   bool  // whether the line is a model, and was put in force
 }
 
-// Skip takes in that a line has no answer.
+// Skip takes in that a line or a message has no answer.
 func (l *Ledger) Skip(place Place) { l.Place = place }
 
-// Settle takes in that a line is answered.
-func (l *Ledger) Settle(place Place, client int, engineLine []byte, outcome Outcome) {
+// Settle takes in that a line of a batch is answered.
+func (l *Ledger) Settle(place Place, batch BatchKey, read line.Line, outcome Outcome) {
 	l.Place = place
 	l.Lines++
 	if outcome.InForce {
-		l.Model = engineLine
+		l.Models.Put(batch, read.Engine)
 	}
-	if outcome.HasTicket && client != line.NoClient {
-		l.Tickets[client] = outcome.Ticket + 1
+	if outcome.HasTicket && !read.IsModel() {
+		l.Tickets[read.Client] = outcome.Ticket + 1
 	}
-}
-
-// snapshot is the ledger in JSON.
-type snapshot struct {
-	Place   Place            `json:"place"`
-	Lines   int64            `json:"lines"`
-	Model   json.RawMessage  `json:"model,omitempty"`
-	Tickets map[string]int64 `json:"tickets"`
-	Senders []senderRecord   `json:"senders"`
-}
-
-type senderRecord struct {
-	Name  string   `json:"name"`
-	Next  int64    `json:"next"`
-	First int64    `json:"first,omitempty"`
-	Count int64    `json:"count,omitempty"`
-	Marks [][]byte `json:"marks,omitempty"`
-	Last  []byte   `json:"last,omitempty"`
-}
-
-// Snapshot is the ledger as the body of a message.
-func (l *Ledger) Snapshot() ([]byte, error) {
-	s := snapshot{Place: l.Place, Lines: l.Lines, Model: l.Model, Tickets: map[string]int64{}, Senders: []senderRecord{}}
-	for client, ticket := range l.Tickets {
-		if ticket > 0 {
-			s.Tickets[line.ClientName(client)] = ticket
-		}
-	}
-	for _, sender := range l.Senders.All() {
-		s.Senders = append(s.Senders, recordOf(sender))
-	}
-	var body bytes.Buffer
-	encoder := json.NewEncoder(&body)
-	encoder.SetEscapeHTML(false) // the model stays as it was sent
-	if err := encoder.Encode(s); err != nil {
-		return nil, fmt.Errorf("writing a snapshot: %w", err)
-	}
-	return body.Bytes(), nil
-}
-
-func recordOf(sender Sender) senderRecord {
-	record := senderRecord{Name: sender.Name, Next: sender.Next}
-	if run := sender.Run; run != nil {
-		record.First, record.Count, record.Last = run.First, run.Count, append([]byte(nil), run.Last[:]...)
-		for _, mark := range run.Marks {
-			record.Marks = append(record.Marks, append([]byte(nil), mark[:]...))
-		}
-	}
-	return record
-}
-
-func (r senderRecord) sender() Sender {
-	sender := Sender{Name: r.Name, Next: r.Next}
-	if r.Last == nil {
-		return sender
-	}
-	run := &Run{First: r.First, Count: r.Count}
-	copy(run.Last[:], r.Last)
-	for _, digest := range r.Marks {
-		var mark Digest
-		copy(mark[:], digest)
-		run.Marks = append(run.Marks, mark)
-	}
-	sender.Run = run
-	return sender
-}
-
-// Read reads a snapshot.
-func Read(body []byte) (*Ledger, error) {
-	var s snapshot
-	if err := json.Unmarshal(body, &s); err != nil {
-		return nil, fmt.Errorf("reading a snapshot: %w", err)
-	}
-	l := &Ledger{Place: s.Place, Lines: s.Lines, Model: s.Model}
-	for name, ticket := range s.Tickets {
-		client, known := line.ClientNumber([]byte(name))
-		if !known {
-			return nil, fmt.Errorf("reading a snapshot: %q is no client", name)
-		}
-		l.Tickets[client] = ticket
-	}
-	senders := make([]Sender, len(s.Senders))
-	for at, record := range s.Senders {
-		senders[at] = record.sender()
-	}
-	l.Senders = NewSenders(senders)
-	return l, nil
 }

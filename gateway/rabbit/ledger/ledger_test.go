@@ -5,6 +5,7 @@ import (
 	"fmt"
 	"reflect"
 	"testing"
+	"time"
 
 	"gateway/rabbit/line"
 )
@@ -39,80 +40,188 @@ func TestChain(t *testing.T) {
 	}
 }
 
+// A senderLog gives messages to senders, one second after the other.
+type senderLog struct {
+	*Senders
+	now time.Time
+}
+
+func newSenderLog(keep time.Duration) *senderLog {
+	return &senderLog{NewSenders(nil, time.Time{}, keep), time.Unix(1_000_000, 0)}
+}
+
+// take takes a line of a named sender.
+func (s *senderLog) take(sender string, epoch int64, batch string, number int64) Verdict {
+	s.now = s.now.Add(time.Second)
+	verdict, _, _ := s.Take(Origin{Kind: Lines, Sender: sender, Named: true, Epoch: epoch, Batch: batch, Sent: s.now}, number, []byte{byte(number)})
+	return verdict
+}
+
+func (s *senderLog) control(kind Kind, sender string, epoch int64, batch string) bool {
+	s.now = s.now.Add(time.Second)
+	return s.Control(Origin{Kind: kind, Sender: sender, Named: true, Epoch: epoch, Batch: batch, Sent: s.now})
+}
+
+// Each line of a batch is taken once, and one with the same number in another batch is another line.
 func TestSendersTakeEachLineOnce(t *testing.T) {
-	s := NewSenders(nil)
-	take := func(sender string, number int64) bool {
-		taken, _ := s.Take(Claim{Sender: sender}, number, nil)
-		return taken
-	}
-	for step, got := range []bool{take("a", 0), take("a", 1), !take("a", 0), !take("a", 1), take("b", 7), !take("b", 6), take("a", 2)} {
+	s := newSenderLog(0)
+	for step, got := range []bool{
+		s.take("a", 1, "x", 0) == Taken, s.take("a", 1, "x", 1) == Taken,
+		s.take("a", 1, "x", 0) == Repeated, s.take("a", 1, "x", 1) == Repeated,
+		s.take("a", 1, "y", 0) == Taken, s.take("b", 1, "x", 0) == Taken, s.take("a", 1, "x", 2) == Taken,
+	} {
 		if !got {
 			t.Errorf("step %d", step)
 		}
 	}
-	if _, missing := s.Take(Claim{Sender: "a"}, 5, nil); missing != 2 {
-		t.Errorf("%d are missing", missing)
+	_, first, missing := s.Take(Origin{Sender: "a", Named: true, Epoch: 1, Batch: "x"}, 5, nil)
+	if first || missing != 2 {
+		t.Errorf("%v, %d are missing", first, missing)
 	}
 }
 
-func TestTheOldestSenderIsForgotten(t *testing.T) {
-	s := NewSenders(nil)
-	for number := 0; number < MaximumSenders; number++ {
-		s.Take(Claim{Sender: fmt.Sprint(number)}, 0, nil)
-	}
-	s.Take(Claim{Sender: "0"}, 1, nil)
-	s.Take(Claim{Sender: "one more"}, 0, nil)
-	if s.Find("0") == nil || s.Find("1") != nil || len(s.All()) != MaximumSenders {
-		t.Error("another one than the oldest is forgotten")
+// Where a newer process has claimed a name, no line of the older one is taken, whichever of the two speaks first.
+func TestANewerProcessFencesTheOlder(t *testing.T) {
+	s := newSenderLog(0)
+	s.take("a", 5, "x", 0)
+	s.control(Claim, "a", 9, "")
+	s.control(Claim, "a", 7, "") // two claims that come in the other order
+	for step, got := range []bool{
+		s.take("a", 5, "x", 1) == Fenced, s.take("a", 7, "x", 1) == Fenced, s.take("a", 9, "x", 0) == Repeated,
+		s.take("a", 9, "x", 1) == Taken, !s.control(End, "a", 7, "x"), s.take("a", 9, "x", 2) == Taken,
+		s.control(End, "a", 9, "x"), s.take("a", 9, "x", 3) == Repeated,
+	} {
+		if !got {
+			t.Errorf("step %d", step)
+		}
 	}
 }
 
-func TestRunsAreKeptOfNamedSenders(t *testing.T) {
-	s := NewSenders(nil)
+// Senders without names of their own push out no named one, and are forgotten at their end.
+func TestNamelessSendersPushOutTheirOwnAlone(t *testing.T) {
+	s := newSenderLog(0)
+	s.take("named", 1, "x", 0)
+	nameless := func(name string, kind Kind) {
+		from := Origin{Kind: kind, Sender: name, Sent: s.now}
+		if kind == End {
+			s.Control(from)
+			return
+		}
+		s.Take(from, 0, nil)
+	}
+	for number := 0; number <= MaximumNameless; number++ {
+		nameless(fmt.Sprint(number), Lines)
+	}
+	nameless("5", End)
+	if s.Find("named") == nil || s.Find("0") != nil || s.Find("1") == nil || s.Find("5") != nil {
+		t.Error("another one than the oldest without a name is forgotten")
+	}
+	s.now = s.now.Add(namelessTime + time.Second)
+	s.take("named", 1, "x", 1)
+	if all := s.All(); len(all) != 1 || all[0].Name != "named" {
+		t.Errorf("%d senders are known a day later", len(all))
+	}
+}
+
+// Names and batches are known for their time, by the time stamps in the log, and no sender has too many batches.
+func TestWhatIsOldIsForgotten(t *testing.T) {
+	s := newSenderLog(time.Hour)
+	s.take("a", 1, "x", 0)
+	s.take("b", 1, "x", 0)
+	s.now = s.now.Add(59 * time.Minute)
+	s.take("a", 1, "y", 0)
+	s.now = s.now.Add(2 * time.Minute)
+	s.take("a", 1, "z", 0)
+	if a := s.Find("a"); s.Find("b") != nil || a.Batch("x") != nil || a.Batch("y") == nil {
+		t.Errorf("known are %+v", s.All())
+	}
+	for number := 0; number < MaximumBatches; number++ {
+		s.now = s.now.Add(-time.Second)
+		s.take("a", 1, fmt.Sprint(number), 0)
+	}
+	if a := s.Find("a"); len(a.Batches) != MaximumBatches || a.Batch("z") != nil || a.Batch("0") == nil {
+		t.Errorf("%d batches", len(a.Batches))
+	}
+}
+
+func TestDigestsOfABatch(t *testing.T) {
+	s := newSenderLog(0)
 	for number := int64(0); number < 5; number++ {
-		s.Take(Claim{Sender: "a", First: 0, Named: true}, number, []byte{byte(number)})
+		s.take("a", 1, "x", number)
 	}
-	run := s.Find("a").Run
-	if run.Count != 5 || len(run.Marks) != 3 {
-		t.Fatalf("%+v", run)
+	batch := s.Find("a").Batch("x")
+	if batch.Count != 5 || len(batch.Marks) != 3 {
+		t.Fatalf("%+v", batch)
 	}
 	var digest Digest
 	for number := byte(0); number < 4; number++ {
 		digest = digest.With([]byte{number})
 	}
-	if mark, is := run.Mark(4); !is || mark != digest {
+	if mark, is := batch.Mark(4); !is || mark != digest {
 		t.Error("the digest of four lines is another")
 	}
-	if _, is := run.Mark(3); is {
+	if _, is := batch.Mark(3); is {
 		t.Error("three lines have a digest")
 	}
-	s.Take(Claim{Sender: "a", First: 5, Named: true}, 5, nil)
-	if run := s.Find("a").Run; run.First != 5 || run.Count != 1 {
-		t.Errorf("a new run: %+v", run)
+}
+
+// A batch keeps its own model, and one without has that of the log at its first line.
+func TestModelsOfBatches(t *testing.T) {
+	m := NewModels()
+	a, b, c := BatchKey{"s", "a"}, BatchKey{"s", "b"}, BatchKey{"s", "c"}
+	m.Begin(a)
+	if m.At(a) != nil {
+		t.Error("there is a model before any")
+	}
+	m.Put(a, []byte("1"))
+	m.Begin(b)
+	m.Put(b, []byte("2"))
+	m.Begin(c)
+	if string(m.At(a)) != "1" || string(m.At(b)) != "2" || string(m.At(c)) != "2" || string(m.Last()) != "2" {
+		t.Errorf("%q, %q, %q", m.At(a), m.At(b), m.At(c))
 	}
 }
 
 func TestSnapshotsComeBack(t *testing.T) {
-	l := New()
-	l.Settle(Place{0, 0}, line.NoClient, []byte(`{"model":{"inputs":["a < b & é"]}}`), Outcome{InForce: true})
-	l.Settle(Place{0, 1}, 5, nil, Outcome{HasTicket: true, Ticket: 41})
-	l.Settle(Place{1, 0}, 5, nil, Outcome{})
+	l := New(time.Hour)
+	sent := time.UnixMilli(1_700_000_000_123)
+	from := func(sender, batch string) Origin {
+		return Origin{Kind: Lines, Sender: sender, Named: sender != "b", Epoch: 1, Batch: batch, Sent: sent}
+	}
+	model := line.Line{Client: line.NoClient, Engine: []byte(`{"model":{"inputs":["a < b & é"]}}`)}
+	for _, origin := range []Origin{from("b", ""), from(`a "name"`, "x"), from(`a "name"`, "y")} {
+		l.Senders.Take(origin, 0, []byte("x"))
+		l.Models.Begin(origin.Key())
+	}
+	l.Settle(Place{0, 0}, from(`a "name"`, "x").Key(), model, Outcome{InForce: true})
+	l.Settle(Place{0, 1}, from("b", "").Key(), line.Line{Client: 5}, Outcome{HasTicket: true, Ticket: 41})
+	l.Settle(Place{1, 0}, from("b", "").Key(), line.Line{Client: 5}, Outcome{})
 	l.Skip(Place{1, 1})
-	l.Senders.Take(Claim{Sender: "b"}, 3, []byte("x"))
-	l.Senders.Take(Claim{Sender: `a "name"`, First: 1, Named: true}, 1, []byte("x"))
+	end := from(`a "name"`, "y")
+	end.Kind = End
+	l.Senders.Control(end)
 	body, err := l.Snapshot()
 	if err != nil {
 		t.Fatal(err)
 	}
-	back, err := Read(body)
+	back, err := Read(body, time.Hour)
 	if err != nil {
 		t.Fatal(err)
 	}
+	again, err := back.Snapshot()
+	if err != nil || !bytes.Equal(again, body) {
+		t.Errorf("%s is not %s, %v", again, body, err)
+	}
 	if back.Place != l.Place || back.Lines != 3 || back.Tickets != l.Tickets || back.Tickets[5] != 42 ||
-		!bytes.Equal(back.Model, l.Model) || !reflect.DeepEqual(back.Senders.All(), l.Senders.All()) {
+		!reflect.DeepEqual(back.Models, l.Models) || !reflect.DeepEqual(back.Senders.All(), l.Senders.All()) {
 		t.Errorf("%+v is not %+v", back, l)
 	}
-	if _, err := Read([]byte(`{"tickets":{"n64":1}}`)); err == nil {
-		t.Error("a client that is none is read")
+}
+
+func TestSnapshotsThatAreRefused(t *testing.T) {
+	for _, body := range []string{``, `{"tickets":{"n64":1},"version":2,"model":-1}`, `{"version":1,"model":-1}`, `{"version":2,"model":0}`} {
+		if _, err := Read([]byte(body), 0); err == nil {
+			t.Errorf("%s is read", body)
+		}
 	}
 }

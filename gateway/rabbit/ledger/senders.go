@@ -2,102 +2,85 @@ package ledger
 
 import (
 	"container/list"
-	"crypto/sha256"
-	"math/bits"
+	"time"
 )
 
-// MaximumSenders is how many senders of a partition are known at a time. One more, and the sender whose last line is
-// the oldest is forgotten.
-const MaximumSenders = 10_000
+// MaximumNameless is how many senders without a name of their own are known at a time. One more, and the one whose last
+// line is the oldest is forgotten.
+const MaximumNameless = 10_000
 
-// DigestBytes is the length of a digest.
-const DigestBytes = 12
+// MaximumBatches is how many batches of a sender are known at a time. One more, and the oldest is forgotten.
+const MaximumBatches = 1000
 
-// A Digest stands for a list of lines: that of the list with one line more comes from it and the line.
-type Digest [DigestBytes]byte
-
-// With is the digest of the list with one line more.
-func (d Digest) With(line []byte) Digest {
-	hash := sha256.New()
-	hash.Write(d[:])
-	hash.Write(line)
-	var next Digest
-	copy(next[:], hash.Sum(nil))
-	return next
-}
-
-// A Run is what is known of the lines that a sender sent since it was started last. It is kept for senders with a
-// name of their own alone, since no other is started again.
-type Run struct {
-	First int64 // the number of its first line
-	Count int64 // how many of its lines were taken
-	// Marks are the digests of its first 1, 2, 4, 8, .. lines, as many as were taken.
-	Marks []Digest
-	Last  Digest // the digest of all
-}
-
-// Add takes one line more in.
-func (r *Run) Add(line []byte) {
-	r.Count++
-	r.Last = r.Last.With(line)
-	if r.Count&(r.Count-1) == 0 {
-		r.Marks = append(r.Marks, r.Last)
-	}
-}
-
-// Mark is the digest of the run's first lines, where one is kept of so many.
-func (r *Run) Mark(count int64) (Digest, bool) {
-	if count == r.Count {
-		return r.Last, true
-	}
-	at := bits.TrailingZeros64(uint64(count))
-	if count&(count-1) != 0 || at >= len(r.Marks) {
-		return Digest{}, false
-	}
-	return r.Marks[at], true
-}
+// namelessTime is how long such a sender is known after its last message, by the time stamps in the log. It is forgotten
+// at its end; this is for one that has died.
+const namelessTime = 24 * time.Hour
 
 // A Sender is what is known of one sender.
 type Sender struct {
-	Name string
-	Next int64 // the number of its next line
-	Run  *Run  // nil of a sender without a name of its own
+	Name    string
+	Named   bool
+	Epoch   int64    // of the newest process
+	Batches []*Batch // the one that came last stands last
+	Sent    time.Time
 }
 
-// A Claim is what a message says of itself: who sent it, and as which of the sender's lines.
-type Claim struct {
-	Sender string
-	Number int64 // of the message's first line
-	First  int64 // the number of the first line since the sender was started
-	Named  bool  // whether the sender has a name of its own, under which it may be started again
+// Batch is what is known of a batch, or nil.
+func (s *Sender) Batch(id string) *Batch {
+	if s == nil {
+		return nil
+	}
+	for at := len(s.Batches) - 1; at >= 0; at-- {
+		if s.Batches[at].ID == id {
+			return s.Batches[at]
+		}
+	}
+	return nil
 }
 
-// Senders knows the last number of each sender. The zero value is no Senders; NewSenders makes one.
+// Senders knows what each sender has sent. It is a function of the log. NewSenders makes one.
 type Senders struct {
+	keep   time.Duration // how long named senders and their batches are known; 0 says for ever
+	now    time.Time     // the latest time stamp in the log
 	byName map[string]*list.Element
-	byUse  *list.List // of *Sender, the one that sent last at the back
+	byUse  [2]*list.List // of *Sender, without and with names of their own, the one that sent last at the back
+	forget func(BatchKey)
 }
 
-// NewSenders knows these senders; the one that sent last comes last.
-func NewSenders(known []Sender) *Senders {
-	s := &Senders{byName: make(map[string]*list.Element), byUse: list.New()}
+// NewSenders knows these senders, of each kind the one that sent last at the end, and the latest time stamp of the log.
+// Named ones are kept for so long after their last message; 0 says for ever.
+func NewSenders(known []Sender, now time.Time, keep time.Duration) *Senders {
+	s := &Senders{keep: keep, now: now, byName: make(map[string]*list.Element), byUse: [2]*list.List{list.New(), list.New()},
+		forget: func(BatchKey) {}}
 	for at := range known {
 		sender := known[at]
-		if sender.Run != nil {
-			run := *sender.Run
-			run.Marks = append([]Digest(nil), run.Marks...)
-			sender.Run = &run
+		batches := sender.Batches
+		sender.Batches = nil
+		for _, batch := range batches {
+			sender.Batches = append(sender.Batches, batch.clone())
 		}
-		s.byName[sender.Name] = s.byUse.PushBack(&sender)
+		s.byName[sender.Name] = s.of(sender.Named).PushBack(&sender)
 	}
 	return s
 }
 
-// All are the senders; the one that sent last comes last.
+// Clone is a copy that changes by itself.
+func (s *Senders) Clone() *Senders { return NewSenders(s.All(), s.now, s.keep) }
+
+func (s *Senders) of(named bool) *list.List {
+	if named {
+		return s.byUse[1]
+	}
+	return s.byUse[0]
+}
+
+// All are the senders; of each kind the one that sent last comes last.
 func (s *Senders) All() []Sender {
-	all := make([]Sender, 0, s.byUse.Len())
-	for element := s.byUse.Front(); element != nil; element = element.Next() {
-		all = append(all, *element.Value.(*Sender))
+	var all []Sender
+	for _, of := range s.byUse {
+		for element := of.Front(); element != nil; element = element.Next() {
+			all = append(all, *element.Value.(*Sender))
+		}
 	}
 	return all
 }
@@ -110,37 +93,114 @@ func (s *Senders) Find(name string) *Sender {
 	return nil
 }
 
-// Take takes a line with this number in, unless it was taken before, which it tells. A sender waits for the confirm of
-// a message before it sends the next one to the same partition, so none is missing before it: if one is, the broker
-// has lost it, and the number of lost lines is told. Of a sender that isn't known, any line is the first.
-func (s *Senders) Take(claim Claim, number int64, line []byte) (taken bool, missing int64) {
-	element := s.byName[claim.Sender]
-	if element == nil {
-		element = s.add(claim.Sender, number)
+// A Verdict is what becomes of a line.
+type Verdict int
+
+// What becomes of a line.
+const (
+	Taken    Verdict = iota
+	Repeated         // it was taken before
+	Fenced           // a newer process sends under its name
+)
+
+// Take takes a line with this number of its batch in, unless it was taken before or a newer process has the name. It
+// says whether the line is the first of its batch, and how many lines are missing before it: a sender waits for the
+// confirm of a message before it sends the next one to the same partition, so if some are, the broker has lost them.
+func (s *Senders) Take(from Origin, number int64, line []byte) (verdict Verdict, first bool, missing int64) {
+	sender := s.seen(from)
+	if from.Epoch < sender.Epoch {
+		return Fenced, false, 0
 	}
-	sender := element.Value.(*Sender)
-	if number < sender.Next {
-		return false, 0
+	sender.Epoch = from.Epoch
+	batch := sender.Batch(from.Batch)
+	if batch == nil {
+		batch, first = s.begin(sender, from.Batch), true
 	}
-	missing = number - sender.Next
-	sender.Next = number + 1
-	s.byUse.MoveToBack(element)
-	if claim.Named {
-		if sender.Run == nil || sender.Run.First != claim.First {
-			sender.Run = &Run{First: claim.First}
-		}
-		sender.Run.Add(line)
+	if missing = number - batch.Count; missing < 0 || batch.Ended {
+		return Repeated, false, 0
 	}
-	return true, missing
+	batch.Count = number // what is missing is reported once
+	batch.add(line)
+	batch.Sent = from.Sent
+	return Taken, first, missing
 }
 
-func (s *Senders) add(name string, number int64) *list.Element {
-	if s.byUse.Len() >= MaximumSenders {
-		oldest := s.byUse.Front()
-		delete(s.byName, oldest.Value.(*Sender).Name)
-		s.byUse.Remove(oldest)
+// Control takes in a claim or the end of a batch. It says whether it counts.
+func (s *Senders) Control(from Origin) bool {
+	sender := s.seen(from)
+	if from.Epoch < sender.Epoch {
+		return false
 	}
-	element := s.byUse.PushBack(&Sender{Name: name, Next: number})
-	s.byName[name] = element
-	return element
+	sender.Epoch = from.Epoch
+	if from.Kind != End {
+		return true
+	}
+	if !sender.Named {
+		s.remove(s.byName[sender.Name])
+		return true
+	}
+	batch := sender.Batch(from.Batch)
+	if batch == nil {
+		batch = s.begin(sender, from.Batch)
+	}
+	batch.Ended, batch.Marks, batch.Sent = true, nil, from.Sent
+	s.forget(from.Key())
+	return true
+}
+
+// begin begins a batch, and forgets those of the sender that are too old or too many.
+func (s *Senders) begin(sender *Sender, id string) *Batch {
+	batch := &Batch{ID: id, Sent: s.now}
+	sender.Batches = append(sender.Batches, batch)
+	for len(sender.Batches) > MaximumBatches || s.keep > 0 && s.now.Sub(sender.Batches[0].Sent) > s.keep {
+		s.forget(BatchKey{sender.Name, sender.Batches[0].ID})
+		sender.Batches = sender.Batches[1:]
+	}
+	return batch
+}
+
+// seen finds or makes the sender of a message, and forgets those whose time has passed.
+func (s *Senders) seen(from Origin) *Sender {
+	if from.Sent.After(s.now) {
+		s.now = from.Sent
+	}
+	s.forgetOld()
+	element := s.byName[from.Sender]
+	if element == nil {
+		element = s.of(from.Named).PushBack(&Sender{Name: from.Sender, Named: from.Named})
+		s.byName[from.Sender] = element
+		if nameless := s.of(false); nameless.Len() > MaximumNameless {
+			s.remove(nameless.Front())
+		}
+	}
+	sender := element.Value.(*Sender)
+	sender.Sent = s.now
+	s.of(sender.Named).MoveToBack(element)
+	return sender
+}
+
+// forgetOld forgets the senders and batches whose time has passed.
+func (s *Senders) forgetOld() {
+	for first := s.of(false).Front(); first != nil && s.isOld(first, namelessTime); first = s.of(false).Front() {
+		s.remove(first)
+	}
+	if s.keep == 0 {
+		return
+	}
+	for first := s.of(true).Front(); first != nil && s.isOld(first, s.keep); first = s.of(true).Front() {
+		s.remove(first)
+	}
+}
+
+func (s *Senders) isOld(element *list.Element, keep time.Duration) bool {
+	return s.now.Sub(element.Value.(*Sender).Sent) > keep
+}
+
+func (s *Senders) remove(element *list.Element) {
+	sender := element.Value.(*Sender)
+	delete(s.byName, sender.Name)
+	s.of(sender.Named).Remove(element)
+	for _, batch := range sender.Batches {
+		s.forget(BatchKey{sender.Name, batch.ID})
+	}
 }

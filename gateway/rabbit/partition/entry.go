@@ -1,24 +1,23 @@
 package partition
 
 import (
-	"time"
-
 	"gateway/rabbit/answer"
 	"gateway/rabbit/ledger"
 	"gateway/rabbit/line"
 )
 
-// An entry is a line of the log between its reading and its answer.
+// An entry is a line of the log, or a message without lines, between its reading and its answer.
 type entry struct {
 	place    ledger.Place
-	sent     time.Time // when its message was sent, by the sender's clock
-	claim    ledger.Claim
-	sequence int64  // its number among the sender's lines
+	from     ledger.Origin
+	sequence int64  // its number among the batch's lines
+	first    bool   // whether it is the first of its batch
+	ends     bool   // whether it ends its batch
 	raw      []byte // as it was sent
 	line     line.Line
 	number   int64 // its number among the lines of the log that are answered, from 1
 
-	skipped  bool  // it has no answer: desk send would not have sent it
+	skipped  bool  // it has no answer: it is no line, or desk send would not have sent it
 	known    bool  // its answer stands in the stream already
 	given    bool  // the engine has it
 	asked    int64 // its number in the engine's input

@@ -22,6 +22,7 @@ type Gauges struct {
 	refusals  map[answer.Reason]int64
 	takeovers int64
 	restarts  int64
+	unreads   int64     // snapshots that could not be read
 	moved     time.Time // when a line was answered last, or nothing waited
 }
 
@@ -43,6 +44,8 @@ func (g *Gauges) takeover(partition int) {
 }
 
 func (g *Gauges) left() { g.with(func() { g.partition, g.waiting, g.unread, g.seconds = -1, 0, 0, 0 }) }
+
+func (g *Gauges) unreadSnapshot() { g.with(func() { g.unreads++ }) }
 
 func (g *Gauges) restart() { g.with(func() { g.restarts++ }) }
 
@@ -107,6 +110,8 @@ func (g *Gauges) Collectors() []prometheus.Collector {
 		g.counter("engine_restarts_total", "Times that the engine was begun anew.", nil,
 			func() float64 { return float64(g.restarts) }),
 	}
+	all = append(all, g.counter("snapshots_unread_total", "Snapshots that could not be read; the one before counted.", nil,
+		func() float64 { return float64(g.unreads) }))
 	for _, reason := range []answer.Reason{answer.Deadline, answer.Died, answer.TooLong} {
 		reason := reason
 		all = append(all, g.counter("refusals_total", "Lines that were refused in the engine's stead.",

@@ -2,6 +2,7 @@ package partition
 
 import (
 	"bytes"
+	"errors"
 	"fmt"
 	"io"
 
@@ -24,10 +25,16 @@ type intake struct {
 	records []answer.Record // the answers behind the snapshot, up to there
 	offset  int64           // of the last message that was read
 	lines   int64           // how many lines were given numbers
+	mark    string          // of this takeover, published once the log is read
+	fault   error           // why the log can't be gone on with
 }
 
+// errOtherLog says that the stream of the lines was deleted, and is another one now.
+var errOtherLog = errors.New("the log is not the one that the answers are for: its stream was made anew. " +
+	"Delete both streams of the partition, so that it begins anew")
+
 func newIntake(log io.Writer, queue *queue, h *history.History) *intake {
-	return &intake{log: log, queue: queue, senders: ledger.NewSenders(h.Ledger.Senders.All()), begin: h.Ledger.Place,
+	return &intake{log: log, queue: queue, senders: h.Ledger.Senders.Clone(), begin: h.Ledger.Place,
 		upto: h.Upto(), records: h.Records, offset: -1, lines: h.Ledger.Lines}
 }
 
@@ -45,30 +52,46 @@ func (in *intake) take(delivery amqp.Delivery, offset int64) {
 		fmt.Fprintf(in.log, "the retention may have cut lines: those behind %v and before offset %d\n", in.begin, offset)
 	}
 	in.offset = offset
-	if _, isMark := delivery.Headers[broker.MarkHeader]; isMark {
+	if mark, isMark := delivery.Headers[broker.MarkHeader]; isMark {
+		if mark == in.mark && offset <= in.upto.Offset {
+			in.fault = errOtherLog
+		}
 		return
 	}
-	claim, err := broker.ReadClaim(delivery.Headers)
+	from, err := broker.ReadOrigin(delivery.Headers, delivery.Timestamp)
 	if err != nil {
 		in.drop(ledger.Place{Offset: offset}, err)
 		return
 	}
-	var repeated, missing int64
+	if from.Kind != ledger.Lines {
+		in.takeControl(from, ledger.Place{Offset: offset})
+		return
+	}
+	counts := map[ledger.Verdict]int64{}
+	var missing int64
 	for index, raw := range bytes.Split(delivery.Body, []byte("\n")) {
 		place := ledger.Place{Offset: offset, Index: int64(index)}
 		if !in.begin.Before(place) {
 			continue
 		}
-		e := &entry{place: place, sent: delivery.Timestamp, claim: claim, sequence: claim.Number + int64(index), raw: raw}
-		taken, lost := in.senders.Take(claim, e.sequence, raw)
+		e := &entry{place: place, from: from, sequence: from.Number + int64(index), raw: raw}
+		verdict, first, lost := in.senders.Take(from, e.sequence, raw)
+		counts[verdict]++
 		missing += lost
-		if taken {
+		if e.first = first; verdict == ledger.Taken {
 			in.takeLine(e)
-		} else {
-			repeated++
 		}
 	}
-	in.tell(offset, claim.Sender, repeated, missing)
+	in.tell(offset, from, counts, missing)
+}
+
+// takeControl takes in a claim, or the end of a batch.
+func (in *intake) takeControl(from ledger.Origin, place ledger.Place) {
+	if !in.begin.Before(place) {
+		return
+	}
+	counts := in.senders.Control(from)
+	in.queue.add(&entry{place: place, from: from, ends: counts && from.Kind == ledger.End, skipped: true})
 }
 
 func (in *intake) takeLine(e *entry) {
@@ -109,14 +132,18 @@ func (in *intake) drop(place ledger.Place, reason error) {
 	}
 }
 
-func (in *intake) tell(offset int64, sender string, repeated, missing int64) {
+func (in *intake) tell(offset int64, from ledger.Origin, counts map[ledger.Verdict]int64, missing int64) {
 	if !in.upto.Before(ledger.Place{Offset: offset}) {
 		return
 	}
-	if repeated > 0 {
-		fmt.Fprintf(in.log, "message %d: %d lines of sender %q are dropped: they were taken before\n", offset, repeated, sender)
+	if count := counts[ledger.Repeated]; count > 0 {
+		fmt.Fprintf(in.log, "message %d: %d lines of sender %q are dropped: they were taken before\n", offset, count, from.Sender)
+	}
+	if count := counts[ledger.Fenced]; count > 0 {
+		fmt.Fprintf(in.log, "message %d: %d lines of sender %q are dropped: a newer process sends under its name\n", offset,
+			count, from.Sender)
 	}
 	if missing > 0 {
-		fmt.Fprintf(in.log, "message %d: %d lines of sender %q are missing before it\n", offset, missing, sender)
+		fmt.Fprintf(in.log, "message %d: %d lines of sender %q are missing before it\n", offset, missing, from.Sender)
 	}
 }

@@ -69,27 +69,27 @@ func (out *output) tick(now time.Time) { out.aged = !out.next.IsZero() && now.Af
 
 // settle takes in that an entry is settled, and adds its answer to the body if it is a new one.
 func (out *output) settle(e *entry) {
-	out.ledger.Senders.Take(e.claim, e.sequence, e.raw)
+	if e.from.Kind != ledger.Lines {
+		out.ledger.Senders.Control(e.from)
+		out.ledger.Skip(e.place)
+		return
+	}
+	out.ledger.Senders.Take(e.from, e.sequence, e.raw)
+	if e.first {
+		out.ledger.Models.Begin(e.from.Key())
+	}
 	if e.skipped {
 		out.ledger.Skip(e.place)
 		return
 	}
 	out.sinceBytes += len(e.raw) + len(e.text)
-	out.ledger.Settle(e.place, e.line.Client, modelOf(e), e.outcome)
+	out.ledger.Settle(e.place, e.from.Key(), e.line, e.outcome)
 	if e.known {
 		return
 	}
 	out.body = answer.Append(out.body, e.place, e.line.Key, e.line.ID, e.text)
 	out.upto = e.place
 	out.lines++
-}
-
-// modelOf is the model of a model's line, as the snapshot holds it.
-func modelOf(e *entry) []byte {
-	if !e.line.IsModel() {
-		return nil
-	}
-	return e.line.Engine
 }
 
 // publish publishes what is due, once the message before is confirmed. With several on their way, one could be lost

@@ -26,6 +26,7 @@ type Options struct {
 	Settings broker.Settings
 	Engine   process.Options
 	Deadline time.Duration // how long the evaluation of a line may take
+	Keep     time.Duration // how long a named sender is known after its last message; 0 says for ever
 	Log      io.Writer
 	Gauges   *Gauges
 }
@@ -123,16 +124,20 @@ func (t *taker) begin(link *broker.Link, partition int, log io.Writer, s *steps)
 	}
 	s.Passed("the streams are there")
 	answers, lines := options.Settings.Queue(broker.Answers, partition), options.Settings.Queue(broker.Lines, partition)
-	h, err := history.Read(link, publisher, answers, broker.MostOpen, s)
+	h, err := history.Read(link, publisher, answers, broker.MostOpen, options.Keep, s)
 	if err != nil {
 		return nil, err
+	}
+	for _, fault := range h.Unread {
+		fmt.Fprintf(log, "a snapshot is left out, and the one before it counts: %v\n", fault)
+		options.Gauges.unreadSnapshot()
 	}
 	s.Passed("the mark is confirmed")
 	q := &queue{}
 	o := &owner{log: log, gauges: options.Gauges, link: link, publisher: publisher, queue: q,
 		intake: newIntake(log, q, h),
 		work: &work{log: log, options: options.Engine, deadline: int(options.Deadline / tick), queue: q, ledger: h.Ledger,
-			restarts: options.Gauges.restart, taken: time.Now()},
+			models: h.Ledger.Models.Clone(), restarts: options.Gauges.restart, taken: time.Now()},
 		output: &output{publisher: publisher, name: answers, ledger: h.Ledger, last: h.Upto(), sinceMessages: h.Messages,
 			next: time.Now().Add(firstPause)}}
 	o.stream, err = link.Read(lines, o.intake.first(), broker.MostOpen)
@@ -140,6 +145,15 @@ func (t *taker) begin(link *broker.Link, partition int, log io.Writer, s *steps)
 		return nil, err
 	}
 	s.Passed("the log is begun")
+	if o.intake.mark, err = history.Mark(); err != nil {
+		return nil, err
+	}
+	if err := publisher.Publish(lines, amqp.Table{broker.MarkHeader: o.intake.mark}, nil); err != nil {
+		return nil, err
+	}
+	if err := publisher.Settle(); err != nil {
+		return nil, err
+	}
 	o.tail = watchTail(link, lines)
 	return o, nil
 }
@@ -221,6 +235,12 @@ func (o *owner) step() error {
 			break
 		}
 	}
+	if o.work.fault != nil {
+		return o.work.fault
+	}
+	if o.intake.fault != nil {
+		return o.intake.fault
+	}
 	return o.work.give()
 }
 
@@ -230,6 +250,6 @@ func (o *owner) settle() {
 		o.output.settle(e)
 		o.gauges.settled(e)
 		o.queue.drop()
-		o.work.dropped()
+		o.work.dropped(e)
 	}
 }

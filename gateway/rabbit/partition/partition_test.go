@@ -38,8 +38,12 @@ func (l *log) Publish(_ string, headers amqp.Table, body []byte) error {
 
 // send appends a message of lines.
 func (l *log) send(number int64, lines ...string) {
-	claim := ledger.Claim{Sender: "test", Number: number, Named: true}
-	l.lines = append(l.lines, amqp.Delivery{Headers: broker.ClaimHeaders(claim), Body: []byte(strings.Join(lines, "\n"))})
+	l.put(ledger.Origin{Kind: ledger.Lines, Sender: "test", Number: number, Named: true}, lines...)
+}
+
+// put appends a message.
+func (l *log) put(from ledger.Origin, lines ...string) {
+	l.lines = append(l.lines, amqp.Delivery{Headers: broker.OriginHeaders(from), Body: []byte(strings.Join(lines, "\n"))})
 }
 
 // A holder owns the partition, until it is dropped.
@@ -52,7 +56,7 @@ type holder struct {
 // take takes the partition over, with what is answered from this message of the answers' stream on.
 func take(t *testing.T, l *log, from int, options process.Options, deadline int) *holder {
 	t.Helper()
-	h := history.New(from == 0)
+	h := history.New(from == 0, 0)
 	for _, message := range l.answers[from:] {
 		if err := h.Take(message.Headers, message.Body); err != nil {
 			t.Fatal(err)
@@ -60,7 +64,7 @@ func take(t *testing.T, l *log, from int, options process.Options, deadline int)
 	}
 	q := &queue{}
 	o := &owner{log: io.Discard, gauges: NewGauges(), queue: q, intake: newIntake(io.Discard, q, h),
-		work:   &work{log: io.Discard, options: options, deadline: deadline, queue: q, ledger: h.Ledger, restarts: func() {}},
+		work:   &work{log: io.Discard, options: options, deadline: deadline, queue: q, ledger: h.Ledger, models: h.Ledger.Models.Clone(), restarts: func() {}},
 		output: &output{publisher: l, name: "answers", ledger: h.Ledger, last: h.Upto()}}
 	next := int(h.Ledger.Place.Offset)
 	if next < 0 {

@@ -36,7 +36,7 @@ func (o *owner) tell() {
 	waiting := len(o.queue.entries)
 	var seconds float64
 	if head := o.queue.head(); head != nil {
-		seconds = time.Since(head.sent).Seconds()
+		seconds = time.Since(head.from.Sent).Seconds()
 	}
 	o.gauges.lag(waiting, o.unread(), seconds)
 	text := fmt.Sprintf("read to offset %d, %d without an answer\n", o.intake.offset, waiting)

@@ -8,27 +8,23 @@ import (
 	"time"
 
 	"gateway/rabbit/broker"
-	"gateway/rabbit/fake"
+	"gateway/rabbit/brokertest"
 )
 
-// taken tries to take a partition over at this broker, with little patience, and is what was told.
-func taken(t *testing.T, b *fake.Broker) (*taker, string) {
+// taken tries to take a partition over at this broker, which fails, and gives the taker and what was logged.
+func taken(t *testing.T, b *brokertest.Broker, patience time.Duration) (*taker, string) {
 	t.Helper()
 	var log bytes.Buffer
 	settings := broker.Settings{Addresses: []string{b.Address}, Partitions: 1}
-	taker := &taker{options: Options{Settings: settings, Log: &log, Gauges: NewGauges()}, patience: 200 * time.Millisecond,
+	taker := &taker{options: Options{Settings: settings, Log: &log, Gauges: NewGauges()}, patience: patience,
 		segment: broker.SegmentBytes}
 	link, err := broker.Connect(context.Background(), settings, "test")
 	if err != nil {
 		t.Fatal(err)
 	}
 	defer link.Close()
-	begun := time.Now()
 	if _, err := taker.take(link, 0); err == nil {
 		t.Fatal("it is taken over")
-	}
-	if took := time.Since(begun); took > 5*time.Second {
-		t.Errorf("it took %v", took)
 	}
 	if taker.options.Settings.Last != b.Address {
 		t.Errorf("%q is the last", taker.options.Settings.Last)
@@ -36,24 +32,24 @@ func taken(t *testing.T, b *fake.Broker) (*taker, string) {
 	return taker, log.String()
 }
 
-// A takeover at a broker that hands no message over fails soon, tells at which step, and goes to another broker with more
-// patience.
+// A takeover at a broker that hands no message over ends when its patience does, reports the step, and goes to another
+// broker with more patience.
 func TestATakeoverAtABrokerThatDoesNothing(t *testing.T) {
-	taker, text := taken(t, fake.Start(t))
-	if taker.patience != 400*time.Millisecond {
+	taker, text := taken(t, brokertest.Start(t), firstPatience)
+	if taker.patience != longer(firstPatience) {
 		t.Errorf("then %v of patience", taker.patience)
 	}
-	if !strings.Contains(text, "its end is read from") || !strings.Contains(text, "did nothing for 200ms") {
+	if !strings.Contains(text, "its end is read from") || !strings.Contains(text, "did nothing for 3s") {
 		t.Error(text)
 	}
 }
 
 // A broker that refuses says nothing of how slow others are.
 func TestATakeoverAtABrokerThatRefuses(t *testing.T) {
-	b := fake.Start(t)
-	b.Refuses = func(queue string) bool { return fake.Is(queue, "answers", "0") }
-	taker, text := taken(t, b)
-	if taker.patience != 200*time.Millisecond {
+	b := brokertest.Start(t)
+	b.Refuses = func(queue string) bool { return brokertest.Is(queue, "answers", "0") }
+	taker, text := taken(t, b, longestPatience)
+	if taker.patience != longestPatience {
 		t.Errorf("then %v of patience", taker.patience)
 	}
 	if !strings.Contains(text, "the streams are there") || !strings.Contains(text, "no copy is here") {
@@ -63,10 +59,10 @@ func TestATakeoverAtABrokerThatRefuses(t *testing.T) {
 
 // Streams that an earlier program has made, with files of another length, are taken as they are.
 func TestATakeoverOfStreamsWithOtherArguments(t *testing.T) {
-	b := fake.Start(t)
-	b.Other = func(queue string) bool { return fake.Is(queue, "answers", "0") }
-	taker, text := taken(t, b)
+	b := brokertest.Start(t)
+	b.Other = func(queue string) bool { return brokertest.Is(queue, "answers", "0") }
+	taker, text := taken(t, b, longestPatience)
 	if taker.segment != 0 || !strings.Contains(text, "inequivalent arg") {
-		t.Errorf("then %d, and told was %s", taker.segment, text)
+		t.Errorf("then files of %d bytes, and the log is %s", taker.segment, text)
 	}
 }

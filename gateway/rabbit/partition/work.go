@@ -29,6 +29,10 @@ type work struct {
 	restarts func() // is called when the engine is begun anew
 
 	next     int                        // the first entry of the queue that isn't given
+	models   *ledger.Models             // what is in force for the batches at that entry
+	inForce  []byte                     // the model that the engine has, or nil
+	fault    error                      // why the partition can't be owned any longer
+	model    *entry                     // a model that was given and isn't answered: nothing else is given before
 	waiting  [line.Clients + 1][]*entry // given, of each client and of none; some of the first may be answered
 	byLine   map[int64]*entry           // given, and without an answer, by their number in the engine's input
 	lines    int64                      // that the engine was given
@@ -54,60 +58,111 @@ const (
 // greeting is a line that every engine answers, and that changes nothing.
 var greeting = []byte(fmt.Sprintf(`{"resize":"%s","capacity":%d}`, line.ClientName(0), process.Capacity))
 
-var errConfused = errors.New("the engine answered what it wasn't asked")
+var (
+	errConfused     = errors.New("the engine answered what it wasn't asked")
+	errRefusedModel = errors.New("the engine refuses the model in force: a program that takes it has to own the partition")
+)
 
 // give gives the engine the entries that it may have.
 func (w *work) give() error {
 	for w.next < len(w.queue.entries) {
 		e := w.queue.entries[w.next]
 		if e.settled() {
-			w.next++
+			w.passed(e)
 			continue
 		}
-		if w.careful > 0 && len(w.byLine) > 0 || w.queue.ready > broker.WindowBytes {
-			return nil
-		}
-		if w.process == nil {
-			if w.next > 0 || time.Now().Before(w.pause) {
-				return nil // all before it is settled first, so that the ledger has the tickets
-			}
-			if err := w.start(); err != nil {
-				return err
-			}
-		}
-		if w.greeting > 0 {
-			return nil
+		ready, err := w.ready(e)
+		if err != nil || !ready {
+			return err
 		}
 		w.giveOne(e)
 	}
 	return nil
 }
 
-func (w *work) giveOne(e *entry) {
+// ready makes the engine ready for an entry, and says whether it is.
+func (w *work) ready(e *entry) (bool, error) {
+	if w.careful > 0 && len(w.byLine) > 0 || w.queue.ready > broker.WindowBytes || w.model != nil || w.greeting > 0 {
+		return false, nil
+	}
+	model := w.models.At(e.from.Key())
+	if e.first {
+		model = w.models.Last()
+	}
+	if w.process == nil {
+		if w.next > 0 || time.Now().Before(w.pause) {
+			return false, nil // all before it is settled first, so that the ledger has the tickets
+		}
+		return false, w.start(model)
+	}
+	if ledger.SameModel(model, w.inForce) {
+		return true, nil
+	}
+	if len(w.byLine) > 0 { // each is answered by the model under which it was given
+		return false, nil
+	}
+	if model == nil { // no line takes a model away
+		w.end()
+		return false, nil
+	}
+	w.greet(model)
+	return false, nil
+}
+
+// passed takes in that the next entry is given, or settled.
+func (w *work) passed(e *entry) {
 	w.next++
+	w.advance(e)
+}
+
+// advance takes in what an entry changes of the models in force.
+func (w *work) advance(e *entry) {
+	if e.first {
+		w.models.Begin(e.from.Key())
+	}
+	if e.outcome.InForce {
+		w.models.Put(e.from.Key(), e.line.Engine)
+	}
+	if e.ends {
+		w.models.Forget(e.from.Key())
+	}
+}
+
+func (w *work) giveOne(e *entry) {
+	w.passed(e)
 	w.lines++
 	e.given, e.asked = true, w.lines
 	w.byLine[e.asked] = e
 	w.waiting[e.line.Client] = append(w.waiting[e.line.Client], e)
+	if e.line.IsModel() {
+		w.model = e
+	}
 	w.process.Give(e.line.Engine)
 }
 
-// start starts an engine, and gives it the model that is in force, and a greeting. It is given lines once it has
-// answered these: so an engine that can do nothing is not taken for one that dies at a line.
-func (w *work) start() error {
+// start starts an engine, and greets it. It is given lines once it has answered: so an engine that can do nothing is not
+// taken for one that dies at a line.
+func (w *work) start(model []byte) error {
 	started, err := process.Start(w.options)
 	if err != nil {
 		return err
 	}
-	w.process, w.lines, w.base, w.started = started, 1, w.ledger.Tickets, time.Now()
+	w.process, w.lines, w.base, w.started = started, 0, w.ledger.Tickets, time.Now()
 	w.byLine = make(map[int64]*entry)
-	if w.ledger.Model != nil {
-		w.lines++
-		w.process.Give(w.ledger.Model)
-	}
-	w.process.Give(greeting)
-	w.greeting = int(w.lines)
+	w.greet(model)
 	return nil
+}
+
+// greet gives the engine a model, if there is one, and a greeting.
+func (w *work) greet(model []byte) {
+	before := w.lines
+	if model != nil {
+		w.lines++
+		w.process.Give(model)
+	}
+	w.lines++
+	w.process.Give(greeting)
+	w.greeting, w.inForce = int(w.lines-before), model
 }
 
 // end ends the engine, and takes back what it was given.
@@ -116,6 +171,7 @@ func (w *work) end() {
 		w.process.End()
 	}
 	w.process, w.byLine, w.waiting, w.next = nil, nil, [line.Clients + 1][]*entry{}, 0
+	w.models, w.inForce, w.model = w.ledger.Models.Clone(), nil, nil
 	w.oldest, w.age, w.greeting = nil, 0, 0
 }
 
@@ -252,7 +308,11 @@ func (w *work) takeOne(given process.Answer) error {
 }
 
 func (w *work) greeted(a answer.Answer) error {
-	if !a.InForce && a.Client != 0 {
+	switch {
+	case w.greeting == 2 && a.Client == line.NoClient && !a.InForce:
+		w.fault = errRefusedModel
+		return w.fault
+	case !a.InForce && a.Client != 0:
 		return errConfused
 	}
 	if w.greeting--; w.greeting == 0 {
@@ -284,6 +344,13 @@ func (w *work) answer(e *entry, a answer.Answer) {
 	e.outcome.InForce = a.InForce
 	e.text = a.With(number)
 	e.answered = true
+	if e == w.model {
+		w.model = nil
+		if a.InForce {
+			w.models.Put(e.from.Key(), e.line.Engine)
+			w.inForce = e.line.Engine
+		}
+	}
 }
 
 // find finds the entry that is answered: the one with the line's number, or else the client's first without an answer.
@@ -310,9 +377,11 @@ func (w *work) firstOf(client int) *entry {
 }
 
 // dropped takes in that the first entry of the queue is gone.
-func (w *work) dropped() {
+func (w *work) dropped(e *entry) {
 	if w.next > 0 {
 		w.next--
+	} else {
+		w.advance(e)
 	}
 	if w.careful > 0 {
 		w.careful--

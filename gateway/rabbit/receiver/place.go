@@ -1,9 +1,12 @@
 package receiver
 
 import (
+	"crypto/sha256"
+	"encoding/hex"
 	"encoding/json"
 	"errors"
 	"fmt"
+	"io"
 	"io/fs"
 	"os"
 	"path/filepath"
@@ -23,6 +26,23 @@ type place struct {
 type places struct {
 	Partitions []place `json:"partitions"`
 	Output     int64   `json:"output"` // how many bytes of the output's file belong to it
+	Sum        string  `json:"sum"`    // SHA-256 of the last sumBytes of these
+}
+
+// sumBytes is how much of the end of an output is summed up: enough to know another file, and little to read back.
+const sumBytes = 1 << 20
+
+// sumBefore is the sum of the end of a file of this length.
+func sumBefore(file *os.File, length int64) (string, error) {
+	begin := length - sumBytes
+	if begin < 0 {
+		begin = 0
+	}
+	hash := sha256.New()
+	if _, err := io.Copy(hash, io.NewSectionReader(file, begin, length-begin)); err != nil {
+		return "", err
+	}
+	return hex.EncodeToString(hash.Sum(nil)), nil
 }
 
 // readPlaces reads the file, where there is one; nil where there is none.

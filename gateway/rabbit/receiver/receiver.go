@@ -35,7 +35,8 @@ type Options struct {
 type receiver struct {
 	options Options
 	output  *bufio.Writer
-	written int64 // the length of the output's file
+	written int64  // the length of the output's file
+	sum     string // of its end, as the place has it
 	streams []int64
 	chains  []ledger.Chain
 	holes   []bool    // whether offsets are missing since the last answers or snapshot
@@ -43,38 +44,68 @@ type receiver struct {
 	moved   time.Time // when the last answer came
 }
 
-// A message of one partition.
-type message struct {
-	partition int
-	stream    *broker.Stream
-	delivery  amqp.Delivery
-	open      bool
-}
-
-// Receive writes answers until the context ends, or none came for a while.
+// Receive writes answers until the context ends, or none came for a while. The error says which partitions could not be
+// read at the end.
 func Receive(ctx context.Context, options Options) error {
 	r, err := newReceiver(options)
 	if err != nil {
 		return err
 	}
-	var fault error
-	err = broker.Again(ctx, options.Log, func(ctx context.Context) error {
-		err := r.run(ctx)
-		var last *final
-		if errors.As(err, &last) {
-			fault = last.reason
-			return nil
-		}
-		return err
-	})
-	if fault == nil && err != nil && ctx.Err() == nil {
-		fault = err
+	reading, cancel := context.WithCancel(ctx)
+	defer cancel()
+	messages := make(chan message)
+	readers := make([]*reader, len(r.streams))
+	for partition := range readers {
+		readers[partition] = &reader{options: options, partition: partition, last: r.streams[partition], messages: messages}
+		go readers[partition].work(reading)
 	}
+	fault := r.write(ctx, messages)
 	if saved := r.save(); fault == nil {
 		fault = saved
 	}
+	for _, reader := range readers {
+		if fault == nil && ctx.Err() == nil {
+			fault = reader.fault()
+		}
+	}
 	return fault
 }
+
+// write writes what comes until the context ends, or nothing came for a while. What is at hand is written together.
+func (r *receiver) write(ctx context.Context, messages <-chan message) error {
+	ticker := time.NewTicker(savePause)
+	defer ticker.Stop()
+	for {
+		select {
+		case m := <-messages:
+			if err := r.add(m.partition, m.offset, m.headers, m.body); err != nil {
+				return err
+			}
+			continue
+		default:
+		}
+		if err := r.output.Flush(); err != nil {
+			return fmt.Errorf("writing answers: %w", err)
+		}
+		select {
+		case m := <-messages:
+			if err := r.add(m.partition, m.offset, m.headers, m.body); err != nil {
+				return err
+			}
+		case <-ticker.C:
+			if err := r.save(); err != nil {
+				return err
+			}
+			if r.idled() {
+				return nil
+			}
+		case <-ctx.Done():
+			return nil
+		}
+	}
+}
+
+func (r *receiver) idled() bool { return r.options.Idle > 0 && time.Since(r.moved) > r.options.Idle }
 
 // newReceiver is a receiver that stands at the place in its file.
 func newReceiver(options Options) (*receiver, error) {
@@ -87,44 +118,60 @@ func newReceiver(options Options) (*receiver, error) {
 	return r, r.restore()
 }
 
-// A final error is not tried again.
-type final struct{ reason error }
+// ErrNotEmpty says that nothing tells how much of an output belongs to the answers.
+var ErrNotEmpty = errors.New("the output is not empty, and no place says where it goes on: give another file, or the --place that belongs to it")
 
-func (f *final) Error() string { return f.reason.Error() }
-
-// restore goes back to the place in the file, and cuts what the output has behind it: all, where there is no place.
+// restore goes back to the place in the file, and cuts what the output has after it. Without a place the output has to be
+// empty: nothing that is there is overwritten. The place is written at once, so that there is one as soon as there is an
+// answer.
 func (r *receiver) restore() error {
+	known := false
 	if r.options.Place != "" {
-		if err := r.restorePlace(); err != nil {
+		var err error
+		if known, err = r.restorePlace(); err != nil {
 			return err
 		}
 	}
-	if !r.options.File {
-		return nil
+	if r.options.File {
+		if err := r.cutOutput(known); err != nil {
+			return err
+		}
 	}
-	return r.cutOutput()
+	r.dirty = !known
+	return r.save()
 }
 
-func (r *receiver) restorePlace() error {
+// restorePlace reads the place, if there is one, and says so.
+func (r *receiver) restorePlace() (bool, error) {
 	p, err := readPlaces(r.options.Place, len(r.streams))
 	if err != nil || p == nil {
-		return err
+		return false, err
 	}
 	for partition, at := range p.Partitions {
 		r.streams[partition], r.holes[partition] = at.Stream, at.Hole
 		r.chains[partition] = ledger.Chain{Known: at.Known, Upto: at.Upto}
 	}
-	r.written = p.Output
-	return nil
+	r.written, r.sum = p.Output, p.Sum
+	return true, nil
 }
 
-func (r *receiver) cutOutput() error {
+func (r *receiver) cutOutput(known bool) error {
 	state, err := r.options.Output.Stat()
 	if err != nil {
 		return fmt.Errorf("the output: %w", err)
 	}
+	if !known && state.Size() > 0 {
+		return ErrNotEmpty
+	}
 	if state.Size() < r.written {
 		return fmt.Errorf("the output has %d bytes, and %d by the place: they don't belong to each other", state.Size(), r.written)
+	}
+	sum, err := sumBefore(r.options.Output, r.written)
+	if err != nil {
+		return fmt.Errorf("the output: %w", err)
+	}
+	if known && sum != r.sum {
+		return errors.New("the output is another than the place says: they don't belong to each other")
 	}
 	if err := r.options.Output.Truncate(r.written); err != nil {
 		return fmt.Errorf("the output: %w", err)
@@ -133,111 +180,6 @@ func (r *receiver) cutOutput() error {
 		return fmt.Errorf("the output: %w", err)
 	}
 	return nil
-}
-
-// run receives with one connection.
-func (r *receiver) run(ctx context.Context) error {
-	link, err := broker.Connect(ctx, r.options.Settings, "desk receive")
-	if err != nil {
-		return r.idle(err)
-	}
-	defer link.Close()
-	messages := make(chan message)
-	open := broker.OpenOf(len(r.streams))
-	for partition := range r.streams {
-		stream, err := link.Read(r.options.Settings.Queue(broker.Answers, partition), r.from(partition), open)
-		if err != nil {
-			return r.idle(err)
-		}
-		go forward(link, stream, partition, messages)
-	}
-	if err := r.pin(link); err != nil {
-		return r.idle(err)
-	}
-	ticker := time.NewTicker(savePause)
-	defer ticker.Stop()
-	for {
-		select {
-		case m := <-messages:
-			if err := r.take(m); err != nil {
-				return err
-			}
-		case <-ticker.C:
-			if err := r.save(); err != nil {
-				return &final{err}
-			}
-			if r.idled() {
-				return nil
-			}
-		case <-link.Done():
-			return r.idle(link.Err())
-		}
-	}
-}
-
-// pin publishes a mark in each stream that is read from its end on, and of which nothing was read yet. So there is a place
-// to go on from, and what is answered while the receiver is away is not missed.
-func (r *receiver) pin(link *broker.Link) error {
-	if r.options.From != broker.FromNext {
-		return nil
-	}
-	publisher, err := link.Publisher()
-	if err != nil {
-		return err
-	}
-	for partition, offset := range r.streams {
-		if offset >= 0 {
-			continue
-		}
-		queue := r.options.Settings.Queue(broker.Answers, partition)
-		if err := publisher.Publish(queue, amqp.Table{broker.MarkHeader: "desk receive"}, nil); err != nil {
-			return err
-		}
-	}
-	if err := publisher.Settle(); err != nil {
-		return err
-	}
-	return publisher.Close()
-}
-
-func (r *receiver) idled() bool { return r.options.Idle > 0 && time.Since(r.moved) > r.options.Idle }
-
-// idle is the error, unless so long a time has passed without an answer that the receiver ends.
-func (r *receiver) idle(err error) error {
-	if r.idled() {
-		return nil
-	}
-	return err
-}
-
-func forward(link *broker.Link, stream *broker.Stream, partition int, messages chan<- message) {
-	for {
-		delivery, open := <-stream.Deliveries
-		select {
-		case messages <- message{partition: partition, stream: stream, delivery: delivery, open: open}:
-		case <-link.Done():
-			return
-		}
-		if !open {
-			return
-		}
-	}
-}
-
-// from is where a partition's stream is to be read from.
-func (r *receiver) from(partition int) interface{} {
-	if at := r.streams[partition]; at >= 0 {
-		return at
-	}
-	return r.options.From
-}
-
-func (r *receiver) take(m message) error {
-	offset, err := m.stream.Take(m.delivery, m.open)
-	if err != nil {
-		return err
-	}
-	return r.add(m.partition, offset, m.delivery.Headers, m.delivery.Body)
 }
 
 // add takes the next message of a partition's stream in, and writes the answers that it adds.
@@ -250,7 +192,7 @@ func (r *receiver) add(partition int, offset int64, headers amqp.Table, body []b
 	r.streams[partition], r.dirty = offset, true
 	part, is, err := broker.ReadPart(headers)
 	if err != nil {
-		return &final{fmt.Errorf("partition %d, offset %d: %w", partition, offset, err)}
+		return fmt.Errorf("partition %d, offset %d: %w", partition, offset, err)
 	}
 	if !is {
 		return nil
@@ -263,7 +205,7 @@ func (r *receiver) add(partition int, offset int64, headers amqp.Table, body []b
 	case !chain.Fits(part.After, part.Upto):
 		return nil
 	}
-	return r.write(partition, body, chain, part)
+	return r.writeAnswers(partition, body, chain, part)
 }
 
 // lookForCut tells of answers that were cut before they were received, and goes on behind them: where offsets are missing
@@ -281,12 +223,12 @@ func (r *receiver) lookForCut(partition int, part broker.Part) {
 	r.holes[partition] = false
 }
 
-func (r *receiver) write(partition int, body []byte, chain *ledger.Chain, part broker.Part) error {
+func (r *receiver) writeAnswers(partition int, body []byte, chain *ledger.Chain, part broker.Part) error {
 	prefix := fmt.Sprintf(`{"partition":%d,`, partition)
 	for _, text := range bytes.Split(bytes.TrimSuffix(body, []byte("\n")), []byte("\n")) {
 		record, err := answer.ReadRecord(text)
 		if err != nil {
-			return &final{fmt.Errorf("partition %d: %w: %.100q", partition, err, text)}
+			return fmt.Errorf("partition %d: %w: %.100q", partition, err, text)
 		}
 		if !chain.Upto.Before(record.Place) {
 			continue
@@ -294,7 +236,7 @@ func (r *receiver) write(partition int, body []byte, chain *ledger.Chain, part b
 		r.output.WriteString(prefix)
 		r.output.Write(text[1:])
 		if err := r.output.WriteByte('\n'); err != nil {
-			return &final{fmt.Errorf("writing answers: %w", err)}
+			return fmt.Errorf("writing answers: %w", err)
 		}
 		r.written += int64(len(prefix) + len(text))
 	}
@@ -315,8 +257,12 @@ func (r *receiver) save() error {
 		if err := r.options.Output.Sync(); err != nil {
 			return fmt.Errorf("writing answers: %w", err)
 		}
+		var err error
+		if r.sum, err = sumBefore(r.options.Output, r.written); err != nil {
+			return fmt.Errorf("reading back the answers: %w", err)
+		}
 	}
-	p := &places{Output: r.written}
+	p := &places{Output: r.written, Sum: r.sum}
 	for partition, chain := range r.chains {
 		at := place{Stream: r.streams[partition], Known: chain.Known, Upto: chain.Upto, Hole: r.holes[partition]}
 		p.Partitions = append(p.Partitions, at)

@@ -2,6 +2,7 @@ package receiver
 
 import (
 	"bytes"
+	"errors"
 	"fmt"
 	"os"
 	"path/filepath"
@@ -24,7 +25,7 @@ type file struct {
 func opened(t *testing.T, folder string) file {
 	t.Helper()
 	path := filepath.Join(folder, "answers")
-	output, err := os.OpenFile(path, os.O_WRONLY|os.O_CREATE, 0o600)
+	output, err := os.OpenFile(path, os.O_RDWR|os.O_CREATE, 0o600)
 	if err != nil {
 		t.Fatal(err)
 	}
@@ -104,7 +105,7 @@ func TestAPlaceIsGoneBackTo(t *testing.T) {
 		t.Fatal(err)
 	}
 	again := opened(t, folder)
-	if from := again.from(0); from != int64(0) {
+	if from := again.streams[0]; from != 0 {
 		t.Errorf("it goes on at %v", from)
 	}
 	again.answers(t, 0, -1, 3)
@@ -112,6 +113,53 @@ func TestAPlaceIsGoneBackTo(t *testing.T) {
 	again.answers(t, 2, 4, 1)
 	again.saved(t)
 	if got := again.written(t); got != "0 1 2 3 4 5" {
+		t.Error(got)
+	}
+}
+
+// An output that nothing says how to go on with is left as it is.
+func TestNothingIsOverwritten(t *testing.T) {
+	folder := t.TempDir()
+	f := opened(t, folder)
+	f.answers(t, 0, -1, 3)
+	f.saved(t)
+	before := f.written(t)
+	options := f.options
+	options.Place = filepath.Join(folder, "mistyped")
+	if _, err := newReceiver(options); !errors.Is(err, ErrNotEmpty) {
+		t.Errorf("with another place: %v", err)
+	}
+	options.Place = ""
+	if _, err := newReceiver(options); !errors.Is(err, ErrNotEmpty) {
+		t.Errorf("with no place: %v", err)
+	}
+	if after := f.written(t); after != before {
+		t.Errorf("%s is left of %s", after, before)
+	}
+	other := strings.Repeat("x", 1000)
+	if err := os.WriteFile(f.path, []byte(other), 0o600); err != nil {
+		t.Fatal(err)
+	}
+	if _, err := newReceiver(f.options); err == nil {
+		t.Error("another file is taken")
+	}
+	if text, err := os.ReadFile(f.path); err != nil || string(text) != other {
+		t.Errorf("another file is changed: %v", err)
+	}
+}
+
+// A receiver that is killed before its first answer goes on with its place.
+func TestAPlaceIsThereAtOnce(t *testing.T) {
+	folder := t.TempDir()
+	f := opened(t, folder)
+	f.answers(t, 0, -1, 3)
+	if err := f.output.Flush(); err != nil { // and the place is not saved
+		t.Fatal(err)
+	}
+	again := opened(t, folder)
+	again.answers(t, 0, -1, 3)
+	again.saved(t)
+	if got := again.written(t); got != "0 1 2" {
 		t.Error(got)
 	}
 }

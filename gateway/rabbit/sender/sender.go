@@ -1,15 +1,14 @@
-// Package sender sends lines to the partitions of their keys.
+// Package sender sends lines to the partitions of their keys. Each partition has a lane of its own, with a connection of
+// its own: where one partition can't be reached, the others go on.
 package sender
 
 import (
-	"bytes"
 	"context"
 	"errors"
 	"fmt"
 	"io"
+	"sync"
 	"time"
-
-	amqp "github.com/rabbitmq/amqp091-go"
 
 	"gateway/rabbit/broker"
 	"gateway/rabbit/ledger"
@@ -21,68 +20,48 @@ type Options struct {
 	Settings broker.Settings
 	Name     string // the sender's name
 	Named    bool   // whether the name is its own, under which it may be started again
+	Batch    string // the id of the batch that the input is; of a sender with a name of its own
+	GiveUp   time.Duration
 	Input    io.Reader
 	Log      io.Writer
 	Check    func(model []byte) error // refuses a faulty model
 }
 
-// A Tally counts the lines of an input.
+// A Tally counts lines of the input.
 type Tally struct {
-	Sent     int64 // confirmed by the broker
-	Repeated int64 // taken before, in an earlier run
+	Sent     int64 // confirmed by the broker, and taken
+	Repeated int64 // taken before, in an earlier run of the batch
 	Refused  int64 // that can't be sent
+	Unsent   int64 // of partitions that could not be reached
 }
 
-// A sender has what is to be sent. It outlives a connection.
+// A sender hands the lines of the input to the lanes of their partitions.
 type sender struct {
-	options  Options
-	targets  []*target
-	order    []*target // those with a message on its way, as they were published
-	prepared bool      // whether what the partitions know of the name was read
-	input    <-chan batch
-	ended    bool
-	count    int64 // lines of the input
-	bytes    int   // of what is pending or on its way
-	tally    Tally
+	options Options
+	lanes   []*lane
+	epoch   int64 // of this process; 0 without a name of its own
+	count   int64 // lines of the input
+	refused int64
+	fault   chan error // the first has the reason why all ends
+	changed chan struct{}
 }
 
-// A target is a partition with the lines that it is to get. One message is on its way to it at a time.
-type target struct {
-	queue   string
-	repeat  *repeat // nil once it is known what is new
-	first   int64   // the number of the run's first line
-	next    int64   // the number of the next message's first line
-	pending []pending
-	message *message // the one on its way
+// A modelTally counts a model once, in however many partitions it is taken.
+type modelTally struct{ counted sync.Once }
+
+// A pending line waits to be put into a message.
+type pending struct {
+	text  []byte
+	model *modelTally // of a model, which goes to several partitions
 }
 
-type message struct {
-	number int64
-	lines  int64
-	body   []byte
-	tally  int64 // how many lines of the input it has that no other message has
-}
-
-// Send sends the lines of the input, and ends when the broker has confirmed all.
-func Send(ctx context.Context, options Options) (Tally, error) {
-	s := &sender{options: options, input: readInput(ctx, options.Input)}
-	for partition := 0; partition < options.Settings.Partitions; partition++ {
-		s.targets = append(s.targets, &target{queue: options.Settings.Queue(broker.Lines, partition)})
+// counts says whether a line is to be counted: a model is with the first of its partitions.
+func (p pending) counts() (first bool) {
+	if p.model == nil {
+		return true
 	}
-	var fault error
-	err := broker.Again(ctx, options.Log, func(ctx context.Context) error {
-		err := s.run(ctx)
-		var last *final
-		if errors.As(err, &last) {
-			fault = last.reason
-			return nil
-		}
-		return err
-	})
-	if fault == nil {
-		fault = err
-	}
-	return s.tally, fault
+	p.model.counted.Do(func() { first = true })
+	return first
 }
 
 // A final error is not tried again.
@@ -90,130 +69,105 @@ type final struct{ reason error }
 
 func (f *final) Error() string { return f.reason.Error() }
 
-// run sends with one connection.
-func (s *sender) run(ctx context.Context) error {
-	link, err := broker.Connect(ctx, s.options.Settings, "desk send, "+s.options.Name)
-	if err != nil {
-		return err
+// Send sends the lines of the input, and ends when the broker has confirmed all.
+func Send(ctx context.Context, options Options) (Tally, error) {
+	ctx, cancel := context.WithCancel(ctx)
+	defer cancel()
+	s := &sender{options: options, fault: make(chan error, 1), changed: make(chan struct{}, 1)}
+	if err := s.claimName(ctx); err != nil {
+		return Tally{}, err
 	}
-	defer link.Close()
-	if err := s.prepare(link); err != nil {
-		return err
+	var running sync.WaitGroup
+	for partition := 0; partition < options.Settings.Partitions; partition++ {
+		l := newLane(s, partition)
+		s.lanes = append(s.lanes, l)
 	}
-	publisher, err := link.Publisher()
-	if err != nil {
-		return err
+	for _, l := range s.lanes {
+		running.Add(1)
+		go func(l *lane) {
+			defer running.Done()
+			l.work(ctx)
+		}(l)
 	}
-	s.order = nil
-	for _, t := range s.targets {
-		if t.message != nil { // it may have to be sent again
-			if err := s.publish(publisher, t); err != nil {
-				return err
-			}
-		}
+	err := s.feed(ctx)
+	if err == nil {
+		err = s.wait(ctx)
 	}
-	ticker := time.NewTicker(time.Second)
-	defer ticker.Stop()
-	for !s.done() {
-		if err := s.step(publisher); err != nil {
-			return err
-		}
-		if err := s.wait(link, publisher, ticker); err != nil {
-			return err
-		}
+	if err == nil {
+		err = s.checkName(ctx)
 	}
-	return nil
+	cancel()
+	running.Wait()
+	return s.ended(err)
 }
 
-// prepare reads what the partitions know of the sender's name.
-func (s *sender) prepare(link *broker.Link) error {
-	if s.prepared || !s.options.Named {
-		return nil
-	}
-	found, err := knownOfAll(link, s.options.Settings, s.options.Name)
-	if err != nil {
-		return err
-	}
-	s.prepared = true
-	for partition, t := range s.targets {
-		if of := found[partition]; of != nil {
-			t.first, t.next = of.Next, of.Next
-			if of.Run != nil {
-				t.repeat = &repeat{run: of.Run, limit: broker.WindowBytes / len(s.targets)}
-			}
-		}
-	}
-	return nil
+// origin is what this process says of itself on its messages.
+func (s *sender) origin() ledger.Origin {
+	return ledger.Origin{Kind: ledger.Lines, Sender: s.options.Name, Named: s.options.Named, Epoch: s.epoch, Batch: s.options.Batch}
 }
 
-// done tells whether all was sent and confirmed.
-func (s *sender) done() bool { return s.ended && len(s.order) == 0 && s.bytes == 0 }
-
-// wait waits for something to happen, and takes it in.
-func (s *sender) wait(link *broker.Link, publisher *broker.Publisher, ticker *time.Ticker) error {
-	if s.done() {
-		return nil
-	}
-	input := s.input
-	if s.ended || s.bytes >= broker.WindowBytes {
-		input = nil
-	}
+// fail ends all, for this reason if it is the first.
+func (s *sender) fail(reason error) {
 	select {
-	case next := <-input:
-		return s.take(next)
-	case confirmation, open := <-publisher.Confirms():
-		if err := publisher.Take(confirmation, open); err != nil {
-			return err
-		}
-		s.confirmed()
-	case <-ticker.C:
-		return publisher.Late()
-	case <-link.Done():
-		return link.Err()
+	case s.fault <- reason:
+	default:
 	}
-	return nil
 }
 
-// take takes lines of the input in.
-func (s *sender) take(next batch) error {
-	for _, text := range next.lines {
-		s.count++
-		if err := s.takeLine(text); err != nil {
-			return err
-		}
+// notice lets wait look at the lanes again.
+func (s *sender) notice() {
+	select {
+	case s.changed <- struct{}{}:
+	default:
 	}
-	if next.err == nil {
-		return nil
-	}
-	s.ended = true
-	for _, t := range s.targets { // an input that ends before the last run did is a new one
-		if t.repeat != nil {
-			s.add(t, t.repeat.held)
-			t.repeat = nil
-		}
-	}
-	if !errors.Is(next.err, io.EOF) {
-		return &final{fmt.Errorf("reading the input behind line %d: %w", s.count, next.err)}
-	}
-	return nil
 }
 
-func (s *sender) takeLine(text inputLine) error {
+// feed hands the lines of the input to the lanes.
+func (s *sender) feed(ctx context.Context) error {
+	input := readInput(ctx, s.options.Input)
+	for {
+		select {
+		case next := <-input:
+			for _, text := range next.lines {
+				s.count++
+				if err := s.takeLine(ctx, text); err != nil {
+					return err
+				}
+			}
+			if next.err == nil {
+				continue
+			}
+			if !errors.Is(next.err, io.EOF) {
+				return fmt.Errorf("reading the input after line %d: %w", s.count, next.err)
+			}
+			for _, l := range s.lanes {
+				l.close()
+			}
+			return nil
+		case reason := <-s.fault:
+			return reason
+		case <-ctx.Done():
+			return ctx.Err()
+		}
+	}
+}
+
+func (s *sender) takeLine(ctx context.Context, text inputLine) error {
 	if len(text.text) == 0 && !text.tooLong {
 		return nil // a blank line
 	}
 	parsed, err := s.read(text)
 	if err != nil {
-		s.tally.Refused++
+		s.refused++
 		fmt.Fprintf(s.options.Log, "desk send: line %d is not sent: %v\n", s.count, err)
 		return nil
 	}
 	if !parsed.IsModel() {
-		return s.put(s.targets[parsed.Partition(len(s.targets))], pending{text: text.text})
+		return s.put(ctx, s.lanes[parsed.Partition(len(s.lanes))], pending{text: text.text})
 	}
 	model := pending{text: text.text, model: &modelTally{}}
-	for _, t := range s.targets {
-		if err := s.put(t, model); err != nil {
+	for _, l := range s.lanes {
+		if err := s.put(ctx, l, model); err != nil {
 			return err
 		}
 	}
@@ -231,96 +185,96 @@ func (s *sender) read(text inputLine) (line.Line, error) {
 	return parsed, err
 }
 
-// put hands a line to a partition, if it wasn't taken in the sender's last run.
-func (s *sender) put(t *target, next pending) error {
-	if t.repeat == nil {
-		s.add(t, []pending{next})
+// put hands a line to a lane, once that has room. A lane that can't be reached while others can is passed by.
+func (s *sender) put(ctx context.Context, l *lane, next pending) error {
+	look := time.NewTicker(time.Second)
+	defer look.Stop()
+	for !l.put(next) {
+		select {
+		case <-l.room:
+		case <-look.C:
+			if l.isStuck(stuckTime) && s.others(l) {
+				l.passBy()
+			}
+		case reason := <-s.fault:
+			return reason
+		case <-ctx.Done():
+			return ctx.Err()
+		}
+	}
+	return nil
+}
+
+// stuckTime is how long a lane may have no confirm before the lines of the others pass it by.
+const stuckTime = 30 * time.Second
+
+// others says whether some other lane goes on.
+func (s *sender) others(of *lane) bool {
+	for _, l := range s.lanes {
+		if l != of && !l.isStuck(0) {
+			return true
+		}
+	}
+	return false
+}
+
+// wait waits until each lane has sent all it has, or is given up: while a broker is reached, one that has had no confirm
+// for so long as the options say.
+func (s *sender) wait(ctx context.Context) error {
+	look := time.NewTicker(time.Second)
+	defer look.Stop()
+	for !s.isDone() {
+		select {
+		case <-s.changed:
+		case <-look.C:
+		case reason := <-s.fault:
+			return reason
+		case <-ctx.Done():
+			return ctx.Err()
+		}
+	}
+	select {
+	case reason := <-s.fault:
+		return reason
+	default:
 		return nil
 	}
-	fresh, repeated, known, err := t.repeat.take(next)
-	if err != nil {
-		return &final{fmt.Errorf("line %d: sender %q: %w", s.count, s.options.Name, err)}
-	}
-	s.tally.Repeated += countOnce(repeated)
-	if known {
-		if len(fresh) == 0 {
-			t.first = t.repeat.run.First // the run goes on
-		}
-		t.repeat = nil
-	}
-	s.add(t, fresh)
-	return nil
 }
 
-func (s *sender) add(t *target, lines []pending) {
-	t.pending = append(t.pending, lines...)
-	for _, l := range lines {
-		s.bytes += len(l.text)
-	}
-}
-
-// countOnce counts lines of the input: a model counts with the first of its partitions.
-func countOnce(lines []pending) int64 {
-	count := int64(0)
-	for _, l := range lines {
-		if l.model == nil {
-			count++
-			continue
-		}
-		if !l.model.counted {
-			count++
-		}
-		l.model.counted = true
-	}
-	return count
-}
-
-// step sends each partition its next message, if none is on its way.
-func (s *sender) step(publisher *broker.Publisher) error {
-	for _, t := range s.targets {
-		if t.message != nil || len(t.pending) == 0 {
-			continue
-		}
-		t.cut()
-		if err := s.publish(publisher, t); err != nil {
-			return err
+func (s *sender) isDone() bool {
+	for _, l := range s.lanes {
+		if !l.isDone() && !(s.options.GiveUp > 0 && l.isStuck(s.options.GiveUp) && s.others(l)) {
+			return false
 		}
 	}
-	return nil
+	return true
 }
 
-// cut makes a message of the first lines that wait.
-func (t *target) cut() {
-	size, count := 0, 0
-	for count < len(t.pending) && count < broker.MessageLines && (count == 0 || size+len(t.pending[count].text) < broker.MessageBytes) {
-		size += len(t.pending[count].text) + 1
-		count++
+// ended is what is reported at the end. Where a newer process has taken the name, the lines are counted that were taken
+// before.
+func (s *sender) ended(err error) (Tally, error) {
+	tally := Tally{Refused: s.refused}
+	var unreached []error
+	for _, l := range s.lanes {
+		sent, repeated, unsent, reason := l.tally()
+		tally.Sent, tally.Repeated, tally.Unsent = tally.Sent+sent, tally.Repeated+repeated, tally.Unsent+unsent
+		if unsent > 0 {
+			unreached = append(unreached, fmt.Errorf("partition %d: %d lines were not sent: %w", l.partition, unsent, reason))
+		}
 	}
-	texts := make([][]byte, count)
-	for at := range texts {
-		texts[at] = t.pending[at].text
+	var newer *superseded
+	if errors.As(err, &newer) {
+		taken, fault := s.takenBefore(context.Background())
+		if fault != nil {
+			return tally, fmt.Errorf("%w; %v", newer, fault)
+		}
+		tally.Sent = taken
 	}
-	t.message = &message{number: t.next, lines: int64(count), body: bytes.Join(texts, []byte("\n")),
-		tally: countOnce(t.pending[:count])}
-	t.next += int64(count)
-	t.pending = t.pending[count:]
-}
-
-func (s *sender) publish(publisher *broker.Publisher, t *target) error {
-	claim := ledger.Claim{Sender: s.options.Name, Number: t.message.number, First: t.first, Named: s.options.Named}
-	var headers amqp.Table = broker.ClaimHeaders(claim)
-	if err := publisher.Publish(t.queue, headers, t.message.body); err != nil {
-		return err
+	if err == nil && len(unreached) > 0 {
+		for _, fault := range unreached[1:] {
+			fmt.Fprintf(s.options.Log, "desk send: %v\n", fault)
+		}
+		err = unreached[0]
 	}
-	s.order = append(s.order, t)
-	return nil
-}
-
-// confirmed takes in that the oldest message on its way is in the log.
-func (s *sender) confirmed() {
-	t := s.order[0]
-	s.order = s.order[1:]
-	s.tally.Sent += t.message.tally
-	s.bytes -= len(t.message.body) + 1 - int(t.message.lines)
-	t.message = nil
+	return tally, err
 }

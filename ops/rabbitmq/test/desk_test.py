@@ -217,7 +217,7 @@ class Cluster:
 
     def keep(self, policy: dict[str, int]) -> None:
         """Sets what the brokers keep of the streams."""
-        self.run("ctl", "1", "set_policy", "desk", r"^desk\.(lines|answers)\.", json.dumps(policy), "--apply-to",
+        self.run("ctl", "1", "set_policy", "desk", r"^desk\.2\.(lines|answers)\.", json.dumps(policy), "--apply-to",
                  "queues")
 
     def end(self, passed: bool) -> None:
@@ -237,7 +237,7 @@ class Cluster:
         raise OSError("no broker can be reached")
 
     def queue(self, kind: str, partition: int) -> str:
-        return f"desk.{kind}.{partition}.of.{self.partitions}"
+        return f"desk.2.{kind}.{partition}.of.{self.partitions}"
 
     def publish(self, partition: int, messages: list[tuple[dict[str, Any], bytes]]) -> None:
         """Publishes messages of lines, once the partition is there."""
@@ -269,7 +269,8 @@ class Cluster:
             found.append((headers.pop("x-stream-offset"), headers, body))
             if headers.get("mark") == mark:
                 break
-        channel.connection.close()
+        with contextlib.suppress(pika.exceptions.AMQPError):  # what came after the mark can't be given back to a stream
+            channel.connection.close()
         return found
 
 
@@ -277,16 +278,22 @@ REQUEST = re.compile(rb'\{"key": ("[^"]*"), ("service": .*, "inputs": \{.*\}), "
 
 
 def lines_of(records: list[Record]) -> Iterator[tuple[Place, bytes]]:
-    """The lines of a log that count: each line of a sender once, and of the sender x those alone that are lines."""
-    due: dict[str, int] = {}
+    """The lines of a log that count: each line of a batch once, of a name those of its newest process, and of the sender x
+    those alone that are lines."""
+    due: dict[tuple[str, str], int] = {}
+    epochs: dict[str, int] = {}
     for offset, headers, body in records:
-        if not isinstance(headers.get("sender"), str) or not isinstance(headers.get("number"), int):
+        sender, batch = headers.get("sender"), (headers.get("sender"), headers.get("batch"))
+        if "epoch" not in headers or headers["epoch"] < epochs.get(sender, 0):
             continue
-        for index, raw in enumerate(body.split(b"\n")):
+        epochs[sender] = headers["epoch"]
+        if headers["kind"] == "end":
+            due[batch] = 1 << 60
+        for index, raw in enumerate(body.split(b"\n") if headers["kind"] == "lines" else []):
             number = headers["number"] + index
-            if number >= due.get(headers["sender"], number):
-                due[headers["sender"]] = number + 1
-                if headers["sender"] != "x" or number >= NO_LINES:
+            if number >= due.get(batch, number):
+                due[batch] = number + 1
+                if sender != "x" or number >= NO_LINES:
                     yield (offset, index), raw
 
 

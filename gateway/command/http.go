@@ -1,0 +1,309 @@
+package command
+
+import (
+	"bytes"
+	"context"
+	"encoding/json"
+	"errors"
+	"fmt"
+	"io"
+	"log"
+	"net"
+	"os"
+	"os/signal"
+	"runtime"
+	"strconv"
+	"strings"
+	"syscall"
+	"time"
+
+	"github.com/spf13/cobra"
+
+	"gateway/dmn"
+	"gateway/engine"
+	"gateway/lines"
+	"gateway/profile"
+	"gateway/service"
+)
+
+// httpOptions are the options of http.
+type httpOptions struct {
+	service     service.Options
+	listen      string
+	open        bool
+	reading     profile.Options
+	deadline    duration
+	memory      size
+	journalSize size
+}
+
+func httpCommand() *cobra.Command {
+	options := httpOptions{deadline: duration(2 * time.Second), memory: 1 << 30, journalSize: 256 << 20}
+	c := &cobra.Command{
+		Use:   "http [OPTIONS] MODEL.json|FILE.dmn..|-",
+		Short: "Answers requests to the services of a model over HTTP",
+		Long: `Engines beside the service evaluate; one that hangs or ends is replaced. On SIGTERM the service answers all that it took,
+and ends with status 0. SIGHUP begins new journal files and reads the tokens again. docs/HTTP.md has every path.
+
+Where others than this machine can reach the address, callers need tokens (--tokens), unless --open says that anyone may
+call.`,
+		Example: `  desk http examples/parcel.json
+  curl http://127.0.0.1:8080/v1/services/shipping -d '{"weight":5,"express":false}'`,
+		ValidArgsFunction: completeFiles("json", "dmn"),
+		RunE: func(c *cobra.Command, files []string) error {
+			if len(files) == 0 {
+				return wrong("a model is due: %s", usageOf(c))
+			}
+			return runHTTP(c, files, options)
+		},
+	}
+	flags := c.Flags()
+	flags.StringVar(&options.listen, "listen", "",
+		"Listen at this `ADDRESS` (default 127.0.0.1:8080, or the socket that systemd passes)")
+	flags.BoolVar(&options.open, "open", false, "Let anyone call who can reach the address, without a token")
+	flags.IntVar(&options.service.Processes, "processes", runtime.NumCPU(), "Run this `NUMBER` of engines, 1 to 64")
+	flags.Lookup("processes").DefValue = "one per processor"
+	flags.Var(&options.deadline, "deadline", "Give one request this long, 10ms to 1h")
+	flags.Var(&options.memory, "memory", "Limit the address space of each engine, from 32MiB on; 0 for no limit")
+	flags.StringVar(&options.service.Tokens, "tokens", "", "Ask callers for one of the tokens in this `FILE`")
+	flags.StringVar(&options.service.Journal, "journal", "", "Keep each request in this `FOLDER` before it is answered")
+	flags.Var(&options.journalSize, "journal-size", "Begin another file of the journal at about this size")
+	flags.StringVar(&options.service.State, "state", "",
+		"Keep the model last put in this `FILE` (default model.json in the journal's folder)")
+	flags.IntVar(&options.service.ClientLimit, "client-limit", 10_000, "Allow this `NUMBER` of unanswered requests per client")
+	flags.IntVar(&options.service.Limit, "limit", 50_000, "Allow this `NUMBER` of unanswered requests in all")
+	readingFlags(flags, &options.reading)
+	return c
+}
+
+func runHTTP(c *cobra.Command, files []string, o httpOptions) error {
+	options := o.service
+	options.Deadline, options.Memory, options.JournalSize = time.Duration(o.deadline), uint64(o.memory), int64(o.journalSize)
+	if err := options.Check(); err != nil {
+		return wrong("%w", err)
+	}
+	logger := log.New(c.ErrOrStderr(), "desk http: ", log.LstdFlags|log.LUTC|log.Lmsgprefix)
+	options.Log, options.Turn = logger.Printf, turns()
+	// A log that nobody reads any more ends no service.
+	signal.Notify(make(chan os.Signal, 1), syscall.SIGPIPE)
+	ctx, stop := untilTold(c)
+	defer stop()
+	return reported(c.ErrOrStderr(), serveHTTP(ctx, c, files, o, options))
+}
+
+// untilTold is a context that ends with SIGTERM or SIGINT.
+func untilTold(c *cobra.Command) (context.Context, context.CancelFunc) {
+	return signal.NotifyContext(c.Context(), os.Interrupt, syscall.SIGTERM)
+}
+
+// turns is sent to for each SIGHUP.
+func turns() <-chan struct{} {
+	hangUp := make(chan os.Signal, 1)
+	signal.Notify(hangUp, syscall.SIGHUP)
+	turn := make(chan struct{})
+	go func() {
+		for range hangUp {
+			turn <- struct{}{}
+		}
+	}()
+	return turn
+}
+
+func serveHTTP(ctx context.Context, c *cobra.Command, files []string, o httpOptions, options service.Options) error {
+	var err error
+	if options.Engine, err = engine.Path(); err != nil {
+		return err
+	}
+	for _, note := range engineNotes(options.Engine) {
+		options.Log("%s", note)
+	}
+	if options.Model, err = readModel(c, files, o.reading, options.Log); err != nil {
+		return err
+	}
+	options.ReadDMN = putDMN(o.reading, options.Log)
+	options.Named = strings.Join(files, " ")
+	if options.Listener, options.Shared, err = listen(o.listen, o.open || options.Tokens != ""); err != nil {
+		return err
+	}
+	defer options.Listener.Close()
+	return service.Run(ctx, options)
+}
+
+// reported adds the places of a model that has faults, each on a line, and the status of such a model.
+func reported(to io.Writer, err error) error {
+	var faulty *engine.FaultyModel
+	var places refusedPlaces
+	var fault *lines.SyntaxFault
+	switch {
+	case errors.As(err, &faulty):
+		for _, place := range faulty.Places {
+			fmt.Fprintf(to, "%s\n", place)
+		}
+	case errors.As(err, &places):
+		for _, place := range places {
+			fmt.Fprintln(to, place)
+		}
+		return ended(statusRefused)
+	case errors.As(err, &fault), errors.Is(err, service.ErrNoModel):
+	default:
+		return err
+	}
+	return refused(err)
+}
+
+// errOpen refuses to serve everyone without having been told to.
+var errOpen = errors.New("anyone who can reach it would be answered; give --tokens FILE, or --open")
+
+// defaultAddress is where the service listens unless told otherwise.
+const defaultAddress = "127.0.0.1:8080"
+
+// listen opens the address, or takes the socket that systemd passes; shared says which. An address that other machines
+// can reach is refused unless it may be open.
+func listen(address string, mayBeOpen bool) (listener net.Listener, shared bool, err error) {
+	if shared = address == "" && isPassed(); shared {
+		listener, err = passed()
+	} else {
+		listener, err = listenAt(address)
+	}
+	if err != nil {
+		return nil, shared, err
+	}
+	if at, is := listener.Addr().(*net.TCPAddr); is && !mayBeOpen && !at.IP.IsLoopback() {
+		listener.Close()
+		return nil, shared, wrong("listening at %s: %w", at, errOpen)
+	}
+	return listener, shared, nil
+}
+
+func listenAt(address string) (net.Listener, error) {
+	if address == "" {
+		address = defaultAddress
+	}
+	if _, _, err := net.SplitHostPort(address); err != nil {
+		return nil, wrong("--listen %s: an address has a port, as %s", address, defaultAddress)
+	}
+	listener, err := net.Listen("tcp", address)
+	if err != nil {
+		return nil, fmt.Errorf("listening: %w", err)
+	}
+	return listener, nil
+}
+
+// isPassed reports whether systemd passes a socket to this process.
+func isPassed() bool {
+	return os.Getenv("LISTEN_PID") == strconv.Itoa(os.Getpid()) && os.Getenv("LISTEN_FDS") != ""
+}
+
+// firstPassed is the first descriptor that systemd passes.
+const firstPassed = 3
+
+func passed() (net.Listener, error) {
+	syscall.CloseOnExec(firstPassed)
+	file := os.NewFile(firstPassed, "socket")
+	defer file.Close()
+	listener, err := net.FileListener(file)
+	if err != nil {
+		return nil, fmt.Errorf("listening at the socket that systemd passed: %w", err)
+	}
+	return listener, nil
+}
+
+// readModel reads the files of the command line: one model in JSON, or files of DMN.
+func readModel(c *cobra.Command, files []string, options profile.Options, log func(string, ...any)) (*service.Source, error) {
+	if err := oneStdin(files); err != nil {
+		return nil, err
+	}
+	if len(files) > 1 || files[0] != dash && isDMN(files[0], nil) {
+		return readDMN(files, func(path string) (*dmn.File, error) { return readFile(c, path) }, options, log)
+	}
+	text, err := readAll(c, files[0])
+	if err != nil {
+		return nil, fmt.Errorf("reading the model: %w", err)
+	}
+	if isDMN(files[0], text) {
+		return readDMN(files, func(path string) (*dmn.File, error) { return dmn.Read(stdinName, bytes.NewReader(text)) }, options, log)
+	}
+	source, err := service.ReadSource(text)
+	if err != nil {
+		return nil, fmt.Errorf("%s: %w", shownAs(files[0]), err)
+	}
+	return source, nil
+}
+
+// putDMN reads files in DMN that are put.
+func putDMN(options profile.Options, log func(string, ...any)) func(text []byte) (*service.Source, error) {
+	return func(text []byte) (*service.Source, error) {
+		return readDMN([]string{"the body"}, func(path string) (*dmn.File, error) {
+			return dmn.Read(path, bytes.NewReader(text))
+		}, options, log)
+	}
+}
+
+// refusedPlaces is the error of files in DMN with places that can't be taken.
+type refusedPlaces []profile.Refusal
+
+func (r refusedPlaces) Error() string {
+	if len(r) == 1 {
+		return r[0].String()
+	}
+	return fmt.Sprintf("%d places can't be taken; the first: %s", len(r), r[0])
+}
+
+// Errors has each place as JSON.
+func (r refusedPlaces) Errors() []json.RawMessage {
+	var all []json.RawMessage
+	for _, place := range r {
+		text, err := json.Marshal(struct {
+			Line    int    `json:"line"`
+			Column  int    `json:"column"`
+			Where   string `json:"where,omitempty"`
+			Element string `json:"element,omitempty"`
+			Name    string `json:"name,omitempty"`
+			ID      string `json:"id,omitempty"`
+			Text    string `json:"text,omitempty"`
+			Said    string `json:"said"`
+			Hint    string `json:"hint,omitempty"`
+		}{place.Line, place.Column, place.Where, place.Element, place.Name, place.ID, place.Text, place.Why, place.Instead})
+		if err == nil {
+			all = append(all, text)
+		}
+	}
+	return all
+}
+
+// readDMN reads files in DMN, and translates them to one model.
+func readDMN(paths []string, read func(path string) (*dmn.File, error), options profile.Options,
+	log func(string, ...any)) (*service.Source, error) {
+	var files []*dmn.File
+	var refused refusedPlaces
+	for _, path := range paths {
+		file, err := read(path)
+		var fault *dmn.Fault
+		switch {
+		case errors.As(err, &fault):
+			refused = append(refused, profile.RefusalOf(shownAs(path), fault))
+		case err != nil:
+			return nil, fmt.Errorf("reading the model: %w", err)
+		default:
+			files = append(files, file)
+		}
+	}
+	if len(refused) > 0 {
+		return nil, refused
+	}
+	report := profile.Run(files, options)
+	if report.Result == nil {
+		return nil, refusedPlaces(report.Refusals)
+	}
+	for _, place := range report.Refusals {
+		log("%s", place)
+	}
+	if summary := report.Summary(); summary != "" {
+		log("%s", summary)
+	}
+	text, err := wholeImport(report.Result)
+	if err != nil {
+		return nil, fmt.Errorf("reading the model: %w", err)
+	}
+	return service.ReadSource(text)
+}

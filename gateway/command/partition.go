@@ -1,0 +1,99 @@
+package command
+
+import (
+	"time"
+
+	"github.com/spf13/cobra"
+
+	"gateway/engine"
+	"gateway/rabbit/broker"
+	"gateway/rabbit/metrics"
+	"gateway/rabbit/partition"
+	"gateway/rabbit/process"
+)
+
+// brokerHelp describes the environment of send, partition and receive.
+const brokerHelp = `Environment:
+  DESK_BROKERS     the brokers, addresses with commas between [default: amqp://127.0.0.1]
+  DESK_PARTITIONS  how many partitions there are [default: 1]
+
+ops/rabbitmq/README.md describes the protocol, settings and alarms.`
+
+// partitionOptions are the options of partition.
+type partitionOptions struct {
+	engine   process.Options
+	memory   size
+	deadline duration
+	metrics  string
+	days     int
+}
+
+// leastMemory is how many bytes of address space an engine needs at least: it takes some for itself.
+const leastMemory = 32 << 20
+
+func partitionCommand() *cobra.Command {
+	options := partitionOptions{memory: 1 << 30, deadline: duration(time.Minute)}
+	c := &cobra.Command{
+		Use:   "partition [OPTIONS]",
+		Short: "Owns one partition on RabbitMQ at a time, and answers its lines",
+		Long:  brokerHelp,
+		Args:  noFiles,
+		RunE:  func(c *cobra.Command, _ []string) error { return runPartition(c, options) },
+	}
+	flags := c.Flags()
+	flags.IntVar(&options.engine.Workers, "workers", 1, "Use this `NUMBER` of workers in the engine, 1 to 8")
+	flags.Var(&options.deadline, "deadline", "Give the evaluation of a line this long, from 1s on")
+	flags.IntVar(&options.engine.Longest, "longest", 1<<20, "Allow an answer this many `BYTES`, 1024 to 16777216")
+	flags.Var(&options.memory, "memory", "Limit the address space of the engine, from 32MiB on; 0 for no limit")
+	flags.StringVar(&options.metrics, "metrics", "", "Serve /metrics, /healthz and /readyz at this `ADDRESS`, as 127.0.0.1:9100")
+	flags.IntVar(&options.days, "sender-days", 90, "Know a sender and its batches for this `NUMBER` of days after its last message; 0 for ever")
+	return c
+}
+
+// check reports a number that is out of its range.
+func (o *partitionOptions) check() error {
+	switch {
+	case o.engine.Workers < 1 || o.engine.Workers > 8:
+		return wrong("--workers is a number from 1 to 8, not %d", o.engine.Workers)
+	case time.Duration(o.deadline) < time.Second:
+		return wrong("--deadline is at least 1s, not %v", time.Duration(o.deadline))
+	case o.engine.Longest < 1024 || o.engine.Longest > broker.WindowBytes:
+		return wrong("--longest is a number from 1024 to %d, not %d", broker.WindowBytes, o.engine.Longest)
+	case o.days < 0:
+		return wrong("--sender-days is a number of days, not %d", o.days)
+	case o.memory != 0 && o.memory < leastMemory:
+		return wrong("--memory is at least 32MiB: an engine takes some of it for itself")
+	}
+	return nil
+}
+
+func runPartition(c *cobra.Command, o partitionOptions) error {
+	if err := o.check(); err != nil {
+		return err
+	}
+	o.engine.Memory = uint64(o.memory)
+	settings, err := broker.ReadSettings()
+	if err != nil {
+		return wrong("%w", err)
+	}
+	if o.engine.Path, err = engine.Path(); err != nil {
+		return err
+	}
+	for _, note := range engineNotes(o.engine.Path) {
+		c.PrintErrf("desk partition: %s\n", note)
+	}
+	ctx, stop := untilTold(c)
+	defer stop()
+	gauges := partition.NewGauges()
+	if o.metrics != "" {
+		if _, err := metrics.Serve(ctx, o.metrics, gauges); err != nil {
+			return err
+		}
+	}
+	options := partition.Options{Settings: settings, Deadline: time.Duration(o.deadline), Log: c.ErrOrStderr(), Gauges: gauges,
+		Engine: o.engine, Keep: time.Duration(o.days) * 24 * time.Hour}
+	if err := partition.Run(ctx, options); err != nil && ctx.Err() == nil {
+		return err
+	}
+	return nil
+}

@@ -1,0 +1,53 @@
+package command
+
+import (
+	"errors"
+	"fmt"
+	"strconv"
+	"strings"
+
+	"github.com/spf13/pflag"
+
+	"gateway/profile"
+)
+
+// readingFlags adds the options that say how files of DMN are translated.
+func readingFlags(flags *pflag.FlagSet, options *profile.Options) {
+	flags.StringVar(&options.Service, "service", "", "Make the service of this `NAME` alone: a decision service or a decision")
+	flags.BoolVar(&options.Partial, "partial", false, "Make the services that need no refused place, and report the others")
+	flags.BoolVar(&options.FreeInputs, "free-inputs", false,
+		"Make an input of each name that nothing declares and that is a typed column's whole expression")
+	flags.Var(decimals{options}, "decimals", "Take this many decimals of numbers of inputs, as 2, Rate=3 or "+
+		"Applicant.Income=2; may come several times (default 2 where fractions meet them)")
+}
+
+// decimals says how many decimals the numbers of inputs have.
+type decimals struct{ options *profile.Options }
+
+func (d decimals) String() string { return "" }
+
+func (d decimals) Type() string { return "[NAME=]NUMBER" }
+
+func (d decimals) Set(word string) error {
+	name, number := "", word
+	if at := strings.LastIndexByte(word, '='); at >= 0 {
+		if name, number = strings.TrimSpace(word[:at]), word[at+1:]; name == "" {
+			return errors.New("a name is due before =")
+		}
+	}
+	count, err := strconv.Atoi(strings.TrimSpace(number))
+	if err != nil || count < 0 || count > profile.MostDecimals {
+		return fmt.Errorf("a number from 0 to %d is due", profile.MostDecimals)
+	}
+	if d.options.Decimals == nil {
+		said := profile.NoDecimals()
+		said.Named = map[string]int{}
+		d.options.Decimals = &said
+	}
+	if name == "" {
+		d.options.Decimals.All = count
+	} else {
+		d.options.Decimals.Named[name] = count
+	}
+	return nil
+}

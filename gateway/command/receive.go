@@ -1,0 +1,63 @@
+package command
+
+import (
+	"os"
+	"time"
+
+	"github.com/spf13/cobra"
+
+	"gateway/rabbit/broker"
+	"gateway/rabbit/receiver"
+)
+
+// receiveOptions are the options of receive.
+type receiveOptions struct {
+	from, place, output string
+	idle                duration
+}
+
+func receiveCommand() *cobra.Command {
+	var options receiveOptions
+	c := &cobra.Command{
+		Use:   "receive [OPTIONS]",
+		Short: "Writes the answers of all partitions on RabbitMQ, each once",
+		Long:  brokerHelp,
+		Args:  noFiles,
+		RunE:  func(c *cobra.Command, _ []string) error { return runReceive(c, options) },
+	}
+	flags := c.Flags()
+	flags.StringVar(&options.from, "from", broker.FromFirst,
+		"Begin at `WHERE`: first, next, or a time as 2026-11-27T16:00:00Z; the place that --place keeps comes first")
+	flags.StringVar(&options.place, "place", "", "Keep the place in this `FILE`, and go on there when started again")
+	flags.StringVar(&options.output, "output", "",
+		"Write the answers to this `FILE`; with --place it has each answer once, whatever happens")
+	flags.Var(&options.idle, "idle", "End after so long without an answer, as 5s; 0s for never")
+	return c
+}
+
+func runReceive(c *cobra.Command, o receiveOptions) error {
+	settings, err := broker.ReadSettings()
+	if err != nil {
+		return wrong("%w", err)
+	}
+	options := receiver.Options{Settings: settings, From: o.from, Place: o.place, Output: os.Stdout,
+		Idle: time.Duration(o.idle), Log: c.ErrOrStderr()}
+	if o.from != broker.FromFirst && o.from != broker.FromNext {
+		at, err := time.Parse(time.RFC3339, o.from)
+		if err != nil {
+			return wrong("--from is first, next, or a time as 2026-11-27T16:00:00Z, not %q", o.from)
+		}
+		options.From = at
+	}
+	if o.output != "" && o.output != dash {
+		file, err := os.OpenFile(o.output, os.O_RDWR|os.O_CREATE, 0o666)
+		if err != nil {
+			return err
+		}
+		defer file.Close()
+		options.Output, options.File = file, true
+	}
+	ctx, stop := untilTold(c)
+	defer stop()
+	return receiver.Receive(ctx, options)
+}

@@ -1,0 +1,97 @@
+package command
+
+import (
+	"bytes"
+	"context"
+	"errors"
+	"fmt"
+	"os/exec"
+	"time"
+
+	"github.com/spf13/cobra"
+
+	"gateway/engine"
+	"gateway/rabbit/broker"
+	"gateway/rabbit/history"
+	"gateway/rabbit/sender"
+)
+
+// sendOptions are the options of send.
+type sendOptions struct {
+	sender, batch string
+	giveUp        duration
+}
+
+func sendCommand() *cobra.Command {
+	options := sendOptions{giveUp: duration(5 * time.Minute)}
+	c := &cobra.Command{
+		Use:   "send [OPTIONS] < LINES.jsonl",
+		Short: "Sends the lines of standard input to the partitions of their keys, on RabbitMQ",
+		Long: `A line that can't be sent is reported on standard error, and the rest is sent; the status is then 3. Where a partition
+can't be reached, the lines of the others are sent; the status is then 1, and the batch can be sent again.
+
+` + brokerHelp,
+		Args: noFiles,
+		RunE: func(c *cobra.Command, _ []string) error { return runSend(c, options) },
+	}
+	c.Flags().StringVar(&options.sender, "sender", "", "Use this `NAME`, under which the sender may be started again; a new process ends the one before")
+	c.Flags().StringVar(&options.batch, "batch", "",
+		"Use this `ID` for this input: sent again under it, only what is missing is sent (default a new one)")
+	c.Flags().Var(&options.giveUp, "give-up", "Give up a partition that confirms nothing for so long, while others do; 0s for never")
+	return c
+}
+
+func runSend(c *cobra.Command, o sendOptions) error {
+	options := sender.Options{Name: o.sender, Named: o.sender != "", Batch: o.batch, GiveUp: time.Duration(o.giveUp),
+		Input: c.InOrStdin(), Log: c.ErrOrStderr()}
+	if o.batch != "" && (!options.Named || !broker.IsBatch(o.batch)) {
+		return wrong("--batch is an id in UTF-8 of at most %d bytes, and is for a --sender", broker.MaximumBatchBytes)
+	}
+	if options.Named && !broker.IsSender(o.sender) {
+		return wrong("--sender is a name in UTF-8 of 1 to %d bytes", broker.MaximumSenderBytes)
+	}
+	var err error
+	if options.Settings, err = broker.ReadSettings(); err != nil {
+		return wrong("%w", err)
+	}
+	path, err := engine.Path()
+	if err != nil {
+		return err
+	}
+	ctx, stop := untilTold(c)
+	defer stop()
+	options.Check = func(model []byte) error { return checkBeforeSending(ctx, path, model) }
+	if !options.Named {
+		if options.Name, err = history.Mark(); err != nil {
+			return err
+		}
+	}
+	if options.Named && options.Batch == "" {
+		if options.Batch, err = history.Mark(); err != nil {
+			return err
+		}
+		c.PrintErrf("desk send: batch %s\n", options.Batch)
+	}
+	tally, err := sender.Send(ctx, options)
+	c.PrintErrf("desk send: %d lines sent, %d repeated (taken before in this batch), %d not sent\n",
+		tally.Sent, tally.Repeated, tally.Refused+tally.Unsent)
+	if err == nil && tally.Refused > 0 {
+		return ended(statusRefused)
+	}
+	return err
+}
+
+// checkBeforeSending lets the engine check a model.
+func checkBeforeSending(ctx context.Context, path string, model []byte) error {
+	check := exec.CommandContext(ctx, path, "check")
+	check.Stdin = bytes.NewReader(model)
+	said, err := check.CombinedOutput()
+	var exit *exec.ExitError
+	switch {
+	case errors.As(err, &exit):
+		return fmt.Errorf("the model is refused: %s", bytes.TrimSpace(said))
+	case err != nil:
+		return fmt.Errorf("checking the model: %w", err)
+	}
+	return nil
+}

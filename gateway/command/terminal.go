@@ -1,0 +1,151 @@
+package command
+
+import (
+	"fmt"
+	"io"
+	"os"
+	"strings"
+	"sync"
+	"time"
+
+	"golang.org/x/sys/unix"
+)
+
+// isTerminal reports whether a stream is a terminal that shows more than plain lines.
+func isTerminal(stream io.Writer) bool {
+	file, is := stream.(*os.File)
+	if !is || os.Getenv("TERM") == "dumb" {
+		return false
+	}
+	_, err := unix.IoctlGetTermios(int(file.Fd()), unix.TCGETS)
+	return err == nil
+}
+
+// Colours, as terminals know them.
+const (
+	red    = "31"
+	green  = "32"
+	yellow = "33"
+)
+
+// painted is a text in a colour, where the stream is a terminal and the environment variable NO_COLOR is not set.
+func painted(stream io.Writer, colour, text string) string {
+	if os.Getenv("NO_COLOR") != "" || !isTerminal(stream) {
+		return text
+	}
+	return "\x1b[" + colour + "m" + text + "\x1b[0m"
+}
+
+const (
+	// progressAfter is how long a run is until its progress is shown, progressEvery how often that changes.
+	progressAfter = time.Second
+	progressEvery = 200 * time.Millisecond
+	eraseLine     = "\r\x1b[K"
+)
+
+// A progress shows on a terminal how far a long run is. Its methods do nothing where there is none.
+type progress struct {
+	to   io.Writer
+	what string
+	// done is how much is done by now, of total in these units; total 0 is not known.
+	done  func() int64
+	total int64
+	unit  unit
+	begun time.Time
+	end   chan struct{}
+	ended sync.WaitGroup
+}
+
+// A unit is what a progress counts.
+type unit struct {
+	name string
+	// size is how many of the counted things are one.
+	size float64
+}
+
+var (
+	megabytes = unit{"MB", 1e6}
+	files     = unit{"files", 1}
+)
+
+// showProgress shows progress until it is stopped; nil where the stream is no terminal.
+func showProgress(to io.Writer, what string, of unit, total int64, done func() int64) *progress {
+	if !isTerminal(to) {
+		return nil
+	}
+	p := &progress{to: to, what: what, done: done, total: total, unit: of, begun: time.Now(), end: make(chan struct{})}
+	p.ended.Add(1)
+	go p.run()
+	return p
+}
+
+// stop ends the display and erases its line.
+func (p *progress) stop() {
+	if p == nil {
+		return
+	}
+	close(p.end)
+	p.ended.Wait()
+}
+
+func (p *progress) run() {
+	defer p.ended.Done()
+	tick := time.NewTicker(progressEvery)
+	defer tick.Stop()
+	isShown := false
+	for {
+		select {
+		case <-p.end:
+			if isShown {
+				fmt.Fprint(p.to, eraseLine)
+			}
+			return
+		case now := <-tick.C:
+			if passed := now.Sub(p.begun); passed >= progressAfter {
+				isShown = true
+				fmt.Fprint(p.to, eraseLine, p.line(p.done(), passed))
+			}
+		}
+	}
+}
+
+// line says what is done, how fast, and how long it takes yet.
+func (p *progress) line(done int64, passed time.Duration) string {
+	var text strings.Builder
+	fmt.Fprintf(&text, "%s: %s", p.what, p.amount(done))
+	if p.total > 0 {
+		fmt.Fprintf(&text, " of %s %s (%d %%)", p.amount(p.total), p.unit.name, done*100/p.total)
+	}
+	if rate := float64(done) / passed.Seconds(); done > 0 && p.total > 0 {
+		left := time.Duration(float64(p.total-done) / rate * float64(time.Second))
+		fmt.Fprintf(&text, ", %.1f %s/s, %v left", rate/p.unit.size, p.unit.name, left.Round(time.Second))
+	}
+	return text.String()
+}
+
+func (p *progress) amount(n int64) string {
+	if p.unit.size == 1 {
+		return fmt.Sprint(n)
+	}
+	return fmt.Sprintf("%.1f", float64(n)/p.unit.size)
+}
+
+// readProgress shows how much of a file has been read, by whichever process: they share its offset. It is nil where the
+// input is no regular file, or where output comes to the same terminal.
+func readProgress(errs, out io.Writer, what string, input *source) *progress {
+	file, is := input.Reader.(*os.File)
+	if !is || isTerminal(out) {
+		return nil
+	}
+	about, err := file.Stat()
+	if err != nil || !about.Mode().IsRegular() {
+		return nil
+	}
+	return showProgress(errs, what, megabytes, about.Size(), func() int64 {
+		at, err := unix.Seek(int(file.Fd()), 0, io.SeekCurrent)
+		if err != nil {
+			return 0
+		}
+		return at
+	})
+}

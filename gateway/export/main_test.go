@@ -1,0 +1,9 @@
+package export
+
+import (
+	"testing"
+
+	"gateway/engine/enginetest"
+)
+
+func TestMain(m *testing.M) { enginetest.Main(m) }

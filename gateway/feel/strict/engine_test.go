@@ -1,0 +1,237 @@
+package strict
+
+import (
+	"bytes"
+	"encoding/json"
+	"fmt"
+	"math/rand"
+	"os"
+	"os/exec"
+	"strconv"
+	"strings"
+	"testing"
+	"time"
+)
+
+// texts is how many random texts a run holds against the engine.
+const texts = 100_000
+
+// atOnce is how many texts the engine is given at once: it tells as many places.
+const atOnce = 100
+
+var pieces = []string{
+	"a", "b1", "_x", "1", "23", "007", "9223372036854775807", "9223372036854775808", `"t"`, `"a\n\""`, `"bad\q"`, `"open`, "true", "false", "null",
+	"if", "then", "else", "and", "or", "not", "between", "abs", "sum", "modulo", "count", "+", "-", "*", "=", "!=", "<", "<=", ">", ">=", "(", ")", "[", "]",
+	",", ".", "..", "/", "?", "{", "é", "1a", "&", "!", "…", strings.Repeat("n", 64), strings.Repeat("n", 65), "\t", "\n", "not(", "if a then", "sum([",
+	"else 1", "[1..5]", "(1..", "a.b", "between 1 and", "modulo(a,", "-1", ">= 5", ", ", "",
+}
+
+// randomText is a text of pieces that come as they would, or as they never do.
+func randomText(random *rand.Rand) string {
+	var text strings.Builder
+	for count := random.Intn(12); count >= 0; count-- {
+		text.WriteString(pieces[random.Intn(len(pieces))])
+		if random.Intn(3) > 0 {
+			text.WriteByte(' ')
+		}
+	}
+	return text.String()
+}
+
+// lawful is a text by the grammar, with a byte or a piece changed now and then.
+func lawful(random *rand.Rand, depth int) string {
+	if depth == 0 {
+		return pieces[random.Intn(15)]
+	}
+	part := func() string { return lawful(random, depth-1-random.Intn(depth)) }
+	operators := []string{"+", "-", "*", "=", "!=", "<", "<=", ">", ">=", "and", "or"}
+	switch random.Intn(12) {
+	case 0:
+		return "if " + part() + " then " + part() + " else " + part()
+	case 1:
+		return "(" + part() + ")"
+	case 2:
+		return "[" + part() + "," + part() + "]"
+	case 3:
+		return "not(" + part() + ")"
+	case 4:
+		return "-" + part()
+	case 5:
+		return part() + ".entry"
+	case 6:
+		return "max(" + part() + ")"
+	case 7:
+		return "modulo(" + part() + "," + part() + ")"
+	case 8:
+		return part() + " between " + part() + " and " + part()
+	}
+	return part() + " " + operators[random.Intn(len(operators))] + " " + part()
+}
+
+func lawfulTests(random *rand.Rand) string {
+	var tests []string
+	for count := random.Intn(3); count >= 0; count-- {
+		one, other := lawful(random, random.Intn(3)), lawful(random, random.Intn(3))
+		switch random.Intn(4) {
+		case 0:
+			tests = append(tests, "<= "+one)
+		case 1:
+			tests = append(tests, "[("[random.Intn(2):][:1]+one+".."+other+"])["[random.Intn(3):][:1])
+		default:
+			tests = append(tests, one)
+		}
+	}
+	text := strings.Join(tests, ", ")
+	if random.Intn(4) == 0 {
+		return "not(" + text + ")"
+	}
+	return text
+}
+
+func changed(random *rand.Rand, text string) string {
+	if random.Intn(2) == 0 {
+		return text
+	}
+	at := random.Intn(len(text) + 1)
+	return strings.ToValidUTF8(text[:at]+pieces[random.Intn(len(pieces))]+text[min(at+random.Intn(3), len(text)):], "?")
+}
+
+func min(one, other int) int {
+	if one < other {
+		return one
+	}
+	return other
+}
+
+func drawn(random *rand.Rand, kind Kind) string {
+	switch {
+	case random.Intn(3) == 0:
+		return randomText(random)
+	case random.Intn(40) == 0:
+		return strings.Repeat("(", 60+random.Intn(8)) + "1" + strings.Repeat(")", 60+random.Intn(8))
+	case random.Intn(40) == 0:
+		return "1" + strings.Repeat(" + 1", 60+random.Intn(8))
+	case kind == UnaryTests:
+		return changed(random, lawfulTests(random))
+	case kind == Literal:
+		return changed(random, []string{"- 7", `"x"`, "true", "12", "-3"}[random.Intn(5)])
+	}
+	return changed(random, lawful(random, random.Intn(6)))
+}
+
+// modelOf is a model with these texts, each of this kind.
+func modelOf(kind Kind, texts []string) []byte {
+	type any = interface{}
+	var logic any = map[string]any{"list": texts}
+	table := func(values any, rules []any) any {
+		return map[string]any{"table": map[string]any{"hit": "C", "inputs": []string{"1"}, "rules": rules,
+			"outputs": []any{map[string]any{"name": "x", "values": values}}}}
+	}
+	switch kind {
+	case UnaryTests:
+		rules := []any{}
+		for _, text := range texts {
+			rules = append(rules, map[string]any{"when": []string{text}, "then": []string{"1"}})
+		}
+		logic = table([]string{}, rules)
+	case Literal:
+		logic = table(texts, []any{})
+	}
+	model, err := json.Marshal(map[string]any{"inputs": []any{}, "services": []any{},
+		"decisions": []any{map[string]any{"name": "d", "needs": []any{}, "expr": logic}}})
+	if err != nil {
+		panic(err)
+	}
+	return model
+}
+
+// A told is what the engine tells of a text without a reading.
+type told struct {
+	Pointer, Due string
+	Stop         int
+}
+
+// indexOf is which of the texts a pointer leads to.
+func (t told) indexOf(kind Kind) int {
+	parts := strings.Split(t.Pointer, "/")
+	at := len(parts) - 1
+	if kind == UnaryTests {
+		at -= 2
+	}
+	index, err := strconv.Atoi(parts[at])
+	if err != nil {
+		panic(t.Pointer)
+	}
+	return index
+}
+
+// asked gives what the engine tells of each of the texts without a reading.
+func asked(t *testing.T, engine string, kind Kind, texts []string) map[int]told {
+	run := exec.Command(engine, "check", "--json")
+	run.Stdin = bytes.NewReader(modelOf(kind, texts))
+	output, _ := run.Output()
+	found := map[int]told{}
+	for _, line := range bytes.Split(output, []byte("\n")) {
+		var one struct {
+			told
+			Fault string
+		}
+		if json.Unmarshal(line, &one) == nil && one.Fault == "expression" && one.Pointer != "" {
+			found[one.indexOf(kind)] = one.told
+		}
+	}
+	return found
+}
+
+func isRead(kind Kind, text string) bool {
+	ok := false
+	switch kind {
+	case Expression:
+		_, ok = ReadExpression(text)
+	case UnaryTests:
+		_, ok = ReadTests(text)
+	case Literal:
+		_, ok = ReadLiteral(text)
+	}
+	return ok
+}
+
+// TestEngineReadsTheSame holds random texts against the engine: whether each has a reading, and where it stops.
+func TestEngineReadsTheSame(t *testing.T) {
+	engine := os.Getenv("DESK_ENGINE")
+	if engine == "" {
+		t.Skip("DESK_ENGINE names no engine")
+	}
+	seed := time.Now().UnixNano()
+	random := rand.New(rand.NewSource(seed))
+	count := texts
+	if testing.Short() {
+		count /= 100
+	}
+	valid, faults := 0, 0
+	for done := 0; done < count && faults < 20; done += atOnce {
+		kind := Kind(random.Intn(3))
+		var some []string
+		for len(some) < atOnce {
+			some = append(some, drawn(random, kind))
+		}
+		found := asked(t, engine, kind, some)
+		for at, text := range some {
+			due, isWrong := found[at]
+			ok := isRead(kind, text)
+			if ok {
+				valid++
+			}
+			got := ""
+			if !ok {
+				stop := StopOf(kind, text)
+				got = fmt.Sprint(stop.At, " ", stop.DueText())
+			}
+			if ok == isWrong || isWrong && got != fmt.Sprint(due.Stop, " ", due.Due) {
+				faults++
+				t.Errorf("seed %d, kind %d, %q: read %v, %s; the engine: %v, %+v", seed, kind, text, ok, got, !isWrong, due)
+			}
+		}
+	}
+	t.Logf("%d texts, of which %d have a reading", count, valid)
+}

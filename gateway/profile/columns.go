@@ -1,0 +1,169 @@
+package profile
+
+import (
+	"fmt"
+
+	"gateway/dmn"
+	"gateway/feel"
+	"gateway/model"
+)
+
+// alignOutputs gives the entries, the defaults and the output values of each column one unit, and writes them.
+func (r *tableReader) alignOutputs() {
+	for i := range r.outputs {
+		o := &r.outputs[i]
+		clause := o.clause.Element
+		refuse := func(why, instead string) { r.refusals.refuse(clause, "", why, instead) }
+		isCount := r.made.table.Hit == "C#"
+		all := append([]phrase(nil), o.cells...)
+		if o.other != nil && !isCount {
+			all = append(all, *o.other)
+		}
+		for _, value := range o.allowed.all {
+			if number := rational(value); number != nil && ends(number) {
+				all = append(all, constantNumber(number))
+			}
+		}
+		o.gives = joined(o.gives, r.together(all, refuse))
+		r.writeOutput(o, i, all)
+		if isCount && o.other != nil && o.other.of.isCounted() {
+			refuse("a default with decimals where hits are counted", "a whole number")
+		}
+	}
+}
+
+// writeOutput writes what alignOutputs aligned.
+func (r *tableReader) writeOutput(o *output, i int, all []phrase) {
+	table := r.made.table
+	r.made.cells = append(r.made.cells, all)
+	for row := range o.cells {
+		table.Rules[row].Then[i] = all[row].text
+	}
+	next := len(o.cells)
+	if o.other != nil {
+		text := o.other.text
+		if table.Hit != "C#" {
+			text = all[next].text
+			next++
+		}
+		table.Outputs[i].Default = &text
+	}
+	at := 0
+	for _, value := range o.allowed.all {
+		if number := rational(value); number != nil && ends(number) {
+			if at < len(table.Outputs[i].Values) {
+				table.Outputs[i].Values[at] = all[next].text
+			}
+			next++
+		}
+		at++
+	}
+}
+
+// countsOtherwise tells whether a test has to be asked as a condition: a quotient, or a value of a finer unit than the
+// column's.
+func (r *tableReader) countsOtherwise(value phrase, c column) bool {
+	if !r.counts {
+		return value.isQuotient()
+	}
+	r.meeting(value, c.value)
+	if value.isQuotient() || c.value.isQuotient() {
+		return true
+	}
+	return value.of.kind != numberKind && value.of.isCounted() || value.of.kind == numberKind && value.number == nil &&
+		value.of.units.scale > c.value.of.within().scale
+}
+
+// bound is an order comparison with a column's value, in its unit.
+func (r *tableReader) bound(n feel.Node, operator string, value phrase, c column) (string, phrase) {
+	u := c.value.of.within()
+	switch {
+	case !r.counts || value.of.isPlain() && u.isPlain():
+		return operator, value.within(rankSum)
+	case value.number != nil:
+		operator, limit := boundIn(operator, value.number, u)
+		return operator, wholeConstant(limit)
+	case value.of.kind == numberKind:
+		value = r.recountedOr(n, value, units{scale: u.scale})
+	}
+	return operator, value.within(rankSum)
+}
+
+// equalIn is a value as a test of a column, in its unit; false where the column has no such value.
+func (r *tableReader) equalIn(n feel.Node, value phrase, c column) (phrase, bool) {
+	u := c.value.of.within()
+	switch {
+	case !r.counts || value.of.kind != numberKind || value.of.isPlain() && u.isPlain():
+		return value, true
+	case value.number != nil:
+		at := inUnits(value.number, u)
+		return wholeConstant(at.Num()), at.IsInt() && isNumber(at.Num())
+	}
+	return r.recountedOr(n, value, units{scale: u.scale}), true
+}
+
+// ratioExpression translates an input expression that is a quotient; false where it is none.
+func (r *tableReader) ratioExpression(x *dmn.Text) (value phrase, is bool) {
+	if !inFEEL(x) {
+		return value, false
+	}
+	r.at(x, func() {
+		nodes := r.read(x, r.scope, false)
+		if nodes == nil || !isDivision(nodes[0]) {
+			return
+		}
+		is = true
+		value = r.maybeQuotient(nodes[0], r.scope)
+	})
+	if !is {
+		return value, false
+	}
+	if due := r.types.resolve(x.Element, x.TypeRef); due != nil && due.kind != numberKind && due.kind != anyKind && due.kind != refusedKind {
+		r.refusals.refuse(x.Element, x.Text, fmt.Sprintf("it is a number, where %s is declared", due), "the type number")
+	}
+	if value.number != nil {
+		value = r.bounded(&feel.Null{}, value)
+	}
+	return value, true
+}
+
+// isDivision tells whether a form is a product with a division in it.
+func isDivision(n feel.Node) bool {
+	switch n := n.(type) {
+	case *feel.Negation:
+		return isDivision(n.Operand)
+	case *feel.Chain:
+		for i, operator := range n.Operators {
+			if operator == "/" || operator == "*" && (isDivision(n.Operands[i]) || isDivision(n.Operands[i+1])) {
+				return true
+			}
+		}
+	}
+	return false
+}
+
+// hitTable is a table that is true where one of some rules hits.
+func (r *tableReader) hitTable(rules []int) *box {
+	made := &model.Table{Hit: "F", Inputs: append([]string(nil), r.made.table.Inputs...), Outputs: []model.Output{{Name: "hit"}},
+		Rules: []model.Rule{}}
+	conditioned := false
+	for _, rule := range rules {
+		conditioned = conditioned || r.conditions[rule] != ""
+	}
+	if conditioned {
+		made.Inputs = append(made.Inputs, "true")
+	}
+	for _, rule := range rules {
+		when := append([]string(nil), r.made.table.Rules[rule].When...)
+		if conditioned {
+			condition := r.conditions[rule]
+			if condition == "" {
+				condition = "-"
+			}
+			when = append(when, condition)
+		}
+		made.Rules = append(made.Rules, model.Rule{When: when, Then: []string{"true"}})
+		r.wrote(len(fmt.Sprint(when)) + bytesOfEntry)
+	}
+	return &box{kind: tableBox, table: made}
+}

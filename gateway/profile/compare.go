@@ -1,0 +1,193 @@
+package profile
+
+import (
+	"fmt"
+	"math/big"
+
+	"gateway/decimal"
+	"gateway/feel"
+	"gateway/lines"
+)
+
+// turnedComparisons are the operators with their sides turned.
+var turnedComparisons = map[string]string{"<": ">", ">": "<", "<=": ">=", ">=": "<=", "=": "=", "!=": "!="}
+
+// compare is a comparison. Numbers that are counted otherwise are brought to one unit; of a constant it is that of the value.
+func (t *translator) compare(n feel.Node, l phrase, operator string, r phrase) phrase {
+	if !t.counts && l.over == nil && r.over == nil || l.of.kind == refusedKind || r.of.kind == refusedKind {
+		return infix(l, operator, r, rankComparison, booleanType)
+	}
+	l, r = t.meeting(l, r), t.meeting(r, l)
+	switch {
+	case l.isQuotient() || r.isQuotient():
+		return t.compareQuotients(n, l, operator, r)
+	case l.of.hasQuotient() || r.of.hasQuotient():
+		return t.refuse(n, "lists or contexts with quotients are not compared", "a rounding of what is in them")
+	case !l.of.isCounted() && !r.of.isCounted():
+		return infix(l, operator, r, rankComparison, booleanType)
+	case r.number != nil && l.number == nil:
+		return t.againstNumber(l, operator, r.number)
+	case l.number != nil && r.number == nil:
+		return t.againstNumber(r, turnedComparisons[operator], l.number)
+	}
+	return t.compareCounted(n, l, operator, r)
+}
+
+// meeting notes that a number meets another one.
+func (t *translator) meeting(p, other phrase) phrase {
+	a, b := p.of.within(), other.of.within()
+	met(a, b)
+	return p
+}
+
+// compareCounted compares values of which no one is a constant.
+func (t *translator) compareCounted(n feel.Node, l phrase, operator string, r phrase) phrase {
+	of := joinedUnits(l.of.within(), r.of.within())
+	for _, side := range []*phrase{&l, &r} {
+		other := l
+		if side == &l {
+			other = r
+		}
+		isOrder := operator != "=" && operator != "!="
+		if side.of.kind == numberKind || side.of.kind == anyKind && isOrder && !other.of.mayBe(textKind) {
+			*side = t.recountedOr(n, *side, of)
+			continue
+		}
+		*side = t.aligned(*side, joined(l.of, r.of), t.refusal(n))
+	}
+	return infix(l, operator, r, rankComparison, booleanType)
+}
+
+// againstNumber compares a value with a constant, which is brought to the value's unit: of x < 0.125 in hundredths it is
+// x <= 12. Where the constant has no such number no value is equal to it.
+func (t *translator) againstNumber(x phrase, operator string, value *big.Rat) phrase {
+	if operator == "=" || operator == "!=" {
+		return t.equalToNumber(x, operator, value)
+	}
+	operator, limit := boundIn(operator, value, x.of.within())
+	return infix(x, operator, wholeConstant(limit), rankComparison, booleanType)
+}
+
+func (t *translator) equalToNumber(x phrase, operator string, value *big.Rat) phrase {
+	if at := inUnits(value, x.of.within()); at.IsInt() && isNumber(at.Num()) {
+		return infix(x, operator, wholeConstant(at.Num()), rankComparison, booleanType)
+	}
+	// A number is not two numbers, null is none, and of another kind it is unknown.
+	x = t.short(x)
+	joint := allOf
+	if operator == "!=" {
+		joint = anyOf
+	}
+	return joint([]phrase{infix(x, operator, constant("0", numberType), rankComparison, booleanType),
+		infix(x, operator, constant("1", numberType), rankComparison, booleanType)})
+}
+
+// inUnits is a number as it is counted in some units; it may not be whole there.
+func inUnits(value *big.Rat, u units) *big.Rat {
+	return new(big.Rat).Mul(scaledBy(value, u.scale), new(big.Rat).SetInt64(u.parts()))
+}
+
+var mostNumber, leastNumber = big.NewInt(lines.MaxNumber), big.NewInt(-lines.MaxNumber)
+
+// boundIn brings an order comparison with a number to some units: the same of whole numbers holds of a limit that is one.
+func boundIn(operator string, value *big.Rat, u units) (string, *big.Int) {
+	at := inUnits(value, u)
+	floor := new(big.Int).Div(at.Num(), at.Denom())
+	isBelow := operator == "<" || operator == "<="
+	switch {
+	case floor.Cmp(leastNumber) < 0 && isBelow:
+		return "<", leastNumber
+	case floor.Cmp(leastNumber) < 0:
+		return ">=", leastNumber
+	case floor.Cmp(mostNumber) > 0 && isBelow:
+		return "<=", mostNumber
+	case floor.Cmp(mostNumber) > 0:
+		return ">", mostNumber
+	case at.IsInt():
+		return operator, floor
+	case isBelow:
+		return "<=", floor
+	}
+	return ">", floor
+}
+
+// mostFiner is how many decimals more than the numerator of a quotient a constant has at most that it is compared with: a
+// numerator of 19 digits and these leave a digit of the 34.
+const mostFiner = 14
+
+// compareQuotients compares where a side is a quotient, by multiplying both sides with the divisors. Two different quotients
+// of numbers in the range differ by far more than 34 digits lose, and equal ones are rounded alike.
+func (t *translator) compareQuotients(n feel.Node, l phrase, operator string, r phrase) phrase {
+	if l.number != nil {
+		l, r, operator = r, l, turnedComparisons[operator]
+	}
+	for _, side := range []phrase{l, r} {
+		switch side.of.kind {
+		case numberKind, nullKind:
+		case anyKind:
+			if operator != "=" && operator != "!=" {
+				continue
+			}
+			fallthrough
+		default:
+			return t.refuse(n, "a quotient is compared with what may be no number", "the type number for it")
+		}
+	}
+	if r.number != nil && l.over == nil {
+		if constantNumber(r.number).of.units.scale > l.of.units.scale+mostFiner {
+			return t.refuse(n, fmt.Sprintf("a quotient is compared with a number of over %d decimals more than its own: the standard "+
+				"compares what 34 digits leave of it", mostFiner), "a number with fewer decimals")
+		}
+		return t.againstNumber(l, operator, r.number)
+	}
+	if r.number != nil {
+		return t.quotientAgainst(n, l, operator, r.number)
+	}
+	left, right := big.NewInt(r.of.units.parts()), big.NewInt(l.of.units.parts())
+	if shift := r.of.units.scale - l.of.units.scale; shift > 0 {
+		left.Mul(left, decimal.Power(shift))
+	} else {
+		right.Mul(right, decimal.Power(-shift))
+	}
+	return t.crossed(n, l, left, operator, r, right)
+}
+
+// quotientAgainst compares a quotient by a variable with a constant.
+func (t *translator) quotientAgainst(n feel.Node, l phrase, operator string, value *big.Rat) phrase {
+	at := scaledBy(value, l.of.units.scale)
+	if !isNumber(at.Num()) || !isNumber(at.Denom()) {
+		return t.refuse(n, "a quotient is compared with a number of too many digits", "a number with fewer digits")
+	}
+	left := times(l, at.Denom(), numberType)
+	right := infix(*l.over, "*", wholeConstant(at.Num()), rankProduct, numberType)
+	return infix(left, operator, right, rankComparison, booleanType)
+}
+
+// crossed compares l * left * the divisor of r with r * right * the divisor of l.
+func (t *translator) crossed(n feel.Node, l phrase, left *big.Int, operator string, r phrase, right *big.Int) phrase {
+	common := new(big.Int).GCD(nil, nil, left, right)
+	left, right = new(big.Int).Quo(left, common), new(big.Int).Quo(right, common)
+	if !isNumber(left) || !isNumber(right) {
+		return t.refuse(n, "the quotients have too many decimals to be compared", "a rounding of what is calculated before")
+	}
+	lText, rText := times(l, left, numberType), times(r, right, numberType)
+	if r.over != nil {
+		lText = infix(lText, "*", *r.over, rankProduct, numberType)
+	}
+	if l.over != nil {
+		rText = infix(rText, "*", *l.over, rankProduct, numberType)
+	}
+	return infix(lText, operator, rText, rankComparison, booleanType)
+}
+
+// between is x >= low and x <= high.
+func (t *translator) between(n feel.Node, x, low, high phrase) phrase {
+	if !t.counts && x.over == nil && low.over == nil && high.over == nil ||
+		!x.of.isCounted() && !low.of.isCounted() && !high.of.isCounted() && x.over == nil && low.over == nil && high.over == nil {
+		t.meeting(x, low)
+		t.meeting(x, high)
+		return between(x, low, high)
+	}
+	x = t.short(x)
+	return allOf([]phrase{t.compare(n, x, ">=", low), t.compare(n, x, "<=", high)})
+}

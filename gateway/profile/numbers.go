@@ -1,0 +1,468 @@
+package profile
+
+import (
+	"fmt"
+	"math/big"
+	"strings"
+
+	"gateway/decimal"
+	"gateway/feel"
+	"gateway/lines"
+)
+
+// mostScale is how many decimals a value on the way may have: one of more would nearly always be past the range.
+const mostScale = 36
+
+// quotientInstead is what to write in place of a calculation with a quotient.
+const quotientInstead = "the products first and the division last, as x * 0.05 / 12, or a rounding round the quotient: decimal(x / 3, 2)"
+
+// fraction translates a numeric literal with decimals: its digits, in the unit that they have.
+func (t *translator) fraction(n *feel.Number) phrase {
+	t.fractions = true
+	value, fine := new(big.Rat).SetString(n.Text)
+	if !fine || len(strings.Trim(strings.ReplaceAll(n.Text, ".", ""), "0")) > decimal.Digits {
+		return t.refuse(n, fmt.Sprintf("the number has over %d digits, to which the standard rounds", decimal.Digits), "fewer digits")
+	}
+	return constantNumber(value)
+}
+
+// constantNumber is a number that ends, in the coarsest unit that it has.
+func constantNumber(value *big.Rat) phrase {
+	scale := 0
+	for ; scale <= 2*mostScale; scale++ {
+		if scaledBy(value, scale).IsInt() {
+			break
+		}
+	}
+	return constantAt(value, units{scale: scale})
+}
+
+// scaledBy is a number times 10^scale.
+func scaledBy(value *big.Rat, scale int) *big.Rat {
+	if scale < 0 {
+		return new(big.Rat).Quo(value, new(big.Rat).SetInt(decimal.Power(-scale)))
+	}
+	return new(big.Rat).Mul(value, new(big.Rat).SetInt(decimal.Power(scale)))
+}
+
+// constantAt is a number as it is counted in some units, in which it has to be whole.
+func constantAt(value *big.Rat, u units) phrase {
+	made := wholeConstant(new(big.Rat).Mul(scaledBy(value, u.scale), new(big.Rat).SetInt64(u.parts())).Num())
+	made.number, made.of = value, numberOf(u)
+	return made
+}
+
+func wholeConstant(digits *big.Int) phrase {
+	if digits.Sign() < 0 {
+		return phrase{text: digits.String(), rank: rankNegation, depth: 2, of: numberType}
+	}
+	return constant(digits.String(), numberType)
+}
+
+// isNumber tells whether a whole number is one of the engine's.
+func isNumber(n *big.Int) bool { return n.IsInt64() && n.Int64() >= -lines.MaxNumber }
+
+// exact refuses what is no plain number: a quotient, and a constant past the range.
+func (t *translator) exact(n feel.Node, p phrase) phrase {
+	if p.isQuotient() {
+		return t.refuse(n, "a quotient may only be compared, rounded, negated, chosen, or be a result: it is rounded to "+
+			"34 digits in the standard, and what is calculated with it isn't exact", quotientInstead)
+	}
+	return t.bounded(n, p)
+}
+
+// bounded refuses a constant past the range.
+func (t *translator) bounded(n feel.Node, p phrase) phrase {
+	if p.number == nil || p.of.isPlain() {
+		return p
+	}
+	if !isNumber(scaledBy(p.number, p.of.units.scale).Num()) {
+		return t.refuse(n, "the number is past "+largestNumber+" in its smallest unit", "a number with fewer digits")
+	}
+	return p
+}
+
+func (t *valueType) isPlain() bool { return t.units.isPlain() }
+
+func (t *valueType) isFractional() bool { return t.units.isFractional() }
+
+// recounted is a number in finer units. Why is empty, or tells why it can't be had.
+func recounted(p phrase, to units) (made phrase, why string) {
+	if to.per == tooManyParts {
+		return p, "the quotients have no common divisor in the range"
+	}
+	if p.of.units.isAs(to) || p.of.kind == nullKind || p.of.kind == refusedKind {
+		return p, ""
+	}
+	if p.number != nil {
+		return constantAt(p.number, to), ""
+	}
+	if to.scale < p.of.units.scale {
+		return p, "its unit can't be made coarser"
+	}
+	factor := new(big.Int).Mul(decimal.Power(to.scale-p.of.units.scale), big.NewInt(to.parts()/p.of.units.parts()))
+	if !isNumber(factor) {
+		return p, fmt.Sprintf("it would be counted with %d decimals", to.scale)
+	}
+	own := *p.of
+	own.units.scale, own.units.per, own.units.meets = to.scale, to.per, to.meets
+	own.units.cell = nil
+	return times(p, factor, &own), ""
+}
+
+// times is a phrase times a whole number.
+func times(p phrase, factor *big.Int, of *valueType) phrase {
+	if factor.IsInt64() && factor.Int64() == 1 {
+		p.of = of
+		return p
+	}
+	return infix(p, "*", wholeConstant(factor), rankProduct, of)
+}
+
+// recountedOr is a number in finer units, refused where it can't be had.
+func (t *translator) recountedOr(n feel.Node, p phrase, to units) phrase {
+	t.countedFinely(to)
+	made, why := recounted(p, to)
+	if why != "" {
+		return t.refuse(n, why, "a rounding of what is calculated before")
+	}
+	return t.shallow(made)
+}
+
+// countedFinely notes how a number on the way is counted.
+func (t *translator) countedFinely(u units) { t.finest = maximum(t.finest, u.scale) }
+
+// noteRange says from which size on the answer of a decision is limit.
+func (t *translator) noteRange(n *node) {
+	if finest := maximum(t.finest, n.of.within().scale); t.counts && finest > 0 {
+		t.refusals.note(n.element(), fmt.Sprintf("numbers on the way have up to %d decimals: one past %s is limit", finest,
+			decimal.Unit{Decimals: finest}.Text(largestNumber)), "")
+	}
+}
+
+// aligned is a value that is counted as values of another type, which may be had by multiplying numbers; refused where it
+// may not.
+func (t *translator) aligned(p phrase, to *valueType, refuse func(why, instead string)) phrase {
+	if !t.counts || !to.isCounted() && !p.of.isCounted() {
+		return p
+	}
+	if p.of.kind == numberKind {
+		made, why := recounted(p, to.within())
+		if why != "" {
+			refuse(why, "a rounding of what is calculated before")
+			return refused
+		}
+		return t.shallow(made)
+	}
+	if p.members != nil && to.kind == listKind {
+		members := make([]phrase, len(p.members))
+		for i, member := range p.members {
+			members[i] = t.aligned(member, to.element, refuse)
+		}
+		return listing(members, listOf(to.element))
+	}
+	if why := countedAlike(p.of, to); why != "" {
+		refuse(why, "as many decimals for all of them, as by --decimals; or the type number")
+		return refused
+	}
+	return p
+}
+
+// together aligns values that meet in a list, a branch or a column, and gives the type that all of them have.
+func (t *translator) together(values []phrase, refuse func(why, instead string)) *valueType {
+	of := nullType
+	for _, value := range values {
+		of = joined(of, value.of)
+	}
+	for i := range values {
+		values[i] = t.aligned(values[i], of, refuse)
+	}
+	return of
+}
+
+// refusal refuses a form with a reason that comes later.
+func (t *translator) refusal(n feel.Node) func(why, instead string) {
+	return func(why, instead string) { t.refuse(n, why, instead) }
+}
+
+// units are those of the sum of operands.
+func unitsOf(operands []phrase) units {
+	all := operands[0].of.units
+	for _, o := range operands[1:] {
+		all = joinedUnits(all, o.of.units)
+	}
+	all.cell = nil
+	return all
+}
+
+// folded gives a phrase the value of a calculation with constants; where it has decimals it becomes that constant.
+func folded(p phrase, operator string, operands []phrase, operators []string) phrase {
+	value := operands[0].number
+	if value == nil {
+		return p
+	}
+	value = new(big.Rat).Set(value)
+	for i, o := range operands[1:] {
+		switch {
+		case o.number == nil:
+			return p
+		case operator == "*":
+			value.Mul(value, o.number)
+		case operators[i] == "-":
+			value.Sub(value, o.number)
+		default:
+			value.Add(value, o.number)
+		}
+	}
+	switch {
+	case !ends(value):
+		return p
+	case !p.of.isPlain():
+		return constantNumber(value)
+	}
+	p.number = value
+	return p
+}
+
+// ends tells whether a number has at most 34 digits.
+func ends(value *big.Rat) bool {
+	at := scaledBy(value, 2*mostScale)
+	return at.IsInt() && len(strings.Trim(at.Num().String(), "-0")) <= decimal.Digits
+}
+
+// counted is the sum of operands that are counted in units.
+func (t *translator) countedSum(n *feel.Chain, operands []phrase) phrase {
+	u := unitsOf(operands)
+	for i, o := range operands {
+		operands[i] = t.recountedOr(n, o, u)
+	}
+	return folded(chained(operands, n.Operators, rankSum, numberOf(u)), "+", operands, n.Operators)
+}
+
+// countedProduct is the product of operands: their decimals add up.
+func (t *translator) countedProduct(n feel.Node, operands []phrase) phrase {
+	u, all := units{}, make([]phrase, 0, len(operands))
+	operators := make([]string, 0, len(operands))
+	for _, o := range operands {
+		u.meets = met(u, o.of.units)
+		u.scale += o.of.units.scale
+	}
+	for _, o := range operands {
+		// A constant as 0.1 is one of its unit: it says how the others are counted.
+		if o.text != "1" || !o.of.isFractional() || !hasNumber(operands) {
+			all = append(all, o)
+		}
+	}
+	for range all[1:] {
+		operators = append(operators, "*")
+	}
+	t.countedFinely(u)
+	if u.scale > mostScale {
+		return t.refuse(n, fmt.Sprintf("it would be counted with %d decimals", u.scale), "a rounding of what is calculated before")
+	}
+	return folded(withType(chained(all, operators, rankProduct, numberOf(u)), numberOf(u)), "*", operands, nil)
+}
+
+func withType(p phrase, of *valueType) phrase {
+	p.of, p.number = of, nil
+	return p
+}
+
+// hasNumber tells whether an operand is a number, and no constant: then the product is null where it is.
+func hasNumber(operands []phrase) bool {
+	for _, o := range operands {
+		if o.number == nil && o.of.kind == numberKind {
+			return true
+		}
+	}
+	return false
+}
+
+// productWithQuotients is a product with divisions or quotients in it, from the left.
+func (t *translator) productWithQuotients(n *feel.Chain, operands []phrase) phrase {
+	soFar := operands[0]
+	for i, operator := range n.Operators {
+		next := operands[i+1]
+		if operator == "/" {
+			soFar = t.divided(n, soFar, next)
+		} else {
+			soFar = t.multiplied(n, soFar, next)
+		}
+		soFar = t.shallow(soFar)
+	}
+	return soFar
+}
+
+// isQuotient tells whether a phrase is a quotient by a constant or a variable.
+func (p phrase) isQuotient() bool {
+	return p.over != nil || p.of.kind == numberKind && p.of.units.per != 0
+}
+
+// multiplied is a product; a quotient may be multiplied by powers of ten alone.
+func (t *translator) multiplied(n feel.Node, a, b phrase) phrase {
+	if b.isQuotient() {
+		a, b = b, a
+	}
+	if !a.isQuotient() {
+		return t.countedProduct(n, []phrase{t.bounded(n, a), t.bounded(n, b)})
+	}
+	power, is := powerOfTen(b.number)
+	if !is || b.isQuotient() {
+		return t.exact(n, a)
+	}
+	return t.shifted(n, a, power)
+}
+
+// powerOfTen is the exponent of a constant that is a power of ten.
+func powerOfTen(value *big.Rat) (int, bool) {
+	if value == nil || value.Sign() <= 0 {
+		return 0, false
+	}
+	for power := -decimal.Digits; power <= decimal.Digits; power++ {
+		if scaledBy(value, -power).Cmp(big.NewRat(1, 1)) == 0 {
+			return power, true
+		}
+	}
+	return 0, false
+}
+
+// shifted is a quotient times 10^power.
+func (t *translator) shifted(n feel.Node, p phrase, power int) phrase {
+	own := *p.of
+	own.units.scale -= power
+	own.units.meets = met(p.of.units, units{scale: 1})
+	if p.over == nil && own.units.scale < 0 {
+		factor := decimal.Power(-own.units.scale)
+		own.units.scale = 0
+		if !isNumber(factor) {
+			return t.refuse(n, "the power of ten is past the range", "")
+		}
+		return times(p, factor, &own)
+	}
+	p.of = &own
+	return p
+}
+
+// divided is a quotient. Of a divisor of twos and fives alone it is exact; by 0 it is null.
+func (t *translator) divided(n feel.Node, a, b phrase) phrase {
+	switch {
+	case a.of.kind == refusedKind || b.of.kind == refusedKind:
+		return refused
+	case b.number != nil && b.number.Sign() == 0:
+		return constant("null", nullType)
+	case b.number != nil && a.isQuotient():
+		if power, is := powerOfTen(b.number); is {
+			return t.shifted(n, a, -power)
+		}
+		return t.exact(n, a)
+	case b.number != nil:
+		return t.dividedBy(n, t.bounded(n, a), b.number)
+	case a.isQuotient():
+		return t.exact(n, a)
+	case b.isQuotient():
+		return t.exact(n, b)
+	}
+	return t.ratio(n, a, b)
+}
+
+// dividedBy is a number divided by a constant: the twos and fives of the divisor go into the unit, and what is left is the
+// divisor of the quotient.
+func (t *translator) dividedBy(n feel.Node, a phrase, divisor *big.Rat) phrase {
+	if a.number != nil {
+		if value := new(big.Rat).Quo(a.number, divisor); ends(value) {
+			return constantNumber(value)
+		}
+	}
+	factor, rest := new(big.Int).Set(divisor.Denom()), new(big.Int).Set(divisor.Num())
+	if rest.Sign() < 0 {
+		factor.Neg(factor)
+		rest.Neg(rest)
+	}
+	twos, fives := removed(rest, 2), removed(rest, 5)
+	scale := maximum(twos, fives)
+	factor.Mul(factor, power(2, scale-twos))
+	factor.Mul(factor, power(5, scale-fives))
+	u := units{scale: a.of.units.scale + scale, meets: a.of.units.fractional().meets}
+	for u.scale > 0 && new(big.Int).Rem(factor, big.NewInt(10)).Sign() == 0 {
+		factor.Quo(factor, big.NewInt(10))
+		u.scale--
+	}
+	switch {
+	case !isNumber(factor) || !isNumber(rest) || u.scale > mostScale:
+		return t.refuse(n, "the divisor has too many digits", "a divisor with fewer digits")
+	case rest.Int64() > 1:
+		u.per = rest.Int64()
+	}
+	a.number = nil
+	if a.of.kind != numberKind && factor.IsInt64() && factor.Int64() == 1 {
+		// Of what is no number the quotient is null.
+		return infix(a, "*", constant("1", numberType), rankProduct, numberOf(u))
+	}
+	return times(a, factor, numberOf(u))
+}
+
+// removed takes a factor out of a number as often as it is in it, and gives how often.
+func removed(n *big.Int, factor int64) int {
+	by, rest := big.NewInt(factor), new(big.Int)
+	for count := 0; ; count++ {
+		quotient, _ := new(big.Int).QuoRem(n, by, rest)
+		if rest.Sign() != 0 || n.Sign() == 0 {
+			return count
+		}
+		n.Set(quotient)
+	}
+}
+
+func power(base int64, exponent int) *big.Int {
+	return new(big.Int).Exp(big.NewInt(base), big.NewInt(int64(exponent)), nil)
+}
+
+// ratio is a quotient by a variable: its numerator, null where there is no quotient, over a divisor above 0.
+func (t *translator) ratio(n feel.Node, a, b phrase) phrase {
+	t.fractions = true
+	u := units{scale: a.of.units.scale - b.of.units.scale, meets: met(a.of.units.fractional(), b.of.units.fractional())}
+	numerator, divisor := t.short(t.bounded(n, a)), t.short(t.bounded(n, b))
+	d, x := divisor.text, numerator.text
+	if numerator.of.kind != numberKind {
+		x += " * 1"
+	}
+	if numerator.rank < rankPath {
+		x = "(" + x + ")"
+	}
+	made := t.step("numerator", fmt.Sprintf("if %[2]s < 0 then -%[1]s else if %[2]s > 0 then %[1]s else null", parenthesized(x), d), numberOf(u))
+	over := t.step("divisor", fmt.Sprintf("if %[1]s < 0 then -%[1]s else if %[1]s > 0 then %[1]s else 1", d), numberType)
+	made.over = &over
+	return made
+}
+
+// parenthesized is a text that may stand behind a minus.
+func parenthesized(text string) string {
+	if strings.ContainsAny(text, " -") && !strings.HasPrefix(text, "(") {
+		return "(" + text + ")"
+	}
+	return text
+}
+
+// powered is a ** b with a whole literal from 1 to 8: a product.
+func (t *translator) powered(n *feel.Binary, s *scope) phrase {
+	t.fractions = true
+	base, exponent := t.operand(n.Left, s), t.operand(n.Right, s)
+	if base.of.kind == refusedKind || exponent.of.kind == refusedKind {
+		return refused
+	}
+	if exponent.number == nil || !exponent.number.IsInt() || exponent.number.Cmp(big.NewRat(1, 1)) < 0 ||
+		exponent.number.Cmp(big.NewRat(8, 1)) > 0 {
+		return t.refuse(n, "a power with another exponent than a whole number from 1 to 8", "a * a for a ** 2; a / b for a power below 0")
+	}
+	if base.number == nil {
+		base = t.short(base)
+	}
+	operands := make([]phrase, exponent.number.Num().Int64())
+	for i := range operands {
+		operands[i] = base
+	}
+	if len(operands) == 1 && base.of.kind != numberKind {
+		return infix(base, "*", constant("1", numberType), rankProduct, numberOf(base.of.units))
+	}
+	return t.countedProduct(n, operands)
+}

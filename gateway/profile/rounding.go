@@ -1,0 +1,196 @@
+package profile
+
+import (
+	"fmt"
+	"math/big"
+	"strconv"
+
+	"gateway/decimal"
+	"gateway/feel"
+)
+
+// A rounding is a function that rounds to a number of decimals.
+type rounding struct {
+	// optional tells that the scale may be left out: 0 then.
+	optional bool
+	// away tells when the size of a number goes up to the next multiple of p: by the quotient q below it, the rest, and p.
+	// It is empty for never.
+	away func(q, rest, p string) string
+	// below and above tell that this is so of numbers below 0 alone, or of those above.
+	below, above bool
+}
+
+// roundings are the functions that round; those of two or three words are of DMN 1.4.
+var roundings = map[string]rounding{
+	"decimal": {away: func(q, rest, p string) string {
+		return fmt.Sprintf("%[2]s > %[3]s - %[2]s or (%[2]s = %[3]s - %[2]s and modulo(%[1]s, 2) = 1)", q, rest, p)
+	}},
+	"floor":         {optional: true, away: hasRest, below: true},
+	"ceiling":       {optional: true, away: hasRest, above: true},
+	"round up":      {away: hasRest},
+	"round down":    {},
+	"round half up": {away: func(_, rest, p string) string { return fmt.Sprintf("%[1]s >= %[2]s - %[1]s", rest, p) }},
+	"round half down": {away: func(_, rest, p string) string {
+		return fmt.Sprintf("%[1]s > %[2]s - %[1]s", rest, p)
+	}},
+}
+
+func hasRest(_, rest, _ string) string { return rest + " > 0" }
+
+// result is the rounded number: of x, the quotient q of its size, and the rest and p.
+func (r rounding) result(x, q, rest, p string) string {
+	size, plain := q, q
+	if r.away != nil {
+		size = fmt.Sprintf("(if %s then %[2]s + 1 else %[2]s)", r.away(q, rest, p), q)
+	}
+	switch {
+	case r.below:
+		return fmt.Sprintf("if %s < 0 then -%s else %s", x, size, plain)
+	case r.above:
+		return fmt.Sprintf("if %s < 0 then -%s else %s", x, plain, size)
+	}
+	return fmt.Sprintf("if %s < 0 then -%[2]s else %[2]s", x, size)
+}
+
+// folded rounds a constant at the unit that it is rounded to.
+func (r rounding) folded(name string, at *big.Rat) *big.Int {
+	size := new(big.Rat).Abs(at)
+	whole, rest := new(big.Int).QuoRem(size.Num(), size.Denom(), new(big.Int))
+	half := new(big.Int).Lsh(rest, 1).Cmp(size.Denom())
+	away := map[string]bool{"decimal": half > 0 || half == 0 && whole.Bit(0) == 1, "floor": rest.Sign() > 0 && at.Sign() < 0,
+		"ceiling": rest.Sign() > 0 && at.Sign() > 0, "round up": rest.Sign() > 0, "round half up": half >= 0, "round half down": half > 0}
+	if away[name] {
+		whole.Add(whole, big.NewInt(1))
+	}
+	if at.Sign() < 0 {
+		whole.Neg(whole)
+	}
+	return whole
+}
+
+// mostDigits is how far a rounding goes on either side of the point.
+const mostDigits = 18
+
+// roundedCall translates a function that rounds.
+func (t *translator) roundedCall(n *feel.Call, name string, s *scope) phrase {
+	t.fractions = true
+	how := roundings[name]
+	parameters := []string{"n", "scale"}
+	if how.optional && len(n.Arguments) == 1 {
+		parameters = parameters[:1]
+	}
+	arguments, why := t.arranged(n, builtin{parameters: parameters, quotients: true}, s)
+	if why != "" {
+		return t.refuse(n, why, "")
+	}
+	for _, a := range arguments {
+		if a.of.kind == refusedKind {
+			return refused
+		}
+	}
+	if _, isFine := t.asScalars(n, name, arguments[:1]); !isFine {
+		return refused
+	}
+	digits := 0
+	if len(arguments) == 2 {
+		scale := arguments[1].number
+		if scale == nil || !scale.IsInt() || scale.Num().BitLen() > 16 || scale.Num().Int64() > mostDigits || scale.Num().Int64() < -mostDigits {
+			return t.refuse(n, fmt.Sprintf("a rounding to another number of decimals than a whole literal from -%d to %d", mostDigits, mostDigits),
+				"a literal: decimal(x, 2)")
+		}
+		digits = int(scale.Num().Int64())
+	}
+	return t.rounded(n, name, arguments[0], digits)
+}
+
+// rounded is a number rounded to some decimals, which may be below 0. Its unit is that of what is left.
+func (t *translator) rounded(n feel.Node, name string, x phrase, digits int) phrase {
+	x.of = withUnits(x.of, x.of.units.fractional())
+	u := units{scale: maximum(digits, 0), meets: &meeting{fractional: digits > 0}}
+	switch {
+	case x.of.kind == nullKind:
+		return x
+	case x.number != nil:
+		whole := roundings[name].folded(name, scaledBy(x.number, digits))
+		return constantNumber(scaledBy(new(big.Rat).SetInt(whole), -digits))
+	case x.of.kind != numberKind && x.of.kind != anyKind:
+		return t.refuse(n, "a rounding of what is no number", "a number")
+	case !x.isQuotient() && x.of.units.scale <= digits:
+		return unrounded(x, u)
+	}
+	divisor := constant("1", numberType)
+	if x.over != nil {
+		divisor = *x.over
+	}
+	x, divisor, why := atDigits(x, divisor, digits)
+	if why != "" {
+		return t.refuse(n, why, "a rounding of what is calculated before")
+	}
+	return t.roundedAt(roundings[name], x, divisor, digits, u)
+}
+
+// unrounded is a number that has no more decimals than it is rounded to.
+func unrounded(x phrase, u units) phrase {
+	u.scale = x.of.units.scale
+	u.meets = met(u, x.of.units)
+	if x.of.kind != numberKind {
+		return infix(x, "*", constant("1", numberType), rankProduct, numberOf(u))
+	}
+	x.of = numberOf(u)
+	return x
+}
+
+// atDigits gives the numerator and the divisor of a number in the unit that it is rounded to. Why tells where they are past
+// the range.
+func atDigits(x, divisor phrase, digits int) (numerator, by phrase, why string) {
+	factor := big.NewInt(x.of.units.parts())
+	shift := x.of.units.scale - digits
+	x.over = nil
+	if shift < 0 {
+		up := decimal.Power(-shift)
+		if !isNumber(up) {
+			return x, divisor, fmt.Sprintf("a number is rounded to %d decimals", digits)
+		}
+		x = times(x, up, numberType)
+	} else {
+		factor.Mul(factor, decimal.Power(shift))
+	}
+	if !isNumber(factor) {
+		return x, divisor, fmt.Sprintf("a number that is counted with %d decimals is rounded to %d", x.of.units.scale, digits)
+	}
+	if divisor.text == "1" {
+		return x, wholeConstant(factor), ""
+	}
+	return x, times(divisor, factor, numberType), ""
+}
+
+// roundedAt is x / p rounded to a whole number, times 10^-digits where these are below 0.
+func (t *translator) roundedAt(how rounding, x, p phrase, digits int, u units) phrase {
+	x, p = t.short(x), t.short(p)
+	size := t.step("part", fmt.Sprintf("abs(%s)", x.text), numberType)
+	rest := t.step("rest", fmt.Sprintf("modulo(%s, %s)", size.text, p.text), numberType)
+	multiple := size.text + " - " + rest.text
+	var q phrase
+	if by, err := strconv.ParseInt(p.text, 10, 64); err != nil {
+		q = t.variableQuotient(multiple, p)
+	} else if by == 1 {
+		q = size
+	} else {
+		q = t.exactQuotient(multiple, by)
+	}
+	text := how.result(x.text, q.text, rest.text, p.text)
+	if digits < 0 {
+		text = fmt.Sprintf("(%s) * %s", text, decimal.Power(-digits))
+	}
+	return t.step("rounded", text, numberOf(u))
+}
+
+// withUnits is a type with other units.
+func withUnits(of *valueType, u units) *valueType {
+	if of.kind != numberKind && of.kind != anyKind {
+		return of
+	}
+	own := *of
+	own.units = u
+	return &own
+}

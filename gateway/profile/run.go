@@ -1,0 +1,255 @@
+package profile
+
+import (
+	"fmt"
+	"strings"
+
+	"gateway/dmn"
+)
+
+// mostDecisions is how many decisions a model may have.
+const mostDecisions = 1000
+
+// A Report is what came of files.
+type Report struct {
+	// Result is the model; nil where none is made.
+	Result *Result
+	// Refusals are the places that can't be taken, in the order of the files. With a service asked for they are those that
+	// it needs. Beside a result they are of what is left out.
+	Refusals []Refusal
+	// Made and Unmade are the names of the services that can be made, and of those that need a place that can't be taken.
+	Made, Unmade []string
+}
+
+// Import translates files to one model. Where a place of them can't be taken it gives each such place, and no result but
+// that of Options.Partial.
+func Import(files []*dmn.File, options Options) (*Result, []Refusal) {
+	report := Run(files, options)
+	return report.Result, report.Refusals
+}
+
+// Run translates files to one model, and reports what can be made of them.
+func Run(files []*dmn.File, options Options) *Report {
+	whole := newRun(files, options)
+	whole.translate()
+	report := whole.report()
+	if options.Service == "" || len(report.Refusals) == 0 || whole.fault {
+		return report
+	}
+	alone := newRun(files, options)
+	if !alone.restrict() {
+		return &Report{Refusals: whole.serviceRefusal()}
+	}
+	alone.translate()
+	return alone.report()
+}
+
+// Check finds what options say of files: the names that become inputs by FreeInputs; and as refusals what they say of an
+// input that the files don't have.
+func Check(files []*dmn.File, options Options) (free []string, faults []Refusal) {
+	if !options.FreeInputs && options.Decimals == nil {
+		return nil, nil
+	}
+	r := newRun(files, options)
+	r.translate()
+	for _, n := range r.graph.free.nodes {
+		free = append(free, n.name)
+	}
+	if r.fault {
+		r.refusals.only(map[*dmn.Element]bool{files[0].Root: true})
+		faults = r.refusals.inOrder(files)
+	}
+	return free, faults
+}
+
+// DecimalsOf finds how many decimals the numbers of the inputs of files have, each by its name; nil where all are whole.
+func DecimalsOf(files []*dmn.File, options Options) *Decimals {
+	r := newRun(files, options)
+	r.translate()
+	if r.units == nil {
+		return nil
+	}
+	found := NoDecimals()
+	found.Named = map[string]int{}
+	for _, each := range r.units.all {
+		found.Named[each.name] = each.scale
+	}
+	return &found
+}
+
+// A run is one translation of some files.
+type run struct {
+	files    []*dmn.File
+	options  Options
+	refusals *refusals
+	graph    *graph
+	// alone are the parts of the files that the service needs which is asked for; nil where all parts are translated.
+	alone map[*dmn.Element]bool
+	// units has how the inputs are counted; nil where all numbers are whole.
+	units *cells
+	// fault tells that the options say something of what the files don't have.
+	fault bool
+}
+
+func newRun(files []*dmn.File, options Options) *run {
+	r := newRefusals()
+	return &run{files: files, options: options, refusals: r, graph: newGraph(files, r, newWords(), options.FreeInputs)}
+}
+
+// translate makes the passes: those that find types are muted, the last translates.
+func (r *run) translate() {
+	trees := map[*dmn.Text]*tree{}
+	r.refusals.muted = true
+	counts := passOver(r.graph, trees, false) || r.options.Decimals != nil
+	if r.graph.addFree() {
+		trees = map[*dmn.Text]*tree{}
+		counts = passOver(r.graph, trees, false) || counts
+	}
+	if counts {
+		r.units = findUnits(r.graph, trees, r.options.Decimals)
+	}
+	r.refusals.muted = false
+	if r.units != nil && !r.options.Part && r.alone == nil {
+		r.fault = r.units.refuseUnused()
+	}
+	translate(r.graph, trees, counts)
+	r.graph.free.note(r.refusals)
+	r.graph.checkNesting()
+	if len(r.graph.decisions) == 0 && len(r.files) > 0 {
+		r.refusals.refuse(r.files[0].Root, "", "there is no decision", "a decision")
+	}
+}
+
+// restrict leaves in the graph what the service needs that is asked for; false where there is no such service.
+func (r *run) restrict() bool {
+	services := newServices(r.graph).all(r.options.Service)
+	if len(services) == 0 {
+		return false
+	}
+	n := r.graph.needed(services)
+	r.alone = n.parts
+	r.graph.keep(n)
+	return true
+}
+
+// report makes the result, where there is one.
+func (r *run) report() *Report {
+	g := r.graph
+	services := newServices(g).all(r.options.Service)
+	report := &Report{Refusals: r.told()}
+	if len(report.Refusals) > 0 {
+		candidates := services
+		if len(candidates) == 0 && r.options.Service == "" {
+			candidates = g.eachDecision()
+		}
+		clean := r.sorted(report, candidates)
+		if r.fault || !r.options.Partial || r.options.Service != "" || len(clean) == 0 {
+			return report
+		}
+		g.keep(g.needed(clean))
+		if len(services) > 0 {
+			services = clean
+		}
+	}
+	if r.alone != nil {
+		r.alone[r.files[0].Root] = true
+	}
+	before := len(r.refusals.all)
+	if len(g.decisions) > mostDecisions {
+		r.refusals.refuse(g.decisions[mostDecisions].element(), "", fmt.Sprintf("there are over %d decisions", mostDecisions),
+			"several models")
+	}
+	result := assembled(g, services)
+	if r.options.Service == "" && len(services) == 0 {
+		defaultServices(g, result)
+	}
+	r.renamed(result)
+	result.Notes = r.refusals.notes
+	r.fitsLine(result)
+	if len(r.refusals.all) > before {
+		report.Refusals = r.told()
+		return report
+	}
+	report.Result = result
+	return report
+}
+
+// sorted gives the services that need no place that can't be taken, and notes in the report which these are.
+func (r *run) sorted(report *Report, services []service) []service {
+	n := r.graph.needed(nil)
+	var clean []service
+	for _, s := range services {
+		if n.isClean(s) {
+			clean = append(clean, s)
+			report.Made = append(report.Made, spelled(s.name))
+		} else {
+			report.Unmade = append(report.Unmade, spelled(s.name))
+		}
+	}
+	return clean
+}
+
+// told are the refusals in the order of the files: all, or those of the service that is asked for.
+func (r *run) told() []Refusal {
+	if r.alone != nil {
+		r.refusals.only(r.alone)
+	}
+	if len(r.refusals.all) == 0 {
+		return nil
+	}
+	return r.refusals.inOrder(r.files)
+}
+
+// serviceRefusal is the refusal of a service that the files don't have.
+func (r *run) serviceRefusal() []Refusal {
+	for _, refusal := range r.refusals.all {
+		if refusal.Why == noSuchService {
+			return []Refusal{refusal}
+		}
+	}
+	return r.told()
+}
+
+// fitsLine refuses a model that doesn't fit in a line.
+func (r *run) fitsLine(result *Result) {
+	bytes, err := Line(&result.Model)
+	if err == nil && len(bytes) <= MostLine {
+		return
+	}
+	why := fmt.Sprintf("the model takes %d bytes, and a line has %d at most", len(bytes), MostLine)
+	if err != nil {
+		why = err.Error()
+	}
+	r.refusals.refuse(r.files[0].Root, "", why, "several models, each with fewer decisions")
+}
+
+// eachDecision has a service for each decision.
+func (g *graph) eachDecision() []service {
+	all := make([]service, 0, len(g.decisions))
+	for _, n := range g.decisions {
+		all = append(all, service{name: n.name, nodes: []*node{n}})
+	}
+	return all
+}
+
+// Summary is the line that says which services can be made, where some can't; empty where it has nothing to say.
+func (r *Report) Summary() string {
+	switch all := len(r.Made) + len(r.Unmade); {
+	case len(r.Made) == 0 || len(r.Unmade) == 0:
+		return ""
+	case r.Result == nil:
+		return fmt.Sprintf("%d of %d services could be made: --partial makes these, --service NAME one of them", len(r.Made), all)
+	default:
+		return fmt.Sprintf("%d of %d services are made; not made: %s", len(r.Made), all, strings.Join(shortList(r.Unmade), ", "))
+	}
+}
+
+// mostListed is how many names a line lists.
+const mostListed = 20
+
+func shortList(names []string) []string {
+	if len(names) > mostListed {
+		return append(append([]string(nil), names[:mostListed]...), fmt.Sprintf("and %d more", len(names)-mostListed))
+	}
+	return names
+}

@@ -1,0 +1,296 @@
+package profile
+
+import (
+	"fmt"
+	"math/big"
+)
+
+// units say how a number is counted: as a whole number of 10^-scale, or of one part of per of that. A value without units
+// stands for itself.
+type units struct {
+	// scale is 0 or more; of a quotient by a variable it may be below 0.
+	scale int
+	// per is over 1 of a quotient by a constant, else 0.
+	per int64
+	// cell is of a number of an input: its scale may be made finer.
+	cell *cell
+	// meets is the class of all numbers that it meets; nil where it met none.
+	meets *meeting
+}
+
+// A cell is where an input has numbers: itself, a component, the members of a list.
+type cell struct {
+	// name is as --decimals spells it.
+	name string
+	// fixed tells that the file or the caller says the scale.
+	fixed bool
+	scale int
+	// wanted is a finer scale that values need which it meets, and which can't be counted otherwise.
+	wanted int
+	// types are those of the input that have the scale.
+	types []*valueType
+	meets *meeting
+}
+
+// A meeting is a class of numbers that meet each other: by an operator, in a branch, a list or a column.
+type meeting struct {
+	parent     *meeting
+	fractional bool
+}
+
+func (m *meeting) root() *meeting {
+	if m == nil {
+		return nil
+	}
+	for m.parent != nil {
+		if m.parent.parent != nil {
+			m.parent = m.parent.parent
+		}
+		m = m.parent
+	}
+	return m
+}
+
+// met is the class of two numbers that meet.
+func met(a, b units) *meeting {
+	first, second := a.meets.root(), b.meets.root()
+	if first == nil {
+		first, second = second, nil
+	}
+	if second != nil && second != first {
+		second.parent = first
+		first.fractional = first.fractional || second.fractional
+	}
+	if a.isFractional() || b.isFractional() {
+		if first == nil {
+			first = &meeting{}
+		}
+		first.fractional = true
+	}
+	return first
+}
+
+// fractional notes that fractions meet a number.
+func (u units) fractional() units {
+	if u.meets == nil {
+		u.meets = &meeting{}
+	}
+	u.meets.root().fractional = true
+	return u
+}
+
+// uncelled are the units of what was calculated: they are no input's.
+func uncelled(u units) units {
+	u.cell = nil
+	return u
+}
+
+func (u units) isFractional() bool { return u.scale > 0 || u.per > 1 }
+
+// isPlain tells whether the numbers stand for themselves.
+func (u units) isPlain() bool { return u.scale == 0 && u.per <= 1 }
+
+// isAs tells whether numbers are counted alike.
+func (u units) isAs(other units) bool { return u.scale == other.scale && u.parts() == other.parts() }
+
+func (u units) parts() int64 {
+	if u.per > 1 {
+		return u.per
+	}
+	return 1
+}
+
+// joinedUnits are those in which both numbers can be counted.
+func joinedUnits(a, b units) units {
+	both := units{scale: maximum(a.scale, b.scale), per: leastMultiple(a.parts(), b.parts()), meets: met(a, b)}
+	if both.per == 1 {
+		both.per = 0
+	}
+	if a.cell == b.cell {
+		both.cell = a.cell
+	}
+	return both
+}
+
+// tooManyParts stands for a divisor that is past the range.
+const tooManyParts = -1
+
+func leastMultiple(a, b int64) int64 {
+	if a == b {
+		return a
+	}
+	both := new(big.Int).Mul(big.NewInt(a), big.NewInt(b))
+	both.Quo(both, new(big.Int).GCD(nil, nil, big.NewInt(a), big.NewInt(b)))
+	if !both.IsInt64() {
+		return tooManyParts
+	}
+	return both.Int64()
+}
+
+// numberOf is the type of numbers of some units.
+func numberOf(u units) *valueType {
+	if u == (units{}) {
+		return numberType
+	}
+	return &valueType{kind: numberKind, units: u}
+}
+
+// anyOfUnits is the type Any for values of both types.
+func anyOfUnits(a, b *valueType) *valueType {
+	both := joinedUnits(a.within(), b.within())
+	if both == (units{}) {
+		return anyType
+	}
+	return &valueType{kind: anyKind, units: both}
+}
+
+// within are the units of all numbers in values of a type, where these are one; else the finest.
+func (t *valueType) within() units {
+	switch t.kind {
+	case listKind:
+		return t.element.within()
+	case contextKind:
+		var all units
+		first := true
+		for _, part := range t.entryTypes() {
+			if first {
+				all = part.within()
+			} else {
+				all = joinedUnits(all, part.within())
+			}
+			first = false
+		}
+		return all
+	}
+	return t.units
+}
+
+// entryTypes are the types of all entries of a context.
+func (t *valueType) entryTypes() []*valueType {
+	all := make([]*valueType, 0, len(t.fields)+len(t.more))
+	for _, name := range t.order {
+		all = append(all, t.fields[name])
+	}
+	for _, part := range t.more {
+		all = append(all, part)
+	}
+	return all
+}
+
+// some tells whether a scalar in values of a type is as asked.
+func (t *valueType) some(is func(*valueType) bool) bool {
+	switch t.kind {
+	case listKind:
+		return t.element.some(is)
+	case contextKind:
+		for _, part := range t.entryTypes() {
+			if part.some(is) {
+				return true
+			}
+		}
+		return false
+	}
+	return is(t)
+}
+
+// isCounted tells whether some number in values of a type is counted in units.
+func (t *valueType) isCounted() bool {
+	return t.some(func(part *valueType) bool { return !part.units.isPlain() })
+}
+
+// hasUnits tells whether something is known of how numbers in values of a type are counted.
+func (t *valueType) hasUnits() bool {
+	return t.some(func(part *valueType) bool { return part.units != (units{}) })
+}
+
+// hasQuotient tells whether some number in values of a type is a quotient.
+func (t *valueType) hasQuotient() bool {
+	return t.some(func(part *valueType) bool { return part.units.per > 1 })
+}
+
+// hasNumbers tells whether values of a type may have numbers.
+func (t *valueType) hasNumbers() bool {
+	return t.some(func(part *valueType) bool { return part.kind == numberKind || part.kind == anyKind })
+}
+
+// countedAs gives a declared type the units of the values that it is declared for.
+func countedAs(due, of *valueType) *valueType {
+	if !of.hasUnits() {
+		return due
+	}
+	switch {
+	case due.kind == numberKind || due.kind == anyKind:
+		if of.within() == (units{}) {
+			return due
+		}
+		own := *due
+		own.units = of.within()
+		return &own
+	case due.kind == listKind && of.kind == listKind:
+		own := *due
+		own.element = countedAs(due.element, of.element)
+		return &own
+	case due.kind == contextKind && of.kind == contextKind:
+		return countedContext(due, of)
+	}
+	return due
+}
+
+func countedContext(due, of *valueType) *valueType {
+	own := *due
+	own.fields, own.order, own.fitting, own.more = map[string]*valueType{}, nil, nil, map[string]*valueType{}
+	for _, name := range due.order {
+		field := due.fields[name]
+		if given := of.fields[name]; given != nil {
+			field = countedAs(field, given)
+		}
+		own.setField(name, field)
+	}
+	for name, part := range of.more {
+		own.more[name] = part
+	}
+	for _, name := range of.order {
+		if due.fields[name] == nil {
+			own.more[name] = of.fields[name]
+		}
+	}
+	return &own
+}
+
+// countedAlike tells why values of a type aren't counted as those of another one; empty where they are, or where the inputs
+// that they come from can be counted so, which is noted.
+func countedAlike(of, to *valueType) string {
+	switch {
+	case !of.hasNumbers() || to.kind == nullKind || to.kind == refusedKind:
+		return ""
+	case of.kind == listKind && to.kind == listKind:
+		return countedAlike(of.element, to.element)
+	case of.kind == contextKind && to.kind == contextKind:
+		for _, name := range of.order {
+			if field := to.fields[name]; field != nil {
+				if why := countedAlike(of.fields[name], field); why != "" {
+					return why
+				}
+			}
+		}
+		return ""
+	case of.kind == listKind:
+		return countedAlike(of.element, to)
+	case of.kind == contextKind:
+		for _, part := range of.entryTypes() {
+			if why := countedAlike(part, to); why != "" {
+				return why
+			}
+		}
+		return ""
+	}
+	due := to.within()
+	if of.units.isAs(due) {
+		return ""
+	}
+	if c := of.units.cell; c != nil && !c.fixed && due.parts() == 1 {
+		c.wanted = maximum(c.wanted, due.scale)
+	}
+	return fmt.Sprintf("numbers with %d decimals meet others with %d in lists, contexts or values of no known type, which are "+
+		"not recounted", of.units.scale, due.scale)
+}

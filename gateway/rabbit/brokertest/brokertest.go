@@ -1,0 +1,207 @@
+// Package brokertest is a broker for tests: it opens connections and channels, declares queues, confirms messages, and hands
+// each consumer the message that a test gives its queue.
+package brokertest
+
+import (
+	"bufio"
+	"encoding/binary"
+	"io"
+	"net"
+	"strings"
+	"sync"
+	"testing"
+)
+
+// A Broker is one of them.
+type Broker struct {
+	Address string
+	// Confirms tells of a queue whether a message to it is confirmed.
+	Confirms func(queue string) bool
+	// Full tells of a queue whether its first consumer is handed a message.
+	Full func(queue string) bool
+	// Other tells of a queue whether it was made with other arguments.
+	Other func(queue string) bool
+	// Counts tells of a queue whether the broker knows how many messages it has; otherwise it tells nothing of it to who asks.
+	Counts func(queue string) bool
+	// Refuses tells of a queue whether it can't be read, as a stream without a copy at this broker.
+	Refuses func(queue string) bool
+	// Ends tells of a queue whether its consumers are ended, as where it is deleted.
+	Ends func(queue string) bool
+
+	mutex     sync.Mutex
+	cancelled []string
+}
+
+// Start starts a broker that ends with the test.
+func Start(t *testing.T) *Broker {
+	always, never := func(string) bool { return true }, func(string) bool { return false }
+	b := &Broker{Confirms: always, Counts: always, Full: never, Refuses: never, Ends: never, Other: never}
+	b.Address = "amqp://" + listen(t, b.serve)
+	return b
+}
+
+// Silent is an address at which connections are taken, and nothing is said.
+func Silent(t *testing.T) string {
+	return "amqp://" + listen(t, func(connection net.Conn) { io.Copy(io.Discard, connection) })
+}
+
+func listen(t *testing.T, serve func(net.Conn)) string {
+	t.Helper()
+	listener, err := net.Listen("tcp", "127.0.0.1:0")
+	if err != nil {
+		t.Fatal(err)
+	}
+	t.Cleanup(func() { listener.Close() })
+	go func() {
+		for {
+			connection, err := listener.Accept()
+			if err != nil {
+				return
+			}
+			go func() {
+				defer connection.Close()
+				serve(connection)
+			}()
+		}
+	}()
+	return listener.Addr().String()
+}
+
+// Cancelled are the tags of the consumers that were cancelled.
+func (b *Broker) Cancelled() []string {
+	b.mutex.Lock()
+	defer b.mutex.Unlock()
+	return append([]string(nil), b.cancelled...)
+}
+
+// A method is a class and a number in it.
+type method struct{ class, number uint16 }
+
+const (
+	frameMethod = 1
+	frameHeader = 2
+	frameEnd    = 0xCE
+	noWait      = 16 // of the bits of a queue's declaration
+)
+
+// A session is a connection.
+type session struct {
+	broker    *Broker
+	to        net.Conn
+	queue     string // of the message that comes
+	published map[uint16]uint64
+	delivered map[uint16]uint64
+}
+
+func (b *Broker) serve(connection net.Conn) {
+	from := bufio.NewReader(connection)
+	s := &session{broker: b, to: connection, published: map[uint16]uint64{}, delivered: map[uint16]uint64{}}
+	if _, err := io.ReadFull(from, make([]byte, 8)); err != nil { // AMQP and its version
+		return
+	}
+	s.send(0, method{10, 10}, []byte{0, 9, 0, 0, 0, 0}, long("PLAIN"), long("en_US"))
+	for {
+		head := make([]byte, 7)
+		if _, err := io.ReadFull(from, head); err != nil {
+			return
+		}
+		body := make([]byte, binary.BigEndian.Uint32(head[3:])+1)
+		if _, err := io.ReadFull(from, body); err != nil {
+			return
+		}
+		channel := binary.BigEndian.Uint16(head[1:])
+		switch head[0] {
+		case frameMethod:
+			s.take(channel, method{binary.BigEndian.Uint16(body), binary.BigEndian.Uint16(body[2:])}, body[4:])
+		case frameHeader: // the messages of these tests are empty
+			s.published[channel]++
+			if b.Confirms(s.queue) {
+				s.send(channel, method{60, 80}, number(s.published[channel]), []byte{0})
+			}
+		}
+	}
+}
+
+// take answers a method.
+func (s *session) take(channel uint16, m method, rest []byte) {
+	switch m {
+	case method{10, 11}: // the client says who it is
+		s.send(0, method{10, 30}, []byte{0, 0, 0, 2, 0, 0, 0, 10})
+	case method{10, 40}, method{20, 10}: // a connection, a channel
+		s.send(channel, method{m.class, m.number + 1}, make([]byte, []int{1, 4}[m.class/10-1]))
+	case method{85, 10}, method{60, 10}, method{20, 40}, method{10, 50}: // confirms, a window, an end
+		s.send(channel, method{m.class, m.number + 1})
+	case method{50, 10}: // a queue
+		queue := text(rest[2:])
+		if s.broker.Other(queue) {
+			s.send(channel, method{20, 40}, []byte{406 >> 8, 406 & 255}, short("PRECONDITION_FAILED - inequivalent arg"), []byte{0, 50, 0, 10})
+			return
+		}
+		if isWaiting := rest[3+len(queue)]&noWait == 0; isWaiting && !s.broker.Counts(queue) {
+			return
+		} else if isWaiting {
+			s.send(channel, method{50, 11}, short(queue), make([]byte, 8))
+		}
+	case method{60, 40}: // a message
+		exchange := text(rest[2:])
+		s.queue = text(rest[3+len(exchange):])
+	case method{60, 20}: // a consumer
+		queue := text(rest[2:])
+		tag := text(rest[3+len(queue):])
+		if s.broker.Refuses(queue) {
+			s.send(channel, method{20, 40}, []byte{406 >> 8, 406 & 255}, short("no copy is here"), []byte{0, 60, 0, 20})
+			return
+		}
+		s.send(channel, method{60, 21}, short(tag))
+		if s.broker.Full(queue) {
+			s.deliver(channel, tag, queue)
+		}
+		if s.broker.Ends(queue) {
+			s.send(channel, method{60, 30}, short(tag), []byte{1})
+		}
+	case method{60, 30}:
+		s.broker.mutex.Lock()
+		s.broker.cancelled = append(s.broker.cancelled, text(rest))
+		s.broker.mutex.Unlock()
+		s.send(channel, method{60, 31}, short(text(rest)))
+	}
+}
+
+func (s *session) deliver(channel uint16, tag, queue string) {
+	s.delivered[channel]++
+	s.send(channel, method{60, 60}, short(tag), number(s.delivered[channel]), []byte{0}, short(""), short(queue))
+	s.frame(frameHeader, channel, []byte{0, 60, 0, 0, 0, 0, 0, 0, 0, 0, 0, 0, 0, 0})
+}
+
+func (s *session) send(channel uint16, m method, parts ...[]byte) {
+	head := []byte{byte(m.class >> 8), byte(m.class), byte(m.number >> 8), byte(m.number)}
+	for _, part := range parts {
+		head = append(head, part...)
+	}
+	s.frame(frameMethod, channel, head)
+}
+
+func (s *session) frame(kind byte, channel uint16, payload []byte) {
+	frame := []byte{kind, byte(channel >> 8), byte(channel), 0, 0, 0, 0}
+	binary.BigEndian.PutUint32(frame[3:], uint32(len(payload)))
+	s.to.Write(append(append(frame, payload...), frameEnd))
+}
+
+func text(at []byte) string { return string(at[1 : 1+at[0]]) }
+
+func short(text string) []byte { return append([]byte{byte(len(text))}, text...) }
+
+func long(text string) []byte {
+	return append([]byte{0, 0, 0, byte(len(text))}, text...)
+}
+
+func number(value uint64) []byte {
+	bytes := make([]byte, 8)
+	binary.BigEndian.PutUint64(bytes, value)
+	return bytes
+}
+
+// Is tells of the queue of a partition whether it is that of this kind and number.
+func Is(queue, kind, partition string) bool {
+	return strings.HasPrefix(queue, "desk.2."+kind+"."+partition+".of.")
+}

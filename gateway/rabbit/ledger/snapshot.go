@@ -1,0 +1,169 @@
+package ledger
+
+import (
+	"bytes"
+	"encoding/json"
+	"fmt"
+	"time"
+
+	"gateway/rabbit/line"
+)
+
+// SnapshotVersion is the version of the form of snapshots that this program writes and reads.
+const SnapshotVersion = 2
+
+// snapshot is a ledger in JSON. Each model stands in it once, and is named by its number; -1 says that there is none.
+type snapshot struct {
+	Version int               `json:"version"`
+	Place   Place             `json:"place"`
+	Lines   int64             `json:"lines"`
+	Models  []json.RawMessage `json:"models"`
+	Model   int               `json:"model"`
+	Tickets map[string]int64  `json:"tickets"`
+	Sent    int64             `json:"sent"` // the latest time stamp of the log, in milliseconds since 1970
+	Senders []senderRecord    `json:"senders"`
+}
+
+type senderRecord struct {
+	Name    string        `json:"name"`
+	Named   bool          `json:"named"`
+	Epoch   int64         `json:"epoch,omitempty"`
+	Sent    int64         `json:"sent"`
+	Batches []batchRecord `json:"batches"`
+}
+
+type batchRecord struct {
+	ID    string   `json:"id"`
+	Count int64    `json:"count"`
+	Marks [][]byte `json:"marks,omitempty"`
+	Last  []byte   `json:"last,omitempty"`
+	Ended bool     `json:"ended,omitempty"`
+	Sent  int64    `json:"sent"`
+	Model int      `json:"model"` // of an open batch
+}
+
+// Snapshot is the ledger as the body of a message.
+func (l *Ledger) Snapshot() ([]byte, error) {
+	w := &snapshotWriter{numbers: make(map[string]int)}
+	s := snapshot{Version: SnapshotVersion, Place: l.Place, Lines: l.Lines, Model: w.number(l.Models.log),
+		Tickets: map[string]int64{}, Sent: l.Senders.now.UnixMilli(), Senders: []senderRecord{}}
+	for client, ticket := range l.Tickets {
+		if ticket > 0 {
+			s.Tickets[line.ClientName(client)] = ticket
+		}
+	}
+	for _, sender := range l.Senders.All() {
+		record := senderRecord{Name: sender.Name, Named: sender.Named, Epoch: sender.Epoch, Sent: sender.Sent.UnixMilli()}
+		for _, batch := range sender.Batches {
+			record.Batches = append(record.Batches, w.batch(batch, l.Models.At(BatchKey{sender.Name, batch.ID})))
+		}
+		s.Senders = append(s.Senders, record)
+	}
+	s.Models = w.models
+	var body bytes.Buffer
+	encoder := json.NewEncoder(&body)
+	encoder.SetEscapeHTML(false) // a model stays as it was sent
+	if err := encoder.Encode(s); err != nil {
+		return nil, fmt.Errorf("writing a snapshot: %w", err)
+	}
+	return body.Bytes(), nil
+}
+
+// A snapshotWriter gives each model a number.
+type snapshotWriter struct {
+	models  []json.RawMessage
+	numbers map[string]int
+}
+
+func (w *snapshotWriter) number(model []byte) int {
+	if model == nil {
+		return -1
+	}
+	number, known := w.numbers[string(model)]
+	if !known {
+		number = len(w.models)
+		w.numbers[string(model)] = number
+		w.models = append(w.models, model)
+	}
+	return number
+}
+
+func (w *snapshotWriter) batch(batch *Batch, model []byte) batchRecord {
+	record := batchRecord{ID: batch.ID, Count: batch.Count, Last: append([]byte(nil), batch.Last[:]...), Ended: batch.Ended,
+		Sent: batch.Sent.UnixMilli(), Model: -1}
+	for _, mark := range batch.Marks {
+		record.Marks = append(record.Marks, append([]byte(nil), mark[:]...))
+	}
+	if !batch.Ended {
+		record.Model = w.number(model)
+	}
+	return record
+}
+
+// Read reads a snapshot. Named senders are known for so long after their last message.
+func Read(body []byte, keep time.Duration) (*Ledger, error) {
+	var s snapshot
+	if err := json.Unmarshal(body, &s); err != nil {
+		return nil, fmt.Errorf("reading a snapshot: %w", err)
+	}
+	if s.Version != SnapshotVersion {
+		return nil, fmt.Errorf("reading a snapshot: its form has version %d, and this program reads %d", s.Version, SnapshotVersion)
+	}
+	l := &Ledger{Place: s.Place, Lines: s.Lines, Models: NewModels()}
+	for name, ticket := range s.Tickets {
+		client, known := line.ClientNumber([]byte(name))
+		if !known {
+			return nil, fmt.Errorf("reading a snapshot: %q is no client", name)
+		}
+		l.Tickets[client] = ticket
+	}
+	if err := l.readModels(s); err != nil {
+		return nil, err
+	}
+	senders := make([]Sender, len(s.Senders))
+	for at, record := range s.Senders {
+		senders[at] = record.sender()
+	}
+	return l.with(NewSenders(senders, time.UnixMilli(s.Sent), keep)), nil
+}
+
+// readModels reads which models are in force.
+func (l *Ledger) readModels(s snapshot) error {
+	if s.Model >= len(s.Models) {
+		return fmt.Errorf("reading a snapshot: there is no model %d", s.Model)
+	}
+	if s.Model >= 0 {
+		l.Models.log = s.Models[s.Model]
+	}
+	for _, sender := range s.Senders {
+		for _, batch := range sender.Batches {
+			if batch.Model >= len(s.Models) {
+				return fmt.Errorf("reading a snapshot: there is no model %d", batch.Model)
+			}
+			if batch.Ended {
+				continue
+			}
+			var text []byte
+			if batch.Model >= 0 {
+				text = s.Models[batch.Model]
+			}
+			l.Models.batches[BatchKey{sender.Name, batch.ID}] = text
+		}
+	}
+	return nil
+}
+
+func (r senderRecord) sender() Sender {
+	sender := Sender{Name: r.Name, Named: r.Named, Epoch: r.Epoch, Sent: time.UnixMilli(r.Sent)}
+	for _, record := range r.Batches {
+		batch := &Batch{ID: record.ID, Count: record.Count, Ended: record.Ended, Sent: time.UnixMilli(record.Sent)}
+		copy(batch.Last[:], record.Last)
+		for _, digest := range record.Marks {
+			var mark Digest
+			copy(mark[:], digest)
+			batch.Marks = append(batch.Marks, mark)
+		}
+		sender.Batches = append(sender.Batches, batch)
+	}
+	return sender
+}

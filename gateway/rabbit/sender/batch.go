@@ -1,0 +1,45 @@
+package sender
+
+import (
+	"errors"
+
+	"gateway/rabbit/ledger"
+)
+
+// A known batch is what a partition took of it in earlier runs. The input begins with those lines, and they are not sent
+// again. The zero value is that of a batch of which nothing is known.
+type known struct {
+	batch  *ledger.Batch
+	count  int64 // lines of the input so far
+	digest ledger.Digest
+}
+
+// errOther says that an id was given to another input.
+var errOther = errors.New("it was sent with other lines: each batch needs an id of its own")
+
+// take takes the partition's next line of the input in, and says whether it was taken before.
+func (k *known) take(text []byte) (repeated bool, err error) {
+	if k.batch == nil {
+		return false, nil
+	}
+	if k.count == k.batch.Count {
+		if k.batch.Ended {
+			return false, errOther
+		}
+		return false, nil
+	}
+	k.count++
+	k.digest = k.digest.With(text)
+	if mark, is := k.batch.Mark(k.count); is && mark != k.digest {
+		return false, errOther
+	}
+	return true, nil
+}
+
+// end takes in that the input has ended.
+func (k *known) end() error {
+	if k.batch != nil && k.count < k.batch.Count {
+		return errOther
+	}
+	return nil
+}

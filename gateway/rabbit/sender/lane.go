@@ -1,0 +1,373 @@
+package sender
+
+import (
+	"bytes"
+	"context"
+	"errors"
+	"fmt"
+	"sync"
+	"time"
+
+	"gateway/rabbit/broker"
+	"gateway/rabbit/ledger"
+)
+
+// A lane sends the lines of one partition. One message is on its way at a time: with several, one could be lost and the
+// next one kept where a stream changes its leader.
+type lane struct {
+	sender    *sender
+	partition int
+	queue     string
+	limit     int           // how many bytes may wait
+	room      chan struct{} // has a value where there may be room
+	wake      chan struct{} // has a value where there may be something to send
+
+	// What the lane's own goroutine knows.
+	claimed bool
+	claim   int64 // the offset of this process's claim in the log
+	before  int64 // how many lines of the batch were taken before
+	known   known
+	next    int64 // the number of the next message's first line
+	message *message
+
+	mutex    sync.Mutex
+	pending  []pending
+	bytes    int  // of what is pending or on its way
+	closed   bool // whether no further line comes
+	done     bool
+	passed   bool      // whether lines were left out: no later one is sent
+	stuck    time.Time // since when nothing is confirmed, or zero
+	reason   error     // why
+	sent     int64
+	repeated int64
+	unsent   int64
+}
+
+type message struct {
+	number int64
+	lines  []pending
+	body   []byte
+}
+
+func newLane(s *sender, partition int) *lane {
+	limit := broker.WindowBytes / s.options.Settings.Partitions
+	if limit < broker.MessageBytes {
+		limit = broker.MessageBytes
+	}
+	return &lane{sender: s, partition: partition, queue: s.options.Settings.Queue(broker.Lines, partition), limit: limit,
+		room: make(chan struct{}, 1), wake: make(chan struct{}, 1)}
+}
+
+func signal(to chan struct{}) {
+	select {
+	case to <- struct{}{}:
+	default:
+	}
+}
+
+// put takes a line in, unless there is no room.
+func (l *lane) put(next pending) bool {
+	l.mutex.Lock()
+	defer l.mutex.Unlock()
+	if l.passed {
+		if next.counts() {
+			l.unsent++
+		}
+		return true
+	}
+	if l.bytes >= l.limit {
+		return false
+	}
+	l.pending = append(l.pending, next)
+	l.bytes += len(next.text)
+	signal(l.wake)
+	return true
+}
+
+// close takes in that no further line comes.
+func (l *lane) close() {
+	l.mutex.Lock()
+	l.closed = true
+	l.mutex.Unlock()
+	signal(l.wake)
+}
+
+// passBy leaves out the lines that come from now on.
+func (l *lane) passBy() {
+	l.mutex.Lock()
+	l.passed = true
+	reason := l.reason
+	l.mutex.Unlock()
+	fmt.Fprintf(l.sender.options.Log, "desk send: partition %d can't be reached, and its further lines are not sent: %v\n",
+		l.partition, reason)
+}
+
+// isStuck says whether nothing was confirmed for so long, though something is due.
+func (l *lane) isStuck(long time.Duration) bool {
+	l.mutex.Lock()
+	defer l.mutex.Unlock()
+	return !l.done && !l.stuck.IsZero() && time.Since(l.stuck) >= long
+}
+
+func (l *lane) isDone() bool {
+	l.mutex.Lock()
+	defer l.mutex.Unlock()
+	return l.done
+}
+
+// tally counts the lines, and says why some were not sent.
+func (l *lane) tally() (sent, repeated, unsent int64, reason error) {
+	l.mutex.Lock()
+	defer l.mutex.Unlock()
+	unsent = l.unsent
+	if l.message != nil {
+		unsent += int64(len(l.message.lines))
+	}
+	if l.reason == nil {
+		l.reason = errors.New("the sender ended before")
+	}
+	return l.sent, l.repeated, unsent + int64(len(l.pending)), l.reason
+}
+
+// failed takes in that the connection has failed.
+func (l *lane) failed(reason error) {
+	l.mutex.Lock()
+	if l.stuck.IsZero() {
+		l.stuck = time.Now()
+	}
+	l.reason = reason
+	l.mutex.Unlock()
+	l.sender.notice()
+}
+
+// reached takes in that there is a connection. Where nothing waits for a confirm, the lane is not stuck.
+func (l *lane) reached() {
+	l.mutex.Lock()
+	if l.message == nil && len(l.pending) == 0 {
+		l.stuck = time.Time{}
+	}
+	l.mutex.Unlock()
+}
+
+// work sends until all is sent, or the context ends.
+func (l *lane) work(ctx context.Context) {
+	log := prefixed{l.sender.options.Log, fmt.Sprintf("partition %d: ", l.partition)}
+	broker.Again(ctx, log, func(ctx context.Context) error {
+		err := l.run(ctx)
+		var last *final
+		if errors.As(err, &last) {
+			l.sender.fail(last.reason)
+			return nil
+		}
+		if err != nil {
+			l.failed(err)
+		}
+		return err
+	})
+}
+
+// run sends with one connection.
+func (l *lane) run(ctx context.Context) error {
+	if !l.isNeeded(ctx) {
+		return nil
+	}
+	link, err := broker.Connect(ctx, l.sender.options.Settings, "desk send, "+l.sender.options.Name)
+	if err != nil {
+		return err
+	}
+	defer link.Close()
+	if err := l.claimBatch(link); err != nil {
+		return err
+	}
+	publisher, err := link.Publisher()
+	if err != nil {
+		return err
+	}
+	if l.message != nil { // it may have to be sent again
+		if err := l.publish(publisher); err != nil {
+			return err
+		}
+	}
+	l.reached()
+	for {
+		more, err := l.step(publisher)
+		if err != nil {
+			return err
+		}
+		if !more {
+			return l.end(publisher)
+		}
+		if err := l.wait(ctx, link, publisher); err != nil {
+			return err
+		}
+	}
+}
+
+// isNeeded waits until there is something to do: a sender without a name of its own connects to a partition with its
+// first line.
+func (l *lane) isNeeded(ctx context.Context) bool {
+	for !l.sender.options.Named {
+		l.mutex.Lock()
+		has, closed := len(l.pending) > 0 || l.next > 0, l.closed
+		l.mutex.Unlock()
+		if has {
+			return true
+		}
+		if closed {
+			l.finish()
+			return false
+		}
+		select {
+		case <-l.wake:
+		case <-ctx.Done():
+			return false
+		}
+	}
+	return true
+}
+
+// claimBatch claims the name in the partition's log, and reads what the partition has of the batch.
+func (l *lane) claimBatch(link *broker.Link) error {
+	if !l.sender.options.Named || l.claimed {
+		return nil
+	}
+	found, err := claimPartition(link, l.sender.options.Settings, l.partition, l.sender.origin())
+	if err != nil {
+		return err
+	}
+	l.claim, l.claimed = found.offset, true
+	if found.batch != nil {
+		l.known, l.before, l.next = known{batch: found.batch}, found.batch.Count, found.batch.Count
+	}
+	return nil
+}
+
+// step publishes the next message, if none is on its way. It says whether there is more to wait for.
+func (l *lane) step(publisher *broker.Publisher) (more bool, err error) {
+	if l.message != nil {
+		return true, nil
+	}
+	lines, closed, err := l.take()
+	if err != nil {
+		return false, err
+	}
+	if len(lines) == 0 {
+		return !closed, nil
+	}
+	texts := make([][]byte, len(lines))
+	for at := range lines {
+		texts[at] = lines[at].text
+	}
+	l.mutex.Lock()
+	l.message = &message{number: l.next, lines: lines, body: bytes.Join(texts, []byte("\n"))}
+	l.mutex.Unlock()
+	l.next += int64(len(lines))
+	return true, l.publish(publisher)
+}
+
+// take takes the lines of the next message, and says whether no more come. Those that the partition has are left out.
+func (l *lane) take() (lines []pending, closed bool, err error) {
+	l.mutex.Lock()
+	defer l.mutex.Unlock()
+	size := 0
+	for len(l.pending) > 0 && len(lines) < broker.MessageLines {
+		next := l.pending[0]
+		if len(lines) > 0 && size+len(next.text) >= broker.MessageBytes {
+			break
+		}
+		repeated, err := l.known.take(next.text)
+		if err != nil {
+			return nil, false, l.other(err)
+		}
+		l.pending = l.pending[1:]
+		if repeated {
+			l.bytes -= len(next.text)
+			if next.counts() {
+				l.repeated++
+			}
+			signal(l.room)
+			continue
+		}
+		size += len(next.text) + 1
+		lines = append(lines, next)
+	}
+	closed = l.closed && len(l.pending) == 0
+	if closed && len(lines) == 0 && !l.passed {
+		if err := l.known.end(); err != nil {
+			return nil, false, l.other(err)
+		}
+	}
+	return lines, closed, nil
+}
+
+// other is the error of a batch that was sent before with other lines.
+func (l *lane) other(err error) error {
+	return &final{fmt.Errorf("batch %q, partition %d: %w", l.sender.options.Batch, l.partition, err)}
+}
+
+func (l *lane) publish(publisher *broker.Publisher) error {
+	from := l.sender.origin()
+	from.Number = l.message.number
+	return publisher.Publish(l.queue, broker.OriginHeaders(from), l.message.body)
+}
+
+// wait waits for something to happen, and takes it in.
+func (l *lane) wait(ctx context.Context, link *broker.Link, publisher *broker.Publisher) error {
+	late := time.NewTimer(time.Second)
+	defer late.Stop()
+	select {
+	case <-l.wake:
+	case confirmation, open := <-publisher.Confirms():
+		if err := publisher.Take(confirmation, open); err != nil {
+			return err
+		}
+		l.confirmed()
+	case <-late.C:
+		return publisher.Late()
+	case <-link.Done():
+		return link.Err()
+	case <-ctx.Done():
+		return ctx.Err()
+	}
+	return nil
+}
+
+// confirmed takes in that the message on its way is in the log.
+func (l *lane) confirmed() {
+	l.mutex.Lock()
+	defer l.mutex.Unlock()
+	for _, next := range l.message.lines {
+		l.bytes -= len(next.text)
+		if next.counts() {
+			l.sent++
+		}
+	}
+	l.message, l.stuck = nil, time.Time{}
+	signal(l.room)
+}
+
+// end tells the partition that the batch has no further line, if it has all, and finishes the lane.
+func (l *lane) end(publisher *broker.Publisher) error {
+	l.mutex.Lock()
+	whole := !l.passed
+	l.mutex.Unlock()
+	if whole {
+		end := l.sender.origin()
+		end.Kind, end.Number = ledger.End, l.next
+		if err := publisher.Publish(l.queue, broker.OriginHeaders(end), nil); err != nil {
+			return err
+		}
+		if err := publisher.Settle(); err != nil {
+			return err
+		}
+	}
+	l.finish()
+	return nil
+}
+
+func (l *lane) finish() {
+	l.mutex.Lock()
+	l.done, l.stuck = true, time.Time{}
+	l.mutex.Unlock()
+	l.sender.notice()
+}

@@ -1,0 +1,195 @@
+package service
+
+import (
+	"encoding/json"
+	"fmt"
+	"math/big"
+
+	"gateway/decimal"
+	"gateway/lines"
+	"gateway/types"
+)
+
+// A countedPart says how the values of a part of a model are counted.
+type countedPart struct {
+	of *types.Type
+	// over is the entry of the same context that has the divisor of a quotient; decimals is how many more the numerator has.
+	over     string
+	decimals int
+}
+
+// countParts reads how the values at the places of the model are counted.
+func (m *served) countParts() error {
+	m.parts, m.pointers = map[string]countedPart{}, map[string]string{}
+	var form struct {
+		Decisions []struct {
+			Name string `json:"name"`
+		} `json:"decisions"`
+	}
+	if err := json.Unmarshal(m.source.Text, &form); err != nil {
+		return fmt.Errorf("%w: %v", ErrNoModel, err)
+	}
+	for at, decision := range form.Decisions {
+		m.pointers[decision.Name] = fmt.Sprintf("/decisions/%d/expr", at)
+	}
+	var places map[string]struct {
+		Type     json.RawMessage `json:"type"`
+		Over     string          `json:"over"`
+		Decimals int             `json:"decimals"`
+	}
+	if len(m.source.Places) > 0 && json.Unmarshal(m.source.Places, &places) != nil {
+		return nil
+	}
+	for pointer, place := range places {
+		part := countedPart{over: place.Over, decimals: place.Decimals}
+		if place.Type != nil {
+			var err error
+			if part.of, err = types.Read(place.Type); err != nil {
+				return fmt.Errorf("%w: the type at %s: %v", ErrNoModel, pointer, err)
+			}
+		}
+		if part.of != nil || part.over != "" {
+			m.parts[pointer] = part
+		}
+	}
+	return nil
+}
+
+// countDecisions gives the values of an explanation's decisions their decimals, and leaves out the entries that the file
+// doesn't have.
+func (m *served) countDecisions(told any) {
+	decisions, _ := told.([]any)
+	for _, decision := range decisions {
+		members, is := decision.(map[string]any)
+		word, named := members["name"].(string)
+		if is && named {
+			m.countPart(members, m.pointers[word], m.types[word], nil)
+		}
+	}
+}
+
+// countPart does the same of a part, whose values are of a type; entries are those of the context that it is the result of.
+func (m *served) countPart(part map[string]any, pointer string, of *types.Type, entries map[string]any) {
+	if of == nil {
+		of = types.Any
+	}
+	for _, key := range []string{"value", "given"} {
+		if value, is := part[key]; is {
+			part[key] = of.Decimals(value)
+		}
+	}
+	if list, is := part["members"].([]any); is {
+		for at, member := range list {
+			if member, is := member.(map[string]any); is {
+				m.countPart(member, fmt.Sprintf("%s/list/%d", pointer, at), of.Item(), nil)
+			}
+		}
+	}
+	if table, is := part["table"].(map[string]any); is {
+		m.countTable(table, pointer, of, entries)
+	}
+	m.countContext(part, pointer, of)
+}
+
+// countContext does the same of the entries and the result of a part. What only the translation has is left out; the result
+// takes its place where nothing else is there.
+func (m *served) countContext(part map[string]any, pointer string, of *types.Type) {
+	list, _ := part["entries"].([]any)
+	values := map[string]any{}
+	var kept []any
+	for at, entry := range list {
+		entry, is := entry.(map[string]any)
+		word, named := entry["name"].(string)
+		if !is || !named {
+			continue
+		}
+		values[word] = entry["value"]
+		if !m.isOfFile(word) {
+			continue
+		}
+		at := fmt.Sprintf("%s/context/%d", pointer, at)
+		m.countPart(entry, at+"/expr", m.parts[at].of, nil)
+		kept = append(kept, entry)
+	}
+	result, isResult := part["result"].(map[string]any)
+	if isResult {
+		m.countPart(result, pointer+"/result", of, values)
+	}
+	if list == nil {
+		return
+	}
+	if part["entries"] = kept; len(kept) > 0 || !isResult {
+		return
+	}
+	delete(part, "entries")
+	delete(part, "result")
+	for key, value := range result {
+		part[key] = value
+	}
+}
+
+// isOfFile says whether the file has a name for a word.
+func (m *served) isOfFile(word string) bool {
+	_, named := m.source.Names[word]
+	_, local := m.source.Locals[word]
+	return named || local
+}
+
+// countTable does the same of a table.
+func (m *served) countTable(table map[string]any, pointer string, of *types.Type, entries map[string]any) {
+	if inputs, is := table["inputs"].([]any); is {
+		for at, value := range inputs {
+			part := m.parts[fmt.Sprintf("%s/table/inputs/%d", pointer, at)]
+			switch {
+			case part.over != "":
+				inputs[at] = quotientOf(value, entries[part.over], part.decimals)
+			case part.of != nil:
+				inputs[at] = part.of.Decimals(value)
+			}
+		}
+	}
+	policy, _ := table["policy"].(string)
+	switch policy {
+	case "C", "R", "O":
+		of = of.Item()
+	case "C#":
+		return
+	}
+	hits, _ := table["hits"].([]any)
+	for _, hit := range hits {
+		if hit, is := hit.(map[string]any); is {
+			hit["value"] = of.Decimals(hit["value"])
+		}
+	}
+}
+
+// quotientOf is the quotient of two whole numbers of the engine, whose numerator has more decimals.
+func quotientOf(numerator, divisor any, decimals int) any {
+	n, isNumber := numerator.(json.Number)
+	d, isAlso := divisor.(json.Number)
+	if !isNumber || !isAlso {
+		return nil
+	}
+	over, fine := new(big.Int).SetString(n.String(), 10)
+	by, also := new(big.Int).SetString(d.String(), 10)
+	if !fine || !also || by.Sign() == 0 {
+		return nil
+	}
+	if decimals < 0 {
+		over.Mul(over, decimal.Power(-decimals))
+	} else {
+		by.Mul(by, decimal.Power(decimals))
+	}
+	return json.Number(decimal.Quotient(over, by))
+}
+
+// countedNames gives an explanation decimals, and the names of the file.
+func (m *served) countedNames(told json.RawMessage) json.RawMessage {
+	tree, err := lines.Tree(told)
+	if err != nil {
+		return told
+	}
+	m.countDecisions(tree)
+	m.namePart(tree)
+	return lines.Compact(nil, tree)
+}

@@ -1,0 +1,9 @@
+package tck
+
+import (
+	"testing"
+
+	"gateway/engine/enginetest"
+)
+
+func TestMain(m *testing.M) { enginetest.Main(m) }

@@ -1,0 +1,123 @@
+package tell
+
+import (
+	"fmt"
+	"sort"
+
+	"gateway/feel"
+	"gateway/feel/strict"
+	"gateway/lines"
+	"gateway/model"
+)
+
+// usedEntries are the entries that a model takes of its inputs, by the inputs' names: `age` of `p` where a text has `p.age`. An
+// input is left out that some context hides with a name of its own.
+func usedEntries(m *model.Model) map[string]set {
+	u := entryUses{inputs: setOf(m.Inputs), used: map[string]set{}, hidden: set{}}
+	for at := range m.Decisions {
+		u.look(m.Decisions[at].Expr)
+	}
+	for name := range u.hidden {
+		delete(u.used, name)
+	}
+	return u.used
+}
+
+// entryUses is a walk through the texts of a model, in search for entries of inputs.
+type entryUses struct {
+	inputs map[string]bool
+	used   map[string]set
+	hidden set
+}
+
+func (u *entryUses) look(logic model.Expression) {
+	switch logic := logic.(type) {
+	case model.Literal:
+		u.text(string(logic))
+	case model.List:
+		for _, member := range logic {
+			u.look(member)
+		}
+	case model.Context:
+		for _, entry := range logic.Entries {
+			u.hidden[entry.Name] = true
+			u.look(entry.Expr)
+		}
+		if logic.Result != nil {
+			u.look(logic.Result)
+		}
+	case *model.Table:
+		u.table(logic)
+	}
+}
+
+func (u *entryUses) table(table *model.Table) {
+	for _, text := range table.Inputs {
+		u.text(text)
+	}
+	for _, output := range table.Outputs {
+		if output.Default != nil {
+			u.text(*output.Default)
+		}
+	}
+	for _, rule := range table.Rules {
+		for _, text := range rule.When {
+			if tests, ok := strict.ReadTests(text); ok {
+				u.nodes(tests.List...)
+			}
+		}
+		for _, text := range rule.Then {
+			u.text(text)
+		}
+	}
+}
+
+func (u *entryUses) text(text string) {
+	if node, ok := strict.ReadExpression(text); ok {
+		u.nodes(node)
+	}
+}
+
+func (u *entryUses) nodes(nodes ...feel.Node) {
+	for _, used := range seenIn(nodes...).names {
+		if used.entry == "" || !u.inputs[used.name] {
+			continue
+		}
+		if u.used[used.name] == nil {
+			u.used[used.name] = set{}
+		}
+		u.used[used.name][used.entry] = true
+	}
+}
+
+// misspelt are notes on the entries of an input that the model never takes, and that are nearly one that it takes and that is
+// missing.
+func (r *reading) misspelt(doc *lines.Document, name string, value lines.Node) []note {
+	used := r.used[name]
+	if len(used) == 0 || doc.Kind(value) != '{' {
+		return nil
+	}
+	brought := set{}
+	members := doc.Members(value)
+	for _, member := range members {
+		brought[member.Key] = true
+	}
+	var missing []string
+	for entry := range used {
+		if !brought[entry] {
+			missing = append(missing, entry)
+		}
+	}
+	sort.Strings(missing)
+	var notes []note
+	for _, member := range members {
+		if used[member.Key] {
+			continue
+		}
+		if near := nearIn(missing, member.Key); near != "" {
+			said := fmt.Sprintf(`"%s" is an entry of %s that no text takes: %s?`, member.Key, name, near)
+			notes = append(notes, note{"no entry", member.Key, near, said})
+		}
+	}
+	return notes
+}

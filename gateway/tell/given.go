@@ -1,0 +1,175 @@
+package tell
+
+import (
+	"strings"
+
+	"gateway/model"
+)
+
+// A set are texts, each once.
+type set map[string]bool
+
+// A gift is what a decision may give: one value, or a context of entries. Of a value that is not known to be one of some literals
+// the set is nil.
+type gift struct {
+	value   set
+	entries map[string]set
+	// isNumber says that it is a number, or null.
+	isNumber bool
+}
+
+// given is what the decisions may give that others need, as far as it is known. No request brings their values.
+type given struct {
+	decisions map[string]*gift
+	// numbers keeps of which values it was seen whether they may be numbers.
+	numbers map[valueName]bool
+}
+
+func givenIn(m *model.Model) *given {
+	brought, needed := set{}, set{}
+	for _, service := range m.Services {
+		for _, name := range service.InputDecisions {
+			brought[name] = true
+		}
+	}
+	for _, decision := range m.Decisions {
+		for _, name := range decision.Needs {
+			needed[name] = true
+		}
+	}
+	g := &given{map[string]*gift{}, map[valueName]bool{}}
+	for _, decision := range m.Decisions {
+		if brought[decision.Name] || !needed[decision.Name] {
+			continue
+		}
+		if gives := giftOf(decision.Expr); gives != nil {
+			g.decisions[decision.Name] = gives
+		}
+	}
+	return g
+}
+
+func giftOf(logic model.Expression) *gift {
+	switch logic := logic.(type) {
+	case *model.Table:
+		return giftOfTable(logic)
+	case model.Context:
+		if logic.Result != nil {
+			return nil
+		}
+		entries := map[string]set{}
+		for _, entry := range logic.Entries {
+			entries[entry.Name] = nil
+		}
+		return &gift{entries: entries}
+	}
+	return nil
+}
+
+func giftOfTable(table *model.Table) *gift {
+	switch table.Hit {
+	case "U", "A", "P", "F":
+	case "C+", "C<", "C>", "C#":
+		return &gift{isNumber: true}
+	default:
+		return nil
+	}
+	if len(table.Outputs) == 1 {
+		return &gift{value: columnLiterals(table, 0)}
+	}
+	entries := map[string]set{}
+	for at, output := range table.Outputs {
+		entries[output.Name] = columnLiterals(table, at)
+	}
+	return &gift{entries: entries}
+}
+
+// columnLiterals are the literals that an output column gives; nil where it gives something else too.
+func columnLiterals(table *model.Table, column int) set {
+	literals := set{}
+	add := func(text string) bool {
+		literal, ok := literalText(text)
+		if ok {
+			literals[literal] = true
+		}
+		return ok
+	}
+	if fallback := table.Outputs[column].Default; fallback != nil && !add(*fallback) {
+		return nil
+	}
+	for _, rule := range table.Rules {
+		if column < len(rule.Then) && !add(rule.Then[column]) {
+			return nil
+		}
+	}
+	return literals
+}
+
+// literals are those that a value may be; nil where that is not known.
+func (g *given) literals(of valueName) set {
+	gives := g.decisions[of.name]
+	switch {
+	case gives == nil:
+		return nil
+	case of.entry == "":
+		return gives.value
+	}
+	return gives.entries[of.entry]
+}
+
+// lacks tells whether a decision never gives a context with this entry.
+func (g *given) lacks(decision, entry string) bool {
+	gives := g.decisions[decision]
+	if gives == nil || gives.entries == nil {
+		return gives != nil && (gives.value != nil || gives.isNumber)
+	}
+	_, has := gives.entries[entry]
+	return !has
+}
+
+// near is the first entry of what a decision gives, by its bytes, whose name is near.
+func (g *given) near(decision, entry string) string {
+	nearest := ""
+	for name := range g.decisions[decision].entries {
+		if isNear(name, entry) && (nearest == "" || name < nearest) {
+			nearest = name
+		}
+	}
+	return nearest
+}
+
+// nearLiteral is the first of these literals that differs from a text by one letter, or in capital letters.
+func nearLiteral(literals set, literal string) string {
+	if !strings.HasPrefix(literal, `"`) {
+		return ""
+	}
+	nearest := ""
+	for known := range literals {
+		if !strings.HasPrefix(known, `"`) || nearest != "" && known > nearest {
+			continue
+		}
+		if one, other := known[1:len(known)-1], literal[1:len(literal)-1]; equalASCII(one, other) || isNear(one, other) {
+			nearest = known
+		}
+	}
+	return nearest
+}
+
+// equalASCII tells whether two texts are the same but for capital letters of ASCII.
+func equalASCII(one, other string) bool {
+	if len(one) != len(other) {
+		return false
+	}
+	small := func(c byte) byte {
+		if 'A' <= c && c <= 'Z' {
+			return c + 'a' - 'A'
+		}
+		return c
+	}
+	for at := range []byte(one) {
+		if small(one[at]) != small(other[at]) {
+			return false
+		}
+	}
+	return true
+}

@@ -1,0 +1,51 @@
+package tell
+
+import "gateway/model"
+
+// isNear tells whether two names differ by one letter that is another one, missing or added, or by two letters that are swapped.
+// Names of less than three letters are near none.
+func isNear(one, other string) bool {
+	if len(one) > len(other) {
+		one, other = other, one
+	}
+	if len(other)-len(one) > 1 || len(other) < 3 {
+		return false
+	}
+	at := 0
+	for at < len(one) && one[at] == other[at] {
+		at++
+	}
+	rest, others := one[at:], other[at:]
+	switch {
+	case len(others) > len(rest):
+		return rest == others[1:]
+	case rest == "":
+		return false
+	case rest[1:] == others[1:]:
+		return true
+	}
+	return len(rest) > 1 && rest[0] == others[1] && rest[1] == others[0] && rest[2:] == others[2:]
+}
+
+// nearIn is the first of these names that is near; empty where none is.
+func nearIn(names []string, name string) string {
+	for _, other := range names {
+		if isNear(other, name) {
+			return other
+		}
+	}
+	return ""
+}
+
+// nearInModel is the first input, or else the first decision, whose name is near.
+func nearInModel(m *model.Model, name string) string {
+	if near := nearIn(m.Inputs, name); near != "" {
+		return near
+	}
+	for _, decision := range m.Decisions {
+		if isNear(decision.Name, name) {
+			return decision.Name
+		}
+	}
+	return ""
+}

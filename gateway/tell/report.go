@@ -1,0 +1,255 @@
+package tell
+
+import (
+	"bytes"
+	"fmt"
+	"strings"
+
+	"gateway/feel/strict"
+)
+
+// A report is what is told of a model, as far as it is written: as a text for people, or as lines of JSON.
+type report struct {
+	isJSON bool
+	file   *file
+	facts  *facts
+	text   []byte
+	// requests are the lines behind the model.
+	requests []byte
+	out      bytes.Buffer
+}
+
+// put adds a line for people, or one of JSON.
+func (r *report) put(people, json func() string) {
+	if r.isJSON {
+		r.out.WriteString(json())
+	} else {
+		r.out.WriteString(people())
+	}
+}
+
+// say adds a text for people.
+func (r *report) say(format string, values ...any) {
+	if !r.isJSON {
+		fmt.Fprintf(&r.out, format, values...)
+	}
+}
+
+// faultSentences are what is said of the first fault.
+var faultSentences = map[string]string{
+	"syntax": "no JSON text", "shape": "not the form of a model", "name": "a name is not lawful", "twice": "a name stands twice",
+	"expression": "a text has no reading", "table": "a decision table is refused", "unknown": "a needed name is unknown",
+	"cycle": "a decision needs itself", "service": "a service doesn't fit the decisions", "large": "too many decisions",
+}
+
+// faulty tells a model that has a fault.
+func (r *report) faulty() {
+	fault := r.facts.Fault
+	if r.isJSON {
+		r.out.WriteString(object(nil).text("fault", fault).line())
+	}
+	if fault == "long" {
+		r.long()
+		return
+	}
+	r.say("%s: %s\n", fault, faultSentences[fault])
+	switch {
+	case fault == "syntax":
+		r.syntax()
+	case fault == "shape":
+		r.shape()
+	default:
+		for _, group := range r.groups() {
+			r.group(group)
+		}
+	}
+}
+
+// mostLine is how many bytes a line may have.
+const mostLine = 1_048_576
+
+func (r *report) long() {
+	length := 0
+	for _, place := range r.facts.places {
+		length = place.Length
+	}
+	r.say("long: lawful, and too long for a line\n  its line {\"model\":..} has %d bytes, and a line may have %d\n", length, mostLine)
+	if r.isJSON {
+		r.out.WriteString(object(nil).text("fault", "long").number("length", length).line())
+	}
+}
+
+// syntax tells where a text stops to be JSON.
+func (r *report) syntax() {
+	stop := stopOf(r.text)
+	if stop == nil {
+		return
+	}
+	hint := stop.foreign.hint()
+	r.put(func() string {
+		text := fmt.Sprintf("  line %d, column %d: %s\n", stop.Line, stop.Column, stop.Due.Sentence())
+		if hint != "" {
+			text += "    " + hint + "\n"
+		}
+		return text
+	}, func() string {
+		return object(nil).text("fault", "syntax").position(stop.Line, stop.Column).text("said", stop.Due.Sentence()).some("hint", hint).line()
+	})
+}
+
+// shape tells where a value has not the form of a model.
+func (r *report) shape() {
+	if r.file == nil {
+		return
+	}
+	found, count := r.file.misshapes()
+	var once []misshape
+	for at, it := range found {
+		if !isToldAsMeant(it, found[at+1:]) {
+			once = append(once, it)
+		}
+	}
+	more := count - len(found)
+	if count == 0 {
+		return
+	}
+	r.head("shape", len(once)+more)
+	for _, it := range once {
+		words := r.file.shapeWords(it.place)
+		r.put(func() string {
+			return "  " + r.file.at(it.place) + behindColon(words, it.said) + "\n"
+		}, func() string {
+			return object(nil).text("fault", "shape").text("pointer", it.place.Pointer()).text("place", words).text("said", it.said).
+				position(r.file.position(it.place)).line()
+		})
+	}
+	r.more("shape", more)
+}
+
+// behindColon is a sentence behind the words of its place, where there are any.
+func behindColon(words, said string) string {
+	if words == "" {
+		return said
+	}
+	return words + ": " + said
+}
+
+// head tells how many places there are of a fault.
+func (r *report) head(fault string, count int) {
+	places := "places"
+	if count == 1 {
+		places = "place"
+	}
+	r.say("%s: %d %s\n", fault, count, places)
+}
+
+// more tells how many places of a fault are not told.
+func (r *report) more(fault string, more int) {
+	if more == 0 {
+		return
+	}
+	r.put(func() string { return fmt.Sprintf("  and %d more\n", more) },
+		func() string { return object(nil).text("fault", fault).number("more", more).line() })
+}
+
+// A group are the places of one fault: of tables those that are refused, and then their rules.
+type group struct {
+	fault   string
+	isRules bool
+	places  []Place
+	more    int
+}
+
+// groups are the places that the engine told, one fault after another.
+func (r *report) groups() []group {
+	var groups []group
+	for _, it := range r.facts.places {
+		place := placeOf(it.Pointer)
+		isRules := it.Fault == "table" && place.endsWithIndex()
+		last := len(groups) - 1
+		switch {
+		case it.More > 0 && last >= 0:
+			groups[last].more = it.More
+			continue
+		case last < 0 || groups[last].fault != it.Fault || groups[last].isRules != isRules:
+			groups = append(groups, group{fault: it.Fault, isRules: isRules})
+			last++
+		}
+		groups[last].places = append(groups[last].places, place)
+	}
+	return groups
+}
+
+func (r *report) group(of group) {
+	told := of.places
+	if !r.isJSON {
+		told = nil
+		for _, place := range of.places {
+			if !r.file.isToldByParts(r.file.mistake(of.fault, place), place) {
+				told = append(told, place)
+			}
+		}
+	}
+	if len(told)+of.more == 0 {
+		return
+	}
+	r.head(of.fault, len(told)+of.more)
+	for before, place := range told {
+		r.place(of.fault, place, before)
+	}
+	r.more(of.fault, of.more)
+}
+
+// place tells a place of a fault, before which so many were told.
+func (r *report) place(fault string, place Place, before int) {
+	said := r.file.mistake(fault, place)
+	text, isText := r.file.text(place)
+	hint := r.file.hint(fault, said, place, before)
+	var stop *strict.Stop
+	if fault == "expression" {
+		at := strict.StopOf(kindOf(place), text)
+		stop, hint = &at, hintOf(kindOf(place), text, at)
+	}
+	r.put(func() string {
+		line := "  " + r.file.at(place) + behindColon(r.file.words(place), said)
+		if isText && !place.namesText() {
+			line += ": " + quoted(text)
+		}
+		return line + "\n" + stopWords(text, stop) + indented(hint)
+	}, func() string {
+		o := object(nil).text("fault", fault).text("pointer", place.Pointer()).text("place", r.file.words(place)).text("said", said)
+		if isText {
+			o = o.text("text", text)
+		}
+		if stop != nil {
+			o = o.number("stop", stop.At).text("due", stop.DueText())
+		}
+		return o.some("hint", hint).position(r.file.position(place)).line()
+	})
+}
+
+// indented is a line of what helps.
+func indented(hint string) string {
+	if hint == "" {
+		return ""
+	}
+	return "    " + hint + "\n"
+}
+
+// stopWords says where the reading of a text stops, and what could be there.
+func stopWords(text string, stop *strict.Stop) string {
+	switch {
+	case stop == nil:
+		return ""
+	case stop.IsTooDeep():
+		return "    it is over 64 levels deep\n"
+	}
+	var line strings.Builder
+	if found := stop.Found(text); found == "" {
+		line.WriteString("    stops at the end: ")
+	} else {
+		fmt.Fprintf(&line, "    stops at %s (character %d): ", quoted(found), stop.Character(text))
+	}
+	line.WriteString(stop.DueText() + " is due\n")
+	return line.String()
+}

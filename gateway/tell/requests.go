@@ -1,0 +1,315 @@
+package tell
+
+import (
+	"bytes"
+	"encoding/json"
+	"fmt"
+	"sort"
+	"strconv"
+	"strings"
+
+	"gateway/lines"
+	"gateway/model"
+)
+
+// mostNotes is how many notes on lines of requests are told.
+const mostNotes = 1_000
+
+// A note is what is told of a line of requests.
+type note struct {
+	// word is that of what is odd, or by which the line is refused.
+	word string
+	// name is what it speaks of, and near another name that may be meant; a refusal has none.
+	name, near string
+	said       string
+}
+
+// A reading is what is known while lines of requests are read.
+type reading struct {
+	report *report
+	// refused are the lines that the engine refuses, by their numbers.
+	refused map[int]factNote
+	// services are those of the model in force, names in its order.
+	services map[string][]string
+	names    []string
+	// used are the entries that its texts take of inputs.
+	used map[string]set
+	told int
+}
+
+// notes tells what the engine refuses of the lines of requests, and what is odd in the others.
+func (r *report) notes() {
+	reading := &reading{report: r, refused: map[int]factNote{}}
+	for _, it := range r.facts.notes {
+		switch it.Note {
+		case "service", "no parameter", "missing", "value":
+		default:
+			reading.refused[it.Line] = it
+		}
+	}
+	reading.take(r.file.model)
+	rest := r.requests
+	for number := 2; len(rest) > 0 && reading.told < mostNotes; number++ {
+		var line []byte
+		line, rest, _ = bytes.Cut(rest, []byte("\n"))
+		for _, it := range reading.of(number, line) {
+			if reading.told < mostNotes {
+				reading.put(number, it)
+			}
+		}
+	}
+	if more := r.facts.moreNotes; more > 0 {
+		r.put(func() string { return fmt.Sprintf("and %d notes more\n", more) },
+			func() string { return object(nil).number("more", more).line() })
+	}
+}
+
+func (r *reading) put(number int, it note) {
+	r.told++
+	r.report.put(func() string { return fmt.Sprintf("line %d: %s\n", number, it.said) }, func() string {
+		return object(nil).number("line", number).text("note", it.word).some("name", it.name).some("near", it.near).text("said", it.said).line()
+	})
+}
+
+// take takes a model for the lines behind it.
+func (r *reading) take(m *model.Model) {
+	r.services, r.names, r.used = map[string][]string{}, nil, usedEntries(m)
+	for at := range m.Services {
+		r.services[m.Services[at].Name] = parameters(&m.Services[at])
+		r.names = append(r.names, m.Services[at].Name)
+	}
+}
+
+// of are the notes on a line.
+func (r *reading) of(number int, line []byte) []note {
+	if refused, is := r.refused[number]; is {
+		return []note{{word: refused.Note, said: refusal(refused, line)}}
+	}
+	doc := lines.NewDocument(line)
+	if doc == nil {
+		return nil
+	}
+	if under, ok := doc.Member(doc.Whole, "model"); ok {
+		if m, err := model.Of(doc.Go(under)); err == nil {
+			r.take(m)
+		}
+		return nil
+	}
+	service, inputs, ok := asked(doc)
+	if !ok {
+		return nil
+	}
+	names, known := r.services[service]
+	if !known {
+		near := nearIn(r.names, service)
+		return []note{{"service", service, near, orMeant(`"`+service+`" is no service`, near)}}
+	}
+	return r.notesOf(doc, service, names, doc.Members(inputs))
+}
+
+// asked is the service and the inputs of a request; false of another line.
+func asked(doc *lines.Document) (service string, inputs lines.Node, ok bool) {
+	under, isAsked := doc.Member(doc.Whole, "service")
+	inputs, hasInputs := doc.Member(doc.Whole, "inputs")
+	if !isAsked || !hasInputs || doc.Kind(inputs) != '{' {
+		return "", inputs, false
+	}
+	service, ok = doc.Text(under)
+	return service, inputs, ok
+}
+
+// orMeant is a sentence with a name that may be meant.
+func orMeant(said, near string) string {
+	if near == "" {
+		return said
+	}
+	return said + ": " + near + "?"
+}
+
+// notesOf are what is odd in the inputs of a request: the names that are no parameters, in the order of their bytes, and then the
+// parameters that are missing or have no value, in their order.
+func (r *reading) notesOf(doc *lines.Document, service string, names []string, inputs []lines.Keyed) []note {
+	var notes []note
+	isParameter := setOf(names)
+	brought := make(map[string]lines.Node, len(inputs))
+	for _, input := range inputs {
+		brought[input.Key] = input.Value
+		if !isParameter[input.Key] {
+			near := nearIn(names, input.Key)
+			said := fmt.Sprintf(`"%s" is no parameter of %s`, input.Key, service)
+			notes = append(notes, note{"no parameter", input.Key, near, orMeant(said, near)})
+		}
+	}
+	for _, name := range names {
+		value, ok := brought[name]
+		switch {
+		case !ok:
+			said := fmt.Sprintf("the parameter %s of %s is missing, so it is null", name, service)
+			notes = append(notes, note{"missing", name, "", said})
+		default:
+			if why := noValue(doc.Go(value)); why != "" {
+				notes = append(notes, note{"value", name, "", fmt.Sprintf("what stands under %s is no value: %s", name, why)})
+			}
+			notes = append(notes, r.misspelt(doc, name, value)...)
+		}
+	}
+	return notes
+}
+
+// noValue says why a JSON value is none of the engine's; empty where it is one.
+func noValue(value any) string {
+	m := measure{}
+	depth := m.of(value)
+	switch {
+	case m.hasFraction && m.isBad:
+		return "a number in it has a point or an exponent, and numbers are whole"
+	case m.isBad:
+		return "a number in it is not from -9223372036854775807 to 9223372036854775807"
+	case m.nodes > lines.MaxNodes, depth > lines.MaxDepth:
+		return "it has over 10,000 parts, or is over 100 deep"
+	}
+	return ""
+}
+
+// A measure is what the parts of a value are.
+type measure struct {
+	nodes int
+	// isBad says that a number is none of the engine's, hasFraction that one has a point or an exponent.
+	isBad, hasFraction bool
+}
+
+// of measures a value, and gives its depth.
+func (m *measure) of(value any) (depth int) {
+	m.nodes++
+	deepest := 0
+	part := func(value any) {
+		if depth := m.of(value); depth > deepest {
+			deepest = depth
+		}
+	}
+	switch value := value.(type) {
+	case json.Number:
+		if !lines.IsWhole(value.String()) {
+			m.isBad = true
+			number, err := strconv.ParseFloat(value.String(), 64)
+			isWhole := !strings.ContainsAny(value.String(), ".eE") && value.String() != "-0"
+			m.hasFraction = m.hasFraction || err == nil && !isWhole && -pastRange < number && number < pastRange
+		}
+	case []any:
+		for _, item := range value {
+			part(item)
+		}
+	case map[string]any:
+		for _, item := range value {
+			part(item)
+		}
+	}
+	return deepest + 1
+}
+
+// pastRange is a number past all that a value may have: a whole number that is far out of range is told as that.
+const pastRange = 9.3e18
+
+// refusal says why the engine refuses a line.
+func refusal(refused factNote, line []byte) string {
+	switch refused.Note {
+	case "long":
+		return "the line has over 1048576 bytes"
+	case "syntax":
+		if stop := stopOf(line); stop != nil {
+			return fmt.Sprintf("no JSON text: column %d: %s", stop.Column, stop.Due.Sentence())
+		}
+		return "no JSON text"
+	case "shape":
+		return misshapen(line)
+	case "model":
+		return "a model with the fault " + refused.modelFault() + "; the one before stays in force"
+	case "closed":
+		return "the client is closed"
+	case "capacity":
+		return "a capacity is from 1 to 4096"
+	}
+	return refused.Note
+}
+
+// modelFault is the fault of a model that is refused.
+func (n factNote) modelFault() string {
+	if n.Fault != "" {
+		return n.Fault
+	}
+	// The engine of today has it in its sentence alone.
+	_, behind, _ := strings.Cut(n.Said, "the fault ")
+	fault, _, _ := strings.Cut(behind, ";")
+	return fault
+}
+
+// misshapen says why a JSON value is none of the lines of `serve`.
+func misshapen(line []byte) string {
+	doc := lines.NewDocument(line)
+	if doc == nil || doc.Kind(doc.Whole) != '{' {
+		return saidNoLine
+	}
+	all := doc.Members(doc.Whole)
+	if len(all) > mostMembers {
+		return saidNoLine
+	}
+	members := map[string]lines.Node{}
+	for _, member := range all {
+		members[member.Key] = member.Value
+		if at := sort.SearchStrings(lineKeys, member.Key); at == len(lineKeys) || lineKeys[at] != member.Key {
+			return "no line has the key " + quoted(member.Key)
+		}
+	}
+	return dueOf(doc, members)
+}
+
+const (
+	saidNoLine = "an object with client, service and inputs alone is due"
+	// mostMembers is how many members of an object are looked at.
+	mostMembers = 4
+)
+
+// lineKeys are those of the lines of `serve`, in their order.
+var lineKeys = []string{"capacity", "client", "close", "inputs", "model", "resize", "service"}
+
+// dueOf is what is due of an object that is no line of `serve`.
+func dueOf(doc *lines.Document, members map[string]lines.Node) string {
+	has := func(key string) bool {
+		_, ok := members[key]
+		return ok
+	}
+	isName := func(key string) bool {
+		name, ok := "", false
+		if has(key) {
+			name, ok = doc.Text(members[key])
+		}
+		return ok && name != "" && len(name) <= 64
+	}
+	is := func(key string, kind byte) bool { return doc.Kind(members[key]) == kind }
+	isTrue := func(key string) bool { return string(doc.Raw(members[key])) == "true" }
+	switch {
+	case has("model"):
+		return "beside model stands no other key"
+	case (has("resize") || !has("client") && has("capacity")) && isName("resize"):
+		return "beside resize stands capacity alone, a number from 1 to 4096"
+	case has("resize"), !has("client") && has("capacity"):
+		return "under resize the name of a client is due, a text of 1 to 64 bytes"
+	case !has("client"):
+		return "the key client is missing"
+	case !isName("client"):
+		return "under client a text of 1 to 64 bytes is due"
+	case has("close") && isTrue("close"):
+		return "beside close stands client alone"
+	case has("close"):
+		return "under close true is due"
+	case !has("service"):
+		return "the key service is missing"
+	case !has("inputs"):
+		return "the key inputs is missing"
+	case !is("service", '"'):
+		return "under service a text is due"
+	case !is("inputs", '{'):
+		return "under inputs an object is due"
+	}
+	return "beside client, service and inputs stands no other key"
+}

@@ -1,0 +1,75 @@
+package tell
+
+import "strings"
+
+// A toldRules are the rules of which what was found of the tables tells something, by the pointers of their tables.
+type toldRules map[string]map[int]set
+
+// toldByTables are the kinds of warnings that the findings of the tables tell again, of each rule.
+func (r *report) toldByTables() toldRules {
+	told := toldRules{}
+	for _, table := range r.facts.tables {
+		rules := map[int]set{}
+		add := func(rule int, kind string) {
+			if rules[rule] == nil {
+				rules[rule] = set{}
+			}
+			rules[rule][kind] = true
+		}
+		for _, finding := range table.findings {
+			switch {
+			case len(finding.Rules) == 0:
+			case finding.Finding == "never":
+				add(finding.Rules[0], oddUnmet)
+			case finding.Finding == "masked":
+				add(finding.Rules[0], oddNever)
+			case finding.Finding == "overlap" && len(finding.Rules) > 1:
+				add(finding.Rules[1], oddHits)
+				add(finding.Rules[0], oddHits)
+			}
+		}
+		told[table.Table] = rules
+	}
+	return told
+}
+
+// has tells whether the findings of a table tell what a warning would.
+func (t toldRules) has(it oddity) bool {
+	pointer := it.place.Pointer()
+	before, _, ok := strings.Cut(pointer, "/rules/")
+	if !ok || len(t) == 0 {
+		return false
+	}
+	rules := t[before]
+	for at, step := range it.place {
+		if step.Key == "rules" && at+1 < len(it.place) {
+			return rules[it.place[at+1].Index+1][it.kind]
+		}
+	}
+	return false
+}
+
+const oddDefault = "unused default"
+
+// unusedDefaults warns of the defaults of tables of which some rule hits in each case.
+func (r *report) unusedDefaults() {
+	told := 0
+	for _, facts := range r.facts.tables {
+		place := placeOf(facts.Table)
+		table := r.file.table(place)
+		if table == nil || !isTrue(facts.Complete) {
+			continue
+		}
+		for at, output := range table.Outputs {
+			if output.Default == nil {
+				continue
+			}
+			if told++; told <= mostPlaces {
+				place := place.with(key("outputs"), index(at), key("default"))
+				line, column := r.file.position(place)
+				r.warning(oddDefault, place, line, column, "some rule hits in each case, so the default is never taken")
+			}
+		}
+	}
+	r.moreWarnings(oddDefault, told-mostPlaces)
+}

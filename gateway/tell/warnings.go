@@ -1,0 +1,106 @@
+package tell
+
+import (
+	"fmt"
+
+	"gateway/lines"
+)
+
+// warnings tells what is odd in a lawful model: keys that come twice, and then the rest.
+func (r *report) warnings() {
+	r.repeatedKeys()
+	found, counts := oddities(r.file.model)
+	told := r.toldByTables()
+	for _, it := range found {
+		if told.has(it) {
+			continue
+		}
+		line, column := r.file.position(it.place)
+		r.warning(it.kind, it.place, line, column, it.said)
+	}
+	for _, kind := range oddKinds {
+		r.moreWarnings(kind, counts[kind]-mostPlaces)
+	}
+	r.unusedDefaults()
+}
+
+func (r *report) warning(kind string, place Place, line, column int, said string) {
+	words := r.file.words(place)
+	r.put(func() string {
+		return fmt.Sprintf("warning: line %d, column %d: %s\n", line, column, behindColon(words, said))
+	}, func() string {
+		return object(nil).text("warning", kind).text("pointer", place.Pointer()).text("place", words).text("said", said).
+			position(line, column).line()
+	})
+}
+
+func (r *report) moreWarnings(kind string, more int) {
+	if more <= 0 {
+		return
+	}
+	r.put(func() string { return fmt.Sprintf("warning: and %d more: %s\n", more, kind) },
+		func() string { return object(nil).text("warning", kind).number("more", more).line() })
+}
+
+const repeatedKey = "repeated key"
+
+// A repeat is a key that comes more than once in an object: the place of the object, and the key where it comes for the second
+// time.
+type repeat struct {
+	place  Place
+	key    string
+	second lines.Node
+}
+
+// repeatedKeys tells the keys that come more than once in an object of the model, and whether the model's own does.
+func (r *report) repeatedKeys() {
+	if second, ok := r.file.doc.Second(r.file.doc.Whole, "model"); ok {
+		r.repeated(repeat{key: "model", second: second})
+	}
+	s := repeats{doc: r.file.doc}
+	s.look(r.file.root)
+	for _, it := range s.found {
+		r.repeated(it)
+	}
+	r.moreWarnings(repeatedKey, s.count-len(s.found))
+}
+
+func (r *report) repeated(it repeat) {
+	line, column := r.file.doc.Position(it.second)
+	r.warning(repeatedKey, it.place, line, column, "the key "+it.key+" stands more than once, and the last one counts")
+}
+
+// A repeats is a search for keys that come more than once.
+type repeats struct {
+	doc   *lines.Document
+	place Place
+	found []repeat
+	count int
+}
+
+// look looks at a value: first at its own keys, and then at its parts, of members with one key at the last alone.
+func (s *repeats) look(part lines.Node) {
+	switch s.doc.Kind(part) {
+	case '[':
+		for at, item := range s.doc.Items(part) {
+			s.within(index(at), item)
+		}
+	case '{':
+		repeated := s.doc.Repeated(part)
+		for _, it := range repeated {
+			s.count++
+			if len(s.found) < mostPlaces {
+				s.found = append(s.found, repeat{s.place.with(), it.Key, it.Value})
+			}
+		}
+		for _, member := range s.doc.InOrder(part) {
+			s.within(key(member.Key), member.Value)
+		}
+	}
+}
+
+func (s *repeats) within(step Step, part lines.Node) {
+	s.place = append(s.place, step)
+	s.look(part)
+	s.place = s.place[:len(s.place)-1]
+}
