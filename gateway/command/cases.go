@@ -1,11 +1,14 @@
 package command
 
 import (
+	"context"
 	"fmt"
 	"io"
+	"sync/atomic"
 
 	"github.com/spf13/cobra"
 
+	"gateway/coverage"
 	"gateway/dmn"
 	"gateway/profile"
 	"gateway/tck"
@@ -13,35 +16,71 @@ import (
 
 // casesOptions are the options of test.
 type casesOptions struct {
-	reading profile.Options
+	rowsOptions
+	junit      string
+	tap, quiet bool
+	// coverage is the percentage of rules that is due, as a text; empty where none is asked for.
+	coverage, borders string
+	record            bool
+	counts            *coverage.Counts
 }
 
 func casesCommand() *cobra.Command {
 	var options casesOptions
 	c := &cobra.Command{
-		Use:   "test [OPTIONS] FILE.dmn|- CASES.xml|-",
-		Short: "Runs test cases of the DMN TCK against a file",
-		Long: `Writes a line for each result node, and then how many passed, failed and asked for what is not supported. The status is 1
-if one failed or nothing was tested, 3 if the file is no DMN, or the cases can't be read or name what the file lacks.`,
-		Example:           "  desk test examples/dmn/dish.dmn examples/dmn/dish.cases.xml",
-		ValidArgsFunction: completeFiles("dmn", "xml"),
-		RunE: func(c *cobra.Command, words []string) error {
-			if len(words) != 2 {
-				return wrong("two files are due: %s", usageOf(c))
-			}
-			return runCases(c, words[0], words[1], options)
-		},
+		Use:   "test [OPTIONS] MODEL.json|FILE.dmn CASES..",
+		Short: "Runs test cases against a model: CSV, JSON lines, or XML of the DMN TCK",
+		Long: `Writes a line for each value that is due, and then how many passed, failed and asked for what is not supported. In CSV
+a column =price has what is due of the decision price, and =risk.level of a part of its result; in JSON they are members.
+A cell that is empty asks for nothing.
+
+The status is 1 if a test failed or there was none, 3 if the cases can't be read or name what the model doesn't have.
+docs/CASES.md has the forms.`,
+		Example: `  desk test examples/parcel.json examples/cases/parcel.cases.csv
+  desk test --junit report.xml examples/dmn/dish.dmn examples/dmn/dish.cases.xml`,
+		ValidArgsFunction: completeFiles("json", "dmn", "csv", "jsonl", "xml"),
 	}
-	readingFlags(c.Flags(), &options.reading)
+	flags := c.Flags()
+	flags.StringVar(&options.junit, "junit", "", "Write a report in JUnit's XML to this `FILE` too")
+	flags.BoolVar(&options.tap, "tap", false, "Write the Test Anything Protocol in place of lines")
+	flags.BoolVarP(&options.quiet, "quiet", "q", false, "Write no lines of tests that passed")
+	flags.StringVar(&options.coverage, "coverage", "", "List rules that no row reached; status 1 below this `PERCENT`")
+	flags.Lookup("coverage").NoOptDefVal = "0"
+	flags.BoolVar(&options.record, "record", false, "Write the rows of a file of requests with their answers, as a first set of cases")
+	flags.StringVar(&options.borders, "borders", "", "Write cases at the borders of each table to this `FOLDER`, with their answers")
+	flags.StringVar(&options.service, "service", "", "Test this service or decision alone, by its `NAME`; with --record, ask it")
+	options.add(flags)
+	c.RunE = func(c *cobra.Command, words []string) error {
+		if err := options.check(); err != nil {
+			return err
+		}
+		ctx, stop := untilTold(c)
+		defer stop()
+		return reported(c.ErrOrStderr(), options.run(ctx, c, words))
+	}
 	return c
 }
 
-// runCases runs test cases, and writes a line for each result node, and how many passed.
-func runCases(c *cobra.Command, path, casesPath string, options casesOptions) error {
-	if err := oneStdin([]string{path, casesPath}); err != nil {
-		return err
+// run does what the options ask for.
+func (o casesOptions) run(ctx context.Context, c *cobra.Command, words []string) error {
+	switch {
+	case o.borders != "" && len(words) != 1:
+		return wrong("--borders takes a model alone: %s", usageOf(c))
+	case o.borders != "":
+		return writeBorders(ctx, c, words[0], o)
+	case len(words) < 2:
+		return wrong("at least two files are due: %s", usageOf(c))
+	case o.record && len(words) > 2:
+		return wrong("--record takes one file: %q is one too many", words[2])
+	case o.record:
+		return runRows(ctx, c, words, runOptions{rowsOptions: o.rowsOptions})
 	}
-	read, err := readFiles(c, []string{path})
+	return runTests(ctx, c, words[0], words[1:], o)
+}
+
+// runTCK runs test cases of the TCK, and reports on each result node.
+func runTCK(ctx context.Context, c *cobra.Command, path, casesPath string, options casesOptions, to caseReport) error {
+	read, _, err := readFiles(c, []string{path})
 	if err != nil {
 		return err
 	}
@@ -54,18 +93,31 @@ func runCases(c *cobra.Command, path, casesPath string, options casesOptions) er
 	if err != nil {
 		return refused(err)
 	}
-	if !namesFit(read[0], cases, options.reading, c.ErrOrStderr()) {
+	o := options.reading
+	o.Service = options.service
+	if !namesFit(read[0], cases, o, c.ErrOrStderr()) {
 		return ended(statusRefused)
 	}
 	// Each decision is tested in a model of its own, whose inputs are counted as in that of the whole file.
-	options.reading.Decimals = profile.DecimalsOf(read, options.reading)
-	shown := showProgress(c.ErrOrStderr(), "testing", unit{"cases", 1}, 0, func() int64 { return int64(len(cases.Cases)) })
-	verdicts, err := tck.Run(c.Context(), read[0], cases, options.translated)
+	o.Decimals = profile.DecimalsOf(read, o)
+	var done atomic.Int64
+	results := 0
+	for _, it := range cases.Cases {
+		results += len(it.Results)
+	}
+	steps := unit{"results", tck.StepsOfAResult}
+	shown := showProgress(c.ErrOrStderr(), "testing", steps, int64(results*tck.StepsOfAResult), done.Load)
+	verdicts, err := tck.Run(ctx, read[0], cases, func(part *dmn.File) tck.Translation { return translated(part, o) }, &done)
 	shown.stop()
 	if err != nil {
 		return err
 	}
-	return report(verdicts, c.OutOrStdout(), c.ErrOrStderr())
+	for _, v := range verdicts {
+		if err := to.add(casesPath, v); err != nil {
+			return fmt.Errorf("writing the verdicts: %w", err)
+		}
+	}
+	return nil
 }
 
 // namesFit says whether the file has each name of the cases; it reports those that it lacks. With a service asked for, it
@@ -91,30 +143,6 @@ func namesFit(file *dmn.File, cases *tck.Cases, options profile.Options, faults 
 	return found
 }
 
-// report writes the verdicts with their sums.
-func report(verdicts []tck.Verdict, out, faults io.Writer) error {
-	counts := map[tck.Outcome]int{}
-	for _, v := range verdicts {
-		counts[v.Outcome]++
-		if _, err := fmt.Fprintln(out, shownVerdict(out, v)); err != nil {
-			return fmt.Errorf("writing the verdicts: %w", err)
-		}
-	}
-	_, err := fmt.Fprintf(out, "%d passed, %d failed, %d unsupported\n", counts[tck.Pass], counts[tck.Fail],
-		counts[tck.Unsupported])
-	if err != nil {
-		return fmt.Errorf("writing the verdicts: %w", err)
-	}
-	switch {
-	case counts[tck.Fail] > 0:
-		return ended(statusFault)
-	case counts[tck.Pass] == 0:
-		fmt.Fprintln(faults, "desk test: nothing was tested")
-		return ended(statusFault)
-	}
-	return nil
-}
-
 // shownVerdict is the line of a verdict, with its outcome in a colour on a terminal.
 func shownVerdict(out io.Writer, v tck.Verdict) string {
 	colours := map[tck.Outcome]string{tck.Pass: green, tck.Fail: red, tck.Unsupported: yellow}
@@ -123,8 +151,7 @@ func shownVerdict(out io.Writer, v tck.Verdict) string {
 }
 
 // translated imports a part of a file.
-func (o casesOptions) translated(part *dmn.File) tck.Translation {
-	options := o.reading
+func translated(part *dmn.File, options profile.Options) tck.Translation {
 	options.Service, options.Partial, options.Part = "", false, true
 	result, refusals := profile.Import([]*dmn.File{part}, options)
 	if len(refusals) > 0 {

@@ -2,6 +2,7 @@ package command
 
 import (
 	"bytes"
+	"fmt"
 
 	"github.com/spf13/cobra"
 
@@ -15,7 +16,7 @@ func checkCommand() *cobra.Command {
 		Use:   "check [OPTIONS] [MODEL.json|FILE.dmn..|-]",
 		Short: "Says whether a model is valid, and otherwise where it is wrong",
 		Long: `Reads one model in JSON of any layout, up to 64 MiB: the model itself, or {"model":M} as in a line of serve. A file of DMN
-is imported first. Without a file it reads standard input.
+is imported first, and places are those of that file. Without a file it reads standard input.
 
 For a valid model it lists the inputs, the decisions with their kinds, and the services with their parameters; then
 warnings, at most 100 of each kind. With --requests the model is the first line, and lines of requests follow as in
@@ -34,7 +35,8 @@ is then 4 if a table has one of these, or if that can't be decided. A gap counts
 column's tests ask for, and where no output has a default.
 
 Decisions, services and inputs of the model are numbered from 0, as in JSON; rules, columns, members, values and needs
-from 1. docs/MODEL.md explains each fault, docs/LINES.md the lines of --json.`,
+from 1. docs/MODEL.md explains each fault, docs/LINES.md the lines of --json. --format sarif writes SARIF 2.1.0, and
+--format github the annotations of GitHub's workflows.`,
 		Example: `  desk check examples/loan.json
   desk check --tables --strict examples/dmn/dish.dmn
   desk check --requests < examples/clients.jsonl`,
@@ -42,15 +44,21 @@ from 1. docs/MODEL.md explains each fault, docs/LINES.md the lines of --json.`,
 	}
 	var options tell.CheckOptions
 	flags := c.Flags()
-	flags.BoolVar(&options.JSON, "json", false, "Report in lines of JSON")
+	format := flags.String("format", string(tell.Text), "Report in this `FORMAT`: text, json, sarif or github")
+	isJSON := flags.Bool("json", false, "Report in lines of JSON: --format json")
 	flags.BoolVar(&options.Requests, "requests", false, "Requests follow the model, which is the first line")
 	flags.BoolVar(&options.Tables, "tables", false, "Say of each decision table whether it covers every case")
 	flags.BoolVar(&options.Strict, "strict", false, "With --tables: status 4 if one does not")
+	_ = c.RegisterFlagCompletionFunc("format", completeFormats)
 	c.RunE = func(c *cobra.Command, files []string) error {
 		if options.Strict && !options.Tables {
 			return wrong("--strict needs --tables")
 		}
-		model, err := openModel(c, files)
+		err := setFormat(c, &options, *format, *isJSON)
+		if err != nil {
+			return err
+		}
+		model, err := openModel(c, files, &options)
 		if err != nil {
 			return err
 		}
@@ -59,7 +67,9 @@ from 1. docs/MODEL.md explains each fault, docs/LINES.md the lines of --json.`,
 		if err != nil {
 			return err
 		}
+		shown := readProgress(c.ErrOrStderr(), c.OutOrStdout(), c.Name(), model)
 		status, err := tell.Check(c.Context(), path, options, model, c.OutOrStdout(), c.ErrOrStderr())
+		shown.stop()
 		if err != nil {
 			return engine.NotStarted(path, err)
 		}
@@ -69,7 +79,7 @@ from 1. docs/MODEL.md explains each fault, docs/LINES.md the lines of --json.`,
 }
 
 // openModel opens the model of the command line: one file in JSON, standard input, or files of DMN, which it imports.
-func openModel(c *cobra.Command, files []string) (*source, error) {
+func openModel(c *cobra.Command, files []string, options *tell.CheckOptions) (*source, error) {
 	if len(files) == 0 {
 		files = []string{dash}
 	}
@@ -78,29 +88,87 @@ func openModel(c *cobra.Command, files []string) (*source, error) {
 		isImport = isImport && isDMN(path, nil)
 	}
 	switch {
-	case isImport && c.Flags().Changed("requests"):
+	case isImport && options.Requests:
 		return nil, wrong("--requests reads a file of lines: desk import --line %s > FILE, and requests after it", files[0])
 	case isImport:
-		return importModel(c, files)
+		return importModel(c, files, options)
 	case len(files) > 1:
 		return nil, wrong("one model is read: %q is one too many", files[1])
+	}
+	if files[0] != dash {
+		options.Name = files[0]
 	}
 	return open(c, files[0])
 }
 
-// importModel imports files of DMN to a model.
-func importModel(c *cobra.Command, paths []string) (*source, error) {
-	read, err := readFiles(c, paths)
+func completeFormats(*cobra.Command, []string, string) (names []string, _ cobra.ShellCompDirective) {
+	for _, format := range tell.Formats {
+		names = append(names, string(format))
+	}
+	return names, cobra.ShellCompDirectiveNoFileComp
+}
+
+// setFormat sets the format that the options ask for.
+func setFormat(c *cobra.Command, options *tell.CheckOptions, name string, isJSON bool) (err error) {
+	if options.Format, err = tell.FormatOf(name); err != nil {
+		return wrong("--format: %v", err)
+	}
+	if isJSON && c.Flags().Changed("format") && options.Format != tell.JSON {
+		return wrong("--json and --format %s ask for two formats", name)
+	}
+	if isJSON {
+		options.Format = tell.JSON
+	}
+	options.Version = version
+	return nil
+}
+
+// importModel imports files of DMN to a model, and notes in the options where its parts are in the files. What the import finds is
+// reported on standard error, and as notices where the format has them.
+func importModel(c *cobra.Command, paths []string, options *tell.CheckOptions) (*source, error) {
+	read, faults, err := readFiles(c, paths)
 	if err != nil {
-		return nil, err
+		return nil, writeRefusals(c, options, faults, err)
 	}
 	report := profile.Run(read, profile.Options{})
 	if !reportImport(c.ErrOrStderr(), report) {
-		return nil, ended(statusRefused)
+		return nil, writeRefusals(c, options, report.Refusals, ended(statusRefused))
+	}
+	options.Imported = noticesOf(report.Result.Notes, tell.ImportNote, tell.Note)
+	options.Origins = map[string]tell.Spot{}
+	for pointer, origin := range report.Result.Origins {
+		options.Origins[pointer] = tell.Spot{File: origin.File, Line: origin.Line, Column: origin.Column}
 	}
 	line, err := profile.Line(&report.Result.Model)
 	if err != nil {
 		return nil, refused(err)
 	}
 	return &source{Reader: bytes.NewReader(line), name: paths[0]}, nil
+}
+
+// writeRefusals writes the places that an import refuses as notices, where the format has them. It returns the error that ended
+// the import.
+func writeRefusals(c *cobra.Command, options *tell.CheckOptions, refusals []profile.Refusal, ended error) error {
+	if !options.Format.HasNotices() || len(refusals) == 0 {
+		return ended
+	}
+	notices := noticesOf(refusals, tell.ImportRefused, tell.Error)
+	text, err := tell.WriteNotices(options.Format, notices, options.Version)
+	if err != nil {
+		return err
+	}
+	if _, err := c.OutOrStdout().Write(text); err != nil {
+		return fmt.Errorf("writing what the import refuses: %w", err)
+	}
+	return ended
+}
+
+// noticesOf are what an import reports as notices.
+func noticesOf(refusals []profile.Refusal, kind string, level tell.Level) []tell.Notice {
+	var notices []tell.Notice
+	for _, it := range refusals {
+		spot := tell.Spot{File: it.File, Line: it.Line, Column: it.Column}
+		notices = append(notices, tell.Notice{Kind: kind, Level: level, Spot: spot, Said: it.Sentence()})
+	}
+	return notices
 }

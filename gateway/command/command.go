@@ -61,6 +61,7 @@ Documents, in the repository or in /usr/share/doc/colkuzai:
   docs/MODEL.md       models and their expressions
   docs/DMN.md         files of DMN: what is supported
   docs/LINES.md       every line of replay and serve, and its answer
+  docs/CASES.md       files of requests, and test cases
   docs/HTTP.md        the HTTP service
   docs/OPERATIONS.md  running it: options, systemd, limits, upgrades
 
@@ -82,7 +83,7 @@ Licence: MIT or Apache-2.0, as you choose (LICENSE, NOTICE).`,
 	cobra.EnableCommandSorting = false
 	help := helpCommand()
 	root.AddCommand(replayCommand(), serveCommand(), checkCommand(), explainCommand(), importCommand(), exportCommand(),
-		casesCommand(), httpCommand(), sendCommand(), partitionCommand(), receiveCommand(), completionCommand(), manualCommand(), help)
+		runCommand(), casesCommand(), compareCommand(), httpCommand(), sendCommand(), partitionCommand(), receiveCommand(), completionCommand(), manualCommand(), help)
 	root.SetHelpCommand(help)
 	for _, c := range append(root.Commands(), root) {
 		c.Flags().BoolP("help", "h", false, "Print help")

@@ -63,7 +63,9 @@ func explainInText(c *cobra.Command, lines *source, options tell.ExplainOptions)
 	if err != nil {
 		return err
 	}
-	status, err := tell.Explain(c.Context(), path, options, lines, c.OutOrStdout(), c.ErrOrStderr())
+	shown := readProgress(c.ErrOrStderr(), c.OutOrStdout(), c.Name(), lines)
+	status, err := tell.Explain(c.Context(), path, options, lines.Reader, c.OutOrStdout(), c.ErrOrStderr())
+	shown.stop()
 	if err != nil {
 		return engine.NotStarted(path, err)
 	}

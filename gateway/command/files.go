@@ -103,8 +103,8 @@ func readFile(c *cobra.Command, path string) (*dmn.File, error) {
 	return dmn.Read(from.name, from)
 }
 
-// readFiles reads each file. Those that are no DMN are all reported.
-func readFiles(c *cobra.Command, paths []string) (all []*dmn.File, err error) {
+// readFiles reads each file. Those that are no DMN are all reported, and given as faults.
+func readFiles(c *cobra.Command, paths []string) (all []*dmn.File, faults []profile.Refusal, err error) {
 	var done atomic.Int64
 	shown := showProgress(c.ErrOrStderr(), "reading", files, int64(len(paths)), done.Load)
 	defer shown.stop()
@@ -114,15 +114,17 @@ func readFiles(c *cobra.Command, paths []string) (all []*dmn.File, err error) {
 		var noDMN *dmn.Fault
 		switch {
 		case errors.As(fault, &noDMN):
-			fmt.Fprintln(c.ErrOrStderr(), profile.RefusalOf(shownAs(path), noDMN))
+			refusal := profile.RefusalOf(shownAs(path), noDMN)
+			fmt.Fprintln(c.ErrOrStderr(), refusal)
+			faults = append(faults, refusal)
 			err = ended(statusRefused)
 		case fault != nil:
-			return nil, fault
+			return nil, nil, fault
 		default:
 			all = append(all, file)
 		}
 	}
-	return all, err
+	return all, faults, err
 }
 
 func shownAs(path string) string {

@@ -72,6 +72,7 @@ call.`,
 		"Keep the model last put in this `FILE` (default model.json in the journal's folder)")
 	flags.IntVar(&options.service.ClientLimit, "client-limit", 10_000, "Allow this `NUMBER` of unanswered requests per client")
 	flags.IntVar(&options.service.Limit, "limit", 50_000, "Allow this `NUMBER` of unanswered requests in all")
+	flags.BoolVar(&options.service.Lenient, "lenient", false, "Ignore inputs that a .dmn file doesn't have")
 	readingFlags(flags, &options.reading)
 	return c
 }

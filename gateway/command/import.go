@@ -47,7 +47,7 @@ func runImport(c *cobra.Command, paths []string, options importOptions) error {
 	if err := oneStdin(paths); err != nil {
 		return err
 	}
-	read, err := readFiles(c, paths)
+	read, _, err := readFiles(c, paths)
 	if err != nil {
 		return err
 	}

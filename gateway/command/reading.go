@@ -11,9 +11,14 @@ import (
 	"gateway/profile"
 )
 
-// readingFlags adds the options that say how files of DMN are translated.
+// readingFlags adds the options that say what of files of DMN is translated, and how.
 func readingFlags(flags *pflag.FlagSet, options *profile.Options) {
 	flags.StringVar(&options.Service, "service", "", "Make the service of this `NAME` alone: a decision service or a decision")
+	translationFlags(flags, options)
+}
+
+// translationFlags adds the options that say how files of DMN are translated.
+func translationFlags(flags *pflag.FlagSet, options *profile.Options) {
 	flags.BoolVar(&options.Partial, "partial", false, "Make the services that need no refused place, and report the others")
 	flags.BoolVar(&options.FreeInputs, "free-inputs", false,
 		"Make an input of each name that nothing declares and that is a typed column's whole expression")

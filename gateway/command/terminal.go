@@ -54,6 +54,7 @@ type progress struct {
 	begun time.Time
 	end   chan struct{}
 	ended sync.WaitGroup
+	once  sync.Once
 }
 
 // A unit is what a progress counts.
@@ -84,7 +85,7 @@ func (p *progress) stop() {
 	if p == nil {
 		return
 	}
-	close(p.end)
+	p.once.Do(func() { close(p.end) })
 	p.ended.Wait()
 }
 

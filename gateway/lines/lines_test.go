@@ -93,6 +93,11 @@ var written = []struct{ text, word string }{
 	{` { "a" : [ 1 , {"b":null} ] } `, ""},
 	{`[]`, "shape"},
 	{`5`, "shape"},
+	{`{"a":"\u00e9\u00E9\uAbCd"}`, ""},
+	{"{\"a\":\"\\u00e\x19\"}", "syntax"},
+	{"{\"a\":\"\\u\x10\x11\x12\x13\"}", "syntax"},
+	{`{"a":"\u00e:"}`, "syntax"},
+	{`{"a":"\u00eg"}`, "syntax"},
 	{`{"a":1.0}`, "value"},
 	{`{"a":1e2}`, "value"},
 	{`{"a":-0}`, "value"},
@@ -247,10 +252,19 @@ func TestCompact(t *testing.T) {
 	}
 }
 
-func TestRename(t *testing.T) {
-	got, err := Rename([]byte(`{"net price":1,"x":[{"net price":2}]}`), map[string]string{"net price": "net_price"})
-	if due := `{"net_price":1,"x":[{"net_price":2}]}`; err != nil || string(got) != due {
-		t.Errorf("it is %s (%v), and %s is due", got, err, due)
+func TestRenamed(t *testing.T) {
+	for text, due := range map[string]string{
+		`{"net price":1,"x":[{"net price":2}]}`:                       `{"net_price":1,"x":[{"net_price":2}]}`,
+		`{"net price":{"net price":1,"net_price":2},"net_price_2":3}`: `{"net_price":{"net price":1,"net_price":2},"net_price_2":3}`,
+	} {
+		tree, err := Tree([]byte(text))
+		if err != nil {
+			t.Fatal(err)
+		}
+		got := Compact(nil, Renamed(tree, map[string]string{"net price": "net_price"}))
+		if string(got) != due {
+			t.Errorf("%s becomes %s, and %s is due", text, got, due)
+		}
 	}
 }
 

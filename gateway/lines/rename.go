@@ -1,9 +1,6 @@
 package lines
 
-import (
-	"bytes"
-	"fmt"
-)
+import "bytes"
 
 // HasKey says whether some object of a lawful JSON text, at whatever depth, has a key that the table has. A key that is
 // written with an escape counts as one.
@@ -29,17 +26,12 @@ func HasKey(text []byte, table map[string]string) bool {
 	}
 }
 
-// Rename gives a lawful JSON text other keys, at whatever depth: each key that the table has becomes what stands there.
-// The text is compact then, and of several members with one key it has the last.
-func Rename(text []byte, table map[string]string) ([]byte, error) {
-	tree, err := Tree(text)
-	if err != nil {
-		return nil, fmt.Errorf("renaming: %w", err)
-	}
-	return Compact(make([]byte, 0, len(text)), Renamed(tree, table)), nil
+func has(object map[string]any, key string) bool {
+	_, is := object[key]
+	return is
 }
 
-// Renamed gives a value that Tree read other keys.
+// Renamed gives a value that Tree read other keys. One stays as it is where the object has the other key too.
 func Renamed(value any, table map[string]string) any {
 	switch value := value.(type) {
 	case []any:
@@ -50,7 +42,7 @@ func Renamed(value any, table map[string]string) any {
 		other := make(map[string]any, len(value))
 		for _, key := range Keys(value) {
 			name := key
-			if to, is := table[key]; is {
+			if to, is := table[key]; is && !has(value, to) {
 				name = to
 			}
 			other[name] = Renamed(value[key], table)

@@ -4,6 +4,7 @@ import (
 	"bytes"
 	"encoding/json"
 	"fmt"
+	"strings"
 	"unicode/utf8"
 )
 
@@ -71,6 +72,9 @@ func (s *scanner) escape() bool {
 	return true
 }
 
+// hexadecimalDigits has each digit where the last four bits of its place are its value.
+const hexadecimalDigits = "0123456789abcdef0123456789ABCDEF"
+
 // unit is the number of an escape of the form \uXXXX at a place.
 func (s *scanner) unit(at int) (int, bool) {
 	if at+6 > len(s.text) || s.text[at] != '\\' || s.text[at+1] != 'u' {
@@ -78,14 +82,11 @@ func (s *scanner) unit(at int) (int, bool) {
 	}
 	n := 0
 	for _, c := range s.text[at+2 : at+6] {
-		digit := bytes.IndexByte([]byte("0123456789abcdef"), c|0x20)
-		if c >= '0' && c <= '9' {
-			digit = int(c - '0')
-		}
+		digit := strings.IndexByte(hexadecimalDigits, c)
 		if digit < 0 {
 			return 0, false
 		}
-		n = n<<4 | digit
+		n = n<<4 | digit&15
 	}
 	return n, true
 }

@@ -11,6 +11,10 @@ import (
 type Service struct {
 	Name   string
 	Inputs []Input
+	// Result is the JSON Schema of its results, and nil where nothing is said of them.
+	Result json.RawMessage
+	// Strict says that other inputs are refused.
+	Strict bool
 }
 
 // An Input is one parameter of a service.
@@ -18,6 +22,8 @@ type Input struct {
 	Name string
 	// Schema is the JSON Schema of its type, and nil where nothing is said of it.
 	Schema json.RawMessage
+	// Required says that a request without it is refused.
+	Required bool
 }
 
 type object map[string]any
@@ -28,14 +34,13 @@ const digits = "Whole numbers from -9223372036854775807 to 9223372036854775807. 
 // Page is the description of these services under a model with this SHA-256, of an engine of this version. Guarded says
 // that callers need tokens.
 func Page(sum, version string, guarded bool, services []Service) ([]byte, error) {
-	paths := object{}
-	for at, service := range services {
-		paths["/v1/services/"+url.PathEscape(service.Name)] = object{"post": call(service, at)}
+	parts := components(guarded)
+	schemas, paths := parts["schemas"].(object), fixedPaths()
+	for at, name := range operations(services) {
+		service := services[at]
+		paths["/v1/services/"+url.PathEscape(service.Name)] = object{"post": call(service, name, schemas)}
+		paths["/v1/explain/"+url.PathEscape(service.Name)] = object{"post": explaining(service, name)}
 	}
-	paths["/v1/model"] = modelPath()
-	paths["/v1/services"] = object{"get": listed()}
-	paths["/healthz"] = object{"get": plain("health", "Whether the process is alive")}
-	paths["/readyz"] = object{"get": plain("ready", "Whether requests are best sent here; 503 where not")}
 	page := object{
 		"openapi": "3.0.3",
 		"info": object{
@@ -44,7 +49,7 @@ func Page(sum, version string, guarded bool, services []Service) ([]byte, error)
 			"description": "Desk " + version + ", under the model with the SHA-256 " + sum + ". " + digits,
 		},
 		"paths":      paths,
-		"components": components(guarded),
+		"components": parts,
 	}
 	if guarded {
 		page["security"] = []object{{"token": []string{}}}
@@ -56,27 +61,40 @@ func Page(sum, version string, guarded bool, services []Service) ([]byte, error)
 	return append(text, '\n'), nil
 }
 
-func call(service Service, at int) object {
-	properties, example := object{}, object{}
+// call describes the calls of a service, and adds its named schemas.
+func call(service Service, name string, schemas object) object {
+	properties, example, required := object{}, object{}, []string{}
 	for _, input := range service.Inputs {
 		schema := Schema(input.Schema)
 		properties[input.Name] = schema
 		example[input.Name] = Example(schema)
+		if input.Required {
+			required = append(required, input.Name)
+		}
 	}
-	inputs := object{"type": "object", "properties": properties,
-		"description": "An input that is missing is null. One that the service does not take is left aside."}
+	inputs := object{"type": "object", "properties": properties, "description": "An input that is missing is null. Inputs of other services are ignored."}
+	if len(required) > 0 {
+		inputs["required"] = required
+	}
+	if service.Strict {
+		inputs["additionalProperties"] = false
+	}
+	schemas[name+"Inputs"] = inputs
+	schemas[name+"Answer"] = object{"type": "object", "required": []string{"result"}, "properties": object{
+		"result": Schema(service.Result), "decisions": decisions, "explained": explained}}
+	one := object{"$ref": "#/components/schemas/" + name + "Inputs"}
 	return object{
-		"operationId": fmt.Sprintf("service%d", at),
+		"operationId": name,
 		"summary":     "Asks the decision service " + service.Name,
 		"parameters":  callHeaders(),
 		"requestBody": object{"required": true, "content": object{"application/json": object{
-			"schema": object{"oneOf": []object{inputs, {"type": "array", "maxItems": 10000, "items": inputs}}},
+			"schema": object{"oneOf": []object{one, {"type": "array", "maxItems": 10000, "items": one}}},
 			"examples": object{
 				"one":  object{"summary": "One request", "value": example},
 				"list": object{"summary": "A list of requests", "value": []object{example, example}},
 			},
 		}}},
-		"responses": responses(),
+		"responses": responses(object{"$ref": "#/components/schemas/" + name + "Answer"}),
 	}
 }
 
@@ -98,9 +116,8 @@ func callHeaders() []object {
 	}
 }
 
-func responses() object {
-	result := object{"type": "object", "required": []string{"result"}, "properties": object{
-		"result": object{"nullable": true}, "decisions": decisions, "explained": explained}}
+// responses are those to a call whose single answers are of a schema.
+func responses(result object) object {
 	problem := object{"$ref": "#/components/schemas/Problem"}
 	all := object{"200": object{
 		"description": "The result; of a list, each request's result or problem in order",
@@ -136,39 +153,8 @@ func header(said string) object {
 	return object{"description": said, "schema": object{"type": "string"}}
 }
 
-func plain(id, said string) object {
-	return object{"operationId": id, "summary": said, "security": []object{}, "responses": object{
-		"200":     object{"description": said, "content": object{"application/json": object{"schema": object{"type": "object"}}}},
-		"default": object{"description": "It is not so"},
-	}}
-}
-
-func listed() object {
-	return object{"operationId": "getServices", "summary": "The services, their parameters and paths", "responses": object{
-		"200": object{"description": "The services",
-			"content": object{"application/json": object{"schema": object{"type": "object"}}}},
-		"default": object{"description": "A problem", "content": object{"application/problem+json": object{
-			"schema": object{"$ref": "#/components/schemas/Problem"}}}},
-	}}
-}
-
-func modelPath() object {
-	ok := object{"description": "The model", "content": object{"application/json": object{"schema": object{"type": "object"}}}}
-	refused := object{"description": "A problem", "content": object{"application/problem+json": object{
-		"schema": object{"$ref": "#/components/schemas/Problem"}}}}
-	return object{
-		"get": object{"operationId": "getModel", "summary": "The model in force",
-			"responses": object{"200": ok, "default": refused}},
-		"put": object{"operationId": "putModel", "summary": "Puts a model in force",
-			"requestBody": object{"required": true, "content": object{
-				"application/json": object{"schema": object{"type": "object"}},
-				"application/xml":  object{"schema": object{"type": "string"}}}},
-			"responses": object{"200": ok, "422": refused, "default": refused}},
-	}
-}
-
 func components(guarded bool) object {
-	text, number := object{"type": "string"}, object{"type": "integer"}
+	text, number := object{"type": "string"}, object{"type": "integer", "format": "int64"}
 	all := object{"schemas": object{"Problem": object{
 		"type": "object", "required": []string{"type", "title", "status"},
 		"properties": object{

@@ -10,7 +10,7 @@ func TestSchema(t *testing.T) {
 	text := `{"type":["object","null"],"properties":{"age":{"type":["integer","null"],"exclusiveMinimum":0},` +
 		`"kinds":{"type":["array","null"],"items":{"enum":["a",null],"type":["string","null"]}}}}`
 	due := map[string]any{"type": "object", "nullable": true, "properties": map[string]any{
-		"age": map[string]any{"type": "integer", "nullable": true, "exclusiveMinimum": true, "minimum": 0.0},
+		"age": map[string]any{"type": "integer", "format": "int64", "nullable": true, "exclusiveMinimum": true, "minimum": 0.0},
 		"kinds": map[string]any{"type": "array", "nullable": true,
 			"items": map[string]any{"type": "string", "nullable": true, "enum": []any{"a", nil}}}}}
 	got := Schema(json.RawMessage(text))

@@ -6,7 +6,7 @@ import "encoding/json"
 // it takes any value.
 func Schema(raw json.RawMessage) map[string]any {
 	var schema map[string]any
-	if json.Unmarshal(raw, &schema) != nil || schema == nil {
+	if json.Unmarshal(raw, &schema) != nil || len(schema) == 0 {
 		return object{"nullable": true, "description": "Any value"}
 	}
 	translate(schema)
@@ -24,6 +24,9 @@ func translate(schema map[string]any) {
 			}
 			schema["type"] = name
 		}
+	}
+	if schema["type"] == "integer" {
+		schema["format"] = "int64"
 	}
 	if _, is := schema["per"]; is {
 		delete(schema, "per")

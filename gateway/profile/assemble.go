@@ -44,15 +44,20 @@ func (b *box) nesting(depth int) int {
 
 // assembler makes the model of boxes, and notes where each part came from.
 type assembler struct {
-	words  *words
-	places map[string]Place
+	words   *words
+	homes   map[*dmn.Element]home
+	places  map[string]Place
+	origins map[string]Origin
 }
 
 // assembled is the result of a graph that was translated without a refusal.
 func assembled(g *graph, services []service) *Result {
-	a := &assembler{words: g.words, places: map[string]Place{}}
+	a := &assembler{words: g.words, homes: g.refusals.homes, places: map[string]Place{}, origins: map[string]Origin{}}
+	if len(g.sources) > 0 {
+		a.origin("", g.sources[0].file.Root)
+	}
 	result := &Result{Names: g.words.names, Locals: g.words.locals, Types: map[string]json.RawMessage{}, Places: a.places,
-		Diagram: drawn(g)}
+		Origins: a.origins, Diagram: drawn(g)}
 	result.Model = model.Model{Inputs: []string{}, Decisions: []model.Decision{}, Services: []model.Service{}}
 	for i, n := range g.inputs {
 		result.Model.Inputs = append(result.Model.Inputs, n.word)
@@ -89,8 +94,16 @@ func drawn(g *graph) map[string]dmn.Box {
 	return found
 }
 
-// place notes the element of a part, where it has an id or a name.
+// origin notes where the element of a part is.
+func (a *assembler) origin(pointer string, e *dmn.Element) {
+	if e != nil {
+		a.origins[pointer] = Origin{a.homes[e].path, e.Place.Line, e.Place.Column}
+	}
+}
+
+// place notes the element of a part, where it has an id or a name, and where it is.
 func (a *assembler) place(pointer string, e *dmn.Element) {
+	a.origin(pointer, e)
 	if e == nil || e.ID() == "" && e.Name() == "" {
 		return
 	}
@@ -155,7 +168,21 @@ func (a *assembler) table(b *box, pointer string) model.Expression {
 		a.place(fmt.Sprintf("%s/table/outputs/%d", pointer, i), e)
 	}
 	for i, e := range b.rows {
-		a.place(fmt.Sprintf("%s/table/rules/%d", pointer, i), e)
+		at := fmt.Sprintf("%s/table/rules/%d", pointer, i)
+		a.place(at, e)
+		a.cells(at, e)
 	}
 	return b.table
+}
+
+// cells notes where the entries of a rule are.
+func (a *assembler) cells(pointer string, rule *dmn.Element) {
+	for _, entry := range rule.Children {
+		switch entry.Tag {
+		case "inputEntry":
+			a.origin(fmt.Sprintf("%s/when/%d", pointer, a.homes[entry].index), entry)
+		case "outputEntry":
+			a.origin(fmt.Sprintf("%s/then/%d", pointer, a.homes[entry].index), entry)
+		}
+	}
 }

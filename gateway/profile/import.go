@@ -19,6 +19,9 @@ type Result struct {
 	Types map[string]json.RawMessage
 	// Places has the element that a part of the model came from, by the part's JSON Pointer (RFC 6901).
 	Places map[string]Place
+	// Origins has the same parts, those without an id and a name too, with where they are in the files. The empty pointer is the
+	// first file.
+	Origins map[string]Origin
 	// Diagram has the box of each input and decision in the diagram of the file, by its word: its corner, width and height.
 	// It is nil where there are several files, or one draws not all of them.
 	Diagram map[string]dmn.Box
@@ -26,6 +29,12 @@ type Result struct {
 	LeftOut []string
 	// Notes are places that are taken, where tools differ: what the model does there.
 	Notes []Refusal
+}
+
+// An Origin is where an element begins: a line and a column of a file, as dmn.Place has them.
+type Origin struct {
+	File         string
+	Line, Column int
 }
 
 // A Place is an element of a file by its id and its name; each may be empty.

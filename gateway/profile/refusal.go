@@ -34,10 +34,17 @@ func (r Refusal) String() string {
 	if r.Line > 0 {
 		fmt.Fprintf(&line, "%d:%d:", r.Line, r.Column)
 	}
+	line.WriteString(" " + r.Sentence())
+	return strings.Join(strings.Fields(line.String()), " ")
+}
+
+// Sentence is the refusal without its file, line and column.
+func (r Refusal) Sentence() string {
+	var line strings.Builder
 	if r.Where != "" {
-		fmt.Fprintf(&line, " %s", r.Where)
-	} else if r.Element != "" {
-		fmt.Fprintf(&line, " %s", r.Element)
+		line.WriteString(r.Where)
+	} else {
+		line.WriteString(r.Element)
 	}
 	if r.Text != "" {
 		fmt.Fprintf(&line, "%s %q", colon(&line), shortened(r.Text))
@@ -51,7 +58,7 @@ func (r Refusal) String() string {
 
 // colon ends a part of a line, where it has no colon at its end.
 func colon(line *strings.Builder) string {
-	if strings.HasSuffix(line.String(), ":") {
+	if line.Len() == 0 || strings.HasSuffix(line.String(), ":") {
 		return ""
 	}
 	return ":"

@@ -9,7 +9,6 @@ import (
 
 	"gateway/engine"
 	"gateway/lines"
-	"gateway/types"
 )
 
 // maxAnswers is the most bytes of results and explanations of one call.
@@ -19,10 +18,10 @@ const maxAnswers = 64 << 20
 type call struct {
 	service *Service
 	model   *served
-	// result is the type of the results where their numbers are counted, else nil.
-	result *types.Type
-	client *client
-	isList bool
+	// decision is the service of the model that is asked.
+	decision *decisionService
+	client   *client
+	isList   bool
 	// isUnasked says that no engine of the pool is asked: the answers come with their explanations.
 	isUnasked bool
 	// problems has those of the requests that no engine is asked, outcomes what became of the others.
@@ -53,7 +52,7 @@ func (s *Service) newCall(model *served, name string, body []byte) (*call, *prob
 		p.Services = model.serviceNames()
 		return nil, p
 	}
-	c := &call{service: s, model: model, result: service.result, done: make(chan struct{})}
+	c := &call{service: s, model: model, decision: service, done: make(chan struct{})}
 	if lines.Begins(body) != '[' {
 		if _, p := model.request(service, body, &c.one.job, service.room(1, len(body))); p != nil {
 			return nil, p
@@ -242,14 +241,8 @@ func problemOf(outcome engine.Outcome) *problem {
 
 // appendResult adds a result as an object, with how it came about where that was asked for.
 func (c *call) appendResult(to []byte, at int) []byte {
-	value := decimals(c.result, c.outcomes[at].Value)
-	if len(c.model.words) > 0 {
-		if renamed, err := lines.Rename(value, c.model.source.Names); err == nil {
-			value = renamed
-		}
-	}
 	to = append(to, `{"result":`...)
-	to = append(to, value...)
+	to = append(to, c.decision.shown(c.outcomes[at].Value)...)
 	switch told := c.explanation(at); {
 	case told.IsLong:
 		to = append(to, `,"explained":"long"`...)

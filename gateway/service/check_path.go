@@ -17,16 +17,47 @@ type wholePage struct {
 	Fault    string `json:"fault,omitempty"`
 	// Findings are lines of `desk check --json` behind the first: faults or warnings, each at its place.
 	Findings []json.RawMessage `json:"findings"`
-	// Tables are the lines that `--tables` adds; null where they were not asked.
-	Tables []json.RawMessage `json:"tables"`
+	analysed
 	imported
+}
+
+// An analysed is what is found of the tables of a model.
+type analysed struct {
+	// Tables are the lines that `--tables` adds; null where there are none for a reason.
+	Tables []json.RawMessage `json:"tables"`
+	// Missing is that reason.
+	Missing missing `json:"tablesMissing,omitempty"`
+}
+
+// A missing says why the lines about the tables of a model were not made.
+type missing string
+
+const (
+	// missingUnasked is that of a model as such, missingFault that of a model that has a fault.
+	missingUnasked missing = "unasked"
+	missingFault   missing = "fault"
+	// missingEngine is that of an engine that can't check tables.
+	missingEngine missing = "engine"
+	// missingLate says that the check took too long, missingDied that the engine ended at it.
+	missingLate missing = "late"
+	missingDied missing = "died"
+)
+
+// missingFor is the reason that an error of the engine is.
+func missingFor(err error) missing {
+	if errors.Is(err, context.DeadlineExceeded) {
+		return missingLate
+	}
+	return missingDied
 }
 
 func newWhole(source *Source, sum string, findings []json.RawMessage) *wholePage {
 	if findings == nil {
 		findings = []json.RawMessage{}
 	}
-	return &wholePage{Sum: sum, IsLawful: true, Findings: findings, imported: source.imported()}
+	return &wholePage{
+		Sum: sum, IsLawful: true, Findings: findings, analysed: analysed{Missing: missingUnasked}, imported: source.imported(),
+	}
 }
 
 func (m *served) whole() *wholePage {
@@ -114,15 +145,16 @@ func (s *Service) checked(w http.ResponseWriter, r *http.Request) (*wholePage, *
 	switch {
 	case errors.As(err, &faulty):
 		page := newWhole(source, engine.NewModel(source.Text).Sum, faulty.Places)
-		page.IsLawful, page.Fault = false, faulty.Fault
+		page.IsLawful, page.Fault, page.Missing = false, faulty.Fault, missingFault
 		return page, nil
 	case err != nil:
 		return nil, faultProblem(err)
 	}
 	s.shelf.add(model)
 	page := model.whole()
-	if page.Tables, err = s.tables(ctx, model); err != nil {
+	if page.analysed, err = s.tables(ctx, model); err != nil {
 		s.options.Log("%v", err)
+		page.Missing = missingFor(err)
 	}
 	return page, nil
 }
@@ -133,28 +165,28 @@ type analysis struct {
 	found []engine.Place
 }
 
-// tables has a model's tables checked, if that was not done before. Nil is given where the engine does not do it.
-func (s *Service) tables(ctx context.Context, model *served) ([]engine.Place, error) {
+// tables has a model's tables checked, if that was not done before.
+func (s *Service) tables(ctx context.Context, model *served) (analysed, error) {
 	if !s.hasTables {
-		return nil, nil
+		return analysed{Missing: missingEngine}, nil
 	}
 	it := &model.analysis
 	it.mu.Lock()
 	defer it.mu.Unlock()
 	if it.found != nil {
-		return it.found, nil
+		return analysed{Tables: it.found}, nil
 	}
 	found, err := engine.Tables(ctx, s.options.Engine, s.options.Memory, model.source.Text)
 	if err == nil {
 		it.found = append([]engine.Place{}, found...)
 	}
-	return it.found, err
+	return analysed{Tables: it.found}, err
 }
 
 // A tablesPage is what is found of the tables of a model.
 type tablesPage struct {
-	Sum    string         `json:"sha256"`
-	Tables []engine.Place `json:"tables"`
+	Sum string `json:"sha256"`
+	analysed
 }
 
 // tablesPath answers GET /v1/tables: what is found of the tables of a model, which may take long.
@@ -162,7 +194,7 @@ func (s *Service) tablesPath(w http.ResponseWriter, r *http.Request) {
 	if !takes(w, r, http.MethodGet, http.MethodHead) {
 		return
 	}
-	page, p := s.analysed(r)
+	page, p := s.tablesOf(r)
 	limitWrite(r, longAnswer+1)
 	if p != nil {
 		p.write(w, w.Header().Get("X-Request-Id"))
@@ -171,7 +203,7 @@ func (s *Service) tablesPath(w http.ResponseWriter, r *http.Request) {
 	writePage(w, http.StatusOK, page)
 }
 
-func (s *Service) analysed(r *http.Request) (*tablesPage, *problem) {
+func (s *Service) tablesOf(r *http.Request) (*tablesPage, *problem) {
 	if _, p := s.caller(r); p != nil {
 		return nil, p
 	}
@@ -181,7 +213,7 @@ func (s *Service) analysed(r *http.Request) (*tablesPage, *problem) {
 	}
 	page := &tablesPage{Sum: model.engine.Sum}
 	p = s.explained(r.Context(), theTables, func(ctx context.Context) (err error) {
-		page.Tables, err = s.tables(ctx, model)
+		page.analysed, err = s.tables(ctx, model)
 		return err
 	})
 	return page, p

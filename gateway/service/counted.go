@@ -190,6 +190,6 @@ func (m *served) countedNames(told json.RawMessage) json.RawMessage {
 		return told
 	}
 	m.countDecisions(tree)
-	m.namePart(tree)
+	m.nameDecisions(tree)
 	return lines.Compact(nil, tree)
 }

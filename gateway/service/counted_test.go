@@ -25,6 +25,21 @@ const priced = `{"model":{"inputs":["amount","rate","parts","any"],"decisions":[
 	`"sum":{"type":["number","null"],"multipleOf":0.1},"same":{"multipleOf":0.01},"class":{"type":["number","null"],"multipleOf":0.1}},` +
 	`"places":{"/decisions/4/expr/result/table/inputs/0":{"id":"","name":"","over":"divisor_1","decimals":-1}}}`
 
+// A lenient service ignores inputs that it doesn't know.
+func TestLenientInputs(t *testing.T) {
+	r := serve(t, priced, Options{Lenient: true})
+	defer r.stop(t)
+	for body, due := range map[string]string{
+		`{"rate":1, "other":[1.5], "amount": 3 }`:   `{"result":3}`,
+		`{"rate":1, "amonut": 3 }`:                  `{"result":null}`,
+		`{"rate":1, "amount": 3, "parts":["text"]}`: `{"result":3}`,
+	} {
+		if status, text, _ := send(t, "POST", r.url+"/v1/services/p", body); status != 200 || text != due {
+			t.Errorf("%s: %d %s, and %s is due", body, status, text, due)
+		}
+	}
+}
+
 // TestDecimalsOverHTTP sends decimals, and has results and explanations with them.
 func TestDecimalsOverHTTP(t *testing.T) {
 	r := serve(t, priced, Options{})
@@ -39,7 +54,12 @@ func TestDecimalsOverHTTP(t *testing.T) {
 		{"p", `{"amount":12.500,"rate":1.0}`, 200, `{"result":12.5}`},
 		{"p", `{"amount":-0.0,"rate":1}`, 200, `{"result":0}`},
 		{"p", `{"amount":null,"rate":1}`, 200, `{"result":null}`},
-		{"p", `{"rate":1, "other":[1.5], "amount": 3 }`, 200, `{"result":3}`},
+		{"p", `{"rate":1, "amount": 3 }`, 200, `{"result":3}`},
+		{"p", `{"rate":1, "other":[1.5], "amount": 3 }`, 422, `"detail":"\"other\" is no input of this service; it takes \"amount\", \"rate\""`},
+		{"p", `{"rate":1, "amonut": 3 }`, 422, `"detail":"\"amonut\" is no input of this service; did you mean \"amount\"?"`},
+		{"p", `{"rate":1, "amonut": 3 }`, 422, `"type":"/problems/unknown"`},
+		{"p", `{"rate":1, "amonut": 3 }`, 422, `"pointer":"/amonut"`},
+		{"p", `{"rate":1, "amount": 3, "parts":[1] }`, 200, `{"result":3}`},
 		{"p", `{"amount":9.99999,"amount":12.5,"rate":1}`, 200, `{"result":12.5}`},
 		{"p", `{"amount":12.505,"rate":1}`, 422, `"detail":"12.505 has more than 2 decimals, and it is not rounded"`},
 		{"p", `{"amount":12.505,"rate":1}`, 422, `"pointer":"/amount"`},

@@ -10,7 +10,6 @@ import (
 	"gateway/coverage"
 	"gateway/engine"
 	"gateway/lines"
-	"gateway/types"
 )
 
 // A lineAsked is a line of a file of requests, with what is said of it.
@@ -20,8 +19,8 @@ type lineAsked struct {
 	problem         *problem
 	job             *engine.Job
 	answer          []byte
-	// result is the type of the answer where its numbers are counted, else nil.
-	result *types.Type
+	// of is the service that is asked.
+	of *decisionService
 }
 
 // A covering is what is asked over the lines of one body.
@@ -44,8 +43,8 @@ type covering struct {
 type counting struct {
 	*covering
 	counts *coverage.Counts
-	// renamed has results with the names of the file, by their texts: few differ, mostly.
-	renamed map[string][]byte
+	// shown has results as people have them: few differ, mostly.
+	shown map[serviceResult][]byte
 }
 
 // coveragePath answers POST /v1/coverage: how often each rule hit and decided over the lines of the body, and the answer of
@@ -141,7 +140,7 @@ func (c *covering) line(number int, text []byte) {
 			c.room, it.problem = c.model.worded(service, inputs, text, members, job, c.room)
 		}
 		if it.problem == nil {
-			it.job, it.result = job, service.result
+			it.job, it.of = job, service
 		}
 	}
 	c.lines = append(c.lines, it)
@@ -237,7 +236,7 @@ func (c *covering) ask(ctx context.Context, s *Service) (first *problem) {
 
 // explain asks one engine for some of the requests.
 func (c *covering) explain(ctx context.Context, explainer *engine.Explainer, jobs []*engine.Job) error {
-	at, of := 0, &counting{covering: c, counts: coverage.New(), renamed: map[string][]byte{}}
+	at, of := 0, &counting{covering: c, counts: coverage.New(), shown: map[serviceResult][]byte{}}
 	err := explainer.Each(ctx, c.model.engine, jobs, func(text []byte, cut bool) error {
 		if at == len(jobs) {
 			return nil
@@ -267,30 +266,30 @@ func (c *counting) told(it *lineAsked, text []byte) error {
 	case answer.Fault != "":
 		it.problem = problemLimit.with("")
 	default:
-		it.answer = c.named(decimals(it.result, answer.Result))
+		it.answer = c.named(it.of, answer.Result)
 	}
 	return nil
 }
 
-// mostRenamed is how many results are kept with the names of the file, and how long each is at most.
-const mostRenamed = 1000
+// A serviceResult is a result of a service, as the engine writes it.
+type serviceResult struct {
+	of   *decisionService
+	text string
+}
 
-// named is a result with the names of the file.
-func (c *counting) named(result []byte) []byte {
-	if len(c.model.words) == 0 || bytes.IndexByte(result, '{') < 0 {
-		return append([]byte(nil), result...)
+// mostShown is how many results are kept as people have them, and how long each is at most.
+const mostShown = 1000
+
+// named is a result as people have it.
+func (c *counting) named(of *decisionService, result []byte) []byte {
+	if shown, is := c.shown[serviceResult{of, string(result)}]; is {
+		return shown
 	}
-	if renamed, is := c.renamed[string(result)]; is {
-		return renamed
+	shown := append([]byte(nil), of.shown(result)...)
+	if len(c.shown) < mostShown && len(result) <= mostShown {
+		c.shown[serviceResult{of, string(result)}] = shown
 	}
-	renamed, err := lines.Rename(result, c.model.source.Names)
-	if err != nil {
-		return append([]byte(nil), result...)
-	}
-	if len(c.renamed) < mostRenamed && len(result) <= mostRenamed {
-		c.renamed[string(result)] = renamed
-	}
-	return renamed
+	return shown
 }
 
 // aroundAnswers and aroundAnswer are about how many bytes stand around the lists of an answer, and around what is told of a line.

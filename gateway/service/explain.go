@@ -103,8 +103,31 @@ func (m *served) named(told json.RawMessage) json.RawMessage {
 	if err != nil {
 		return told
 	}
-	m.namePart(tree)
+	m.nameDecisions(tree)
 	return lines.Compact(nil, tree)
+}
+
+// nameDecisions names the decisions of an explanation, with their parts.
+func (m *served) nameDecisions(told any) {
+	decisions, _ := told.([]any)
+	for _, decision := range decisions {
+		members, is := decision.(map[string]any)
+		word, named := members["name"].(string)
+		if !is || !named {
+			continue
+		}
+		kept := map[string]any{}
+		for _, key := range []string{"value", "given"} {
+			if value, is := members[key]; is {
+				kept[key] = m.toNames[word].Write(value)
+				delete(members, key)
+			}
+		}
+		m.namePart(members)
+		for key, value := range kept {
+			members[key] = value
+		}
+	}
 }
 
 // namePart names a part of an explanation: a decision, an entry, a member, a result, or a list of them.

@@ -56,7 +56,15 @@ func (s *Service) handler() http.Handler {
 		if s.stopping.Load() {
 			header["Connection"] = []string{"close"}
 		}
-		if strings.HasPrefix(r.URL.Path, servicesPath) && len(r.URL.Path) > len(servicesPath) {
+		isCall := strings.HasPrefix(r.URL.Path, servicesPath) && len(r.URL.Path) > len(servicesPath)
+		if p := queryProblem(r); p != nil {
+			if isCall {
+				s.metrics.called(p.Status, time.Since(start))
+			}
+			p.write(w, id)
+			return
+		}
+		if isCall {
 			s.metrics.called(s.servicesPath(w, r, id), time.Since(start))
 			return
 		}
@@ -222,9 +230,10 @@ func (s *Service) openAPIPath(w http.ResponseWriter, r *http.Request) {
 	model := s.model.Load()
 	var services []openapi.Service
 	for _, form := range model.lawful.Services {
-		service := openapi.Service{Name: model.nameOf(form.Name)}
+		service := openapi.Service{Name: model.nameOf(form.Name), Strict: model.isStrict, Result: model.resultSchema(form.Name)}
 		for _, word := range form.Parameters {
-			service.Inputs = append(service.Inputs, openapi.Input{Name: model.nameOf(word), Schema: model.schema(word)})
+			service.Inputs = append(service.Inputs, openapi.Input{Name: model.nameOf(word), Schema: model.schema(word),
+				Required: model.isStrict && isOneOf(word, model.services[form.Name].required)})
 		}
 		services = append(services, service)
 	}

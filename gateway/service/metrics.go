@@ -19,6 +19,7 @@ type metrics struct {
 	requests *prometheus.CounterVec
 	restarts prometheus.Counter
 	puts     *prometheus.CounterVec
+	nulls    *prometheus.CounterVec
 
 	journalLines, journalBytes, journalFaults prometheus.Counter
 	journalSeconds                            prometheus.Histogram
@@ -51,6 +52,7 @@ func newMetrics(s *Service) *metrics {
 	m.requests = counters("requests_total", "Requests that were asked of engines, by what became of them.", "outcome")
 	m.restarts = counter("engine_restarts_total", "Engines that ended and were begun anew.")
 	m.puts = counters("puts_total", "Models that were put, by the status of the answer.", "status")
+	m.nulls = counters("null_results_total", "Results that are null, by the name of the service.", "service")
 	m.journalLines = counter("journal_lines_total", "Requests written to the journal.")
 	m.journalBytes = counter("journal_bytes_total", "Bytes written to the journal.")
 	m.journalFaults = counter("journal_faults_total", "Groups of requests that could not be written to the journal.")
@@ -107,16 +109,22 @@ func (m *metrics) called(status int, took time.Duration) {
 
 // asked counts the requests of a call.
 func (m *metrics) asked(c *call) {
-	results := 0
+	results, nulls := 0, 0
 	for _, job := range c.jobs {
 		p := c.problemAt(job.Place)
 		if p == nil {
 			results++
+			if string(c.outcomes[job.Place].Value) == "null" {
+				nulls++
+			}
 			continue
 		}
 		m.requests.WithLabelValues(p.kind.word).Inc()
 	}
 	m.result.Add(float64(results))
+	if nulls > 0 {
+		m.nulls.WithLabelValues(c.decision.name).Add(float64(nulls))
+	}
 }
 
 // synced counts a group of the journal.

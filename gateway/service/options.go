@@ -19,6 +19,8 @@ type Options struct {
 	// there is taken by another process.
 	Listener net.Listener
 	Shared   bool
+	// Lenient takes inputs that a service doesn't know, and leaves them aside, also where the model has the types of its inputs.
+	Lenient bool
 	// Processes is the number of engines, Memory the limit of the address space of each in bytes (0 is none), and
 	// Deadline how long an engine may be at one request.
 	Processes int

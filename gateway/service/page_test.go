@@ -1,6 +1,7 @@
 package service
 
 import (
+	"context"
 	"encoding/json"
 	"fmt"
 	"os"
@@ -267,7 +268,7 @@ func TestTables(t *testing.T) {
 			t.Errorf("another model: %d", status)
 		}
 		// The model as such is told without waiting for it.
-		if _, text, _ := send(t, "GET", r.url+"/v1/model?whole=true", ""); !strings.Contains(text, `"tables":null`) {
+		if _, text, _ := send(t, "GET", r.url+"/v1/model?whole=true", ""); !strings.Contains(text, `"tables":null,"tablesMissing":"unasked"`) {
 			t.Errorf("it is said unasked: %s", text)
 		}
 		r.stop(t)
@@ -286,8 +287,33 @@ func TestNoTables(t *testing.T) {
 	}
 	r := serve(t, first, Options{Engine: engine})
 	defer r.stop(t)
-	if status, text, _ := send(t, "GET", r.url+"/v1/tables", ""); status != 200 || !strings.Contains(text, `"tables":null`) {
+	if status, text, _ := send(t, "GET", r.url+"/v1/tables", ""); status != 200 || !strings.Contains(text, `"tables":null,"tablesMissing":"engine"`) {
 		t.Errorf("%d %s", status, text)
+	}
+}
+
+// A check whose tables could not be made says why; one of a model without tables has none.
+func TestMissingTables(t *testing.T) {
+	// The engine ends where it would tell of the tables.
+	engine := standIn(t, "")
+	text, err := os.ReadFile(engine)
+	if err != nil {
+		t.Fatal(err)
+	}
+	if err := os.WriteFile(engine, []byte(strings.Replace(string(text), "cat > /dev/null; cat", "exit 9; cat", 1)), 0o755); err != nil {
+		t.Fatal(err)
+	}
+	r := serve(t, first, Options{Engine: engine, Processes: 1})
+	defer r.stop(t)
+	for _, it := range []struct{ body, due string }{
+		{first, `"tables":null,"tablesMissing":"died"`}, {`{"inputs":1}`, `"tables":null,"tablesMissing":"fault"`},
+	} {
+		if status, text, _ := send(t, "POST", r.url+"/v1/check", it.body); status != 200 || !strings.Contains(text, it.due) {
+			t.Errorf("%d %s, and %s is due", status, text, it.due)
+		}
+	}
+	if missingFor(fmt.Errorf("checking the tables: %w", context.DeadlineExceeded)) != missingLate {
+		t.Error("a check that takes too long is not late")
 	}
 }
 

@@ -20,7 +20,11 @@ var (
 		"The body is no JSON text in UTF-8, is nested too deep, has half of a surrogate pair, or a number past the range " +
 			"of floats. line and column say where reading stops; both begin at 1, and a column is a byte."}
 	problemHeader = &problemKind{"header", http.StatusBadRequest, "A header or a parameter is not taken",
-		"X-Client is a text of 1 to 64 bytes in UTF-8."}
+		"X-Client is a text of 1 to 64 bytes in UTF-8. A query has words that its path takes, each once."}
+	problemTwice = &problemKind{"twice", http.StatusBadRequest, "One input is given in two ways",
+		"An input is given by its name in the file or by the model's word for it, and not by both. pointer says where the second one is."}
+	problemUnknown = &problemKind{"unknown", http.StatusUnprocessableEntity, "An input is not known",
+		"The model has the types of its inputs, and none has this name. pointer says which. desk http --lenient ignores such inputs."}
 	problemToken = &problemKind{"token", http.StatusUnauthorized, "A token is asked for",
 		"Send Authorization: Bearer TOKEN with a token of the service's file."}
 	problemRight = &problemKind{"right", http.StatusForbidden, "The caller may not do this",
@@ -79,7 +83,7 @@ var (
 var problemKinds = func() map[string]*problemKind {
 	kinds := map[string]*problemKind{}
 	for _, kind := range []*problemKind{
-		problemSyntax, problemHeader, problemLeft, problemToken, problemRight, problemPath, problemService, problemUnkept, problemMethod,
+		problemSyntax, problemHeader, problemTwice, problemUnknown, problemLeft, problemToken, problemRight, problemPath, problemService, problemUnkept, problemMethod,
 		problemLong, problemShape, problemValue, problemLimit, problemModel, problemMatch, problemBusy, problemFull,
 		problemStopping, problemJournal, problemState, problemWaited, problemLate, problemDied, problemHuge, problemInside,
 	} {

@@ -24,7 +24,7 @@ func (m *served) request(service *decisionService, text []byte, job *engine.Job,
 	if fault != nil {
 		return room, syntaxProblem(fault)
 	}
-	if len(m.words) > 0 && lines.HasKey(text, m.words) {
+	if service.toWords != nil && lines.HasKey(text, m.words) {
 		return m.renamed(service, text, job, room)
 	}
 	return m.worded(service, text, text, members, job, room)
@@ -32,9 +32,9 @@ func (m *served) request(service *decisionService, text []byte, job *engine.Job,
 
 // renamed makes a request from inputs with names of the file.
 func (m *served) renamed(service *decisionService, text []byte, job *engine.Job, room []byte) ([]byte, *problem) {
-	text, err := lines.Rename(text, m.words)
-	if err != nil {
-		return room, problemInside.with(err.Error())
+	text, p := service.worded(text)
+	if p != nil {
+		return room, p
 	}
 	members, _, fault := lines.Members(text, lines.MaxNesting-1)
 	if fault != nil {
@@ -46,6 +46,9 @@ func (m *served) renamed(service *decisionService, text []byte, job *engine.Job,
 // worded makes a request from inputs with the model's words. Their members are bounded within whole, of which they are a part.
 func (m *served) worded(service *decisionService, text, whole []byte, members []lines.Member, job *engine.Job,
 	room []byte) ([]byte, *problem) {
+	if p := m.undeclared(service, members); p != nil {
+		return room, p
+	}
 	if m.counts {
 		counted, p := m.countedInputs(service, whole, members)
 		if p != nil {
@@ -67,6 +70,42 @@ func (m *served) worded(service *decisionService, text, whole []byte, members []
 	room = append(room, service.tail...)
 	job.Model, job.Rest = m.engine, room[start:len(room):len(room)]
 	return room, nil
+}
+
+// undeclared refuses an input that no service of the model takes, and says which one is missing, where the model has the types of its
+// inputs.
+func (m *served) undeclared(service *decisionService, members []lines.Member) *problem {
+	if !m.isStrict {
+		return nil
+	}
+	for _, member := range members {
+		if !service.parameters[member.Key] && !m.isKnown[member.Key] {
+			return problemUnknown.at(m.pointer("/"+lines.Token(member.Key)), fmt.Sprintf("%q is no input of this service%s",
+				lines.Brief([]byte(member.Key), 60), meant(member.Key, m.names(service.inputs))))
+		}
+	}
+	last := lastMembers(members)
+	for _, input := range service.required {
+		if !hasMember(members, last, input) {
+			return problemValue.at(m.pointer("/"+lines.Token(input)), fmt.Sprintf("%q is missing, and its type doesn't admit null",
+				m.nameOf(input)))
+		}
+	}
+	return nil
+}
+
+// hasMember says whether a key is one of the members; last is what lastMembers gives of them.
+func hasMember(members []lines.Member, last map[string]int, key string) bool {
+	if last != nil {
+		_, is := last[key]
+		return is
+	}
+	for _, member := range members {
+		if member.Key == key {
+			return true
+		}
+	}
+	return false
 }
 
 func (m *served) noObject(text []byte) *problem {

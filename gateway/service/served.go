@@ -23,14 +23,20 @@ type served struct {
 	services map[string]*decisionService
 	// words has the model's word for each name in the file that is another.
 	words map[string]string
-	// types has the type of each input of which the file says one, by its word.
-	types map[string]*types.Type
+	// types has the type of each input and decision of which the file says one, by its word; toNames writes the keys of their
+	// values with the names of the file.
+	types   map[string]*types.Type
+	toNames map[string]*types.Keys
 	// counts says that some number is counted in a unit: requests and results have decimals.
 	counts bool
 	// parts say how values at JSON Pointers into the model are counted, pointers where the expression of a decision is; nil
 	// where nothing is counted.
 	parts    map[string]countedPart
 	pointers map[string]string
+	// isStrict says that the types of the inputs are known, and that inputs which the model doesn't have are refused; isKnown
+	// has those that it has. One that another service takes is left aside.
+	isStrict bool
+	isKnown  map[string]bool
 	// origin says where the model came from, and since when it is in force.
 	origin string
 	since  time.Time
@@ -43,9 +49,17 @@ type served struct {
 // A decisionService is one service of a model.
 type decisionService struct {
 	word, name string
+	// inputs are the words of its parameters, in the model's order.
+	inputs []string
+	// required are those of the inputs whose types don't admit null.
+	required []string
+	// outputs are the words of its output decisions.
+	outputs    []string
 	parameters map[string]bool
 	// result is the type of its results where their numbers are counted, else nil.
 	result *types.Type
+	// toWords and toNames write the keys of its inputs and of its results otherwise.
+	toWords, toNames *types.Keys
 	// tail is what stands behind the inputs on the line of a request.
 	tail []byte
 }
@@ -64,7 +78,7 @@ func (s *Service) read(ctx context.Context, source *Source, origin string) (*ser
 	it := &served{
 		source: source, engine: engine.NewModel(source.Text), lawful: lawful, warnings: warnings,
 		services: map[string]*decisionService{}, words: map[string]string{}, types: map[string]*types.Type{}, origin: origin,
-		since: time.Now(),
+		since: time.Now(), isStrict: len(source.Types) > 0 && !s.options.Lenient,
 	}
 	line := len(it.engine.AppendLine(nil)) - 1
 	if line > lines.MaxLine {
@@ -112,7 +126,7 @@ func (m *served) index() (err error) {
 		}
 	}
 	for _, form := range m.lawful.Services {
-		service := &decisionService{word: form.Name, name: m.nameOf(form.Name), parameters: map[string]bool{}}
+		service := &decisionService{word: form.Name, name: m.nameOf(form.Name), inputs: form.Parameters, parameters: map[string]bool{}}
 		for _, parameter := range form.Parameters {
 			service.parameters[parameter] = true
 		}
@@ -124,9 +138,8 @@ func (m *served) index() (err error) {
 		if err := m.countParts(); err != nil {
 			return err
 		}
-		return m.countResults()
 	}
-	return nil
+	return m.describe()
 }
 
 // nameOf is the name in the file of a word.
@@ -216,6 +229,25 @@ func (m *served) schema(word string) json.RawMessage {
 	}
 	m.renameProperties(tree)
 	return lines.Compact(nil, tree)
+}
+
+// resultSchema is the JSON Schema of a service's results with the names of the file; nil where the file says none.
+func (m *served) resultSchema(word string) json.RawMessage {
+	outputs := m.services[word].outputs
+	if len(outputs) == 1 {
+		return m.schema(outputs[0])
+	}
+	properties := map[string]json.RawMessage{}
+	for _, output := range outputs {
+		if properties[m.nameOf(output)] = m.schema(output); properties[m.nameOf(output)] == nil {
+			properties[m.nameOf(output)] = json.RawMessage("{}")
+		}
+	}
+	text, err := plainJSON(map[string]any{"type": "object", "properties": properties})
+	if err != nil {
+		return nil
+	}
+	return text
 }
 
 // renameProperties gives the properties within a schema the names of the file.

@@ -174,6 +174,20 @@ func TestCalls(t *testing.T) {
 			`and this is 7","pointer":""}]`},
 		{"POST", "/v1/services/s?explain=true", `{"a":9223372036854775807}`, 422, `"decisions":[{"name":"d","fault":"limit"}]`},
 		{"POST", "/v1/services/s?explain=1", `{"a":4}`, 400, `explain is true or false`},
+		{"POST", "/v1/services/s?explian=true", `{"a":4}`, 400, `the query has \"explian\", which is not known here; did you mean \"explain\"?`},
+		{"POST", "/v1/services/s?explain=true&explain=false", `{"a":4}`, 400, `the query has \"explain\" more than once`},
+		{"POST", "/v1/services/s?explain=%zz", `{"a":4}`, 400, `/problems/header`},
+		{"POST", "/v1/explain/s?miss=true", `{"a":4}`, 400, `did you mean \"misses\"?`},
+		{"POST", "/v1/explain/s?misses=true", `{"a":4}`, 200, `{"result":5`},
+		{"GET", "/v1/model?txt=true", ``, 400, `did you mean \"text\"?`},
+		{"GET", "/v1/services?page=2", ``, 400, `/problems/header`},
+		{"GET", "/v1/services/?explain=true", ``, 400, `/problems/header`},
+		{"GET", "/openapi.json?x", ``, 400, `/problems/header`},
+		{"GET", "/v1/tables?modell=x", ``, 400, `did you mean \"model\"?`},
+		{"POST", "/v1/coverage?services=s", `{"a":4}`, 400, `did you mean \"service\"?`},
+		{"GET", "/healthz?probe=7", ``, 200, `alive`},
+		{"GET", "/?source=mail", ``, 200, `<html`},
+		{"POST", "/v1/services/s", "{\"a\":\"\\u00e\x19\"}", 400, `four hexadecimal digits are due`},
 		{"POST", "/v1/services/s", `{"a":1.5}`, 422, `"pointer":"/a"`},
 		{"POST", "/v1/services/s", `{"a":[{"x":-0}]}`, 422, `"pointer":"/a/0/x"`},
 		{"POST", "/v1/services/s", `{"a":9223372036854775807}`, 422, `/problems/limit`},
@@ -200,6 +214,21 @@ func TestCalls(t *testing.T) {
 		if status != it.status || !strings.Contains(text, it.said) || strings.HasPrefix(it.said, "[") && text != it.said {
 			t.Errorf("%s %s %.60s: %d %s, and %d %s is due", it.method, it.path, it.body, status, text, it.status, it.said)
 		}
+	}
+}
+
+// Results that are null are counted by their service, those of lists too; problems are not.
+func TestNullResults(t *testing.T) {
+	r := serve(t, adding(1), Options{})
+	defer r.stop(t)
+	for _, body := range []string{`{"a":4}`, `{"a":null}`, `[{},{"a":1},{"a":"x"},{"a":1.5}]`} {
+		if status, text, _ := send(t, "POST", r.url+"/v1/services/s", body); status != 200 {
+			t.Errorf("%s: %d %s", body, status, text)
+		}
+	}
+	_, text, _ := send(t, "GET", r.url+"/metrics", "")
+	if due := `desk_http_null_results_total{service="s"} 3`; !strings.Contains(text, due) {
+		t.Errorf("%s is due", due)
 	}
 }
 

@@ -1,41 +1,9 @@
 package service
 
 import (
-	"encoding/json"
-	"fmt"
-
 	"gateway/lines"
 	"gateway/types"
 )
-
-// countResults finds how the results of the services are counted, by the types of their output decisions.
-func (m *served) countResults() error {
-	var form struct {
-		Services []struct {
-			Name    string   `json:"name"`
-			Outputs []string `json:"outputs"`
-		} `json:"services"`
-	}
-	if err := json.Unmarshal(m.source.Text, &form); err != nil {
-		return fmt.Errorf("%w: %v", ErrNoModel, err)
-	}
-	for _, service := range form.Services {
-		of := m.types[service.Outputs[0]]
-		if len(service.Outputs) > 1 {
-			outputs := map[string]*types.Type{}
-			for _, output := range service.Outputs {
-				if part := m.types[output]; part != nil {
-					outputs[output] = part
-				}
-			}
-			of = types.Object(outputs)
-		}
-		if known := m.services[service.Name]; known != nil && of.IsCounted() {
-			known.result = of
-		}
-	}
-	return nil
-}
 
 // isCounted says whether some number of the model is counted in a unit.
 func (m *served) isCounted() bool {
@@ -90,16 +58,4 @@ func unitsOf(of *types.Type, text []byte, span lines.Span) ([]byte, *lines.Value
 		return nil, fault
 	}
 	return lines.Compact(nil, units), nil
-}
-
-// decimals is a result of the engine as people have it.
-func decimals(of *types.Type, value []byte) []byte {
-	if of == nil {
-		return value
-	}
-	tree, err := lines.Tree(value)
-	if err != nil {
-		return value
-	}
-	return lines.Compact(nil, of.Decimals(tree))
 }

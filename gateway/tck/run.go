@@ -5,6 +5,7 @@ import (
 	"encoding/json"
 	"fmt"
 	"strings"
+	"sync/atomic"
 
 	"gateway/dmn"
 	"gateway/feel"
@@ -50,21 +51,26 @@ type Translation struct {
 // A Translator imports a file.
 type Translator func(*dmn.File) Translation
 
-// Run runs all cases, and gives a verdict for each result node, in the order of the file. An error says that the engine
-// could not be asked.
-func Run(ctx context.Context, file *dmn.File, cases *Cases, translate Translator) ([]Verdict, error) {
+// StepsOfAResult is how many steps Run takes for each result node: it is planned, and asked.
+const StepsOfAResult = 2
+
+// Run runs all cases, and gives a verdict for each result node, in the order of the file. It counts its steps in done. An
+// error says that the engine could not be asked.
+func Run(ctx context.Context, file *dmn.File, cases *Cases, translate Translator, done *atomic.Int64) ([]Verdict, error) {
 	r := &runner{file: file, translate: translate, subjects: map[string]*subject{}}
 	var tests []*test
 	for i := range cases.Cases {
 		c := &cases.Cases[i]
 		for j := range c.Results {
 			tests = append(tests, r.plan(c, &c.Results[j]))
+			done.Add(1)
 		}
 	}
 	for _, s := range r.order {
 		if err := s.ask(ctx); err != nil {
 			return nil, err
 		}
+		done.Add(int64(len(s.questions)))
 	}
 	verdicts := make([]Verdict, 0, len(tests))
 	for _, t := range tests {

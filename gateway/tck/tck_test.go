@@ -3,6 +3,7 @@ package tck
 import (
 	"context"
 	"strings"
+	"sync/atomic"
 	"testing"
 
 	"gateway/dmn"
@@ -52,7 +53,7 @@ func verdicts(t *testing.T, cases string) []string {
 	if err != nil {
 		t.Fatal(err)
 	}
-	all, err := Run(context.Background(), read, parsed, translate)
+	all, err := Run(context.Background(), read, parsed, translate, new(atomic.Int64))
 	if err != nil {
 		t.Fatal(err)
 	}

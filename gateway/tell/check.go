@@ -23,10 +23,21 @@ const mostBytes = 64 << 20
 
 // CheckOptions are those of `desk check`.
 type CheckOptions struct {
-	// JSON asks for lines of JSON, Requests says that the model is the first line and that lines of requests come behind it.
-	JSON, Requests bool
+	// Format is that of what is written; empty is text.
+	Format Format
+	// Name is the path of the file, as notices have it; empty for standard input. Version is that of the program.
+	Name, Version string
+	// Origins says where the parts of an imported model are in its files, by their JSON Pointers. It is nil where the model is what
+	// was read.
+	Origins map[string]Spot
+	// Imported are notices that come before those of the model.
+	Imported []Notice
+	// Requests says that the model is the first line, and that lines of requests follow.
+	Requests bool
 	// Tables asks for what is found of decision tables, Strict for a status of its own where something is.
 	Tables, Strict bool
+	// isRefused says that Strict refuses the model.
+	isRefused bool
 }
 
 func (o CheckOptions) words() []string {
@@ -57,7 +68,12 @@ func Check(ctx context.Context, engine string, options CheckOptions, in io.Reade
 	if status != 0 && status != statusModel && status != statusTable {
 		return status, nil
 	}
+	options.isRefused = status == statusTable
 	told, err := Told(options, input, output)
+	if err != nil && options.Format.HasNotices() {
+		fmt.Fprintf(errOut, "desk: what was found could not be written as %s: %v\n", options.Format, err)
+		return StatusFault, nil
+	}
 	if err != nil {
 		fmt.Fprintf(errOut, "desk: what was found could not be worded: %v\n", err)
 		told = output
@@ -91,15 +107,21 @@ func Told(options CheckOptions, input, output []byte) (told []byte, err error) {
 	if err != nil {
 		return nil, err
 	}
-	r := &report{isJSON: options.JSON, facts: facts, text: input}
+	r := &report{format: options.Format, name: options.Name, isRefused: options.isRefused, facts: facts, text: input}
 	if options.Requests {
 		r.text, r.requests, _ = bytes.Cut(input, []byte("\n"))
 	}
-	r.file = newFile(r.text)
+	r.file, r.lines = newFile(r.text), &lineIndex{text: r.text}
+	if r.file != nil {
+		r.file.origins, r.file.isSpread = options.Origins, isSpread(options.Origins)
+	}
 	if facts.IsLawful {
 		err = r.lawful()
 	} else {
 		r.faulty()
+	}
+	if err == nil && r.format.HasNotices() {
+		return WriteNotices(r.format, append(options.Imported, r.notices...), options.Version)
 	}
 	return r.out.Bytes(), err
 }

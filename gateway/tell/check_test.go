@@ -49,6 +49,18 @@ func TestWhatCannotBeWorded(t *testing.T) {
 	}
 }
 
+// TestWhatCannotBeANotice writes nothing where a tool would read something else than its format.
+func TestWhatCannotBeANotice(t *testing.T) {
+	engine := engineThat(t, 3, `{"fault":"cycle"}`, `{"fault":"cycle","pointer":"/decisions/99"}`)
+	for _, format := range []Format{SARIF, GitHub} {
+		var out, errOut bytes.Buffer
+		status, err := Check(context.Background(), engine, CheckOptions{Format: format}, strings.NewReader(ring), &out, &errOut)
+		if err != nil || status != StatusFault || out.Len() > 0 || !strings.HasPrefix(errOut.String(), "desk: what was found could not be written as ") {
+			t.Errorf("%s: %d, %v: %q, %q", format, status, err, out.String(), errOut.String())
+		}
+	}
+}
+
 // TestCheckWords needs of the engine nothing but faults and pointers.
 func TestCheckWords(t *testing.T) {
 	engine := engineThat(t, 3, `{"fault":"cycle"}`, `{"fault":"cycle","pointer":"/decisions/0"}`)
@@ -74,7 +86,7 @@ func TestDevicesThatFail(t *testing.T) {
 		t.Skip(err)
 	}
 	defer full.Close()
-	status, err = Check(context.Background(), engine, CheckOptions{JSON: true}, strings.NewReader(ring), full, &errOut)
+	status, err = Check(context.Background(), engine, CheckOptions{Format: JSON}, strings.NewReader(ring), full, &errOut)
 	if status != StatusFault || err != nil || errOut.String() != "write\n" {
 		t.Errorf("write: %d, %v, %q", status, err, errOut.String())
 	}

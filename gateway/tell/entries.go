@@ -116,7 +116,7 @@ func (r *reading) misspelt(doc *lines.Document, name string, value lines.Node) [
 		}
 		if near := nearIn(missing, member.Key); near != "" {
 			said := fmt.Sprintf(`"%s" is an entry of %s that no text takes: %s?`, member.Key, name, near)
-			notes = append(notes, note{"no entry", member.Key, near, said})
+			notes = append(notes, note{noteEntry, member.Key, near, said})
 		}
 	}
 	return notes

@@ -15,6 +15,9 @@ type file struct {
 	root lines.Node
 	// model is the same as Go values; nil where it has not the form of a model.
 	model *model.Model
+	// origins are those of CheckOptions, isSpread says that they are of several files.
+	origins  map[string]Spot
+	isSpread bool
 }
 
 // newFile reads a text; nil where it is no JSON.
@@ -60,8 +63,12 @@ func (f *file) text(place Place) (string, bool) {
 	return f.doc.Text(part)
 }
 
-// position is where a place begins; where its last steps lead to nothing, what the others lead to.
-func (f *file) position(place Place) (line, column int) {
+// position is where a place begins; where its last steps lead to nothing, what the others lead to. In an imported model it is
+// where the nearest part around it begins of which that is known.
+func (f *file) position(place Place) Spot {
+	if f.origins != nil {
+		return f.origin(place)
+	}
 	part := f.root
 	for _, step := range place {
 		next, ok := f.step(part, step)
@@ -70,13 +77,50 @@ func (f *file) position(place Place) (line, column int) {
 		}
 		part = next
 	}
-	return f.doc.Position(part)
+	return f.spot(part)
+}
+
+// spot is where a part of the text begins.
+func (f *file) spot(part lines.Node) Spot {
+	line, column := f.doc.Position(part)
+	return Spot{Line: line, Column: column}
+}
+
+func (f *file) origin(place Place) Spot {
+	for ; len(place) > 0; place = place[:len(place)-1] {
+		if spot, ok := f.origins[place.Pointer()]; ok {
+			return spot
+		}
+	}
+	return f.origins[""]
+}
+
+// whole is the file as a whole.
+func (f *file) whole() Spot { return Spot{File: f.origins[""].File} }
+
+// isSpread reports whether spots are in several files.
+func isSpread(origins map[string]Spot) bool {
+	first := origins[""].File
+	for _, spot := range origins {
+		if spot.File != first {
+			return true
+		}
+	}
+	return false
+}
+
+// spotWords are a spot as people read it.
+func (f *file) spotWords(spot Spot) string {
+	words := fmt.Sprintf("line %d, column %d: ", spot.Line, spot.Column)
+	if f.isSpread {
+		return spot.File + ": " + words
+	}
+	return words
 }
 
 // at is where a place begins, as people read it.
 func (f *file) at(place Place) string {
-	line, column := f.position(place)
-	return fmt.Sprintf("line %d, column %d: ", line, column)
+	return f.spotWords(f.position(place))
 }
 
 // A way goes along a place, and says what it passes.

@@ -16,7 +16,7 @@ func Findings(text []byte, fault string, found []json.RawMessage) ([]json.RawMes
 	for _, line := range found {
 		output = append(append(output, line...), '\n')
 	}
-	told, err := Told(CheckOptions{JSON: true}, text, output)
+	told, err := Told(CheckOptions{Format: JSON}, text, output)
 	if err != nil {
 		return nil, err
 	}

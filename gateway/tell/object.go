@@ -35,8 +35,9 @@ func (o object) number(key string, number int) object {
 	return strconv.AppendInt(o.key(key), int64(number), 10)
 }
 
-func (o object) position(line, column int) object {
-	return o.number("line", line).number("column", column)
+// position adds where something is: the file too where it is not the one that is checked.
+func (o object) position(spot Spot) object {
+	return o.some("file", spot.File).number("line", spot.Line).number("column", spot.Column)
 }
 
 // line is the whole object, with a newline.

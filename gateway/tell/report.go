@@ -10,27 +10,35 @@ import (
 
 // A report is what is told of a model, as far as it is written: as a text for people, or as lines of JSON.
 type report struct {
-	isJSON bool
-	file   *file
-	facts  *facts
-	text   []byte
+	format Format
+	// name is the path of the file; empty for standard input.
+	name string
+	// isRefused says that --strict refuses the model.
+	isRefused bool
+	file      *file
+	facts     *facts
+	text      []byte
+	lines     *lineIndex
 	// requests are the lines behind the model.
 	requests []byte
 	out      bytes.Buffer
+	// notices are what was found, where the format consists of them.
+	notices []Notice
 }
 
 // put adds a line for people, or one of JSON.
 func (r *report) put(people, json func() string) {
-	if r.isJSON {
+	switch {
+	case r.format == JSON:
 		r.out.WriteString(json())
-	} else {
+	case !r.format.HasNotices():
 		r.out.WriteString(people())
 	}
 }
 
 // say adds a text for people.
 func (r *report) say(format string, values ...any) {
-	if !r.isJSON {
+	if r.format != JSON && !r.format.HasNotices() {
 		fmt.Fprintf(&r.out, format, values...)
 	}
 }
@@ -45,7 +53,7 @@ var faultSentences = map[string]string{
 // faulty tells a model that has a fault.
 func (r *report) faulty() {
 	fault := r.facts.Fault
-	if r.isJSON {
+	if r.format == JSON {
 		r.out.WriteString(object(nil).text("fault", fault).line())
 	}
 	if fault == "long" {
@@ -74,7 +82,9 @@ func (r *report) long() {
 		length = place.Length
 	}
 	r.say("long: lawful, and too long for a line\n  its line {\"model\":..} has %d bytes, and a line may have %d\n", length, mostLine)
-	if r.isJSON {
+	said := fmt.Sprintf("the model's line has %d bytes, and a line may have %d", length, mostLine)
+	r.noticeAt(ofFault+"long", Error, r.file.position(nil), "", said)
+	if r.format == JSON {
 		r.out.WriteString(object(nil).text("fault", "long").number("length", length).line())
 	}
 }
@@ -85,7 +95,8 @@ func (r *report) syntax() {
 	if stop == nil {
 		return
 	}
-	hint := stop.foreign.hint()
+	hint, spot := stop.foreign.hint(), Spot{Line: stop.Line, Column: stop.Column}
+	r.noticeAt(ofFault+"syntax", Error, spot, "", withHint(stop.Due.Sentence(), hint))
 	r.put(func() string {
 		text := fmt.Sprintf("  line %d, column %d: %s\n", stop.Line, stop.Column, stop.Due.Sentence())
 		if hint != "" {
@@ -93,7 +104,7 @@ func (r *report) syntax() {
 		}
 		return text
 	}, func() string {
-		return object(nil).text("fault", "syntax").position(stop.Line, stop.Column).text("said", stop.Due.Sentence()).some("hint", hint).line()
+		return object(nil).text("fault", "syntax").position(spot).text("said", stop.Due.Sentence()).some("hint", hint).line()
 	})
 }
 
@@ -116,6 +127,7 @@ func (r *report) shape() {
 	r.head("shape", len(once)+more)
 	for _, it := range once {
 		words := r.file.shapeWords(it.place)
+		r.noticeAt(ofFault+"shape", Error, r.file.position(it.place), it.place.Pointer(), behindColon(words, it.said))
 		r.put(func() string {
 			return "  " + r.file.at(it.place) + behindColon(words, it.said) + "\n"
 		}, func() string {
@@ -150,6 +162,7 @@ func (r *report) more(fault string, more int) {
 	}
 	r.put(func() string { return fmt.Sprintf("  and %d more\n", more) },
 		func() string { return object(nil).text("fault", fault).number("more", more).line() })
+	r.noticeAt(kindName(ofFault, fault), Error, r.file.whole(), "", fmt.Sprintf("and %d more places", more))
 }
 
 // A group are the places of one fault: of tables those that are refused, and then their rules.
@@ -182,7 +195,7 @@ func (r *report) groups() []group {
 
 func (r *report) group(of group) {
 	told := of.places
-	if !r.isJSON {
+	if r.format != JSON {
 		told = nil
 		for _, place := range of.places {
 			if !r.file.isToldByParts(r.file.mistake(of.fault, place), place) {
@@ -210,12 +223,13 @@ func (r *report) place(fault string, place Place, before int) {
 		at := strict.StopOf(kindOf(place), text)
 		stop, hint = &at, hintOf(kindOf(place), text, at)
 	}
+	words := said
+	if isText && !place.namesText() {
+		words += ": " + quoted(text)
+	}
+	r.notice(kindName(ofFault, fault), Error, place, withHint(withHint(words, strings.TrimSpace(stopWords(text, stop))), hint))
 	r.put(func() string {
-		line := "  " + r.file.at(place) + behindColon(r.file.words(place), said)
-		if isText && !place.namesText() {
-			line += ": " + quoted(text)
-		}
-		return line + "\n" + stopWords(text, stop) + indented(hint)
+		return "  " + r.file.at(place) + behindColon(r.file.words(place), words) + "\n" + stopWords(text, stop) + indented(hint)
 	}, func() string {
 		o := object(nil).text("fault", fault).text("pointer", place.Pointer()).text("place", r.file.words(place)).text("said", said)
 		if isText {
@@ -226,6 +240,14 @@ func (r *report) place(fault string, place Place, before int) {
 		}
 		return o.some("hint", hint).position(r.file.position(place)).line()
 	})
+}
+
+// withHint is a sentence with what helps after it, where there is something.
+func withHint(said, hint string) string {
+	if hint == "" {
+		return said
+	}
+	return said + "; " + hint
 }
 
 // indented is a line of what helps.

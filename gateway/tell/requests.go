@@ -34,11 +34,17 @@ type reading struct {
 	names    []string
 	// used are the entries that its texts take of inputs.
 	used map[string]set
-	told int
+	// numbers are the values of which all tests ask for numbers.
+	numbers map[valueName]bool
+	// told is how many notes were put, engines how many of them are the engine's, and ownMore how many others were not put.
+	told, engines, ownMore int
 }
 
 // notes tells what the engine refuses of the lines of requests, and what is odd in the others.
 func (r *report) notes() {
+	if len(r.requests) == 0 {
+		return
+	}
 	reading := &reading{report: r, refused: map[int]factNote{}}
 	for _, it := range r.facts.notes {
 		switch it.Note {
@@ -49,23 +55,52 @@ func (r *report) notes() {
 	}
 	reading.take(r.file.model)
 	rest := r.requests
-	for number := 2; len(rest) > 0 && reading.told < mostNotes; number++ {
+	for number := 2; len(rest) > 0 && (reading.told < mostNotes || reading.hasOwn()); number++ {
 		var line []byte
 		line, rest, _ = bytes.Cut(rest, []byte("\n"))
 		for _, it := range reading.of(number, line) {
-			if reading.told < mostNotes {
-				reading.put(number, it)
-			}
+			reading.count(number, it)
 		}
 	}
-	if more := r.facts.moreNotes; more > 0 {
+	if more := reading.more(); more > 0 {
 		r.put(func() string { return fmt.Sprintf("and %d notes more\n", more) },
 			func() string { return object(nil).number("more", more).line() })
+		r.noticeAt(ofRequests+"more", Note, Spot{}, "", fmt.Sprintf("and %d notes more", more))
 	}
+}
+
+// count puts a note, or counts it where enough were put.
+func (r *reading) count(number int, it note) {
+	switch {
+	case r.told < mostNotes:
+		r.put(number, it)
+		if !it.isOwn() {
+			r.engines++
+		}
+	case it.isOwn():
+		r.ownMore++
+	}
+}
+
+// isOwn reports whether the engine doesn't know of a note.
+func (n note) isOwn() bool { return n.word == noteEntry || n.word == noteText }
+
+// hasOwn reports whether requests to the model may have notes that the engine doesn't know of.
+func (r *reading) hasOwn() bool { return len(r.used)+len(r.numbers) > 0 }
+
+// more is how many notes were not put: the engine's that it counts, its others, and those that it doesn't know of.
+func (r *reading) more() int {
+	more := r.report.facts.moreNotes + r.ownMore
+	if rest := len(r.report.facts.notes) - r.engines; rest > 0 {
+		more += rest
+	}
+	return more
 }
 
 func (r *reading) put(number int, it note) {
 	r.told++
+	kind := kindName(ofRequests, it.word)
+	r.report.noticeAt(kind, catalogue[kind].level, Spot{Line: number, Column: 1}, "", it.said)
 	r.report.put(func() string { return fmt.Sprintf("line %d: %s\n", number, it.said) }, func() string {
 		return object(nil).number("line", number).text("note", it.word).some("name", it.name).some("near", it.near).text("said", it.said).line()
 	})
@@ -73,7 +108,7 @@ func (r *reading) put(number int, it note) {
 
 // take takes a model for the lines behind it.
 func (r *reading) take(m *model.Model) {
-	r.services, r.names, r.used = map[string][]string{}, nil, usedEntries(m)
+	r.services, r.names, r.used, r.numbers = map[string][]string{}, nil, usedEntries(m), numbersAsked(m)
 	for at := range m.Services {
 		r.services[m.Services[at].Name] = parameters(&m.Services[at])
 		r.names = append(r.names, m.Services[at].Name)
@@ -151,6 +186,7 @@ func (r *reading) notesOf(doc *lines.Document, service string, names []string, i
 				notes = append(notes, note{"value", name, "", fmt.Sprintf("what stands under %s is no value: %s", name, why)})
 			}
 			notes = append(notes, r.misspelt(doc, name, value)...)
+			notes = append(notes, r.texts(doc, name, value)...)
 		}
 	}
 	return notes

@@ -24,8 +24,8 @@ var errNoTable = errors.New("the engine tells of a table that is none")
 // tables tells what was found of the decision tables.
 func (r *report) tables() error {
 	for _, facts := range r.facts.tables {
-		if r.isJSON {
-			r.out.Write(facts.lines)
+		if r.format == JSON {
+			r.out.Write(r.file.moved(facts))
 			continue
 		}
 		place := placeOf(facts.Table)
@@ -33,14 +33,15 @@ func (r *report) tables() error {
 		if table == nil {
 			return errNoTable
 		}
-		t := &tableReport{report: r, facts: facts, table: table, tests: testsOf(table)}
-		if err := t.tell(place); err != nil {
+		t := &tableReport{report: r, facts: facts, table: table, place: place, tests: testsOf(table)}
+		if err := t.tell(); err != nil {
 			return err
 		}
 	}
 	if untold := r.facts.untold; untold > 0 {
 		r.put(func() string { return fmt.Sprintf("and %d tables more\n", untold) },
 			func() string { return object(nil).raw("table", "null").number("more", untold).line() })
+		r.noticeAt(ofTable+"more", Note, r.file.whole(), "", fmt.Sprintf("and %d tables more", untold))
 	}
 	return nil
 }
@@ -50,6 +51,7 @@ type tableReport struct {
 	*report
 	facts *factTable
 	table *model.Table
+	place Place
 	tests [][]strict.Tests
 	// kinds are those that the tests of each column ask for, names what the columns are called.
 	kinds []kinds
@@ -58,17 +60,17 @@ type tableReport struct {
 	met int
 }
 
-func (t *tableReport) tell(place Place) error {
+func (t *tableReport) tell() error {
 	for at, input := range t.table.Inputs {
 		t.kinds = append(t.kinds, columnKinds(columnOf(t.tests, at)))
 		t.names = append(t.names, columnName(input))
 	}
-	owner := t.file.words(place[:len(place)-1])
+	owner := t.file.words(t.place[:len(t.place)-1])
 	rules := "rules"
 	if len(t.table.Rules) == 1 {
 		rules = "rule"
 	}
-	t.say("table: %s%s: %d %s, %s: %s%s\n", t.file.at(place), owner, len(t.table.Rules), rules, t.table.Hit, t.completeness(), t.overlapWords())
+	t.say("table: %s%s: %d %s, %s: %s%s\n", t.file.at(t.place), owner, len(t.table.Rules), rules, t.table.Hit, t.completeness(), t.overlapWords())
 	if err := t.findings(); err != nil {
 		return err
 	}
@@ -130,24 +132,61 @@ func (t *tableReport) overlapWords() string {
 // findings tells the findings in the engine's order, and behind the gaps which columns have none for other kinds of values.
 func (t *tableReport) findings() error {
 	rest := rest{columns: make([]bool, len(t.kinds))}
-	for _, kind := range []func(*factFinding) (string, error){t.overlap, t.gap, rest.gatherer(t), t.never, t.masked} {
+	for _, kind := range []struct {
+		name  string
+		parts func(*factFinding) ([]string, error)
+	}{{"overlap", t.overlap}, {"gap", t.gap}, {otherKinds, rest.gatherer(t)}, {"never", t.never}, {"masked", t.masked}} {
 		for _, finding := range t.facts.findings {
-			line, err := kind(finding)
+			parts, err := kind.parts(finding)
 			if err != nil {
 				return err
 			}
-			t.say("%s", line)
+			if len(parts) > 0 {
+				t.say("  %s\n", strings.Join(parts, "    "))
+				t.noticeOf(kind.name, finding.Rules, strings.Join(parts, "; "))
+			}
 		}
 	}
 	return nil
 }
 
-func (t *tableReport) overlap(f *factFinding) (string, error) {
+// otherKinds is the kind of a notice that no rule hits for other kinds of values than those asked.
+const otherKinds = "other-kinds"
+
+// noticeOf is a finding as a notice: at the rule that it is about, the later one of two that overlap, or at its table.
+func (t *tableReport) noticeOf(kind string, rules []int, said string) {
+	place, level := t.place, Warning
+	switch {
+	case kind == otherKinds, kind == "gap" && t.hasDefault():
+		level = Note
+	case t.isRefused:
+		level = Error
+	}
+	switch {
+	case kind == "overlap":
+		place = place.with(key("rules"), index(rules[1]-1))
+	case kind == "never", kind == "masked":
+		place = place.with(key("rules"), index(rules[0]-1))
+	}
+	t.tableNotice(kind, level, place, said)
+}
+
+// tableNotice keeps a finding at the table or at a part of it, which is called by its decision, context or list.
+func (t *tableReport) tableNotice(kind string, level Level, place Place, said string) {
+	owner := place
+	if len(place) == len(t.place) {
+		owner = place[:len(place)-1]
+	}
+	t.noticeAt(ofTable+kind, level, t.file.position(place), place.Pointer(), behindColon(t.file.words(owner), said))
+}
+
+func (t *tableReport) overlap(f *factFinding) ([]string, error) {
 	if f.Finding != "overlap" || len(f.Rules) < 2 {
-		return "", nil
+		return nil, nil
 	}
 	cells, err := t.cells(f)
-	return fmt.Sprintf("  rules %d and %d both apply%s%s    %s gives null\n", f.Rules[0], f.Rules[1], cells, unsure(f), t.table.Hit), err
+	parts := append([]string{fmt.Sprintf("rules %d and %d both apply%s", f.Rules[0], f.Rules[1], cells)}, unsure(f)...)
+	return append(parts, t.table.Hit+" gives null"), err
 }
 
 // cells are the values of each column in a finding.
@@ -168,11 +207,11 @@ func (t *tableReport) cells(f *factFinding) (string, error) {
 }
 
 // unsure says that it is not known whether the columns can have the values of a finding.
-func unsure(f *factFinding) string {
+func unsure(f *factFinding) []string {
 	if isFalse(f.IsSure) {
-		return "    if the columns can take these values together"
+		return []string{"if the columns can take these values together"}
 	}
-	return ""
+	return nil
 }
 
 // A rest is what the gaps among other kinds of values than those asked have in common.
@@ -183,43 +222,43 @@ type rest struct {
 }
 
 // gap tells a gap among the kinds of values that are asked.
-func (t *tableReport) gap(f *factFinding) (string, error) {
+func (t *tableReport) gap(f *factFinding) ([]string, error) {
 	if f.Finding != "gap" || isFalse(f.IsAsked) {
-		return "", nil
+		return nil, nil
 	}
 	cells, err := t.cells(f)
-	text := "  no rule" + cells
-	for at, value := range f.Witness {
-		before := ", "
-		if at == 0 {
-			before = "    e.g. "
+	parts := []string{"no rule" + cells}
+	if len(f.Witness) > 0 {
+		values := make([]string, len(f.Witness))
+		for at, value := range f.Witness {
+			values[at] = string(value)
 		}
-		text += before + string(value)
+		parts = append(parts, "e.g. "+strings.Join(values, ", "))
 	}
-	text += unsure(f)
+	parts = append(parts, unsure(f)...)
 	if t.hasDefault() {
-		return text + "    the default\n", err
+		return append(parts, "the default"), err
 	}
-	return text + "    null\n", err
+	return append(parts, "null"), err
 }
 
 // gatherer gathers what all gaps have in common, and tells it behind the last.
-func (r *rest) gatherer(t *tableReport) func(*factFinding) (string, error) {
+func (r *rest) gatherer(t *tableReport) func(*factFinding) ([]string, error) {
 	left := 0
 	for _, finding := range t.facts.findings {
 		if finding.Finding == "gap" {
 			left++
 		}
 	}
-	return func(f *factFinding) (string, error) {
+	return func(f *factFinding) ([]string, error) {
 		if f.Finding != "gap" {
-			return "", nil
+			return nil, nil
 		}
 		if err := t.gather(r, f); err != nil {
-			return "", err
+			return nil, err
 		}
 		if left--; left > 0 {
-			return "", nil
+			return nil, nil
 		}
 		return t.restText(r), nil
 	}
@@ -251,7 +290,7 @@ func (t *tableReport) gather(rest *rest, f *factFinding) error {
 	return nil
 }
 
-func (t *tableReport) restText(rest *rest) string {
+func (t *tableReport) restText(rest *rest) []string {
 	var names []string
 	for at, is := range rest.columns {
 		if is {
@@ -259,29 +298,29 @@ func (t *tableReport) restText(rest *rest) string {
 		}
 	}
 	if len(names) == 0 {
-		return ""
+		return nil
 	}
 	kinds := "other kinds of "
 	if rest.hasNull {
 		kinds = "null and other kinds of "
 	}
-	text := "  no rule for " + kinds + strings.Join(names, ", ")
+	text := "no rule for " + kinds + strings.Join(names, ", ")
 	if t.facts.more["gap"] > 0 {
 		text += ", and perhaps of others"
 	}
-	return text + "\n"
+	return []string{text}
 }
 
-func (t *tableReport) never(f *factFinding) (string, error) {
+func (t *tableReport) never(f *factFinding) ([]string, error) {
 	if f.Finding != "never" || len(f.Rules) == 0 {
-		return "", nil
+		return nil, nil
 	}
-	return fmt.Sprintf("  rule %d never hits\n", f.Rules[0]), nil
+	return []string{fmt.Sprintf("rule %d never hits", f.Rules[0])}, nil
 }
 
-func (t *tableReport) masked(f *factFinding) (string, error) {
+func (t *tableReport) masked(f *factFinding) ([]string, error) {
 	if f.Finding != "masked" || len(f.Rules) == 0 {
-		return "", nil
+		return nil, nil
 	}
 	before := "stand before it"
 	if t.table.Hit == "P" {
@@ -290,7 +329,7 @@ func (t *tableReport) masked(f *factFinding) (string, error) {
 	if len(f.Rules) == 2 {
 		before = map[string]string{"stand before it": "stands before it", "go before it": "goes before it"}[before]
 	}
-	return fmt.Sprintf("  rule %d never decides: %s %s\n", f.Rules[0], ruleNumbers(f.Rules[1:]), before), nil
+	return []string{fmt.Sprintf("rule %d never decides: %s %s", f.Rules[0], ruleNumbers(f.Rules[1:]), before)}, nil
 }
 
 // ruleNumbers are the numbers of rules, as "rules 2, 3 and 5".
@@ -326,6 +365,7 @@ func (t *tableReport) allMore() {
 	} {
 		if kind.more > 0 {
 			t.say("  and %d more %s\n", kind.more, kind.words)
+			t.tableNotice(kind.finding, Warning, t.place, fmt.Sprintf("and %d more %s", kind.more, kind.words))
 		}
 	}
 }

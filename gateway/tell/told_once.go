@@ -66,8 +66,7 @@ func (r *report) unusedDefaults() {
 			}
 			if told++; told <= mostPlaces {
 				place := place.with(key("outputs"), index(at), key("default"))
-				line, column := r.file.position(place)
-				r.warning(oddDefault, place, line, column, "some rule hits in each case, so the default is never taken")
+				r.warning(oddDefault, place, r.file.position(place), "some rule hits in each case, so the default is never taken")
 			}
 		}
 	}

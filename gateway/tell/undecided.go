@@ -1,6 +1,8 @@
 package tell
 
 import (
+	"fmt"
+
 	"gateway/feel"
 	"gateway/feel/strict"
 )
@@ -19,13 +21,24 @@ func (t *tableReport) notDecided() {
 		if len(open) == 1 {
 			have = "has"
 		}
-		t.say("  not decided: %s %s tests that names or lists decide\n", ruleNumbers(open), have)
+		t.undecided("%s %s tests that names or lists decide", ruleNumbers(open), have)
 	}
 	hasMasks := t.table.Hit == "F" || t.table.Hit == "P"
 	isRanked := t.unranked()
 	if isOpen && len(open) == 0 || t.facts.Steps >= mostSteps && (isOpen || hasMasks && isRanked) {
-		t.say("  not decided: 2,000,000 steps were not enough\n")
+		t.undecided("2,000,000 steps were not enough")
 	}
+}
+
+// undecided says why something is not known.
+func (t *tableReport) undecided(format string, values ...any) {
+	said := fmt.Sprintf("not decided: "+format, values...)
+	t.say("  %s\n", said)
+	level := Note
+	if t.isRefused {
+		level = Error
+	}
+	t.tableNotice("undecided", level, t.place, said)
 }
 
 // openRules are the rules that names or lists in their tests decide, but for those that never hit.
@@ -71,7 +84,7 @@ func (t *tableReport) unranked() bool {
 	if len(rules) == 1 {
 		give = "gives"
 	}
-	t.say("  not decided: names decide what %s %s, and so which rules go before others\n", ruleNumbers(rules), give)
+	t.undecided("names decide what %s %s, and so which rules go before others", ruleNumbers(rules), give)
 	return false
 }
 
@@ -98,7 +111,7 @@ func (t *tableReport) openOutputs() {
 			}
 			pairs++
 			if t.bothApply(one, other) {
-				t.say("  not decided: rules %d and %d both apply, and names decide what they give\n", one+1, other+1)
+				t.undecided("rules %d and %d both apply, and names decide what they give", one+1, other+1)
 				return
 			}
 		}

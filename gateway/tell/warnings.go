@@ -15,8 +15,7 @@ func (r *report) warnings() {
 		if told.has(it) {
 			continue
 		}
-		line, column := r.file.position(it.place)
-		r.warning(it.kind, it.place, line, column, it.said)
+		r.warning(it.kind, it.place, r.file.position(it.place), it.said)
 	}
 	for _, kind := range oddKinds {
 		r.moreWarnings(kind, counts[kind]-mostPlaces)
@@ -24,13 +23,14 @@ func (r *report) warnings() {
 	r.unusedDefaults()
 }
 
-func (r *report) warning(kind string, place Place, line, column int, said string) {
+func (r *report) warning(kind string, place Place, spot Spot, said string) {
 	words := r.file.words(place)
+	r.noticeAt(kindName(ofWarning, kind), Warning, spot, place.Pointer(), behindColon(words, said))
 	r.put(func() string {
-		return fmt.Sprintf("warning: line %d, column %d: %s\n", line, column, behindColon(words, said))
+		return fmt.Sprintf("warning: %s%s\n", r.file.spotWords(spot), behindColon(words, said))
 	}, func() string {
 		return object(nil).text("warning", kind).text("pointer", place.Pointer()).text("place", words).text("said", said).
-			position(line, column).line()
+			position(spot).line()
 	})
 }
 
@@ -40,6 +40,7 @@ func (r *report) moreWarnings(kind string, more int) {
 	}
 	r.put(func() string { return fmt.Sprintf("warning: and %d more: %s\n", more, kind) },
 		func() string { return object(nil).text("warning", kind).number("more", more).line() })
+	r.noticeAt(kindName(ofWarning, kind), Warning, r.file.whole(), "", fmt.Sprintf("and %d more places", more))
 }
 
 const repeatedKey = "repeated key"
@@ -66,8 +67,7 @@ func (r *report) repeatedKeys() {
 }
 
 func (r *report) repeated(it repeat) {
-	line, column := r.file.doc.Position(it.second)
-	r.warning(repeatedKey, it.place, line, column, "the key "+it.key+" stands more than once, and the last one counts")
+	r.warning(repeatedKey, it.place, r.file.spot(it.second), "the key "+it.key+" stands more than once, and the last one counts")
 }
 
 // A repeats is a search for keys that come more than once.

@@ -216,6 +216,9 @@ func kindOf(value any) string {
 	return "object"
 }
 
+// TakesNull says whether null is a value of this type.
+func (t *Type) TakesNull() bool { return t.takes("null") && t.isListedText([]byte("null")) }
+
 func (t *Type) isListed(value any) bool {
 	return len(t.enum) == 0 || t.isListedText(lines.Compact(nil, value))
 }

@@ -1,0 +1,386 @@
+package cases
+
+import (
+	"context"
+	"encoding/json"
+	"errors"
+	"fmt"
+	"io"
+	"strings"
+	"sync"
+	"sync/atomic"
+	"time"
+
+	"gateway/coverage"
+	"gateway/engine"
+	"gateway/service"
+)
+
+// An Asker asks engines what the rows of a file ask.
+type Asker struct {
+	// Path is the engine's file, and Memory the limit of its address space in bytes; 0 is none.
+	Path   string
+	Memory uint64
+	// Processes is how many engines there are.
+	Processes int
+	// Deadline is how long an engine may be at one row.
+	Deadline time.Duration
+	// Explain says that the rules that decided are asked for.
+	Explain bool
+	// Wants picks rows of which the rules that decided are asked for after their answer came; nil picks none.
+	Wants func(*Row, *Answer) bool
+	// Counts are added to, where they are not nil: what each rule of each table did.
+	Counts *coverage.Counts
+	// Log is told where an engine ended.
+	Log func(form string, words ...any)
+}
+
+// isExplained says whether all rows are asked with how their answers come about.
+func (a *Asker) isExplained() bool { return a.Explain || a.Counts != nil }
+
+// A task is a batch on its way.
+type task struct {
+	batch   Batch
+	rows    []Row
+	answers []Answer
+	jobs    []engine.Job
+	asked   []*engine.Job
+	room    []byte
+	left    atomic.Int32
+	done    chan error
+}
+
+// patience is how long a row may wait for an engine. The file is read no faster than the engines are.
+const patience = time.Hour
+
+// Each asks for each row of a file, and hands them to take in their order. The error of take ends the reading.
+func (a *Asker) Each(ctx context.Context, plan *Plan, asked *service.Asked, take func(*Row, *Answer) error) (err error) {
+	within, stop := context.WithCancel(ctx)
+	defer stop()
+	r := &run{asker: a, plan: plan, asked: asked, ctx: within, todo: make(chan *task), order: make(chan *task, 8*a.Processes)}
+	r.free, r.taken = make(chan *task, cap(r.order)), make(chan struct{}, 1)
+	if !a.isExplained() {
+		r.pool = engine.Start(engine.Options{Path: a.Path, Processes: a.Processes, Memory: a.Memory, Deadline: a.Deadline, Patience: patience,
+			Died: func(number int, err error) { a.Log("engine %d: %v", number, err) }}, asked.Model())
+		defer func() {
+			end, stop := context.WithTimeout(context.Background(), a.Deadline+time.Minute)
+			defer stop()
+			if closed := r.pool.Close(end); err == nil {
+				err = closed
+			}
+		}()
+	}
+	var workers sync.WaitGroup
+	for n := 0; n < a.Processes; n++ {
+		workers.Add(1)
+		go func() {
+			defer workers.Done()
+			r.work()
+		}()
+	}
+	go r.read()
+	if err = r.takeAll(take); err == nil {
+		err = ctx.Err()
+	}
+	stop()
+	for j := range r.order {
+		<-j.done
+	}
+	workers.Wait()
+	return err
+}
+
+// A run is the reading of one file.
+type run struct {
+	asker *Asker
+	plan  *Plan
+	asked *service.Asked
+	pool  *engine.Pool
+	ctx   context.Context
+	// todo has batches to be asked, order all that were read, free those that may be filled again.
+	todo, order, free chan *task
+	fault             error
+	// counting guards the counts.
+	counting sync.Mutex
+	// out is how many batches are on their way, and taken is sent to when one is over. rowBytes is how much each row of a batch held,
+	// on average, of the batch that held most; 0 before the first.
+	out, rowBytes atomic.Int64
+	taken         chan struct{}
+}
+
+const (
+	// mostHeld is about how many bytes of rows and results are held, and firstRows the rows of a batch before anything is known of
+	// the results.
+	mostHeld  = 32 << 20
+	firstRows = 16
+)
+
+// rows is how many rows the next batch has at most.
+func (r *run) rows() int {
+	most, size := int64(batchRows), r.rowBytes.Load()
+	if r.asker.isExplained() {
+		most = explainedRows
+	}
+	switch room := mostHeld / int64(cap(r.order)); {
+	case size == 0:
+		return firstRows
+	case room/size < 1:
+		return 1
+	case room/size < most:
+		return int(room / size)
+	}
+	return int(most)
+}
+
+// mayRead waits until another batch may be read; it may not where the context ended. Before anything is known of the results few
+// are on their way.
+func (r *run) mayRead() bool {
+	for {
+		most := int64(cap(r.order))
+		if r.rowBytes.Load() == 0 {
+			most = int64(r.asker.Processes)
+		}
+		if r.out.Load() < most {
+			return true
+		}
+		select {
+		case <-r.taken:
+		case <-r.ctx.Done():
+			return false
+		}
+	}
+}
+
+// over notes that a batch was taken.
+func (r *run) over(j *task) {
+	size := int64(len(j.batch.room) + len(j.room))
+	for at := range j.answers {
+		size += int64(len(j.answers[at].Result))
+	}
+	if size /= int64(len(j.answers)); size > r.rowBytes.Load() {
+		r.rowBytes.Store(size)
+	}
+	r.out.Add(-1)
+	select {
+	case r.taken <- struct{}{}:
+	default:
+	}
+}
+
+// read reads batches until the end, or until the context ends.
+func (r *run) read() {
+	defer close(r.order)
+	defer close(r.todo)
+	for r.mayRead() {
+		var j *task
+		select {
+		case j = <-r.free:
+		default:
+			j = &task{}
+		}
+		j.done = make(chan error, 1)
+		if err := r.plan.file.read(&j.batch, r.rows()); err != nil {
+			if !errors.Is(err, io.EOF) {
+				r.fault = err
+			}
+			return
+		}
+		select {
+		case r.todo <- j:
+			r.out.Add(1)
+			r.order <- j
+		case <-r.ctx.Done():
+			return
+		}
+	}
+}
+
+func (r *run) work() {
+	parser := r.plan.Parser()
+	explainer := &engine.Explainer{Path: r.asker.Path, Memory: r.asker.Memory}
+	for j := range r.todo {
+		j.prepare(r, parser)
+		switch {
+		case len(j.asked) == 0:
+			j.done <- nil
+		case r.asker.isExplained():
+			j.done <- r.explain(explainer, j)
+		default:
+			j.left.Store(int32(len(j.asked)))
+			if err := r.pool.Put("", j.asked); err != nil {
+				j.done <- fmt.Errorf("asking the engines: %w", err)
+			}
+		}
+	}
+}
+
+// prepare makes a request of each row.
+func (j *task) prepare(r *run, parser *Parser) {
+	count := len(j.batch.Records)
+	if cap(j.rows) < count {
+		j.rows, j.answers, j.jobs = make([]Row, count), make([]Answer, count), make([]engine.Job, count)
+	}
+	j.rows, j.answers, j.jobs, j.asked, j.room = j.rows[:count], j.answers[:count], make([]engine.Job, count), j.asked[:0], nil
+	settle := j.settle(r)
+	for at := range j.batch.Records {
+		row, answer := &j.rows[at], &j.answers[at]
+		parser.Row(&j.batch.Records[at], row)
+		*answer = Answer{}
+		if row.fault == nil && !row.IsSkipped {
+			var refused *service.Refusal
+			if j.room, refused = r.asked.Request(r.service(row), row.Inputs, &j.jobs[at], j.room); refused != nil {
+				parser.refuse(row, refused)
+			}
+		}
+		switch {
+		case row.fault != nil:
+			answer.Fault, answer.IsRefused = row.fault.Reason, true
+			if row.fault.Name != "" {
+				answer.Fault = row.fault.Name + ": " + answer.Fault
+			}
+		case !row.IsSkipped:
+			j.jobs[at].Place, j.jobs[at].Done = at, settle
+			j.asked = append(j.asked, &j.jobs[at])
+		}
+	}
+}
+
+func (r *run) service(row *Row) string {
+	if row.Service != "" {
+		return row.Service
+	}
+	return r.plan.question.Service
+}
+
+// refuse notes why the service takes no such request.
+func (p *Parser) refuse(row *Row, refused *service.Refusal) {
+	name := strings.ReplaceAll(strings.TrimPrefix(refused.Pointer, "/"), "/", ".")
+	for at := range row.cells {
+		if column := &p.plan.columns[at]; name != "" && column.use == input && column.name == name {
+			row.faultAt(row.cells[at].start, name, refused.Detail)
+			return
+		}
+	}
+	row.fault = &Fault{Line: row.Line, Name: name, Reason: refused.Detail}
+	if refused.Line > 1 {
+		row.fault.Line += refused.Line - 1
+	}
+}
+
+// settle notes what became of a row, and says so when it was the last of its batch.
+func (j *task) settle(r *run) func(*engine.Job, engine.Outcome) {
+	return func(of *engine.Job, outcome engine.Outcome) {
+		r.note(j, of.Place, outcome)
+		if j.left.Add(-1) == 0 {
+			j.done <- nil
+		}
+	}
+}
+
+func (r *run) note(j *task, at int, outcome engine.Outcome) {
+	answer := &j.answers[at]
+	if refused := r.asked.Refused(outcome); refused != nil {
+		answer.Fault, answer.IsFailed = refused.Detail, outcome.Kind != engine.Limit
+		if !answer.IsFailed {
+			answer.Fault = "a value breaks a limit on the way"
+		}
+		return
+	}
+	answer.Result = r.asked.Result(r.service(&j.rows[at]), outcome.Value)
+}
+
+// explain asks for the rows of a batch with the rules that decide.
+func (r *run) explain(explainer *engine.Explainer, j *task) error {
+	at := 0
+	return explainer.Each(r.ctx, r.asked.Model(), j.asked, func(line []byte, cut bool) error {
+		if at == len(j.asked) {
+			return nil
+		}
+		place := j.asked[at].Place
+		at++
+		if cut {
+			r.note(j, place, engine.Outcome{Kind: engine.Huge})
+			return nil
+		}
+		return r.told(j, place, line)
+	})
+}
+
+// told notes what a line of `desk explain` says of a row.
+func (r *run) told(j *task, at int, line []byte) error {
+	told, err := r.counted(line)
+	if err != nil {
+		return fmt.Errorf("reading an explanation: %w", err)
+	}
+	outcome := engine.Outcome{Value: append([]byte(nil), told.Result...)}
+	switch {
+	case told.Refused != "":
+		outcome = engine.Outcome{Kind: engine.Refused, Word: told.Refused}
+	case told.Fault != "":
+		outcome = engine.Outcome{Kind: engine.Limit}
+	}
+	r.note(j, at, outcome)
+	if r.asker.Explain || r.asker.Wants != nil && r.asker.Wants(&j.rows[at], &j.answers[at]) {
+		var it struct{ Decisions json.RawMessage }
+		if err := json.Unmarshal(line, &it); err != nil {
+			return fmt.Errorf("reading an explanation: %w", err)
+		}
+		j.answers[at].Rules = rulesOf(r.asked.Explained(it.Decisions))
+	}
+	return nil
+}
+
+// counted counts what a line says.
+func (r *run) counted(line []byte) (coverage.Answer, error) {
+	if r.asker.Counts == nil {
+		return coverage.New().Add(line)
+	}
+	r.counting.Lock()
+	defer r.counting.Unlock()
+	return r.asker.Counts.Add(line)
+}
+
+// explainSome asks for the rules that decided some rows.
+func (r *run) explainSome(j *task) error {
+	var asked []*engine.Job
+	for _, of := range j.asked {
+		if r.asker.Wants != nil && !r.asker.isExplained() && r.asker.Wants(&j.rows[of.Place], &j.answers[of.Place]) {
+			asked = append(asked, of)
+		}
+	}
+	if len(asked) == 0 {
+		return nil
+	}
+	explainer := &engine.Explainer{Path: r.asker.Path, Memory: r.asker.Memory}
+	told, err := explainer.Explain(r.ctx, r.asked.Model(), asked, func(int) bool { return true })
+	if err != nil {
+		return err
+	}
+	for at, of := range asked {
+		j.answers[of.Place].Rules = rulesOf(r.asked.Explained(told[at].Decisions))
+	}
+	return nil
+}
+
+// takeAll hands the rows on in their order.
+func (r *run) takeAll(take func(*Row, *Answer) error) error {
+	for j := range r.order {
+		if err := <-j.done; err != nil {
+			return err
+		}
+		if err := r.explainSome(j); err != nil {
+			return err
+		}
+		for at := range j.rows {
+			if err := take(&j.rows[at], &j.answers[at]); err != nil {
+				return err
+			}
+		}
+		r.over(j)
+		select {
+		case r.free <- j:
+		default:
+		}
+	}
+	return r.fault
+}

@@ -1,0 +1,373 @@
+package command
+
+import (
+	"bufio"
+	"bytes"
+	"context"
+	"errors"
+	"fmt"
+	"io"
+	"os"
+	"path/filepath"
+	"strconv"
+	"strings"
+
+	"github.com/spf13/cobra"
+
+	"gateway/cases"
+	"gateway/coverage"
+	"gateway/engine"
+	"gateway/model"
+	"gateway/service"
+	"gateway/tck"
+)
+
+// runTests runs files of test cases against a model, and reports on all of them together.
+func runTests(ctx context.Context, c *cobra.Command, model string, files []string, o casesOptions) error {
+	if err := oneStdin(append([]string{model}, files...)); err != nil {
+		return err
+	}
+	least := 0.0
+	if o.coverage != "" {
+		var err error
+		if least, err = strconv.ParseFloat(strings.TrimSuffix(o.coverage, "%"), 64); err != nil || !(least >= 0 && least <= 100) {
+			return wrong("--coverage is a percentage from 0 to 100")
+		}
+		o.counts = coverage.New()
+	}
+	counts := &countReport{}
+	all, err := newReports(c, o)
+	if err != nil {
+		return err
+	}
+	if err := runFiles(ctx, c, model, files, o, append(all, counts)); err != nil {
+		return err
+	}
+	share := 100.0
+	if o.counts != nil {
+		if share, err = writeCoverage(c, model, o); err != nil {
+			return err
+		}
+	}
+	switch {
+	case counts.faults > 0:
+		return ended(statusRefused)
+	case counts.failed > 0:
+		return ended(statusFault)
+	case counts.passed == 0:
+		return errors.New("nothing was tested")
+	case share < least:
+		return fmt.Errorf("%.1f %% of the rules are reached, and %v %% are due", share, least)
+	}
+	return nil
+}
+
+// newReports are the reports that the options ask for.
+func newReports(c *cobra.Command, o casesOptions) (all reports, err error) {
+	if o.tap {
+		all = append(all, newTAP(c.OutOrStdout()))
+	} else {
+		all = append(all, newLineReport(c.OutOrStdout(), o.quiet))
+	}
+	if o.junit == "" {
+		return all, nil
+	}
+	file, err := os.Create(o.junit)
+	if err != nil {
+		return nil, err
+	}
+	return append(all, &junitReport{to: file}), nil
+}
+
+// runFiles runs each file. A file that can't be read is a fault in the reports too, and ends the run.
+func runFiles(ctx context.Context, c *cobra.Command, model string, files []string, o casesOptions, to reports) error {
+	for _, file := range files {
+		run := runCaseRows
+		if isXML(c, file) {
+			run = runTCK
+		}
+		if err := run(ctx, c, model, file, o, to); err != nil {
+			return firstOf(err, to.fault(shownAs(file), "", err.Error()), to.end())
+		}
+	}
+	return to.end()
+}
+
+// writeCoverage lists the rules that no row reached, and gives the percentage of those that one did.
+func writeCoverage(c *cobra.Command, path string, o casesOptions) (share float64, err error) {
+	source, err := o.readModel(c, path)
+	if err != nil {
+		return 0, err
+	}
+	subject, err := cases.NewSubject(source)
+	if err != nil {
+		return 0, refused(err)
+	}
+	tables, err := subject.Covered(o.counts)
+	if err != nil {
+		return 0, refused(err)
+	}
+	to := c.OutOrStdout()
+	if o.tap {
+		to = c.ErrOrStderr()
+	}
+	rules, reached := 0, 0
+	for _, it := range tables {
+		rules, reached = rules+it.Rules, reached+it.Rules-len(it.Unreached)
+		for _, rule := range it.Unreached {
+			fmt.Fprintf(to, "%s: no row reached rule %d\n", it.Name, rule)
+		}
+		for _, rule := range it.Undecided {
+			fmt.Fprintf(to, "%s: rule %d was reached, and never decided\n", it.Name, rule)
+		}
+	}
+	share = 100
+	if rules > 0 {
+		share = 100 * float64(reached) / float64(rules)
+	}
+	fmt.Fprintf(to, "%d of %d rules reached (%.1f %%)\n", reached, rules, share)
+	return share, nil
+}
+
+// writeBorders writes a file of cases for each table: rows at its borders, with the answers that come.
+func writeBorders(ctx context.Context, c *cobra.Command, path string, o casesOptions) error {
+	source, err := o.readModel(c, path)
+	if err != nil {
+		return err
+	}
+	program, err := engine.Path()
+	if err != nil {
+		return err
+	}
+	if _, err := service.Ask(ctx, program, uint64(o.memory), source); err != nil {
+		return fmt.Errorf("%s: %w", shownAs(path), err)
+	}
+	subject, err := cases.NewSubject(source)
+	if err != nil {
+		return refused(err)
+	}
+	parsed, err := model.Parse(source.Text)
+	if err != nil {
+		return refused(err)
+	}
+	if err := os.MkdirAll(o.borders, 0o777); err != nil {
+		return err
+	}
+	for at := range parsed.Decisions {
+		borders := cases.BordersOf(parsed, at, nil, subject.Step)
+		if borders == nil || len(borders.Rows) == 0 {
+			continue
+		}
+		for _, text := range borders.Calculated {
+			fmt.Fprintf(c.ErrOrStderr(), "%s: the column %q is calculated, and has no borders here\n", subject.Name(borders.Decision), text)
+		}
+		if borders.IsCut {
+			fmt.Fprintf(c.ErrOrStderr(), "%s: the first %d rows are written\n", subject.Name(borders.Decision), len(borders.Rows))
+		}
+		if err := writeTableBorders(ctx, c, subject, borders, program, o); err != nil {
+			return err
+		}
+	}
+	return nil
+}
+
+// writeTableBorders writes the file of one table.
+func writeTableBorders(ctx context.Context, c *cobra.Command, subject *cases.Subject, borders *cases.Borders, program string,
+	o casesOptions) error {
+	rows, err := cases.Open("borders.csv", bytes.NewReader(subject.CSV(borders, o.files.Comma)), o.files)
+	if err != nil {
+		return err
+	}
+	question, err := subject.QuestionOf([]string{borders.Decision}, borders.Given)
+	if err != nil {
+		return err
+	}
+	asked, err := service.Ask(ctx, program, uint64(o.memory), question.Source)
+	if err != nil {
+		return err
+	}
+	plan, err := rows.Plan(question, true)
+	if err != nil {
+		return err
+	}
+	writer := plan.Writer(false)
+	text := writer.Begin(nil)
+	err = o.asker(c, program).Each(ctx, plan, asked, func(row *cases.Row, answer *cases.Answer) error {
+		// A value that the type of its input doesn't allow is no case.
+		if !answer.IsRefused {
+			text = writer.Row(text, row, answer)
+		}
+		return nil
+	})
+	if err != nil {
+		return err
+	}
+	return os.WriteFile(filepath.Join(o.borders, borders.Decision+".csv"), writer.End(text), 0o666)
+}
+
+// isXML reports whether a file of cases is XML: by its name, or where standard input begins as XML does.
+func isXML(c *cobra.Command, file string) bool {
+	if file != dash {
+		extension := strings.ToLower(filepath.Ext(file))
+		return extension == ".xml" || extension == ".dmn"
+	}
+	in := bufio.NewReader(c.InOrStdin())
+	c.SetIn(in)
+	begin, _ := in.Peek(len("\xef\xbb\xbf<"))
+	return isDMN(dash, begin)
+}
+
+// countReport counts.
+type countReport struct{ verdictCounts }
+
+func (r *countReport) add(_ string, v tck.Verdict) error {
+	r.verdictCounts.add(v.Outcome)
+	return nil
+}
+
+func (r *countReport) fault(string, string, string) error {
+	r.faults++
+	return nil
+}
+
+func (*countReport) end() error { return nil }
+
+// mostExplained is of how many rows that failed the rules are reported.
+const mostExplained = 1000
+
+// A caseRun is the test of one file of rows.
+type caseRun struct {
+	plan   *cases.Plan
+	file   string
+	to     caseReport
+	told   *refusals
+	single cases.Single
+	// explained is how many rows were asked about.
+	explained int
+}
+
+// runCaseRows tests the rows of a file.
+func runCaseRows(ctx context.Context, c *cobra.Command, model, file string, o casesOptions, to caseReport) error {
+	again, err := readTwice(c, file)
+	if err != nil {
+		return err
+	}
+	var subject *cases.Subject
+	rows, err := openRows(ctx, c, []string{model, file}, &o.rowsOptions, func(s *cases.Subject) (*cases.Question, error) {
+		subject = s
+		return dues(s, again, file, &o)
+	})
+	if err != nil {
+		return err
+	}
+	defer rows.Close()
+	plan, err := rows.plan(false)
+	if err != nil {
+		return err
+	}
+	asker := o.asker(c, rows.engine)
+	run := &caseRun{plan: plan, file: rows.source.name, to: to, single: cases.Single{Asker: asker, Subject: subject, Given: rows.Given(subject)},
+		told: &refusals{to: c.ErrOrStderr(), file: rows.source.name}}
+	asker.Wants, asker.Counts = run.wants, o.counts
+	shown := rows.progress(c, "testing")
+	defer shown.stop()
+	err = asker.Each(ctx, plan, rows.asked, func(row *cases.Row, answer *cases.Answer) error { return run.take(ctx, row, answer) })
+	shown.stop()
+	run.told.end()
+	return err
+}
+
+// readTwice reads the whole of standard input, so that it can be read twice; of another file it gives how to open it.
+func readTwice(c *cobra.Command, file string) (func() (io.ReadCloser, error), error) {
+	if file != dash {
+		return func() (io.ReadCloser, error) { return open(c, file) }, nil
+	}
+	text, err := io.ReadAll(c.InOrStdin())
+	if err != nil {
+		return nil, fmt.Errorf("reading %s: %w", stdinName, err)
+	}
+	c.SetIn(bytes.NewReader(text))
+	return func() (io.ReadCloser, error) { return io.NopCloser(bytes.NewReader(text)), nil }, nil
+}
+
+// dues is the question of a file of cases: all decisions of which a row says what is due.
+func dues(s *cases.Subject, again func() (io.ReadCloser, error), file string, o *casesOptions) (*cases.Question, error) {
+	from, err := again()
+	if err != nil {
+		return nil, err
+	}
+	defer from.Close()
+	rows, err := cases.Open(shownAs(file), from, o.files)
+	if err != nil {
+		return nil, err
+	}
+	words, err := rows.Dues(s)
+	if err != nil {
+		return nil, err
+	}
+	if len(words) == 0 {
+		return s.Question("")
+	}
+	return s.QuestionOf(words, rows.Given(s))
+}
+
+// isPassed says whether all that is due of a row came.
+func (r *caseRun) isPassed(row *cases.Row, answer *cases.Answer) bool {
+	for at := range row.Dues {
+		if !r.plan.IsDue(&row.Dues[at], r.plan.Came(&row.Dues[at], row, answer)) {
+			return false
+		}
+	}
+	return true
+}
+
+// wants asks for the rules of rows that fail.
+func (r *caseRun) wants(row *cases.Row, answer *cases.Answer) bool {
+	if r.explained == mostExplained || r.isPassed(row, answer) {
+		return false
+	}
+	r.explained++
+	return true
+}
+
+// take reports on a row.
+func (r *caseRun) take(ctx context.Context, row *cases.Row, answer *cases.Answer) error {
+	if answer.IsRefused {
+		r.told.add(row, answer)
+		place := fmt.Sprint(row.Line)
+		if fault := row.Fault(); fault != nil && fault.Column > 0 {
+			place = fmt.Sprintf("%d:%d", fault.Line, fault.Column)
+		}
+		return r.to.fault(r.file, place, answer.Fault)
+	}
+	for at := range row.Dues {
+		due := &row.Dues[at]
+		came, of := r.plan.Came(due, row, answer), *answer
+		if came == nil && !answer.IsFailed && row.Service == "" && r.plan.IsOfSeveral() {
+			var err error
+			if came, of, err = r.single.Came(ctx, row, due); err != nil {
+				return err
+			}
+		}
+		v := tck.Verdict{Case: fmt.Sprintf("%s:%d", r.file, row.Line), Node: due.Name, Outcome: tck.Pass}
+		if !r.plan.IsDue(due, came) {
+			v.Outcome, v.Said = tck.Fail, saidOf(due, came, &of)
+		}
+		if err := r.to.add(r.file, v); err != nil {
+			return fmt.Errorf("writing the verdicts: %w", err)
+		}
+	}
+	return nil
+}
+
+// saidOf says what was due and what came, and the rules that decided.
+func saidOf(due *cases.Due, came []byte, answer *cases.Answer) string {
+	text := fmt.Sprintf("due %s, came %s", due.Value, came)
+	if came == nil {
+		text = fmt.Sprintf("due %s, and nothing came: %s", due.Value, answer.Fault)
+	}
+	if rules := cases.ShownRules(answer.Rules); rules != "" {
+		text += "; rules: " + rules
+	}
+	return text
+}

@@ -1,0 +1,329 @@
+package command
+
+import (
+	"bufio"
+	"context"
+	"errors"
+	"fmt"
+	"io"
+	"os"
+	"runtime"
+	"time"
+
+	"github.com/spf13/cobra"
+	"github.com/spf13/pflag"
+
+	"gateway/cases"
+	"gateway/engine"
+	"gateway/profile"
+	"gateway/service"
+)
+
+// rowsOptions are the options of commands that read rows.
+type rowsOptions struct {
+	service   string
+	separator string
+	files     cases.Options
+	reading   profile.Options // of a file of DMN
+	processes int
+	deadline  duration
+	memory    size
+}
+
+// runOptions are the options of run.
+type runOptions struct {
+	rowsOptions
+	output          string
+	explain, strict bool
+}
+
+// add adds the options to those of a command.
+func (o *rowsOptions) add(flags *pflag.FlagSet) {
+	o.deadline, o.memory = duration(20*time.Second), 1<<30
+	flags.BoolVar(&o.files.Comma, "comma", false, "Numbers of CSV have a decimal comma")
+	flags.StringVar(&o.separator, "separator", "", "The cells of CSV are separated by this `CHARACTER` (default: found in the header)")
+	flags.BoolVar(&o.files.Unknown, "unknown", false, "Leave alone columns and members that the model doesn't know")
+	flags.IntVar(&o.processes, "processes", runtime.NumCPU(), "Run this `NUMBER` of engines, 1 to 64")
+	flags.Lookup("processes").DefValue = "one per processor"
+	flags.Var(&o.deadline, "deadline", "Give one row this long, 10ms to 1h")
+	flags.Var(&o.memory, "memory", "Limit the address space of each engine, from 32MiB on; 0 for no limit")
+	translationFlags(flags, &o.reading)
+}
+
+// readModel reads the model of a command. What a file of DMN leaves out is reported on standard error.
+func (o *rowsOptions) readModel(c *cobra.Command, path string) (*service.Source, error) {
+	reading := o.reading
+	reading.Service = o.service
+	return readModel(c, []string{path}, reading, func(form string, words ...any) { c.PrintErrf(form+"\n", words...) })
+}
+
+// check refuses options that are out of range.
+func (o *rowsOptions) check() error {
+	options := service.Options{Processes: o.processes, Deadline: time.Duration(o.deadline), Memory: uint64(o.memory), ClientLimit: 1, Limit: 1,
+		JournalSize: 256 << 20}
+	if err := options.Check(); err != nil {
+		return wrong("%w", err)
+	}
+	switch {
+	case o.separator == `\t`:
+		o.separator = "\t"
+	case len(o.separator) > 1 || o.separator == `"`:
+		return wrong("--separator is one character, as ; or \\t")
+	}
+	if o.separator != "" {
+		o.files.Separator = o.separator[0]
+	}
+	return nil
+}
+
+func runCommand() *cobra.Command {
+	var options runOptions
+	c := &cobra.Command{
+		Use:   "run [OPTIONS] MODEL.json|FILE.dmn REQUESTS|-",
+		Short: "Answers a file of requests: CSV, JSON lines, a JSON array, or lines of serve",
+		Long: `Writes each row with its answer, in the form of the file and in its order. In CSV the header names inputs, or parts of them
+as applicant.age; results add a column for each decision, as =price, and #fault. In JSON they are members.
+
+Without --service it asks the only service of the model; where there are several, the decisions that no other needs.
+
+A row that can't be read is reported with its place, and the others go on; the status is 3 then. docs/CASES.md has the forms.`,
+		Example: `  desk run examples/parcel.json examples/cases/parcel.csv
+  desk run --comma examples/parcel.json examples/cases/parcel.excel.csv -o results.csv`,
+		ValidArgsFunction: completeFiles("json", "dmn", "csv", "jsonl"),
+	}
+	flags := c.Flags()
+	flags.StringVarP(&options.output, "output", "o", "", "Write the results to this `FILE`")
+	flags.StringVar(&options.service, "service", "", "Ask the service or the decision of this `NAME`")
+	flags.BoolVar(&options.explain, "explain", false, "Add the rules that decided")
+	flags.BoolVar(&options.strict, "strict", false, "Stop at the first row that can't be read")
+	options.add(flags)
+	c.RunE = func(c *cobra.Command, paths []string) error {
+		if len(paths) != 2 {
+			return wrong("a model and a file of requests are due: %s", usageOf(c))
+		}
+		if err := options.check(); err != nil {
+			return err
+		}
+		ctx, stop := untilTold(c)
+		defer stop()
+		return reported(c.ErrOrStderr(), runRows(ctx, c, paths, options))
+	}
+	return c
+}
+
+// runRows answers the rows of a file.
+func runRows(ctx context.Context, c *cobra.Command, paths []string, o runOptions) (err error) {
+	rows, err := openRows(ctx, c, paths, &o.rowsOptions, func(s *cases.Subject) (*cases.Question, error) { return s.Question(o.service) })
+	if err != nil {
+		return err
+	}
+	defer rows.Close()
+	plan, err := rows.plan(true)
+	if err != nil {
+		return err
+	}
+	out, err := createOutput(c, o.output, paths)
+	if err != nil {
+		return err
+	}
+	written := bufio.NewWriterSize(out, 1<<20)
+	defer func() {
+		err = firstOf(written.Flush(), closed(out), err)
+	}()
+	asker := o.asker(c, rows.engine)
+	asker.Explain = o.explain
+	told, writer, room := &refusals{to: c.ErrOrStderr(), file: rows.source.name}, plan.Writer(o.explain), []byte(nil)
+	room = writer.Begin(room)
+	shown := rows.progress(c, "running")
+	defer shown.stop()
+	err = asker.Each(ctx, plan, rows.asked, func(row *cases.Row, answer *cases.Answer) error {
+		told.add(row, answer)
+		if o.strict && answer.IsRefused {
+			return errStopped
+		}
+		room = writer.Row(room, row, answer)
+		_, err := written.Write(room)
+		room = room[:0]
+		return err
+	})
+	shown.stop()
+	if err != nil && !errors.Is(err, errStopped) {
+		return err
+	}
+	if _, err := written.Write(writer.End(room)); err != nil {
+		return err
+	}
+	return told.end()
+}
+
+// errStopped ends a run at a row.
+var errStopped = errors.New("stopped at a row that can't be read")
+
+// firstOf is the first of some errors.
+func firstOf(errs ...error) error {
+	for _, err := range errs {
+		if err != nil {
+			return err
+		}
+	}
+	return nil
+}
+
+// A rowsFile is an open file of rows with the model that it asks.
+type rowsFile struct {
+	*cases.File
+	source   *source
+	question *cases.Question
+	asked    *service.Asked
+	engine   string
+}
+
+func (r *rowsFile) Close() error { return r.source.Close() }
+
+// openRows reads a model, and opens a file of rows that asks it something.
+func openRows(ctx context.Context, c *cobra.Command, paths []string, o *rowsOptions,
+	question func(*cases.Subject) (*cases.Question, error)) (*rowsFile, error) {
+	if err := oneStdin(paths); err != nil {
+		return nil, err
+	}
+	path, err := engine.Path()
+	if err != nil {
+		return nil, err
+	}
+	model, err := o.readModel(c, paths[0])
+	if err != nil {
+		return nil, err
+	}
+	rows := &rowsFile{engine: path}
+	subject, err := cases.NewSubject(model)
+	if err == nil {
+		rows.question, err = question(subject)
+	}
+	if errors.Is(err, service.ErrNoModel) {
+		rows.question, err = &cases.Question{Source: model}, nil
+	}
+	if err != nil {
+		return nil, refusedForm(err)
+	}
+	if rows.asked, err = service.Ask(ctx, path, uint64(o.memory), rows.question.Source); err != nil {
+		return nil, fmt.Errorf("%s: %w", shownAs(paths[0]), err)
+	}
+	if rows.source, err = open(c, paths[1]); err != nil {
+		return nil, err
+	}
+	if rows.File, err = cases.Open(rows.source.name, rows.source, o.files); err != nil {
+		rows.source.Close()
+		return nil, refusedForm(err)
+	}
+	return rows, nil
+}
+
+// refusedForm is the failure of a file that is none of rows.
+func refusedForm(err error) error {
+	if errors.Is(err, cases.ErrForm) {
+		return refused(err)
+	}
+	return err
+}
+
+// plan reads the header.
+func (r *rowsFile) plan(isRun bool) (*cases.Plan, error) {
+	plan, err := r.Plan(r.question, isRun)
+	var faults cases.HeaderFaults
+	if errors.As(err, &faults) {
+		return nil, refused(faults.In(r.source.name))
+	}
+	return plan, err
+}
+
+// progress shows how much of the file is read.
+func (r *rowsFile) progress(c *cobra.Command, what string) *progress {
+	total := int64(0)
+	if r.source.file != nil {
+		if about, err := r.source.file.Stat(); err == nil && about.Mode().IsRegular() {
+			total = about.Size()
+		}
+	}
+	if isTerminal(c.OutOrStdout()) {
+		return nil
+	}
+	return showProgress(c.ErrOrStderr(), what, megabytes, total, r.Done)
+}
+
+func (o *rowsOptions) asker(c *cobra.Command, path string) *cases.Asker {
+	return &cases.Asker{Path: path, Memory: uint64(o.memory), Processes: o.processes, Deadline: time.Duration(o.deadline),
+		Log: func(form string, words ...any) {
+			fmt.Fprintf(c.ErrOrStderr(), c.CommandPath()+": "+form+"\n", words...)
+		}}
+}
+
+// createOutput makes the file of the results, which is none of those that are read.
+func createOutput(c *cobra.Command, path string, read []string) (io.Writer, error) {
+	if path == "" || path == dash {
+		return c.OutOrStdout(), nil
+	}
+	if about, err := os.Stat(path); err == nil {
+		for _, other := range read {
+			if its, err := os.Stat(other); err == nil && os.SameFile(about, its) {
+				return nil, wrong("the results would be written over %s", other)
+			}
+		}
+	}
+	file, err := os.Create(path)
+	if err != nil {
+		return nil, err
+	}
+	return file, nil
+}
+
+// closed closes a file that is not the standard output.
+func closed(out io.Writer) error {
+	if file, is := out.(*os.File); is && file != os.Stdout {
+		return file.Close()
+	}
+	return nil
+}
+
+// mostTold is how many rows are reported that have no answer.
+const mostTold = 100
+
+// refusals reports rows that have no answer.
+type refusals struct {
+	to                    io.Writer
+	file                  string
+	count, failed, silent int
+}
+
+func (r *refusals) add(row *cases.Row, answer *cases.Answer) {
+	switch {
+	case answer.IsRefused:
+		r.count++
+	case answer.IsFailed:
+		r.failed++
+	default:
+		return
+	}
+	if r.count+r.failed > mostTold {
+		r.silent++
+		return
+	}
+	if fault := row.Fault(); fault != nil {
+		fmt.Fprintf(r.to, "%s:%v\n", r.file, fault)
+		return
+	}
+	fmt.Fprintf(r.to, "%s:%d: %s\n", r.file, row.Line, answer.Fault)
+}
+
+// end reports how many rows have no answer, and gives the status.
+func (r *refusals) end() error {
+	if r.count+r.failed == 0 {
+		return nil
+	}
+	if r.silent > 0 {
+		fmt.Fprintf(r.to, "%s: %d more rows have no answer\n", r.file, r.silent)
+	}
+	if r.failed > 0 {
+		return ended(statusFault)
+	}
+	return ended(statusRefused)
+}

@@ -1,0 +1,110 @@
+package openapi
+
+// fixedPaths are the paths that do not depend on the model.
+func fixedPaths() object {
+	return object{
+		"/v1/model":        modelPath(),
+		"/v1/services":     object{"get": asked("getServices", "The services, their parameters and paths", nil)},
+		"/v1/check":        object{"post": sent("checkModel", "Checks a model, and keeps it to be tried", modelBody())},
+		"/v1/tables":       object{"get": asked("getTables", "What is found of the tables", []object{ofModel()})},
+		"/v1/coverage":     object{"post": covering()},
+		"/healthz":         object{"get": open("getHealth", "Whether the process is alive", "application/json")},
+		"/readyz":          object{"get": open("getReady", "Whether requests are best sent here; 503 where not", "application/json")},
+		"/metrics":         object{"get": open("getMetrics", "Metrics as Prometheus reads them", "text/plain")},
+		"/openapi.json":    object{"get": open("getOpenAPI", "This document", "application/json")},
+		"/problems/":       object{"get": open("getProblems", "The types of problems", "text/plain")},
+		"/problems/{word}": object{"get": problemPage()},
+		"/":                object{"get": open("getPage", "A page for people", "text/html")},
+	}
+}
+
+// words are the parameters of a query that are true or false.
+func flag(name, said string) object {
+	return object{"name": name, "in": "query", "schema": object{"type": "boolean"}, "description": said}
+}
+
+func ofModel() object {
+	return object{"name": "model", "in": "query", "schema": object{"type": "string"},
+		"description": "The SHA-256 of a model that was checked; the one in force where it is missing"}
+}
+
+func content(kind string, schema object) object { return object{kind: object{"schema": schema}} }
+
+func anyObject() object { return object{"type": "object"} }
+
+func refusal() object {
+	return object{"description": "A problem", "content": content("application/problem+json", object{"$ref": "#/components/schemas/Problem"})}
+}
+
+func found(said string) object {
+	return object{"description": said, "content": content("application/json", anyObject())}
+}
+
+// asked is a path that gives an object.
+func asked(id, said string, parameters []object) object {
+	made := object{"operationId": id, "summary": said, "responses": object{"200": found(said), "default": refusal()}}
+	if len(parameters) > 0 {
+		made["parameters"] = parameters
+	}
+	return made
+}
+
+// sent is a path that takes a body, and gives an object.
+func sent(id, said string, body object, parameters ...object) object {
+	made := asked(id, said, parameters)
+	made["requestBody"] = body
+	return made
+}
+
+// open is a path that needs no token.
+func open(id, said, kind string) object {
+	schema := object{"type": "string"}
+	if kind == "application/json" {
+		schema = anyObject()
+	}
+	return object{"operationId": id, "summary": said, "security": []object{}, "responses": object{
+		"200":     object{"description": said, "content": content(kind, schema)},
+		"default": object{"description": "It is not so"},
+	}}
+}
+
+func problemPage() object {
+	made := open("getProblem", "About a type of problem", "text/plain")
+	made["parameters"] = []object{{"name": "word", "in": "path", "required": true, "schema": object{"type": "string"}}}
+	return made
+}
+
+func modelBody() object {
+	return object{"required": true, "content": object{
+		"application/json": object{"schema": anyObject()},
+		"application/xml":  object{"schema": object{"type": "string"}}}}
+}
+
+func modelPath() object {
+	put := sent("putModel", "Puts a model in force", modelBody(), object{"name": "If-Match", "in": "header",
+		"schema": object{"type": "string"}, "description": "The SHA-256 of the model that has to be in force, in quotes"})
+	return object{
+		"get": asked("getModel", "The model in force", []object{
+			flag("text", "Its compact text alone"), flag("whole", "With its text, names, types, places and diagram")}),
+		"put": put,
+	}
+}
+
+func covering() object {
+	lines := object{"required": true, "content": content("application/octet-stream", object{"type": "string", "format": "binary"})}
+	return sent("countRules", "Counts how often each rule hit and decided over lines of requests", lines, ofModel(),
+		object{"name": "service", "in": "query", "schema": object{"type": "string"}, "description": "Of lines that are inputs alone"})
+}
+
+// explaining describes how a service is asked how its answers come about.
+func explaining(service Service, name string) object {
+	one := object{"$ref": "#/components/schemas/" + name + "Inputs"}
+	return object{
+		"operationId": name + "_explained",
+		"summary":     "Asks the decision service " + service.Name + " how its answers come about",
+		"parameters":  []object{ofModel(), flag("misses", "Adds why rules missed")},
+		"requestBody": object{"required": true, "content": content("application/json",
+			object{"oneOf": []object{one, {"type": "array", "maxItems": 100, "items": one}}})},
+		"responses": responses(object{"$ref": "#/components/schemas/" + name + "Answer"}),
+	}
+}

@@ -1,0 +1,214 @@
+package openapi
+
+import (
+	"encoding/json"
+	"fmt"
+	"reflect"
+	"regexp"
+	"strings"
+	"testing"
+)
+
+// many are services whose names are alike, or those of other operations.
+var many = []Service{
+	{Name: "shipping", Strict: true, Inputs: []Input{
+		{Name: "weight", Schema: json.RawMessage(`{"type":"integer","minimum":0}`), Required: true},
+		{Name: "express", Schema: json.RawMessage(`{"type":["boolean","null"]}`)}, {Name: "any"}},
+		Result: json.RawMessage(`{"type":["array","null"],"items":{"type":["object","null"],"properties":{"a b":{"type":["integer","null"]}}}}`)},
+	{Name: "Drivers part"}, {Name: "Drivers_part"}, {Name: "Drivers+part"}, {Name: "getModel"}, {Name: "Problem"}, {Name: "Größe"},
+	{Name: "7"}, {Name: "shipping_explained"}, {Name: "a/b"}, {Name: "{x}"},
+}
+
+// described is the document of some services.
+func described(t *testing.T, services []Service) map[string]any {
+	t.Helper()
+	text, err := Page("0123456789abcdef", "0.9.0", true, services)
+	if err != nil {
+		t.Fatal(err)
+	}
+	var page map[string]any
+	if err := json.Unmarshal(text, &page); err != nil {
+		t.Fatal(err)
+	}
+	return page
+}
+
+// schemaKeys are the keywords of OpenAPI 3.0's schemas that documents use.
+var schemaKeys = map[string]string{"type": "string", "format": "string", "nullable": "bool", "enum": "[]interface {}", "minimum": "float64",
+	"maximum": "float64", "exclusiveMinimum": "bool", "exclusiveMaximum": "bool", "multipleOf": "float64", "items": "map[string]interface {}",
+	"properties": "map[string]interface {}", "required": "[]interface {}", "description": "string", "minLength": "float64",
+	"maxLength": "float64", "maxItems": "float64", "oneOf": "[]interface {}", "anyOf": "[]interface {}", "additionalProperties": "bool"}
+
+// rules says where a document breaks the rules of OpenAPI 3.0.
+type rules struct {
+	page   map[string]any
+	faults []string
+	ids    map[string]bool
+}
+
+func (r *rules) fault(form string, words ...any) {
+	r.faults = append(r.faults, fmt.Sprintf(form, words...))
+}
+
+func (r *rules) schema(at string, value any) {
+	schema, is := value.(map[string]any)
+	if !is {
+		r.fault("%s is no schema", at)
+		return
+	}
+	if to, is := schema["$ref"].(string); is {
+		components := r.page["components"].(map[string]any)["schemas"].(map[string]any)
+		name := strings.TrimPrefix(to, "#/components/schemas/")
+		if len(schema) != 1 || components[name] == nil {
+			r.fault("%s: %s refers to nothing, or has other keys beside", at, to)
+		}
+		return
+	}
+	for key, part := range schema {
+		if kind := schemaKeys[key]; kind == "" || kind != reflect.TypeOf(part).String() {
+			r.fault("%s has the key %s: %v", at, key, part)
+		}
+	}
+	r.parts(at, schema)
+}
+
+// parts holds the schemas within a schema to the rules.
+func (r *rules) parts(at string, schema map[string]any) {
+	properties, _ := schema["properties"].(map[string]any)
+	for name, part := range properties {
+		r.schema(at+"/"+name, part)
+	}
+	required, _ := schema["required"].([]any)
+	for _, name := range required {
+		if properties[name.(string)] == nil {
+			r.fault("%s requires %s, which it has not", at, name)
+		}
+	}
+	if schema["type"] == "array" {
+		r.schema(at+"/items", schema["items"])
+	}
+	if schema["type"] == "integer" && schema["format"] != "int64" {
+		r.fault("%s: an integer has no format", at)
+	}
+	if schema["nullable"] == true && schema["type"] == nil && len(schema) > 2 {
+		r.fault("%s: nullable has no type beside", at)
+	}
+	for _, key := range []string{"oneOf", "anyOf"} {
+		several, _ := schema[key].([]any)
+		for n, part := range several {
+			r.schema(fmt.Sprintf("%s/%s/%d", at, key, n), part)
+		}
+	}
+}
+
+func (r *rules) contents(at string, value any) {
+	contents, _ := value.(map[string]any)
+	for kind, content := range contents {
+		r.schema(at+" "+kind, content.(map[string]any)["schema"])
+	}
+}
+
+var template = regexp.MustCompile(`\{([^}]*)\}`)
+
+func (r *rules) operation(path, method string, it map[string]any) {
+	at := method + " " + path
+	id, _ := it["operationId"].(string)
+	if id == "" || r.ids[id] {
+		r.fault("%s: the operationId %q is none, or another's", at, id)
+	}
+	r.ids[id] = true
+	inPath := map[string]bool{}
+	parameters, _ := it["parameters"].([]any)
+	for _, parameter := range parameters {
+		parameter := parameter.(map[string]any)
+		if inPath[parameter["name"].(string)] = parameter["in"] == "path"; parameter["in"] == "path" && parameter["required"] != true {
+			r.fault("%s: a parameter of the path is not required", at)
+		}
+		r.schema(at, parameter["schema"])
+	}
+	for _, word := range template.FindAllStringSubmatch(path, -1) {
+		if !inPath[word[1]] {
+			r.fault("%s: nothing says what %s is", at, word[0])
+		}
+	}
+	if body, is := it["requestBody"].(map[string]any); is {
+		r.contents(at, body["content"])
+	}
+	responses, _ := it["responses"].(map[string]any)
+	if len(responses) == 0 {
+		r.fault("%s has no responses", at)
+	}
+	for status, response := range responses {
+		response := response.(map[string]any)
+		if response["description"] == nil {
+			r.fault("%s: %s has no description", at, status)
+		}
+		r.contents(at+" "+status, response["content"])
+	}
+}
+
+var component = regexp.MustCompile(`^[A-Za-z0-9._-]+$`)
+
+// The document keeps the rules of OpenAPI 3.0: known keywords of the right kinds, references to what is there, ids that are
+// unique, parameters for each part of a path.
+func TestPageKeepsTheRules(t *testing.T) {
+	r := &rules{page: described(t, many), ids: map[string]bool{}}
+	for path, item := range r.page["paths"].(map[string]any) {
+		if !strings.HasPrefix(path, "/") {
+			r.fault("the path %s has no slash", path)
+		}
+		for method, it := range item.(map[string]any) {
+			r.operation(path, method, it.(map[string]any))
+		}
+	}
+	for name, schema := range r.page["components"].(map[string]any)["schemas"].(map[string]any) {
+		if !component.MatchString(name) {
+			r.fault("the component %q has another name than OpenAPI takes", name)
+		}
+		r.schema(name, schema)
+	}
+	for _, fault := range r.faults {
+		t.Error(fault)
+	}
+}
+
+func operationsOf(page map[string]any) map[string]any {
+	ids := map[string]any{}
+	for path, item := range page["paths"].(map[string]any) {
+		for method, it := range item.(map[string]any) {
+			ids[method+" "+path] = it.(map[string]any)["operationId"]
+		}
+	}
+	return ids
+}
+
+// The names of operations stay when services are added before and behind.
+func TestOperationsStay(t *testing.T) {
+	all := operationsOf(described(t, many))
+	for at, service := range many {
+		for operation, id := range operationsOf(described(t, []Service{service})) {
+			if all[operation] != id {
+				t.Errorf("service %d: %s is %v alone, and %v among others", at, operation, id, all[operation])
+			}
+		}
+	}
+	if id := all["post /v1/services/shipping"]; id != "shipping" {
+		t.Errorf("the service shipping is %v", id)
+	}
+}
+
+// What a service takes and gives has named schemas that say all that is known.
+func TestNamedSchemas(t *testing.T) {
+	text, _ := json.Marshal(described(t, many)["components"].(map[string]any)["schemas"])
+	for _, due := range []string{
+		`"shippingInputs":{"additionalProperties":false,"description":"An input that is missing is null. Inputs of other services are ignored.",` +
+			`"properties":{"any":{"description":"Any value","nullable":true},"express":{"nullable":true,"type":"boolean"},` +
+			`"weight":{"format":"int64","minimum":0,"type":"integer"}},"required":["weight"],"type":"object"}`,
+		`"result":{"items":{"nullable":true,"properties":{"a b":{"format":"int64","nullable":true,"type":"integer"}},"type":"object"},` +
+			`"nullable":true,"type":"array"}`,
+	} {
+		if !strings.Contains(string(text), due) {
+			t.Errorf("%s is due", due)
+		}
+	}
+}
