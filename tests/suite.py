@@ -8,6 +8,7 @@ it; a script that runs rows together counts only these. The last line is 'N pass
 
 from __future__ import annotations
 
+import os
 import sys
 from collections.abc import Callable, Iterable
 from pathlib import Path
@@ -27,6 +28,11 @@ class Rows:
         self.engine = str(Path(engine or TOP / "dist" / "desk").resolve())
         self.gateway = str(Path(gateway or TOP / "dist" / "desk-gateway").resolve())
         self.passed = self.failed = self.skipped = 0
+
+    def whole(self) -> str:
+        """The program with all commands, which runs the engine."""
+        os.environ["DESK_ENGINE"] = self.engine
+        return self.gateway
 
     def wants(self, name: str) -> bool:
         return self.wanted in name

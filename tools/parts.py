@@ -100,4 +100,4 @@ def scripts() -> list[str]:
 
 def measures(name: str) -> bool:
     """Whether a script measures times, which depend on the machine and on what runs beside it. The gate leaves these out."""
-    return name.endswith("-speed")
+    return name.endswith(("-speed", "-soak"))

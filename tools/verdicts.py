@@ -26,7 +26,7 @@ def refusals(lines: list[str]) -> list[tuple[str, int, str]]:
     """The file, the line and the text of each place at which something was refused."""
     found = (PLACE.match(it) for it in lines)
     places = [(it["file"], int(it["line"]), it["said"]) for it in found if it]
-    return [it for it in places if it[2].startswith(" error") or "not proved" in it[2]]
+    return [it for it in places if it[2].startswith(" error") or "not proved" in it[2] or "found no proof" in it[2]]
 
 
 def reached(lines: list[str]) -> str:

@@ -2,9 +2,11 @@ package cases
 
 import (
 	"encoding/json"
+	"fmt"
 	"math/big"
 	"regexp"
 	"sort"
+	"strconv"
 	"strings"
 
 	"gateway/lines"
@@ -14,7 +16,9 @@ import (
 // Borders are rows at the borders of a decision table: for each rule, values that it tests, and in each column in turn both sides
 // of each end of an interval, each word, another one, and null.
 type Borders struct {
-	// Decision is the word of the table's decision, and Given are those of the decisions whose values the rows bring.
+	// Name is the word of the table's decision, with the words of the entries that have the table.
+	Name string
+	// Decision is the word of the decision, and Given are those of the decisions whose values the rows bring.
 	Decision string
 	Given    []string
 	// Rows are objects of inputs, each once.
@@ -24,7 +28,7 @@ type Borders struct {
 	values  [][]any
 	// Calculated are columns that the rows can't set: their expressions are no names.
 	Calculated []string
-	// IsCut says that there are more rows than are tried.
+	// IsCut says that not all rows are tried: values of other rules, or whole rules, are left out.
 	IsCut bool
 }
 
@@ -47,45 +51,156 @@ var (
 	otherWords = map[string]any{"true": true, "false": false, "null": nil}
 )
 
-// BordersOf are the borders of the table of a decision; nil where it has none. Only picks rules by their numbers, from 1; nil picks
-// all. Step is what the numbers of an input, or of a part of it, are counted in, as 1 or 0.01.
-func BordersOf(m *model.Model, at int, only map[int]bool, step func(path []string) *big.Rat) *Borders {
-	decision := m.Decisions[at]
-	table, is := decision.Expr.(*model.Table)
-	if !is {
-		return nil
-	}
-	b := &Borders{Decision: decision.Name}
-	isDecision := map[string]bool{}
-	for _, it := range m.Decisions {
-		isDecision[it.Name] = true
-	}
-	rules := table.Rules
-	if only != nil {
-		rules = nil
-		for i, rule := range table.Rules {
-			if only[i+1] {
-				rules = append(rules, rule)
-			}
+// A bordered is a table of a decision.
+type bordered struct {
+	name     string
+	table    *model.Table
+	decision *model.Decision
+	// local are the words of entries, which are no inputs; written is the table as the file has it, nil where it has none.
+	local   map[string]bool
+	written *model.Table
+}
+
+// Borders are those of each table of a decision.
+func (s *Subject) Borders(word string) (all []*Borders, err error) {
+	tables, err := s.tables(word)
+	for at := range tables {
+		if b := s.bordersOf(&tables[at], tables[at].table.Rules); len(b.Rows) > 0 || len(b.Calculated) > 0 {
+			all = append(all, b)
 		}
 	}
+	return all, err
+}
+
+// RuleBorders are those of some rules of a decision that is a table, by their numbers from 1; nil picks all. It is nil where the
+// decision is none.
+func (s *Subject) RuleBorders(word string, only map[int]bool) (*Borders, error) {
+	tables, err := s.tables(word)
+	if err != nil || len(tables) == 0 || tables[len(tables)-1].name != word {
+		return nil, err
+	}
+	main := &tables[len(tables)-1]
+	rules := main.table.Rules
+	if only != nil {
+		rules = picked(rules, only)
+	}
+	return s.bordersOf(main, rules), nil
+}
+
+func picked(rules []model.Rule, only map[int]bool) (some []model.Rule) {
+	for i, rule := range rules {
+		if only[i+1] {
+			some = append(some, rule)
+		}
+	}
+	return some
+}
+
+// tables are those of a decision that its file has; the last is that of its result, where that is a table.
+func (s *Subject) tables(word string) ([]bordered, error) {
+	if s.parsed == nil {
+		if err := s.parse(); err != nil {
+			return nil, err
+		}
+	}
+	at, is := s.places[word]
+	if !is {
+		return nil, nil
+	}
+	f := finder{subject: s, decision: &s.parsed.Decisions[at], local: map[string]bool{}}
+	f.find(f.decision.Expr, fmt.Sprintf("/decisions/%d/expr", at), word)
+	return f.found, nil
+}
+
+// parse reads the logic of the model.
+func (s *Subject) parse() error {
+	parsed, written, err := s.logic()
+	if err != nil {
+		return err
+	}
+	s.written = map[string]*model.Table{}
+	for table, origin := range written.Origins {
+		s.written[origin.Pointer] = table
+	}
+	s.parsed = parsed
+	return nil
+}
+
+// logic is the model, and how its file has it.
+func (s *Subject) logic() (*model.Model, *model.Written, error) {
+	parsed, err := model.Parse(s.source.Text)
+	if err != nil {
+		return nil, nil, err
+	}
+	spelling, err := model.ReadSpelling(s.source.Names, s.source.Locals, s.source.Places)
+	if err != nil {
+		return nil, nil, err
+	}
+	return parsed, spelling.Written(parsed), nil
+}
+
+// Written is the model as its file has it.
+func (s *Subject) Written() (*model.Model, error) {
+	_, written, err := s.logic()
+	if err != nil {
+		return nil, err
+	}
+	return written.Model, nil
+}
+
+// A finder finds the tables of a decision.
+type finder struct {
+	subject  *Subject
+	decision *model.Decision
+	local    map[string]bool
+	found    []bordered
+}
+
+func (f *finder) find(e model.Expression, pointer, name string) {
+	switch e := e.(type) {
+	case *model.Table:
+		if written := f.subject.written[pointer+"/table"]; written != nil {
+			f.found = append(f.found, bordered{name, e, f.decision, f.local, written})
+		}
+	case model.List:
+		for i, it := range e {
+			f.find(it, fmt.Sprintf("%s/list/%d", pointer, i), fmt.Sprintf("%s.%d", name, i+1))
+		}
+	case model.Context:
+		for i, it := range e.Entries {
+			f.local[it.Name] = true
+			f.find(it.Expr, fmt.Sprintf("%s/context/%d/expr", pointer, i), name+"."+it.Name)
+		}
+		if e.Result != nil {
+			f.find(e.Result, pointer+"/result", name)
+		}
+	}
+}
+
+// bordersOf are the borders of some rules of a table.
+func (s *Subject) bordersOf(t *bordered, rules []model.Rule) *Borders {
+	b := &Borders{Name: t.name, Decision: t.decision.Name}
 	var columns []border
-	for i, text := range table.Inputs {
+	for i, text := range t.table.Inputs {
 		path := strings.Split(text, ".")
-		if !pathForm.MatchString(text) || !contains(decision.Needs, path[0]) {
-			b.Calculated = append(b.Calculated, text)
+		if !pathForm.MatchString(text) || !contains(t.decision.Needs, path[0]) || t.local[path[0]] {
+			if i < len(t.written.Inputs) {
+				b.Calculated = append(b.Calculated, t.written.Inputs[i])
+			}
 			path = nil
-		} else if isDecision[path[0]] && !contains(b.Given, path[0]) {
+		} else if _, is := s.places[path[0]]; is && !contains(b.Given, path[0]) {
 			b.Given = append(b.Given, path[0])
 		}
-		columns = append(columns, border{path, valuesOf(rules, i, step, path)})
+		columns = append(columns, border{path, valuesOf(rules, i, s.Step, path)})
 	}
 	for _, it := range columns {
 		if it.path != nil {
 			b.columns = append(b.columns, it.path)
 		}
 	}
-	b.rows(rules, len(table.Rules), columns, step)
+	if len(b.columns) > 0 {
+		b.rows(rules, len(t.table.Rules), columns, s.Step)
+	}
 	return b
 }
 
@@ -126,29 +241,57 @@ func valuesOf(rules []model.Rule, column int, step func([]string) *big.Rat, path
 		}
 	}
 	add(nil)
-	keys := make([]string, 0, len(seen))
-	for key := range seen {
-		keys = append(keys, key)
+	all := make([]ordered, 0, len(seen))
+	for text, value := range seen {
+		all = append(all, orderedOf(text, value))
 	}
-	sort.Slice(keys, func(i, j int) bool { return isBefore(seen[keys[i]], seen[keys[j]], keys[i], keys[j]) })
-	values := make([]any, len(keys))
-	for i, key := range keys {
-		values[i] = seen[key]
+	sort.Slice(all, func(i, j int) bool { return all[i].isBefore(&all[j]) })
+	values := make([]any, len(all))
+	for i := range all {
+		values[i] = all[i].value
 	}
 	return values
 }
 
+// An ordered value has its number ready, since it is compared often: as a whole one where isWhole, else as a fraction, or nil.
+type ordered struct {
+	text     string
+	value    any
+	whole    int64
+	isWhole  bool
+	fraction *big.Rat
+}
+
+func orderedOf(text string, value any) ordered {
+	it := ordered{text: text, value: value}
+	if number, is := value.(json.Number); is {
+		whole, err := strconv.ParseInt(number.String(), 10, 64)
+		if it.whole, it.isWhole = whole, err == nil; err != nil {
+			it.fraction = rational(number)
+		}
+	}
+	return it
+}
+
+func (o *ordered) rational() *big.Rat {
+	if o.isWhole {
+		return new(big.Rat).SetInt64(o.whole)
+	}
+	return o.fraction
+}
+
 // isBefore orders numbers by their values, and others by their texts, null last.
-func isBefore(one, other any, oneText, otherText string) bool {
-	a, isA := one.(json.Number)
-	b, isB := other.(json.Number)
-	if isA && isB {
-		return rational(a).Cmp(rational(b)) < 0
+func (o *ordered) isBefore(other *ordered) bool {
+	if o.isWhole && other.isWhole {
+		return o.whole < other.whole
 	}
-	if one == nil || other == nil {
-		return one != nil
+	if one, two := o.rational(), other.rational(); one != nil && two != nil {
+		return one.Cmp(two) < 0
 	}
-	return oneText < otherText
+	if o.value == nil || other.value == nil {
+		return o.value != nil
+	}
+	return o.text < other.text
 }
 
 func rational(number json.Number) *big.Rat {
@@ -179,29 +322,83 @@ func moved(number json.Number, step *big.Rat, by int64) json.Number {
 	return json.Number(text)
 }
 
-// rows makes the rows: around a base of each rule, each column in turn has each of its values.
+// rows makes the rows: around a base of each rule, each column in turn has each of its values. Where these would be too many, it has
+// those of the rule alone, and rules are left out all over the table.
 func (b *Borders) rows(rules []model.Rule, asked int, columns []border, step func([]string) *big.Rat) {
 	seen := map[string]bool{}
 	most := MostBorders
 	if asked > 0 && most > mostAsked/asked {
 		most = mostAsked / asked
 	}
+	if b.IsCut = len(rules)*countOf(columns) > most; b.IsCut {
+		rules = spread(rules, most/(usualBorders*len(columns)))
+	}
 	for _, rule := range rules {
-		base := make([]any, len(columns))
-		for i := range columns {
-			base[i] = inside(rule.When[i], columns[i], step)
+		around := columns
+		if b.IsCut {
+			around = bordersOfRule(rule, columns, step)
 		}
-		for i := range columns {
-			for _, value := range columns[i].values {
-				row := append([]any(nil), base...)
-				row[i] = value
-				b.add(columns, row, seen)
-				if len(b.Rows) >= most {
-					b.IsCut = true
-					return
-				}
-			}
+		if b.around(rule, around, step, seen, most); len(b.Rows) >= most {
+			return
 		}
+	}
+}
+
+// usualBorders is how many values most cells have: both sides of a number and itself, and null.
+const usualBorders = 4
+
+func countOf(columns []border) (count int) {
+	for i := range columns {
+		count += len(columns[i].values)
+	}
+	return count
+}
+
+// spread are so many rules, and one at least, with as many left out between any two of them.
+func spread(rules []model.Rule, count int) []model.Rule {
+	if count < 1 {
+		count = 1
+	}
+	if count >= len(rules) {
+		return rules
+	}
+	some := make([]model.Rule, count)
+	for i := range some {
+		some[i] = rules[i*len(rules)/count]
+	}
+	return some
+}
+
+// bordersOfRule are columns with the values of one rule.
+func bordersOfRule(rule model.Rule, columns []border, step func([]string) *big.Rat) []border {
+	own := make([]border, len(columns))
+	for i := range columns {
+		own[i] = border{columns[i].path, valuesOf([]model.Rule{rule}, i, step, columns[i].path)}
+	}
+	return own
+}
+
+// around adds the rows around a rule, up to most in all.
+func (b *Borders) around(rule model.Rule, columns []border, step func([]string) *big.Rat, seen map[string]bool, most int) {
+	base := make([]any, len(columns))
+	for i := range columns {
+		base[i] = inside(rule.When[i], columns[i], step)
+	}
+	for i := range columns {
+		b.along(columns, base, i, seen, most)
+	}
+}
+
+// along adds the rows in which one column has each of its values.
+func (b *Borders) along(columns []border, base []any, column int, seen map[string]bool, most int) {
+	for _, value := range columns[column].values {
+		if len(b.Rows) >= most {
+			b.IsCut = true
+			return
+		}
+		row := append([]any(nil), base...)
+		row[column] = value
+		b.add(columns, row, seen)
 	}
 }
 

@@ -10,7 +10,6 @@ import (
 	"testing"
 	"unicode/utf16"
 
-	"gateway/model"
 	"gateway/service"
 )
 
@@ -158,7 +157,7 @@ func encoded(how int, text string) io.Reader {
 }
 
 func TestValues(t *testing.T) {
-	any := kind{}
+	any, day, moment := kind{}, kind{isText: true, format: "date"}, kind{isText: true, format: "date-time"}
 	for _, row := range []struct {
 		kind  kind
 		comma bool
@@ -172,6 +171,13 @@ func TestValues(t *testing.T) {
 		{any, false, `"12"`, `"12"`}, {any, false, "[1, 2]", "[1, 2]"}, {any, false, "a\nb", `"a\nb"`}, {text, true, "1,5", `"1,5"`},
 		{any, false, "2026-11-29", `"2026-11-29"`}, {any, false, "1.2.3", `"1.2.3"`},
 		{any, false, "1,5", ""}, {any, true, "1.5", ""}, {any, true, "1.000,5", ""}, {number, true, "1.000", ""}, {number, false, "x", ""},
+		{any, true, "WAHR", "true"}, {any, false, "FAUX", "false"}, {any, true, "Wahr", `"Wahr"`}, {truth, false, "wahr", "true"}, {text, true, "WAHR", `"WAHR"`},
+		{any, false, "VERDADEIRO", "true"}, {any, false, "#1", `"#1"`}, {any, false, "#", `"#"`}, {any, false, "# ok!", `"# ok!"`}, {any, false, "#ok!", `"#ok!"`},
+		{any, false, "#N/A", ""}, {text, false, "#WERT!", ""}, {number, false, "#NV", ""}, {any, false, "#¡REF!", ""}, {any, false, "#NAME?", ""}, {any, false, "Err:510", ""},
+		{any, false, "####", ""}, {text, false, `"#N/A"`, `"#N/A"`}, {any, false, "Err: 510", `"Err: 510"`}, {any, true, "1,23457E+12", ""}, {number, false, "1E+030", ""},
+		{any, false, "12E4", `"12E4"`}, {any, false, `"1E+3"`, `"1E+3"`}, {text, true, "1E+3", `"1E+3"`},
+		{day, true, "29.11.2026", `"2026-11-29"`}, {day, false, "1.2.2026", `"2026-02-01"`}, {day, false, "2026-11-29", `"2026-11-29"`}, {day, false, "29/11/2026", `"29/11/2026"`},
+		{moment, false, "29.11.2026 8:05", `"2026-11-29T08:05:00"`}, {moment, false, "2026-11-29 08:05:07+01:00", `"2026-11-29T08:05:07+01:00"`}, {day, false, "null", "null"},
 		{number, false, "1e3", ""}, {truth, false, "yes", ""}, {parts, false, "1", ""}, {any, false, "[1", ""}, {text, false, "\xff", ""},
 	} {
 		got, reason := row.kind.appendValue(nil, []byte(row.cell), row.comma)
@@ -184,10 +190,22 @@ func TestValues(t *testing.T) {
 	}
 }
 
+// TestANSI reads each byte of Windows-1252 as Python does (bytes.decode("cp1252")).
+func TestANSI(t *testing.T) {
+	for bytes, due := range map[string]string{
+		"\x80\x9f\xe4\xff a": "€Ÿäÿ a", "\xef\xbb\xbf\xc3\xa4": "ä", "\xff\xfe\xe4\x00": "ä", "\x93x\x94": "“x”", "\x81": "\xff",
+	} {
+		got, err := io.ReadAll(decoded(strings.NewReader(bytes), true))
+		if err != nil || string(got) != due {
+			t.Errorf("%q is read as %q, %v; and %q is due", bytes, got, err, due)
+		}
+	}
+}
+
 // TestWrittenValues writes random results as cells, and reads them again.
 func TestWrittenValues(t *testing.T) {
 	random := rand.New(rand.NewSource(2))
-	texts := []string{"", " ", "a", "12", "1,5", "1.5", "true", "null", `"x"`, `"`, "[", "{}", "a;b", "007", "é", "-", "1.000,5"}
+	texts := []string{"", " ", "a", "12", "1,5", "1.5", "true", "null", `"x"`, `"`, "[", "{}", "a;b", "007", "é", "-", "1.000,5", "WAHR", "#N/A", "1E+03", "####"}
 	for n := 0; n < 2000; n++ {
 		k := []kind{{}, text}[random.Intn(2)]
 		comma := random.Intn(2) == 0
@@ -283,12 +301,47 @@ func TestDecimalBorders(t *testing.T) {
 	if err != nil {
 		t.Fatal(err)
 	}
-	parsed, err := model.Parse(source.Text)
+	borders, err := subject.Borders("d")
+	if err != nil || len(borders) != 1 {
+		t.Fatal(borders, err)
+	}
+	got := string(subject.CSV(borders[0], true))
+	if due := "a\n2,49\n2,5\n2,51\nnull\n"; got != due {
+		t.Errorf("%q, and %q is due", got, due)
+	}
+}
+
+// TestBordersOfManyRules has a table with more borders than are tried: they are those of rules from all over it.
+func TestBordersOfManyRules(t *testing.T) {
+	var rules []string
+	for n := 0; n < 2000; n++ {
+		rules = append(rules, fmt.Sprintf(`{"when":["[%d..%d]","-"],"then":["%d"]}`, 10*n, 10*n+9, n))
+	}
+	source, err := service.ReadSource([]byte(`{"inputs":["a","b"],"decisions":[{"name":"d","needs":["a","b"],"expr":{"table":{"hit":"U",` +
+		`"inputs":["a","b"],"outputs":[{"name":"o"}],"rules":[` + strings.Join(rules, ",") + `]}}}],"services":[]}`))
 	if err != nil {
 		t.Fatal(err)
 	}
-	got := string(subject.CSV(BordersOf(parsed, 0, nil, subject.Step), true))
-	if due := "a\n2,49\n2,5\n2,51\nnull\n"; got != due {
-		t.Errorf("%q, and %q is due", got, due)
+	subject, err := NewSubject(source)
+	if err != nil {
+		t.Fatal(err)
+	}
+	all, err := subject.Borders("d")
+	if err != nil || len(all) != 1 {
+		t.Fatal(all, err)
+	}
+	rows := all[0].Rows
+	if !all[0].IsCut || len(rows) < 1000 || len(rows) > mostAsked/2000 {
+		t.Errorf("%d rows, cut %v", len(rows), all[0].IsCut)
+	}
+	for _, due := range []string{`{"a":-1,"b":null}`, `{"a":9,"b":null}`, `{"a":100`, `{"a":199`} {
+		if !strings.Contains(string(bytes.Join(rows, []byte("\n"))), due) {
+			t.Errorf("%s is missing", due)
+		}
+	}
+	some, err := subject.RuleBorders("d", map[int]bool{1001: true})
+	if due := `{"a":9999,"b":null} {"a":10000,"b":null} {"a":10001,"b":null} {"a":10008,"b":null} {"a":10009,"b":null} {"a":10010,"b":null} {"a":null,"b":null}`; err != nil ||
+		some.IsCut || string(bytes.Join(some.Rows, []byte(" "))) != due {
+		t.Errorf("%v %s, and %s is due", err, bytes.Join(some.Rows, []byte(" ")), due)
 	}
 }

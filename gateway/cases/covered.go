@@ -14,11 +14,25 @@ type Covered struct {
 	// Rules is how many rules there are; Unreached are those that no row hit, and Undecided those that hit and never decided.
 	Rules                int
 	Unreached, Undecided []int
+	// Tests is how many cells of its input columns test something, and Untried are those of rules that hit at which no row missed.
+	Tests   int
+	Untried []Cell
+	// unreached is how many of the tests are in rules that no row hit.
+	unreached int
 }
 
-// Covered are all tables of the model with what was counted of them.
+// A Cell is one of a rule in an input column, in the words of the file.
+type Cell struct {
+	Rule         int
+	Column, Test string
+}
+
+// Reached is how many cells were reached: their rules hit, and missed there.
+func (c *Covered) Reached() int { return c.Tests - c.unreached - len(c.Untried) }
+
+// Covered are all tables of the file with what was counted of them.
 func (s *Subject) Covered(counts *coverage.Counts) ([]Covered, error) {
-	parsed, err := model.Parse(s.source.Text)
+	parsed, written, err := s.logic()
 	if err != nil {
 		return nil, err
 	}
@@ -26,40 +40,40 @@ func (s *Subject) Covered(counts *coverage.Counts) ([]Covered, error) {
 	for _, it := range parsed.Decisions {
 		words = append(words, it.Name)
 	}
-	c := &coverer{counted: counts.Tables(words), subject: s}
-	for at, it := range parsed.Decisions {
-		c.expression(it.Expr, fmt.Sprintf("/decisions/%d/expr", at), s.Name(it.Name))
+	c := &coverer{counted: counts.Tables(words), written: written}
+	for _, it := range c.written.Model.Decisions {
+		c.expression(it.Expr, it.Name)
 	}
 	return c.all, nil
 }
 
-// A coverer goes over the tables of a model.
+// A coverer goes over the tables of a model as its file has it.
 type coverer struct {
 	counted map[string]*coverage.Table
-	subject *Subject
+	written *model.Written
 	all     []Covered
 }
 
-func (c *coverer) expression(e model.Expression, pointer, name string) {
+func (c *coverer) expression(e model.Expression, name string) {
 	switch e := e.(type) {
 	case *model.Table:
-		c.table(e, c.counted[pointer+"/table"], name)
+		c.table(e, name)
 	case model.List:
 		for at, it := range e {
-			c.expression(it, fmt.Sprintf("%s/list/%d", pointer, at), fmt.Sprintf("%s[%d]", name, at+1))
+			c.expression(it, fmt.Sprintf("%s[%d]", name, at+1))
 		}
 	case model.Context:
-		for at, it := range e.Entries {
-			c.expression(it.Expr, fmt.Sprintf("%s/context/%d/expr", pointer, at), name+"."+c.subject.partName(it.Name))
+		for _, it := range e.Entries {
+			c.expression(it.Expr, name+"."+it.Name)
 		}
 		if e.Result != nil {
-			c.expression(e.Result, pointer+"/result", name)
+			c.expression(e.Result, name)
 		}
 	}
 }
 
-func (c *coverer) table(t *model.Table, counted *coverage.Table, name string) {
-	it := Covered{Name: name, Rules: len(t.Rules)}
+func (c *coverer) table(t *model.Table, name string) {
+	it, counted := Covered{Name: name, Rules: len(t.Rules)}, c.counted[c.written.Origins[t].Pointer]
 	for at := range t.Rules {
 		switch {
 		case counted == nil || at >= len(counted.Hits) || counted.Hits[at] == 0:
@@ -68,5 +82,47 @@ func (c *coverer) table(t *model.Table, counted *coverage.Table, name string) {
 			it.Undecided = append(it.Undecided, at+1)
 		}
 	}
+	c.cells(t, counted, &it)
 	c.all = append(c.all, it)
+}
+
+// cells adds what is said of the cells of a table.
+func (c *coverer) cells(t *model.Table, counted *coverage.Table, it *Covered) {
+	for _, rule := range it.Unreached {
+		it.unreached += tests(t.Rules[rule-1])
+	}
+	for at, rule := range t.Rules {
+		it.Tests += tests(rule)
+		if counted != nil && at < len(counted.Hits) && counted.Hits[at] > 0 {
+			it.Untried = append(it.Untried, c.untried(t, at, counted.Missed)...)
+		}
+	}
+}
+
+// always is the test of a cell that each value meets.
+const always = "-"
+
+// tests is how many cells of a rule test something.
+func tests(rule model.Rule) (count int) {
+	for _, test := range rule.When {
+		if test != always {
+			count++
+		}
+	}
+	return count
+}
+
+// untried are the cells of a rule at which it never missed. A test that the translation put into a column of its own misses there.
+func (c *coverer) untried(t *model.Table, rule int, missed [][]bool) (cells []Cell) {
+	translated := c.written.Origins[t].Table.Rules[rule].When
+	misses := func(column int) bool {
+		return rule < len(missed) && column < len(missed[rule]) && missed[rule][column]
+	}
+	for column, test := range t.Rules[rule].When {
+		isMoved := translated[column] == always && misses(len(t.Inputs))
+		if test != always && !misses(column) && !isMoved {
+			cells = append(cells, Cell{rule + 1, t.Inputs[column], test})
+		}
+	}
+	return cells
 }

@@ -204,7 +204,7 @@ func (f *File) headerLine() ([]byte, *Fault) {
 		case isLong:
 			return nil, longRow(number)
 		case !utf8.Valid(text):
-			return nil, &Fault{Line: number, Column: invalidAt(text) + 1, Reason: notUTF8}
+			return nil, &Fault{Line: number, Column: invalidAt(text) + 1, Reason: notUTF8 + ", or read it with --encoding windows-1252"}
 		case bytes.IndexByte(text, '\r') >= 0:
 			return nil, &Fault{Line: number, Column: bytes.IndexByte(text, '\r') + 1,
 				Reason: "a carriage return without a line feed: save the file with line ends of Windows or Unix"}

@@ -27,6 +27,8 @@ type Options struct {
 	Comma bool
 	// Separator is that of the cells of CSV; 0 is found in the header.
 	Separator byte
+	// IsANSI says that a file which is not marked as UTF-8 or UTF-16 is Windows-1252.
+	IsANSI bool
 	// Unknown says that columns and members that the model doesn't know are left alone.
 	Unknown bool
 }
@@ -86,7 +88,7 @@ func (c *counter) Read(to []byte) (int, error) {
 // Open reads the begin of a file. Its form is that of its extension (.csv, .jsonl), or it is found in its first bytes.
 func Open(name string, from io.Reader, options Options) (*File, error) {
 	count := &counter{from: from}
-	text := decoded(count)
+	text := decoded(count, options.IsANSI)
 	f := &File{options: options, count: count, lines: lineReader{from: text}}
 	first, err := firstByte(text)
 	if err != nil && !errors.Is(err, io.EOF) {
@@ -141,7 +143,7 @@ func (f *File) read(b *Batch, most int) error {
 			}
 			break
 		}
-		if record.fault == nil && len(bytes.TrimSpace(b.room[start:])) == 0 {
+		if record.fault == nil && f.isBlank(b.room[start:]) {
 			b.room = b.room[:start]
 			continue
 		}
@@ -155,6 +157,11 @@ func (f *File) read(b *Batch, most int) error {
 		return io.EOF
 	}
 	return nil
+}
+
+// isBlank says whether a record has nothing. In a line of tabs these separate cells.
+func (f *File) isBlank(text []byte) bool {
+	return len(bytes.TrimSpace(text)) == 0 && (f.Form != CSV || f.Separator != '\t' || bytes.IndexByte(text, '\t') < 0)
 }
 
 // readRecord adds the text of the next record to the room of a batch.

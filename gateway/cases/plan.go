@@ -95,6 +95,34 @@ func (s *Subject) QuestionOf(outputs, given []string) (*Question, error) {
 	return q, nil
 }
 
+// nameOf is what a row asks for, by its name: a service, or decisions.
+func (q *Question) nameOf(row *Row) string {
+	if row.Service != "" {
+		return q.subject.Name(row.Service)
+	}
+	if q.subject.service(q.Service) >= 0 {
+		return q.subject.Name(q.Service)
+	}
+	var names []string
+	for _, word := range q.Outputs {
+		names = append(names, q.subject.Name(word))
+	}
+	return strings.Join(names, ", ")
+}
+
+// Named has the names of the file in place of the words of inputs.
+func (p *Plan) Named(inputs []byte) []byte {
+	names := p.question.subject.source.Names
+	if len(names) == 0 {
+		return inputs
+	}
+	tree, err := lines.Tree(inputs)
+	if err != nil {
+		return inputs
+	}
+	return lines.Compact(nil, lines.Renamed(tree, names))
+}
+
 // A Plan is how the rows of a file are read for a question.
 type Plan struct {
 	file     *File
@@ -221,7 +249,7 @@ func (q *Question) input(name string) (column, string) {
 	word, path := found(name, s.inputs)
 	if word == "" {
 		if word, path = found(name, s.decisions); !q.given[word] {
-			return column{}, fmt.Sprintf("the model has no input %q%s", name, near(name, s.inputNames()))
+			return column{}, fmt.Sprintf("the model has no input %q%s", name, meant(name, s.inputNames()))
 		}
 	}
 	schema := s.source.Types[word]
@@ -233,7 +261,7 @@ func (q *Question) input(name string) (column, string) {
 		}
 		var is bool
 		if schema, is = s.property(properties, part); !is {
-			return column{}, fmt.Sprintf("%q has no part %q%s", s.Name(word), part, near(part, s.propertyNames(properties)))
+			return column{}, fmt.Sprintf("%q has no part %q%s", s.Name(word), part, meant(part, s.propertyNames(properties)))
 		}
 	}
 	return column{word: word, path: path, kind: kindOf(schema)}, ""
@@ -260,7 +288,7 @@ func (s *Subject) propertyNames(properties map[string]json.RawMessage) (names []
 func (s *Subject) due(name string) (column, string) {
 	word, path := found(name, s.decisions)
 	if word == "" {
-		return column{}, fmt.Sprintf("the model has no decision %q%s", name, near(name, s.decisionNames()))
+		return column{}, fmt.Sprintf("the model has no decision %q%s", name, meant(name, s.decisionNames()))
 	}
 	for at, part := range path {
 		path[at] = s.Name(part)

@@ -20,6 +20,8 @@ type Answer struct {
 	IsRefused, IsFailed bool
 	// Rules are those that decided, where that is asked for.
 	Rules map[string][]int
+	// Told is how the answer came about, in the form of `desk explain`, where that is asked for.
+	Told []byte
 }
 
 // A resultColumn is one that results add.

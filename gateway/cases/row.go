@@ -4,6 +4,7 @@ import (
 	"encoding/json"
 	"fmt"
 	"strings"
+	"unicode/utf8"
 
 	"gateway/lines"
 )
@@ -19,9 +20,8 @@ type Row struct {
 	Dues []Due
 	// IsSkipped says that it is another line of serve, which asks nothing.
 	IsSkipped bool
-	// cells and kept are what the results begin with.
+	// cells are what the results begin with.
 	cells []cell
-	kept  []byte
 }
 
 // Fault is why the row is not taken, or nil.
@@ -79,6 +79,10 @@ func (p *Parser) csvRow(row *Row) {
 	var fault *quoteFault
 	row.cells, fault = cells(row.cells, row.Text, p.plan.file.Separator)
 	columns := p.plan.columns
+	if !utf8.Valid(row.Text) {
+		p.noText(row)
+		return
+	}
 	if fault != nil {
 		name := ""
 		if len(row.cells) < len(columns) {
@@ -102,6 +106,19 @@ func (p *Parser) csvRow(row *Row) {
 	}
 	row.Inputs = inputs
 	p.csvDues(row)
+}
+
+// noText notes the first byte of a row that is not UTF-8.
+func (p *Parser) noText(row *Row) {
+	at, name := 0, ""
+	bad := invalidAt(row.Text)
+	for at < len(row.cells) && row.cells[at].end < bad {
+		at++
+	}
+	if at < len(p.plan.columns) {
+		name = p.plan.columns[at].name
+	}
+	row.faultAt(bad, name, notUTF8)
 }
 
 func counted(row *Row, separator byte) string {
@@ -256,7 +273,7 @@ func (p *Parser) known(row *Row, members []lines.Member, offset int) {
 		}
 		if !is {
 			row.faultAt(offset+member.Value.Start, member.Key,
-				"the model has no such input"+near(member.Key, q.subject.inputNames()))
+				"the model has no such input"+meant(member.Key, q.subject.inputNames()))
 			return
 		}
 	}

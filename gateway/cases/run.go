@@ -13,6 +13,7 @@ import (
 
 	"gateway/coverage"
 	"gateway/engine"
+	"gateway/lines"
 	"gateway/service"
 )
 
@@ -29,14 +30,18 @@ type Asker struct {
 	Explain bool
 	// Wants picks rows of which the rules that decided are asked for after their answer came; nil picks none.
 	Wants func(*Row, *Answer) bool
+	// Tells says that it is told of each answer how it came about.
+	Tells bool
 	// Counts are added to, where they are not nil: what each rule of each table did.
 	Counts *coverage.Counts
+	// Misses says that it is counted too where each rule missed.
+	Misses bool
 	// Log is told where an engine ended.
 	Log func(form string, words ...any)
 }
 
 // isExplained says whether all rows are asked with how their answers come about.
-func (a *Asker) isExplained() bool { return a.Explain || a.Counts != nil }
+func (a *Asker) isExplained() bool { return a.Explain || a.Tells || a.Counts != nil }
 
 // A task is a batch on its way.
 type task struct {
@@ -155,7 +160,7 @@ func (r *run) mayRead() bool {
 func (r *run) over(j *task) {
 	size := int64(len(j.batch.room) + len(j.room))
 	for at := range j.answers {
-		size += int64(len(j.answers[at].Result))
+		size += int64(len(j.answers[at].Result) + len(j.answers[at].Told))
 	}
 	if size /= int64(len(j.answers)); size > r.rowBytes.Load() {
 		r.rowBytes.Store(size)
@@ -197,7 +202,7 @@ func (r *run) read() {
 
 func (r *run) work() {
 	parser := r.plan.Parser()
-	explainer := &engine.Explainer{Path: r.asker.Path, Memory: r.asker.Memory}
+	explainer := &engine.Explainer{Path: r.asker.Path, Memory: r.asker.Memory, Misses: r.asker.Misses}
 	for j := range r.todo {
 		j.prepare(r, parser)
 		switch {
@@ -327,6 +332,29 @@ func (r *run) told(j *task, at int, line []byte) error {
 		}
 		j.answers[at].Rules = rulesOf(r.asked.Explained(it.Decisions))
 	}
+	if r.asker.Tells {
+		return r.explained(&j.rows[at], &j.answers[at], line)
+	}
+	return nil
+}
+
+// explained keeps what a line tells of a row, with the names and values of the file.
+func (r *run) explained(row *Row, answer *Answer, line []byte) error {
+	var it struct{ Decisions json.RawMessage }
+	if err := json.Unmarshal(line, &it); err != nil {
+		return fmt.Errorf("reading an explanation: %w", err)
+	}
+	text := lines.AppendQuoted([]byte(fmt.Sprintf(`{"line":%d,"service":`, row.Line)), r.plan.question.nameOf(row))
+	text = append(append(text, `,"inputs":`...), r.plan.Named(row.Inputs)...)
+	if it.Decisions != nil {
+		text = append(append(text, `,"decisions":`...), r.asked.Explained(it.Decisions)...)
+	} else {
+		text = append(text, `,"explained":"long"`...)
+	}
+	if answer.Result != nil {
+		text = append(append(text, `,"result":`...), answer.Result...)
+	}
+	answer.Told = append(text, '}')
 	return nil
 }
 

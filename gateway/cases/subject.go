@@ -6,6 +6,8 @@ import (
 	"strings"
 
 	"gateway/lines"
+	"gateway/model"
+	"gateway/near"
 	"gateway/service"
 )
 
@@ -16,6 +18,9 @@ type Subject struct {
 	// inputs and decisions have the word for each name and each word; places has the place of each decision.
 	inputs, decisions map[string]string
 	places            map[string]int
+	// parsed is the model with its logic, and written has the tables of its file by their pointers; nil where they weren't asked for.
+	parsed  *model.Model
+	written map[string]*model.Table
 }
 
 // A modelForm is what matters here of a model. That the model is valid is for the engine to say.
@@ -62,8 +67,28 @@ func (s *Subject) Decision(name string) (word string, is bool) {
 	return word, is
 }
 
-// Place is the place of a decision, which has this word, in the model.
-func (s *Subject) Place(word string) int { return s.places[word] }
+// IsInput says whether a name or a word is that of an input.
+func (s *Subject) IsInput(name string) bool {
+	_, is := s.inputs[canonical(name)]
+	return is
+}
+
+// Decisions are the words of all decisions, in the model's order.
+func (s *Subject) Decisions() (words []string) {
+	for _, decision := range s.form.Decisions {
+		words = append(words, decision.Name)
+	}
+	return words
+}
+
+// NameOf is the name in the file of the table with some borders.
+func (s *Subject) NameOf(b *Borders) string {
+	words := strings.Split(b.Name, ".")
+	for at := range words {
+		words[at] = s.partName(words[at])
+	}
+	return strings.Join(words, ".")
+}
 
 // service is the place of the service with a name or a word, or -1.
 func (s *Subject) service(name string) int {
@@ -94,7 +119,7 @@ func (s *Subject) Outputs(name string) ([]string, error) {
 	for _, it := range s.form.Services {
 		names = append(names, s.Name(it.Name))
 	}
-	return nil, fmt.Errorf("%w: no service and no decision is called %q%s", ErrForm, name, near(name, append(names, s.decisionNames()...)))
+	return nil, fmt.Errorf("%w: no service and no decision is called %q%s", ErrForm, name, meant(name, append(names, s.decisionNames()...)))
 }
 
 // answers says whether a service answers a decision; of one that isn't known it says so too, for the refusal of its request.
@@ -223,53 +248,10 @@ func (s *Subject) partName(word string) string {
 	return s.Name(word)
 }
 
-// near suggests the name that is nearest to one that is not known.
-func near(name string, names []string) string {
-	best, least := "", 1+len(name)/3
-	for _, other := range names {
-		if distance := distanceOf(strings.ToLower(name), strings.ToLower(other), least); distance <= least && (best == "" || distance < least) {
-			best, least = other, distance
-		}
+// meant suggests the name that is nearest to one that is not known.
+func meant(name string, names []string) string {
+	if best := near.To(name, names); best != "" {
+		return fmt.Sprintf("; did you mean %q?", best)
 	}
-	if best == "" {
-		return ""
-	}
-	return fmt.Sprintf("; did you mean %q?", best)
-}
-
-// distanceOf is how many letters have to be put in, left out or changed; more than most where it is more than that.
-func distanceOf(one, other string, most int) int {
-	if len(one)-len(other) > most || len(other)-len(one) > most || len(one) > mostNear {
-		return most + 1
-	}
-	row := make([]int, len(other)+1)
-	for at := range row {
-		row[at] = at
-	}
-	for i := range []byte(one) {
-		before := row[0]
-		row[0] = i + 1
-		for j := range []byte(other) {
-			cost := before
-			if one[i] != other[j] {
-				cost++
-			}
-			before = row[j+1]
-			row[j+1] = least(cost, row[j]+1, before+1)
-		}
-	}
-	return row[len(other)]
-}
-
-// mostNear is the most bytes of a name for which a near one is looked for.
-const mostNear = 200
-
-func least(numbers ...int) int {
-	best := numbers[0]
-	for _, n := range numbers[1:] {
-		if n < best {
-			best = n
-		}
-	}
-	return best
+	return ""
 }

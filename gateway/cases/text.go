@@ -16,8 +16,9 @@ const bufferSize = 256 << 10
 // byteOrderMark is that of UTF-8.
 var byteOrderMark = []byte("\xef\xbb\xbf")
 
-// decoded is a stream as UTF-8 without a byte order mark. UTF-16 is known by its mark, or by a zero beside the first byte.
-func decoded(from io.Reader) *bufio.Reader {
+// decoded is a stream as UTF-8 without a byte order mark. UTF-16 is known by its mark, or by a zero beside the first byte. A stream
+// that is neither this nor has the mark of UTF-8 is Windows-1252 if isANSI.
+func decoded(from io.Reader, isANSI bool) *bufio.Reader {
 	buffered := bufio.NewReaderSize(from, bufferSize)
 	begin, _ := buffered.Peek(3)
 	switch {
@@ -33,8 +34,36 @@ func decoded(from io.Reader) *bufio.Reader {
 		return fromUTF16(buffered, binary.LittleEndian)
 	case len(begin) >= 2 && begin[0] == 0 && begin[1] != 0:
 		return fromUTF16(buffered, binary.BigEndian)
+	case isANSI:
+		return bufio.NewReaderSize(&ansiReader{buffered}, bufferSize)
 	}
 	return buffered
+}
+
+// ansiLetters are the characters from 0x80 to 0x9f of Windows-1252; a blank is none.
+var ansiLetters = []rune("€ ‚ƒ„…†‡ˆ‰Š‹Œ Ž  ‘’“”•–—˜™š›œ žŸ")
+
+// An ansiReader reads Windows-1252 as UTF-8.
+type ansiReader struct{ from *bufio.Reader }
+
+func (r *ansiReader) Read(to []byte) (int, error) {
+	made := to[:0]
+	for cap(to)-len(made) >= utf8.UTFMax {
+		c, err := r.from.ReadByte()
+		switch {
+		case err != nil && len(made) > 0:
+			return len(made), nil
+		case err != nil:
+			return 0, err
+		case c < 0x80 || c > 0x9f:
+			made = utf8.AppendRune(made, rune(c))
+		case ansiLetters[c-0x80] == ' ':
+			made = append(made, noText)
+		default:
+			made = utf8.AppendRune(made, ansiLetters[c-0x80])
+		}
+	}
+	return len(made), nil
 }
 
 func fromUTF16(from *bufio.Reader, order binary.ByteOrder) *bufio.Reader {

@@ -4,7 +4,6 @@ import (
 	"bytes"
 	"encoding/json"
 	"fmt"
-	"strings"
 	"unicode/utf8"
 
 	"gateway/lines"
@@ -13,6 +12,8 @@ import (
 // A kind is what a type allows, as far as it matters for the reading of a cell.
 type kind struct {
 	isText, isNumber, isTruth, isOther bool
+	// format is that of a text, as JSON Schema has it: date, date-time.
+	format string
 	// properties has those of an object, by their words.
 	properties map[string]json.RawMessage
 }
@@ -21,6 +22,7 @@ type kind struct {
 func kindOf(schema json.RawMessage) kind {
 	var form struct {
 		Type       any                        `json:"type"`
+		Format     string                     `json:"format"`
 		Properties map[string]json.RawMessage `json:"properties"`
 	}
 	if schema == nil || json.Unmarshal(schema, &form) != nil {
@@ -30,7 +32,7 @@ func kindOf(schema json.RawMessage) kind {
 	if !is {
 		all = []any{form.Type}
 	}
-	k := kind{properties: form.Properties}
+	k := kind{properties: form.Properties, format: form.Format}
 	for _, name := range all {
 		switch name {
 		case "string":
@@ -67,10 +69,14 @@ func (k kind) appendValue(to, cell []byte, comma bool) ([]byte, string) {
 	switch {
 	case string(trimmed) == "null":
 		return append(to, "null"...), ""
+	case isSheetFault(trimmed):
+		return to, fmt.Sprintf("%s is a fault of the spreadsheet", shown(trimmed))
+	case k.is(text) && k.format != "":
+		return lines.AppendQuoted(to, string(isoDate(trimmed))), ""
 	case k.is(text):
 		return appendText(to, cell), ""
 	case k.is(truth):
-		if word := truthOf(trimmed); word != "" {
+		if word := truthOf(trimmed, true); word != "" {
 			return append(to, word...), ""
 		}
 		return to, fmt.Sprintf("%s is not true or false", shown(cell))
@@ -91,7 +97,7 @@ func appendAny(to, cell, trimmed []byte, comma bool) ([]byte, string) {
 	if len(trimmed) == 0 {
 		return lines.AppendQuoted(to, string(cell)), ""
 	}
-	if word := truthOf(trimmed); word != "" {
+	if word := truthOf(trimmed, false); word != "" {
 		return append(to, word...), ""
 	}
 	switch c := trimmed[0]; {
@@ -99,6 +105,8 @@ func appendAny(to, cell, trimmed []byte, comma bool) ([]byte, string) {
 		return appendJSON(to, trimmed)
 	case c == '"':
 		return appendText(to, cell), ""
+	case isShortened(trimmed):
+		return to, noNumber(cell, trimmed, comma) + inQuotes
 	case c != '-' && (c < '0' || c > '9'), isCode(trimmed):
 		return lines.AppendQuoted(to, string(cell)), ""
 	}
@@ -107,10 +115,12 @@ func appendAny(to, cell, trimmed []byte, comma bool) ([]byte, string) {
 	case ok:
 		return made, ""
 	case isNumeral(trimmed):
-		return to, noNumber(cell, trimmed, comma) + "; in quotes within the cell it is a text"
+		return to, noNumber(cell, trimmed, comma) + inQuotes
 	}
 	return lines.AppendQuoted(to, string(cell)), ""
 }
+
+const inQuotes = "; in quotes within the cell it is a text"
 
 // isCode says whether digits begin with a zero, as those of a postal code.
 func isCode(text []byte) bool {
@@ -143,15 +153,6 @@ func isNumeral(text []byte) bool {
 	return len(pieces) == 2 || groups
 }
 
-func truthOf(text []byte) string {
-	for _, word := range [...]string{"true", "false"} {
-		if len(text) == len(word) && strings.EqualFold(string(text), word) {
-			return word
-		}
-	}
-	return ""
-}
-
 // appendText adds a text; one that is JSON's string, in quotes, is what that stands for.
 func appendText(to, cell []byte) []byte {
 	if cell[0] == '"' {
@@ -175,6 +176,8 @@ func appendJSON(to, cell []byte) ([]byte, string) {
 // noNumber says that a cell is no number.
 func noNumber(cell, trimmed []byte, comma bool) string {
 	switch {
+	case isShortened(trimmed):
+		return fmt.Sprintf("%s is a number that the spreadsheet shortened: give its column a format with all digits", shown(cell))
 	case !isNumeral(trimmed):
 		return fmt.Sprintf("%s is not a number", shown(cell))
 	case comma:

@@ -9,7 +9,6 @@ import (
 	"io"
 	"os"
 	"path/filepath"
-	"strconv"
 	"strings"
 
 	"github.com/spf13/cobra"
@@ -17,7 +16,6 @@ import (
 	"gateway/cases"
 	"gateway/coverage"
 	"gateway/engine"
-	"gateway/model"
 	"gateway/service"
 	"gateway/tck"
 )
@@ -27,12 +25,11 @@ func runTests(ctx context.Context, c *cobra.Command, model string, files []strin
 	if err := oneStdin(append([]string{model}, files...)); err != nil {
 		return err
 	}
-	least := 0.0
-	if o.coverage != "" {
-		var err error
-		if least, err = strconv.ParseFloat(strings.TrimSuffix(o.coverage, "%"), 64); err != nil || !(least >= 0 && least <= 100) {
-			return wrong("--coverage is a percentage from 0 to 100")
-		}
+	due, err := o.dueShares()
+	if err != nil {
+		return err
+	}
+	if due != nil {
 		o.counts = coverage.New()
 	}
 	counts := &countReport{}
@@ -43,11 +40,8 @@ func runTests(ctx context.Context, c *cobra.Command, model string, files []strin
 	if err := runFiles(ctx, c, model, files, o, append(all, counts)); err != nil {
 		return err
 	}
-	share := 100.0
 	if o.counts != nil {
-		if share, err = writeCoverage(c, model, o); err != nil {
-			return err
-		}
+		err = writeCoverage(c, model, o, due)
 	}
 	switch {
 	case counts.faults > 0:
@@ -56,10 +50,8 @@ func runTests(ctx context.Context, c *cobra.Command, model string, files []strin
 		return ended(statusFault)
 	case counts.passed == 0:
 		return errors.New("nothing was tested")
-	case share < least:
-		return fmt.Errorf("%.1f %% of the rules are reached, and %v %% are due", share, least)
 	}
-	return nil
+	return err
 }
 
 // newReports are the reports that the options ask for.
@@ -93,42 +85,6 @@ func runFiles(ctx context.Context, c *cobra.Command, model string, files []strin
 	return to.end()
 }
 
-// writeCoverage lists the rules that no row reached, and gives the percentage of those that one did.
-func writeCoverage(c *cobra.Command, path string, o casesOptions) (share float64, err error) {
-	source, err := o.readModel(c, path)
-	if err != nil {
-		return 0, err
-	}
-	subject, err := cases.NewSubject(source)
-	if err != nil {
-		return 0, refused(err)
-	}
-	tables, err := subject.Covered(o.counts)
-	if err != nil {
-		return 0, refused(err)
-	}
-	to := c.OutOrStdout()
-	if o.tap {
-		to = c.ErrOrStderr()
-	}
-	rules, reached := 0, 0
-	for _, it := range tables {
-		rules, reached = rules+it.Rules, reached+it.Rules-len(it.Unreached)
-		for _, rule := range it.Unreached {
-			fmt.Fprintf(to, "%s: no row reached rule %d\n", it.Name, rule)
-		}
-		for _, rule := range it.Undecided {
-			fmt.Fprintf(to, "%s: rule %d was reached, and never decided\n", it.Name, rule)
-		}
-	}
-	share = 100
-	if rules > 0 {
-		share = 100 * float64(reached) / float64(rules)
-	}
-	fmt.Fprintf(to, "%d of %d rules reached (%.1f %%)\n", reached, rules, share)
-	return share, nil
-}
-
 // writeBorders writes a file of cases for each table: rows at its borders, with the answers that come.
 func writeBorders(ctx context.Context, c *cobra.Command, path string, o casesOptions) error {
 	source, err := o.readModel(c, path)
@@ -146,34 +102,41 @@ func writeBorders(ctx context.Context, c *cobra.Command, path string, o casesOpt
 	if err != nil {
 		return refused(err)
 	}
-	parsed, err := model.Parse(source.Text)
-	if err != nil {
-		return refused(err)
-	}
 	if err := os.MkdirAll(o.borders, 0o777); err != nil {
 		return err
 	}
-	for at := range parsed.Decisions {
-		borders := cases.BordersOf(parsed, at, nil, subject.Step)
-		if borders == nil || len(borders.Rows) == 0 {
-			continue
+	for _, word := range subject.Decisions() {
+		all, err := subject.Borders(word)
+		if err != nil {
+			return refused(err)
 		}
-		for _, text := range borders.Calculated {
-			fmt.Fprintf(c.ErrOrStderr(), "%s: the column %q is calculated, and has no borders here\n", subject.Name(borders.Decision), text)
-		}
-		if borders.IsCut {
-			fmt.Fprintf(c.ErrOrStderr(), "%s: the first %d rows are written\n", subject.Name(borders.Decision), len(borders.Rows))
-		}
-		if err := writeTableBorders(ctx, c, subject, borders, program, o); err != nil {
-			return err
+		for _, borders := range all {
+			if err := writeTableBorders(ctx, c, subject, borders, program, o); err != nil {
+				return err
+			}
 		}
 	}
 	return nil
 }
 
+// tellBorders says what the borders of a table leave out.
+func tellBorders(c *cobra.Command, subject *cases.Subject, borders *cases.Borders) {
+	name := subject.NameOf(borders)
+	for _, text := range borders.Calculated {
+		fmt.Fprintf(c.ErrOrStderr(), "%s: the column %q is calculated, and has no borders here\n", name, text)
+	}
+	if borders.IsCut {
+		fmt.Fprintf(c.ErrOrStderr(), "%s: %d rows are written, and more are left out\n", name, len(borders.Rows))
+	}
+}
+
 // writeTableBorders writes the file of one table.
 func writeTableBorders(ctx context.Context, c *cobra.Command, subject *cases.Subject, borders *cases.Borders, program string,
 	o casesOptions) error {
+	tellBorders(c, subject, borders)
+	if len(borders.Rows) == 0 {
+		return nil
+	}
 	rows, err := cases.Open("borders.csv", bytes.NewReader(subject.CSV(borders, o.files.Comma)), o.files)
 	if err != nil {
 		return err
@@ -202,7 +165,7 @@ func writeTableBorders(ctx context.Context, c *cobra.Command, subject *cases.Sub
 	if err != nil {
 		return err
 	}
-	return os.WriteFile(filepath.Join(o.borders, borders.Decision+".csv"), writer.End(text), 0o666)
+	return os.WriteFile(filepath.Join(o.borders, borders.Name+".csv"), writer.End(text), 0o666)
 }
 
 // isXML reports whether a file of cases is XML: by its name, or where standard input begins as XML does.
@@ -268,8 +231,8 @@ func runCaseRows(ctx context.Context, c *cobra.Command, model, file string, o ca
 	asker := o.asker(c, rows.engine)
 	run := &caseRun{plan: plan, file: rows.source.name, to: to, single: cases.Single{Asker: asker, Subject: subject, Given: rows.Given(subject)},
 		told: &refusals{to: c.ErrOrStderr(), file: rows.source.name}}
-	asker.Wants, asker.Counts = run.wants, o.counts
-	shown := rows.progress(c, "testing")
+	asker.Wants, asker.Counts, asker.Misses = run.wants, o.counts, o.cells != ""
+	shown := rows.progress(c, "testing", false)
 	defer shown.stop()
 	err = asker.Each(ctx, plan, rows.asked, func(row *cases.Row, answer *cases.Answer) error { return run.take(ctx, row, answer) })
 	shown.stop()

@@ -20,9 +20,11 @@ type casesOptions struct {
 	junit      string
 	tap, quiet bool
 	// coverage is the percentage of rules that is due, as a text; empty where none is asked for.
-	coverage, borders string
-	record            bool
-	counts            *coverage.Counts
+	coverage string
+	// cells is the same of cells.
+	cells, borders string
+	record         bool
+	counts         *coverage.Counts
 }
 
 func casesCommand() *cobra.Command {
@@ -46,6 +48,8 @@ docs/CASES.md has the forms.`,
 	flags.BoolVarP(&options.quiet, "quiet", "q", false, "Write no lines of tests that passed")
 	flags.StringVar(&options.coverage, "coverage", "", "List rules that no row reached; status 1 below this `PERCENT`")
 	flags.Lookup("coverage").NoOptDefVal = "0"
+	flags.StringVar(&options.cells, "cells", "", "List cells at which no row missed, too; status 1 below this `PERCENT` of cells")
+	flags.Lookup("cells").NoOptDefVal = "0"
 	flags.BoolVar(&options.record, "record", false, "Write the rows of a file of requests with their answers, as a first set of cases")
 	flags.StringVar(&options.borders, "borders", "", "Write cases at the borders of each table to this `FOLDER`, with their answers")
 	flags.StringVar(&options.service, "service", "", "Test this service or decision alone, by its `NAME`; with --record, ask it")
@@ -99,7 +103,28 @@ func runTCK(ctx context.Context, c *cobra.Command, path, casesPath string, optio
 		return ended(statusRefused)
 	}
 	// Each decision is tested in a model of its own, whose inputs are counted as in that of the whole file.
-	o.Decimals = profile.DecimalsOf(read, o)
+	o = profile.Settled(read, o)
+	verdicts, err := verdictsOf(ctx, c, read[0], cases, o)
+	if err != nil {
+		return err
+	}
+	rules, err := caseRules(ctx, c, path, cases, verdicts, options)
+	if err != nil {
+		return err
+	}
+	next := 0
+	for at := range cases.Cases {
+		count := len(cases.Cases[at].Results)
+		if err := addVerdicts(to, casesPath, verdicts[next:next+count], rules[at]); err != nil {
+			return err
+		}
+		next += count
+	}
+	return nil
+}
+
+// verdictsOf runs the cases, with progress on a terminal.
+func verdictsOf(ctx context.Context, c *cobra.Command, file *dmn.File, cases *tck.Cases, o profile.Options) ([]tck.Verdict, error) {
 	var done atomic.Int64
 	results := 0
 	for _, it := range cases.Cases {
@@ -107,13 +132,17 @@ func runTCK(ctx context.Context, c *cobra.Command, path, casesPath string, optio
 	}
 	steps := unit{"results", tck.StepsOfAResult}
 	shown := showProgress(c.ErrOrStderr(), "testing", steps, int64(results*tck.StepsOfAResult), done.Load)
-	verdicts, err := tck.Run(ctx, read[0], cases, func(part *dmn.File) tck.Translation { return translated(part, o) }, &done)
-	shown.stop()
-	if err != nil {
-		return err
-	}
+	defer shown.stop()
+	return tck.Run(ctx, file, cases, func(part *dmn.File) tck.Translation { return translated(part, o) }, &done)
+}
+
+// addVerdicts reports the verdicts on a case; those that failed with the rules that decided.
+func addVerdicts(to caseReport, path string, verdicts []tck.Verdict, rules string) error {
 	for _, v := range verdicts {
-		if err := to.add(casesPath, v); err != nil {
+		if v.Outcome == tck.Fail && rules != "" {
+			v.Said += "; rules: " + rules
+		}
+		if err := to.add(path, v); err != nil {
 			return fmt.Errorf("writing the verdicts: %w", err)
 		}
 	}

@@ -83,9 +83,10 @@ Licence: MIT or Apache-2.0, as you choose (LICENSE, NOTICE).`,
 	cobra.EnableCommandSorting = false
 	help := helpCommand()
 	root.AddCommand(replayCommand(), serveCommand(), checkCommand(), explainCommand(), importCommand(), exportCommand(),
-		runCommand(), casesCommand(), compareCommand(), httpCommand(), sendCommand(), partitionCommand(), receiveCommand(), completionCommand(), manualCommand(), help)
+		runCommand(), casesCommand(), compareCommand(), httpCommand(), releaseCommand(), journalCommand(),
+		sendCommand(), partitionCommand(), receiveCommand(), completionCommand(), manualCommand(), help)
 	root.SetHelpCommand(help)
-	for _, c := range append(root.Commands(), root) {
+	for _, c := range append(everyCommand(root), root) {
 		c.Flags().BoolP("help", "h", false, "Print help")
 		c.DisableFlagsInUseLine = true
 		c.Flags().SortFlags = false
@@ -93,6 +94,14 @@ Licence: MIT or Apache-2.0, as you choose (LICENSE, NOTICE).`,
 	root.SetHelpFunc(func(c *cobra.Command, _ []string) { writeHelp(c.OutOrStdout(), c) })
 	root.SetFlagErrorFunc(flagError)
 	return root
+}
+
+// everyCommand lists the commands, each before those that it has.
+func everyCommand(of *cobra.Command) (all []*cobra.Command) {
+	for _, c := range of.Commands() {
+		all = append(append(all, c), everyCommand(c)...)
+	}
+	return all
 }
 
 // find reports a first word that is no command.

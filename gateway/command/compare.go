@@ -2,6 +2,7 @@ package command
 
 import (
 	"bufio"
+	"bytes"
 	"context"
 	"encoding/json"
 	"errors"
@@ -15,7 +16,7 @@ import (
 	"gateway/cases"
 	"gateway/compare"
 	"gateway/engine"
-	"gateway/model"
+	"gateway/lines"
 	"gateway/service"
 )
 
@@ -70,10 +71,10 @@ type comparing struct {
 	names   [2]string
 	sources [2]*service.Source
 	subject [2]*cases.Subject
+	// isAsked says that the engine was asked for something, and so has found the model valid.
+	isAsked [2]bool
 	report  compare.Report
-	// old and new are the rows that are listed.
-	old, new []*cases.Answered
-	where    string
+	where   string
 }
 
 func runCompare(ctx context.Context, c *cobra.Command, paths []string, o compareOptions) error {
@@ -86,19 +87,15 @@ func runCompare(ctx context.Context, c *cobra.Command, paths []string, o compare
 		return err
 	}
 	for at := range it.sources {
-		if err := it.read(ctx, at, paths[at]); err != nil {
+		if err := it.read(at, paths[at]); err != nil {
 			return err
 		}
 	}
 	it.report.Old, it.report.New = it.names[0], it.names[1]
 	it.report.Differences = []compare.Difference{}
-	if it.report.Changes, err = compare.Models(it.sources[0], it.sources[1]); err != nil {
-		return refused(err)
-	}
-	if len(paths) == 3 {
-		err = it.requests(ctx, paths[2])
-	} else {
-		err = it.borders(ctx)
+	err = it.compare(ctx, paths)
+	if fault := it.check(ctx); fault != nil {
+		return fault
 	}
 	if err != nil {
 		return err
@@ -106,14 +103,35 @@ func runCompare(ctx context.Context, c *cobra.Command, paths []string, o compare
 	return it.write()
 }
 
-// read reads one of the models, which has to be valid.
-func (it *comparing) read(ctx context.Context, at int, path string) (err error) {
+// compare says what differs.
+func (it *comparing) compare(ctx context.Context, paths []string) (err error) {
+	if it.report.Changes, err = compare.Models(it.sources[0], it.sources[1]); err != nil {
+		return refused(err)
+	}
+	if len(paths) == 3 {
+		return it.requests(ctx, paths[2])
+	}
+	return it.borders(ctx)
+}
+
+// check asks the engine whether the models are valid that were not asked for anything.
+func (it *comparing) check(ctx context.Context) error {
+	for at, source := range it.sources {
+		if it.isAsked[at] {
+			continue
+		}
+		if _, _, err := engine.Check(ctx, it.engine, uint64(it.options.memory), source.Text); err != nil {
+			return fmt.Errorf("%s: %w", it.names[at], err)
+		}
+	}
+	return nil
+}
+
+// read reads one of the models.
+func (it *comparing) read(at int, path string) (err error) {
 	it.names[at] = shownAs(path)
 	if it.sources[at], err = it.options.readModel(it.command, path); err != nil {
 		return err
-	}
-	if _, _, err = engine.Check(ctx, it.engine, uint64(it.options.memory), it.sources[at].Text); err != nil {
-		return fmt.Errorf("%s: %w", it.names[at], err)
 	}
 	it.subject[at], err = cases.NewSubject(it.sources[at])
 	return err
@@ -129,6 +147,7 @@ func (it *comparing) side(ctx context.Context, at int, rows *cases.File, questio
 	if err != nil {
 		return nil, fmt.Errorf("%s: %w", it.names[at], err)
 	}
+	it.isAsked[at] = true
 	asker := it.options.asker(it.command, it.engine)
 	asker.Processes = (asker.Processes + 1) / 2
 	return &cases.Side{Plan: plan, Asked: asked, Asker: asker}, nil
@@ -192,20 +211,13 @@ func (it *comparing) requests(ctx context.Context, path string) error {
 
 // borders asks both models for the borders of the tables that changed, each table by itself.
 func (it *comparing) borders(ctx context.Context) error {
-	var parsed [2]*model.Model
-	for at := range parsed {
-		var err error
-		if parsed[at], err = model.Parse(it.sources[at].Text); err != nil {
-			return refused(err)
-		}
-	}
 	isSeen := map[string]bool{}
 	for _, change := range it.report.Changes {
 		if change.Of == "" || isSeen[change.Of] {
 			continue
 		}
 		isSeen[change.Of] = true
-		if err := it.tableBorders(ctx, parsed, change.Of, changedRules(it.report.Changes, change.Of)); err != nil {
+		if err := it.tableBorders(ctx, change.Of, changedRules(it.report.Changes, change.Of)); err != nil {
 			return err
 		}
 	}
@@ -229,24 +241,23 @@ func changedRules(changes []compare.Change, of string) (only [2]map[int]bool) {
 }
 
 // tableBorders asks for the borders of one decision's table, of both models.
-func (it *comparing) tableBorders(ctx context.Context, parsed [2]*model.Model, name string, only [2]map[int]bool) error {
+func (it *comparing) tableBorders(ctx context.Context, name string, only [2]map[int]bool) error {
 	var rows [][]byte
 	isSeen := map[string]bool{}
 	var sides [2]*cases.Side
 	var words, given [2][]string
-	for at := range parsed {
+	for at := range it.subject {
 		word, is := it.subject[at].Decision(name)
 		if !is {
 			return nil
 		}
 		words[at] = []string{word}
-		if borders := cases.BordersOf(parsed[at], it.subject[at].Place(word), only[at], it.subject[at].Step); borders != nil {
-			given[at] = borders.Given
-			for _, row := range borders.Rows {
-				if !isSeen[string(row)] {
-					rows, isSeen[string(row)] = append(rows, row), true
-				}
-			}
+		borders, err := it.subject[at].RuleBorders(word, only[at])
+		if err != nil {
+			return refused(err)
+		}
+		if borders != nil {
+			given[at], rows = borders.Given, addNew(rows, borders.Rows, isSeen)
 		}
 	}
 	if len(rows) == 0 {
@@ -264,9 +275,21 @@ func (it *comparing) tableBorders(ctx context.Context, parsed [2]*model.Model, n
 		if sides[at], err = it.side(ctx, at, file, question); err != nil {
 			return err
 		}
+		// Few rows are asked for with their rules at once: each engine reads the model, which may be long.
+		sides[at].Asker.Explain = len(rows) <= mostExplained
 	}
 	it.where = "borders of " + name
 	return it.ask(ctx, sides)
+}
+
+// addNew adds the rows that are not there yet.
+func addNew(rows, more [][]byte, isSeen map[string]bool) [][]byte {
+	for _, row := range more {
+		if !isSeen[string(row)] {
+			rows, isSeen[string(row)] = append(rows, row), true
+		}
+	}
+	return rows
 }
 
 // ask compares the answers of both sides.
@@ -290,20 +313,53 @@ func (it *comparing) ask(ctx context.Context, sides [2]*cases.Side) error {
 	if err != nil || len(old) == 0 {
 		return err
 	}
-	before, err := sides[0].Rules(ctx, old)
+	before, err := rulesOf(ctx, sides[0], old)
 	if err != nil {
 		return err
 	}
-	after, err := sides[1].Rules(ctx, new)
+	after, err := rulesOf(ctx, sides[1], new)
 	if err != nil {
 		return err
 	}
 	for at := range old {
 		it.report.Differences = append(it.report.Differences, compare.Difference{
-			Row: fmt.Sprintf("%s:%d", it.where, old[at].Line), Inputs: string(old[at].Inputs), Old: answerOf(old[at]), New: answerOf(new[at]),
+			Row: fmt.Sprintf("%s:%d", it.where, old[at].Line), Inputs: inputsOf(sides, old[at], new[at]), Old: answerOf(old[at]), New: answerOf(new[at]),
 			OldRules: before[at], NewRules: after[at]})
 	}
 	return nil
+}
+
+// inputsOf are the inputs of a row by their names: those that either model takes.
+func inputsOf(sides [2]*cases.Side, old, new *cases.Answered) string {
+	one, other := sides[0].Plan.Named(old.Inputs), sides[1].Plan.Named(new.Inputs)
+	if bytes.Equal(one, other) {
+		return string(one)
+	}
+	tree, err := lines.Tree(one)
+	more, fault := lines.Tree(other)
+	all, isObject := tree.(map[string]any)
+	others, isAlso := more.(map[string]any)
+	if err != nil || fault != nil || !isObject || !isAlso {
+		return string(one)
+	}
+	for name, value := range others {
+		if _, is := all[name]; !is {
+			all[name] = value
+		}
+	}
+	return string(lines.Compact(nil, all))
+}
+
+// rulesOf are the rules that decided some rows, as lines.
+func rulesOf(ctx context.Context, side *cases.Side, rows []*cases.Answered) ([]string, error) {
+	if !side.Asker.Explain {
+		return side.Rules(ctx, rows)
+	}
+	rules := make([]string, len(rows))
+	for at, row := range rows {
+		rules[at] = cases.ShownRules(row.Rules)
+	}
+	return rules, nil
 }
 
 // answerOf is an answer, or why there is none.

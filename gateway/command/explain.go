@@ -20,7 +20,8 @@ The answer to a model has its text and the SHA-256 of that. A reply has, before 
 they were read, and the value of each decision on the way: for a table also the values of its inputs, the rules that hit
 and those that decided; for a list its members; for a context its entries.
 
-One thread answers, so --workers and --capacity change nothing.
+One thread answers, so --workers and --capacity change nothing. desk run --text says the same of a file of requests, in the
+names and decimals of a .dmn file.
 
 ` + engineStatus,
 		Example: `  desk explain examples/clients.jsonl
@@ -38,7 +39,7 @@ One thread answers, so --workers and --capacity change nothing.
 		case len(files) > 1:
 			return wrong("one file of lines is read: %q is one too many", files[1])
 		case isDMN(files[0], nil):
-			return wrong("explain reads lines of requests: desk import --line %s > FILE, and requests after it", files[0])
+			return wrong("explain reads lines of requests: desk import --line %[1]s > FILE, and requests after it; or desk run --text %[1]s REQUESTS", files[0])
 		}
 		lines, err := open(c, files[0])
 		if err != nil {

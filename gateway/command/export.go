@@ -2,6 +2,7 @@ package command
 
 import (
 	"bytes"
+	"errors"
 	"fmt"
 	"io"
 	"path/filepath"
@@ -58,10 +59,6 @@ func runExport(c *cobra.Command, path string) error {
 	if len(refusals) > 0 {
 		return ended(statusRefused)
 	}
-	if len(source.Counted) > 0 {
-		c.PrintErrf("desk export: note: the file has the model's whole numbers, which count units of the first file: of %s\n",
-			strings.Join(source.Counted, ", "))
-	}
 	if _, err := c.OutOrStdout().Write(file); err != nil {
 		return fmt.Errorf("writing the file: %w", err)
 	}
@@ -69,9 +66,26 @@ func runExport(c *cobra.Command, path string) error {
 }
 
 // fileOf writes the file of a model. One that was imported is written so that it is imported again to the same model: with
-// the names and types of its file, else with fewer of them, also where names would run into each other. Where that can't
+// the texts, names and types of its file, else with fewer of them, also where names would run into each other. Where that can't
 // be had, it is told.
 func fileOf(source export.Source, faults io.Writer) ([]byte, []export.Refusal) {
+	if source.IsWritten {
+		file, err := writtenFile(source)
+		if err == nil {
+			return file, nil
+		}
+		fmt.Fprintf(faults, "desk export: note: the decimals of the first file can't be written back: %v\n", err)
+		source.IsWritten = false
+	}
+	if len(source.Counted) > 0 {
+		fmt.Fprintf(faults, "desk export: note: the file has the model's whole numbers, which count units of the first file: of %s\n",
+			strings.Join(source.CountedNames(), ", "))
+	}
+	return wholeFile(source, faults)
+}
+
+// wholeFile is the file of a model with its own numbers.
+func wholeFile(source export.Source, faults io.Writer) ([]byte, []export.Refusal) {
 	file, refused := export.File(source)
 	if !source.Imported {
 		return file, refused
@@ -96,6 +110,47 @@ func fileOf(source export.Source, faults io.Writer) ([]byte, []export.Refusal) {
 		fmt.Fprintln(faults, "desk export: note: imported again, the file gives another model, or is refused")
 	}
 	return file, refused
+}
+
+// writtenFile is the file of a model with the texts of its first file, and with types that are known of values where it may have them.
+// The error says why it isn't imported again to the same model.
+func writtenFile(source export.Source) (file []byte, err error) {
+	decimals := profile.NoDecimals()
+	decimals.Named = source.Decimals()
+	for _, source.Typed = range []bool{true, false} {
+		var refusals []export.Refusal
+		if file, refusals = export.File(source); len(refusals) > 0 {
+			return nil, errors.New(refusals[0].String())
+		}
+		if err = importedTo(file, source, profile.Options{Decimals: &decimals}); err == nil {
+			return file, nil
+		}
+	}
+	return nil, err
+}
+
+// errOtherModel says that a file gives another model.
+var errOtherModel = errors.New("imported again, the file gives another model")
+
+// importedTo says why a file isn't imported to the model of a source. The words that only a translation has may be others.
+func importedTo(file []byte, source export.Source, options profile.Options) error {
+	read, err := dmn.Read("exported.dmn", bytes.NewReader(file))
+	if err != nil {
+		return err
+	}
+	result, refusals := profile.Import([]*dmn.File{read}, options)
+	if len(refusals) > 0 {
+		return errors.New(refusals[0].String())
+	}
+	got, err := model.Anonymous(&result.Model, model.Spelling{Names: result.Names, Locals: result.Locals}).JSON()
+	if err != nil {
+		return err
+	}
+	due, err := model.Anonymous(source.Model, source.File).JSON()
+	if err == nil && !bytes.Equal(got, due) {
+		err = errOtherModel
+	}
+	return err
 }
 
 // sameAgain writes the file of a source, and tells whether it is imported again to the same model.

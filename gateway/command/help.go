@@ -26,7 +26,7 @@ func writeHelp(to io.Writer, c *cobra.Command) {
 // usageOf is the line of usage: the command with what it takes.
 func usageOf(c *cobra.Command) string {
 	if c.HasParent() {
-		return c.Parent().Name() + " " + c.Use
+		return c.Parent().CommandPath() + " " + c.Use
 	}
 	return c.Use
 }

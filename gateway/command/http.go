@@ -7,7 +7,6 @@ import (
 	"errors"
 	"fmt"
 	"io"
-	"log"
 	"net"
 	"os"
 	"os/signal"
@@ -35,6 +34,10 @@ type httpOptions struct {
 	deadline    duration
 	memory      size
 	journalSize size
+	// journalLimit is 0 where the journal may be as large as it gets, keep where it is kept forever.
+	journalLimit size
+	log          string
+	keep         days
 }
 
 func httpCommand() *cobra.Command {
@@ -43,7 +46,8 @@ func httpCommand() *cobra.Command {
 		Use:   "http [OPTIONS] MODEL.json|FILE.dmn..|-",
 		Short: "Answers requests to the services of a model over HTTP",
 		Long: `Engines beside the service evaluate; one that hangs or ends is replaced. On SIGTERM the service answers all that it took,
-and ends with status 0. SIGHUP begins new journal files and reads the tokens again. docs/HTTP.md has every path.
+and ends with status 0. SIGHUP begins new journal files, and reads the tokens and
+the release in force again. docs/HTTP.md has every path.
 
 Where others than this machine can reach the address, callers need tokens (--tokens), unless --open says that anyone may
 call.`,
@@ -51,7 +55,7 @@ call.`,
   curl http://127.0.0.1:8080/v1/services/shipping -d '{"weight":5,"express":false}'`,
 		ValidArgsFunction: completeFiles("json", "dmn"),
 		RunE: func(c *cobra.Command, files []string) error {
-			if len(files) == 0 {
+			if len(files) == 0 && options.service.Releases == "" {
 				return wrong("a model is due: %s", usageOf(c))
 			}
 			return runHTTP(c, files, options)
@@ -66,13 +70,21 @@ call.`,
 	flags.Var(&options.deadline, "deadline", "Give one request this long, 10ms to 1h")
 	flags.Var(&options.memory, "memory", "Limit the address space of each engine, from 32MiB on; 0 for no limit")
 	flags.StringVar(&options.service.Tokens, "tokens", "", "Ask callers for one of the tokens in this `FILE`")
-	flags.StringVar(&options.service.Journal, "journal", "", "Keep each request in this `FOLDER` before it is answered")
+	flags.StringVar(&options.service.Journal, "journal", "", "Record each answer in this `FOLDER` before it is given")
 	flags.Var(&options.journalSize, "journal-size", "Begin another file of the journal at about this size")
+	flags.Var(&options.journalLimit, "journal-limit", "Remove the oldest files of the journal past this size in all; 0 for none")
+	flags.Var(&options.keep, "keep", "Remove files of the journal after this time, as 400d; 0 for never")
+	flags.StringArrayVar(&options.service.Redact, "redact", nil,
+		"Keep an HMAC of the input of this `NAME` in the journal, not its value; may come several times")
+	flags.StringVar(&options.service.RedactKey, "redact-key", "", "Read the key of the HMACs from this `FILE`")
+	flags.StringVar(&options.service.Releases, "releases", "",
+		"Serve the release in force in this `FOLDER`, and follow it; MODEL is served until there is one")
 	flags.StringVar(&options.service.State, "state", "",
 		"Keep the model last put in this `FILE` (default model.json in the journal's folder)")
 	flags.IntVar(&options.service.ClientLimit, "client-limit", 10_000, "Allow this `NUMBER` of unanswered requests per client")
 	flags.IntVar(&options.service.Limit, "limit", 50_000, "Allow this `NUMBER` of unanswered requests in all")
 	flags.BoolVar(&options.service.Lenient, "lenient", false, "Ignore inputs that a .dmn file doesn't have")
+	flags.StringVar(&options.log, "log", logText, "Write the log in this `FORM`: text, or json, which has a line for each call too")
 	readingFlags(flags, &options.reading)
 	return c
 }
@@ -80,11 +92,14 @@ call.`,
 func runHTTP(c *cobra.Command, files []string, o httpOptions) error {
 	options := o.service
 	options.Deadline, options.Memory, options.JournalSize = time.Duration(o.deadline), uint64(o.memory), int64(o.journalSize)
+	options.JournalLimit, options.Keep, options.Version = int64(o.journalLimit), time.Duration(o.keep), version
 	if err := options.Check(); err != nil {
 		return wrong("%w", err)
 	}
-	logger := log.New(c.ErrOrStderr(), "desk http: ", log.LstdFlags|log.LUTC|log.Lmsgprefix)
-	options.Log, options.Turn = logger.Printf, turns()
+	if err := setLog(&options, c.ErrOrStderr(), o.log); err != nil {
+		return err
+	}
+	options.Turn = turns()
 	// A log that nobody reads any more ends no service.
 	signal.Notify(make(chan os.Signal, 1), syscall.SIGPIPE)
 	ctx, stop := untilTold(c)
@@ -118,8 +133,10 @@ func serveHTTP(ctx context.Context, c *cobra.Command, files []string, o httpOpti
 	for _, note := range engineNotes(options.Engine) {
 		options.Log("%s", note)
 	}
-	if options.Model, err = readModel(c, files, o.reading, options.Log); err != nil {
-		return err
+	if len(files) > 0 {
+		if options.Model, err = readModel(c, files, o.reading, options.Log); err != nil {
+			return err
+		}
 	}
 	options.ReadDMN = putDMN(o.reading, options.Log)
 	options.Named = strings.Join(files, " ")
@@ -295,6 +312,9 @@ func readDMN(paths []string, read func(path string) (*dmn.File, error), options 
 	report := profile.Run(files, options)
 	if report.Result == nil {
 		return nil, refusedPlaces(report.Refusals)
+	}
+	if err := report.Result.UnknownNullable(options.Nullable); err != nil {
+		log("%v", err)
 	}
 	for _, place := range report.Refusals {
 		log("%s", place)

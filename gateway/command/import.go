@@ -55,6 +55,9 @@ func runImport(c *cobra.Command, paths []string, options importOptions) error {
 	if !reportImport(c.ErrOrStderr(), report) {
 		return ended(statusRefused)
 	}
+	if err := report.Result.UnknownNullable(options.reading.Nullable); err != nil {
+		return wrong("%w", err)
+	}
 	return writeImported(c.OutOrStdout(), report.Result, options.line)
 }
 
@@ -105,13 +108,14 @@ func wholeImport(result *profile.Result) ([]byte, error) {
 	encoder := json.NewEncoder(&text)
 	encoder.SetEscapeHTML(false)
 	err := encoder.Encode(struct {
-		Model  *model.Model               `json:"model"`
-		Names  map[string]string          `json:"names"`
-		Locals map[string]string          `json:"locals,omitempty"`
-		Types  map[string]json.RawMessage `json:"types"`
-		Places map[string]profile.Place   `json:"places"`
+		Model    *model.Model               `json:"model"`
+		Names    map[string]string          `json:"names"`
+		Locals   map[string]string          `json:"locals,omitempty"`
+		Types    map[string]json.RawMessage `json:"types"`
+		Required []string                   `json:"required,omitempty"`
+		Places   map[string]profile.Place   `json:"places"`
 		// Diagram stands where the file draws each input and decision.
 		Diagram map[string]dmn.Box `json:"diagram,omitempty"`
-	}{&result.Model, result.Names, result.Locals, result.Types, result.Places, result.Diagram})
+	}{&result.Model, result.Names, result.Locals, result.Types, result.Required, result.Places, result.Diagram})
 	return bytes.TrimRight(text.Bytes(), "\n"), err
 }

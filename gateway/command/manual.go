@@ -31,13 +31,13 @@ func writeManual(to io.Writer, root *cobra.Command) error {
 	page := bufio.NewWriter(to)
 	fmt.Fprintf(page, ".\\\" Written by desk manual.\n.TH DESK 1 \"\" \"desk %s\" \"User Commands\"\n", version)
 	fmt.Fprintf(page, ".SH NAME\ndesk \\- %s\n.SH SYNOPSIS\n", roff(lowerFirst(root.Short)))
-	for _, c := range root.Commands() {
-		if !c.Hidden {
-			fmt.Fprintf(page, ".B desk %s\n%s\n.br\n", c.Name(), roffLine(strings.TrimSpace(strings.TrimPrefix(c.Use, c.Name()))))
+	for _, c := range everyCommand(root) {
+		if !c.Hidden && !c.HasSubCommands() {
+			fmt.Fprintf(page, ".B %s\n%s\n.br\n", c.CommandPath(), roffLine(strings.TrimSpace(strings.TrimPrefix(c.Use, c.Name()))))
 		}
 	}
 	fmt.Fprintf(page, ".B desk \\-\\-version\n.SH DESCRIPTION\n%s.SH COMMANDS\n", roffText(manualAbout))
-	for _, c := range root.Commands() {
+	for _, c := range everyCommand(root) {
 		if !c.Hidden {
 			writeManualOf(page, c)
 		}
@@ -53,7 +53,7 @@ func writeManual(to io.Writer, root *cobra.Command) error {
 
 // writeManualOf writes the part of one command.
 func writeManualOf(to io.Writer, c *cobra.Command) {
-	fmt.Fprintf(to, ".SS desk %s\n%s.\n.PP\n%s", c.Name(), roffLine(c.Short), roffText(c.Long))
+	fmt.Fprintf(to, ".SS %s\n%s.\n.PP\n%s", c.CommandPath(), roffLine(c.Short), roffText(c.Long))
 	if c.Name() == "help" {
 		return
 	}
@@ -76,7 +76,7 @@ func roffOptions(flags *pflag.FlagSet, hasHelp bool) string {
 			names = "-" + f.Shorthand + ", " + names
 		}
 		fmt.Fprintf(&text, ".TP\n.BI \"%s\" \" %s\"\n%s.\n", roff(names), roff(argument), roffLine(usage))
-		if f.DefValue != "" && f.DefValue != "false" && f.DefValue != "0s" {
+		if f.DefValue != "" && f.DefValue != "false" && f.DefValue != "0s" && f.DefValue != "[]" {
 			fmt.Fprintf(&text, "Without it %s.\n", roff(f.DefValue))
 		}
 	})
@@ -123,7 +123,7 @@ func lowerFirst(text string) string { return strings.ToLower(text[:1]) + text[1:
 
 const manualAbout = `desk reads a model with decisions after OMG DMN 1.3, and answers requests to its services: between two pipes
 (replay, serve), over HTTP (http), or over RabbitMQ (send, partition, receive). It hands each client its results in the
-order of its requests. An engine evaluates, a program of its own whose every function is proved.
+order of its requests. An engine evaluates, a proved program of its own.
 
 Where a command reads a file, - stands for standard input.`
 

@@ -1,13 +1,13 @@
 package command
 
 import (
+	"context"
 	"time"
 
 	"github.com/spf13/cobra"
 
 	"gateway/engine"
 	"gateway/rabbit/broker"
-	"gateway/rabbit/metrics"
 	"gateway/rabbit/partition"
 	"gateway/rabbit/process"
 )
@@ -26,6 +26,7 @@ type partitionOptions struct {
 	deadline duration
 	metrics  string
 	days     int
+	declare  bool
 }
 
 // leastMemory is how many bytes of address space an engine needs at least: it takes some for itself.
@@ -46,6 +47,7 @@ func partitionCommand() *cobra.Command {
 	flags.IntVar(&options.engine.Longest, "longest", 1<<20, "Allow an answer this many `BYTES`, 1024 to 16777216")
 	flags.Var(&options.memory, "memory", "Limit the address space of the engine, from 32MiB on; 0 for no limit")
 	flags.StringVar(&options.metrics, "metrics", "", "Serve /metrics, /healthz and /readyz at this `ADDRESS`, as 127.0.0.1:9100")
+	flags.BoolVar(&options.declare, "declare", false, "Make the exchanges and queues of all partitions where they aren't there, and end")
 	flags.IntVar(&options.days, "sender-days", 90, "Know a sender and its batches for this `NUMBER` of days after its last message; 0 for ever")
 	return c
 }
@@ -76,24 +78,36 @@ func runPartition(c *cobra.Command, o partitionOptions) error {
 	if err != nil {
 		return wrong("%w", err)
 	}
+	ctx, stop := untilTold(c)
+	defer stop()
+	if o.declare {
+		return declare(ctx, c, settings)
+	}
 	if o.engine.Path, err = engine.Path(); err != nil {
 		return err
 	}
 	for _, note := range engineNotes(o.engine.Path) {
 		c.PrintErrf("desk partition: %s\n", note)
 	}
-	ctx, stop := untilTold(c)
-	defer stop()
 	gauges := partition.NewGauges()
 	if o.metrics != "" {
-		if _, err := metrics.Serve(ctx, o.metrics, gauges); err != nil {
+		if _, err := partition.ServeMetrics(ctx, o.metrics, gauges); err != nil {
 			return err
 		}
 	}
 	options := partition.Options{Settings: settings, Deadline: time.Duration(o.deadline), Log: c.ErrOrStderr(), Gauges: gauges,
-		Engine: o.engine, Keep: time.Duration(o.days) * 24 * time.Hour}
+		Engine: o.engine, Keep: time.Duration(o.days) * 24 * time.Hour, Program: version}
 	if err := partition.Run(ctx, options); err != nil && ctx.Err() == nil {
 		return err
 	}
+	return nil
+}
+
+// declare makes what the partitions need at the brokers.
+func declare(ctx context.Context, c *cobra.Command, settings broker.Settings) error {
+	if err := broker.Declare(ctx, settings, c.ErrOrStderr()); err != nil {
+		return err
+	}
+	c.PrintErrf("desk partition: %d partitions are declared\n", settings.Partitions)
 	return nil
 }

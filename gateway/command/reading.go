@@ -8,6 +8,7 @@ import (
 
 	"github.com/spf13/pflag"
 
+	"gateway/calendar"
 	"gateway/profile"
 )
 
@@ -22,8 +23,42 @@ func translationFlags(flags *pflag.FlagSet, options *profile.Options) {
 	flags.BoolVar(&options.Partial, "partial", false, "Make the services that need no refused place, and report the others")
 	flags.BoolVar(&options.FreeInputs, "free-inputs", false,
 		"Make an input of each name that nothing declares and that is a typed column's whole expression")
-	flags.Var(decimals{options}, "decimals", "Take this many decimals of numbers of inputs, as 2, Rate=3 or "+
+	flags.StringArrayVar(&options.Nullable, "nullable", nil,
+		"Let the input of this `NAME` be missing or null over HTTP; may come several times")
+	flags.Var(clock{options}, "clock", "Let today() and now() ask the clock of this zone, as Europe/Berlin, UTC or +02:00")
+	flags.Var(offsets{options}, "offset", "Take times with an offset for the input of this name, as Start or Order.Placed; may come several times")
+	flags.Var(decimals{options}, "decimals", "Take this many decimals of numbers of inputs, or of a decision, as 2, Rate=3 or "+
 		"Applicant.Income=2; may come several times (default 2 where fractions meet them)")
+}
+
+// clock says in which zone the clock is.
+type clock struct{ options *profile.Options }
+
+func (c clock) String() string { return c.options.Clock }
+
+func (c clock) Type() string { return "ZONE" }
+
+func (c clock) Set(zone string) error {
+	if _, err := calendar.Zone(zone); err != nil {
+		return err
+	}
+	c.options.Clock = zone
+	return nil
+}
+
+// offsets says which times of inputs have an offset.
+type offsets struct{ options *profile.Options }
+
+func (o offsets) String() string { return "" }
+
+func (o offsets) Type() string { return "NAME" }
+
+func (o offsets) Set(name string) error {
+	if strings.TrimSpace(name) == "" {
+		return errors.New("a name is due")
+	}
+	o.options.Offsets = append(o.options.Offsets, name)
+	return nil
 }
 
 // decimals says how many decimals the numbers of inputs have.

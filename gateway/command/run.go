@@ -2,12 +2,14 @@ package command
 
 import (
 	"bufio"
+	"bytes"
 	"context"
 	"errors"
 	"fmt"
 	"io"
 	"os"
 	"runtime"
+	"strings"
 	"time"
 
 	"github.com/spf13/cobra"
@@ -17,12 +19,14 @@ import (
 	"gateway/engine"
 	"gateway/profile"
 	"gateway/service"
+	"gateway/tell"
 )
 
 // rowsOptions are the options of commands that read rows.
 type rowsOptions struct {
 	service   string
 	separator string
+	encoding  string
 	files     cases.Options
 	reading   profile.Options // of a file of DMN
 	processes int
@@ -33,8 +37,9 @@ type rowsOptions struct {
 // runOptions are the options of run.
 type runOptions struct {
 	rowsOptions
-	output          string
-	explain, strict bool
+	output                string
+	explain, strict, text bool
+	misses                bool
 }
 
 // add adds the options to those of a command.
@@ -42,6 +47,7 @@ func (o *rowsOptions) add(flags *pflag.FlagSet) {
 	o.deadline, o.memory = duration(20*time.Second), 1<<30
 	flags.BoolVar(&o.files.Comma, "comma", false, "Numbers of CSV have a decimal comma")
 	flags.StringVar(&o.separator, "separator", "", "The cells of CSV are separated by this `CHARACTER` (default: found in the header)")
+	flags.StringVar(&o.encoding, "encoding", "utf-8", "Read files without a byte order mark as utf-8 or windows-1252, by `NAME`")
 	flags.BoolVar(&o.files.Unknown, "unknown", false, "Leave alone columns and members that the model doesn't know")
 	flags.IntVar(&o.processes, "processes", runtime.NumCPU(), "Run this `NUMBER` of engines, 1 to 64")
 	flags.Lookup("processes").DefValue = "one per processor"
@@ -70,6 +76,13 @@ func (o *rowsOptions) check() error {
 	case len(o.separator) > 1 || o.separator == `"`:
 		return wrong("--separator is one character, as ; or \\t")
 	}
+	switch strings.ToLower(o.encoding) {
+	case "utf-8", "utf8":
+	case "windows-1252", "cp1252", "ansi":
+		o.files.IsANSI = true
+	default:
+		return wrong("--encoding is utf-8 or windows-1252, not %s; UTF-16 is found by itself", o.encoding)
+	}
 	if o.separator != "" {
 		o.files.Separator = o.separator[0]
 	}
@@ -95,6 +108,8 @@ A row that can't be read is reported with its place, and the others go on; the s
 	flags.StringVarP(&options.output, "output", "o", "", "Write the results to this `FILE`")
 	flags.StringVar(&options.service, "service", "", "Ask the service or the decision of this `NAME`")
 	flags.BoolVar(&options.explain, "explain", false, "Add the rules that decided")
+	flags.BoolVar(&options.text, "text", false, "Write how each answer came about, as a text for people")
+	flags.BoolVar(&options.misses, "misses", false, "With --text, name for each rule that missed the first column that did not match")
 	flags.BoolVar(&options.strict, "strict", false, "Stop at the first row that can't be read")
 	options.add(flags)
 	c.RunE = func(c *cobra.Command, paths []string) error {
@@ -130,19 +145,27 @@ func runRows(ctx context.Context, c *cobra.Command, paths []string, o runOptions
 	defer func() {
 		err = firstOf(written.Flush(), closed(out), err)
 	}()
+	writer, err := o.writer(rows, plan)
+	if err != nil {
+		return err
+	}
+	return answerRows(ctx, c, rows, plan, writer, written, o)
+}
+
+// answerRows writes each row with its answer, and reports those that have none.
+func answerRows(ctx context.Context, c *cobra.Command, rows *rowsFile, plan *cases.Plan, writer rowWriter, to io.Writer, o runOptions) error {
 	asker := o.asker(c, rows.engine)
-	asker.Explain = o.explain
-	told, writer, room := &refusals{to: c.ErrOrStderr(), file: rows.source.name}, plan.Writer(o.explain), []byte(nil)
-	room = writer.Begin(room)
-	shown := rows.progress(c, "running")
+	asker.Explain, asker.Tells, asker.Misses = o.explain && !o.text, o.text, o.misses && o.text
+	told, room := &refusals{to: c.ErrOrStderr(), file: rows.source.name}, writer.Begin(nil)
+	shown := rows.progress(c, "running", o.output != "" && o.output != dash)
 	defer shown.stop()
-	err = asker.Each(ctx, plan, rows.asked, func(row *cases.Row, answer *cases.Answer) error {
+	err := asker.Each(ctx, plan, rows.asked, func(row *cases.Row, answer *cases.Answer) error {
 		told.add(row, answer)
 		if o.strict && answer.IsRefused {
 			return errStopped
 		}
 		room = writer.Row(room, row, answer)
-		_, err := written.Write(room)
+		_, err := to.Write(room)
 		room = room[:0]
 		return err
 	})
@@ -150,10 +173,53 @@ func runRows(ctx context.Context, c *cobra.Command, paths []string, o runOptions
 	if err != nil && !errors.Is(err, errStopped) {
 		return err
 	}
-	if _, err := written.Write(writer.End(room)); err != nil {
+	if _, err := to.Write(writer.End(room)); err != nil {
 		return err
 	}
 	return told.end()
+}
+
+// A rowWriter writes rows with their answers.
+type rowWriter interface {
+	Begin(to []byte) []byte
+	Row(to []byte, row *cases.Row, answer *cases.Answer) []byte
+	End(to []byte) []byte
+}
+
+// writer writes rows in the form of their file, or texts.
+func (o *runOptions) writer(rows *rowsFile, plan *cases.Plan) (rowWriter, error) {
+	if !o.text {
+		return plan.Writer(o.explain), nil
+	}
+	written, err := rows.subject.Written()
+	if err != nil {
+		return nil, refused(err)
+	}
+	return &textWriter{rows: tell.RowsOf(written)}, nil
+}
+
+// A textWriter writes how answers came about, as texts.
+type textWriter struct{ rows *tell.Rows }
+
+// Begin is empty.
+func (*textWriter) Begin(to []byte) []byte { return to }
+
+// End is empty.
+func (*textWriter) End(to []byte) []byte { return to }
+
+// Row adds the text of an answer, or why there is none. What can't be worded is added as it is.
+func (w *textWriter) Row(to []byte, row *cases.Row, answer *cases.Answer) []byte {
+	switch {
+	case row.IsSkipped:
+		return to
+	case answer.Told == nil:
+		return append(to, fmt.Sprintf("line %d: %s\n\n", row.Line, answer.Fault)...)
+	}
+	var text bytes.Buffer
+	if err := w.rows.Write(answer.Told, &text); err != nil {
+		return append(append(to, answer.Told...), '\n')
+	}
+	return append(to, text.Bytes()...)
 }
 
 // errStopped ends a run at a row.
@@ -173,6 +239,7 @@ func firstOf(errs ...error) error {
 type rowsFile struct {
 	*cases.File
 	source   *source
+	subject  *cases.Subject
 	question *cases.Question
 	asked    *service.Asked
 	engine   string
@@ -196,7 +263,7 @@ func openRows(ctx context.Context, c *cobra.Command, paths []string, o *rowsOpti
 	}
 	rows := &rowsFile{engine: path}
 	subject, err := cases.NewSubject(model)
-	if err == nil {
+	if rows.subject = subject; err == nil {
 		rows.question, err = question(subject)
 	}
 	if errors.Is(err, service.ErrNoModel) {
@@ -236,15 +303,15 @@ func (r *rowsFile) plan(isRun bool) (*cases.Plan, error) {
 	return plan, err
 }
 
-// progress shows how much of the file is read.
-func (r *rowsFile) progress(c *cobra.Command, what string) *progress {
+// progress shows how much of the file is read, but where results go to the terminal.
+func (r *rowsFile) progress(c *cobra.Command, what string, isElsewhere bool) *progress {
 	total := int64(0)
 	if r.source.file != nil {
 		if about, err := r.source.file.Stat(); err == nil && about.Mode().IsRegular() {
 			total = about.Size()
 		}
 	}
-	if isTerminal(c.OutOrStdout()) {
+	if isTerminal(c.OutOrStdout()) && !isElsewhere {
 		return nil
 	}
 	return showProgress(c.ErrOrStderr(), what, megabytes, total, r.Done)

@@ -12,7 +12,6 @@ import (
 
 	"gateway/engine"
 	"gateway/rabbit/broker"
-	"gateway/rabbit/history"
 	"gateway/rabbit/sender"
 )
 
@@ -62,12 +61,12 @@ func runSend(c *cobra.Command, o sendOptions) error {
 	defer stop()
 	options.Check = func(model []byte) error { return checkBeforeSending(ctx, path, model) }
 	if !options.Named {
-		if options.Name, err = history.Mark(); err != nil {
+		if options.Name, err = broker.NewMark(); err != nil {
 			return err
 		}
 	}
 	if options.Named && options.Batch == "" {
-		if options.Batch, err = history.Mark(); err != nil {
+		if options.Batch, err = broker.NewMark(); err != nil {
 			return err
 		}
 		c.PrintErrf("desk send: batch %s\n", options.Batch)

@@ -116,6 +116,8 @@ func (p *progress) line(done int64, passed time.Duration) string {
 	fmt.Fprintf(&text, "%s: %s", p.what, p.amount(done))
 	if p.total > 0 {
 		fmt.Fprintf(&text, " of %s %s (%d %%)", p.amount(p.total), p.unit.name, done*100/p.total)
+	} else if p.unit.size != 1 {
+		fmt.Fprintf(&text, " %s", p.unit.name)
 	}
 	if rate := float64(done) / passed.Seconds(); done > 0 && p.total > 0 {
 		left := time.Duration(float64(p.total-done) / rate * float64(time.Second))

@@ -68,3 +68,45 @@ func (d *duration) String() string {
 }
 
 func (*duration) Type() string { return "TIME" }
+
+// A days is a time on the command line that may be long, as 400d.
+type days time.Duration
+
+const day = 24 * time.Hour
+
+// mostDays is how many days a time has at most, so that none overflows.
+const mostDays = 36_500
+
+func (d *days) Set(text string) error {
+	if text == "0" {
+		*d = 0
+		return nil
+	}
+	if strings.HasSuffix(text, "d") {
+		n, err := strconv.ParseUint(strings.TrimSuffix(text, "d"), 10, 64)
+		if err != nil || n > mostDays {
+			return errors.New("a number of days is due, as 400d")
+		}
+		*d = days(time.Duration(n) * day)
+		return nil
+	}
+	read, err := time.ParseDuration(text)
+	if err != nil {
+		return errors.New("a time has a unit, as 400d or 36h")
+	}
+	*d = days(read)
+	return nil
+}
+
+func (d *days) String() string {
+	switch of := time.Duration(*d); {
+	case of == 0:
+		return "0"
+	case of%day == 0:
+		return fmt.Sprintf("%dd", of/day)
+	default:
+		return of.String()
+	}
+}
+
+func (*days) Type() string { return "TIME" }

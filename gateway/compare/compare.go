@@ -5,7 +5,6 @@ package compare
 import (
 	"encoding/json"
 	"fmt"
-	"reflect"
 	"strings"
 
 	"gateway/model"
@@ -51,11 +50,11 @@ func (c Change) String() string {
 	return text
 }
 
-// A side is one of the models.
+// A side is one of the models, as its file has it.
 type side struct {
-	model *model.Model
-	words words
-	// columns has the names of input columns, by their pointers.
+	*model.Model
+	written *model.Written
+	// places has the names of input columns, by their pointers.
 	places map[string]struct{ Name string }
 }
 
@@ -64,7 +63,12 @@ func read(source *service.Source) (*side, error) {
 	if err != nil {
 		return nil, fmt.Errorf("%w: %v", service.ErrNoModel, err)
 	}
-	s := &side{model: parsed, words: words{source.Names, source.Locals}}
+	spelling, err := model.ReadSpelling(source.Names, source.Locals, source.Places)
+	if err != nil {
+		return nil, err
+	}
+	s := &side{written: spelling.Written(parsed)}
+	s.Model = s.written.Model
 	if source.Places != nil {
 		if err := json.Unmarshal(source.Places, &s.places); err != nil {
 			return nil, fmt.Errorf("reading the places of the file: %w", err)
@@ -92,18 +96,10 @@ func Models(old, new *service.Source) ([]Change, error) {
 		return nil, err
 	}
 	c := &comparison{old: before, new: after}
-	c.names("input", before.names(before.model.Inputs), after.names(after.model.Inputs))
+	c.names("input", before.Inputs, after.Inputs)
 	c.decisions()
 	c.services()
 	return c.changes, nil
-}
-
-func (s *side) names(words []string) []string {
-	names := make([]string, len(words))
-	for at, word := range words {
-		names[at] = s.words.name(word)
-	}
-	return names
 }
 
 func (c *comparison) add(kind Kind, what, name, old, new string) {
@@ -134,150 +130,102 @@ func places(names []string) map[string]int {
 }
 
 func (c *comparison) decisions() {
-	var old, new []string
-	for _, it := range c.old.model.Decisions {
-		old = append(old, c.old.words.name(it.Name))
+	old, new := make([]string, len(c.old.Decisions)), make([]string, len(c.new.Decisions))
+	for at, it := range c.old.Decisions {
+		old[at] = it.Name
 	}
-	for _, it := range c.new.model.Decisions {
-		new = append(new, c.new.words.name(it.Name))
+	for at, it := range c.new.Decisions {
+		new[at] = it.Name
 	}
 	c.names("decision", old, new)
 	after := places(new)
 	for at, name := range old {
 		if other, is := after[name]; is {
-			c.decision(at, other)
+			c.decision(&c.old.Decisions[at], &c.new.Decisions[other])
 		}
 	}
 }
 
 // decision compares a decision that both models have.
-func (c *comparison) decision(at, other int) {
-	old, new := c.old.model.Decisions[at], c.new.model.Decisions[other]
-	c.of = c.old.words.name(old.Name)
+func (c *comparison) decision(old, new *model.Decision) {
+	c.of = old.Name
 	defer func() { c.of = "" }()
-	c.names("need", c.old.names(old.Needs), c.new.names(new.Needs))
-	if reflect.DeepEqual(old.Expr, new.Expr) && reflect.DeepEqual(c.old.words.of(old.Expr), c.new.words.of(new.Expr)) {
-		return
-	}
+	c.names("need", old.Needs, new.Needs)
 	before, isOld := old.Expr.(*model.Table)
 	after, isNew := new.Expr.(*model.Table)
 	if isOld && isNew {
-		c.tables(before, after, fmt.Sprintf("/decisions/%d/expr/table", at), fmt.Sprintf("/decisions/%d/expr/table", other))
+		c.tables(before, after)
 		return
 	}
-	if one, two := c.old.words.of(old.Expr), c.new.words.of(new.Expr); one != two {
+	if one, two := textOf(old.Expr), textOf(new.Expr); one != two {
 		c.add(Changed, "logic", "", one, two)
 	}
 }
 
 func (c *comparison) services() {
-	before, after := map[string]model.Service{}, map[string]model.Service{}
-	var old, new []string
-	for _, it := range c.old.model.Services {
-		name := c.old.words.name(it.Name)
-		old, before[name] = append(old, name), it
-	}
-	for _, it := range c.new.model.Services {
-		name := c.new.words.name(it.Name)
-		new, after[name] = append(new, name), it
-	}
+	old, before := servicesOf(c.old.Model)
+	new, after := servicesOf(c.new.Model)
 	c.names("service", old, new)
 	for _, name := range old {
-		other, is := after[name]
-		if !is {
-			continue
+		if other, is := after[name]; is {
+			c.service(before[name], other)
 		}
-		c.of = name
-		it := before[name]
-		c.names("output", c.old.names(it.Outputs), c.new.names(other.Outputs))
-		c.names("encapsulated decision", c.old.names(it.Encapsulated), c.new.names(other.Encapsulated))
-		c.names("input decision", c.old.names(it.InputDecisions), c.new.names(other.InputDecisions))
-		c.names("input", c.old.names(it.InputData), c.new.names(other.InputData))
-		c.of = ""
 	}
 }
 
-// words are what a file calls the words of its model.
-type words struct{ names, locals map[string]string }
-
-func (w words) name(word string) string {
-	if name, is := w.names[word]; is {
-		return name
+func servicesOf(m *model.Model) (names []string, byName map[string]model.Service) {
+	byName = map[string]model.Service{}
+	for _, it := range m.Services {
+		names, byName[it.Name] = append(names, it.Name), it
 	}
-	if name, is := w.locals[word]; is {
-		return name
-	}
-	return word
+	return names, byName
 }
 
-// text is an expression with the names of the file in place of words.
-func (w words) text(expression string) string {
-	if len(w.names) == 0 {
-		return expression
-	}
-	var made strings.Builder
-	for at := 0; at < len(expression); {
-		end := at + 1
-		switch c := expression[at]; {
-		case c == '"':
-			for end < len(expression) && expression[end] != '"' {
-				if expression[end] == '\\' {
-					end++
-				}
-				end++
-			}
-			if end++; end > len(expression) {
-				end = len(expression)
-			}
-		case isOfWord(c):
-			for end < len(expression) && isOfWord(expression[end]) {
-				end++
-			}
-			made.WriteString(w.name(expression[at:end]))
-			at = end
-			continue
-		}
-		made.WriteString(expression[at:end])
-		at = end
-	}
-	return made.String()
+// service compares a service that both models have.
+func (c *comparison) service(old, new model.Service) {
+	c.of = old.Name
+	defer func() { c.of = "" }()
+	c.names("output", old.Outputs, new.Outputs)
+	c.names("encapsulated decision", old.Encapsulated, new.Encapsulated)
+	c.names("input decision", old.InputDecisions, new.InputDecisions)
+	c.names("input", old.InputData, new.InputData)
 }
 
-func isOfWord(c byte) bool {
-	return c == '_' || c >= '0' && c <= '9' || c|0x20 >= 'a' && c|0x20 <= 'z' || c >= 0x80
-}
-
-// of is an expression as text.
-func (w words) of(e model.Expression) string {
+// textOf is an expression as text.
+func textOf(e model.Expression) string {
 	switch e := e.(type) {
 	case model.Literal:
-		return w.text(string(e))
+		return string(e)
 	case model.List:
 		var all []string
 		for _, it := range e {
-			all = append(all, w.of(it))
+			all = append(all, textOf(it))
 		}
 		return "[" + strings.Join(all, ", ") + "]"
 	case model.Context:
-		var all []string
-		for _, it := range e.Entries {
-			all = append(all, w.name(it.Name)+": "+w.of(it.Expr))
-		}
-		if e.Result != nil {
-			all = append(all, w.of(e.Result))
-		}
-		return "{" + strings.Join(all, ", ") + "}"
+		return textOfContext(e)
 	case *model.Table:
-		return w.table(e)
+		return textOfTable(e)
 	}
 	return ""
 }
 
-// table is a table within another expression.
-func (w words) table(t *model.Table) string {
+func textOfContext(c model.Context) string {
+	var all []string
+	for _, it := range c.Entries {
+		all = append(all, it.Name+": "+textOf(it.Expr))
+	}
+	if c.Result != nil {
+		all = append(all, textOf(c.Result))
+	}
+	return "{" + strings.Join(all, ", ") + "}"
+}
+
+// textOfTable is a table within another expression.
+func textOfTable(t *model.Table) string {
 	var all []string
 	for _, rule := range t.Rules {
-		all = append(all, w.text(strings.Join(rule.When, " | ")+" => "+strings.Join(rule.Then, " | ")))
+		all = append(all, strings.Join(rule.When, " | ")+" => "+strings.Join(rule.Then, " | "))
 	}
-	return fmt.Sprintf("table %s over %s: %s", t.Hit, w.text(strings.Join(t.Inputs, ", ")), strings.Join(all, "; "))
+	return fmt.Sprintf("table %s over %s: %s", t.Hit, strings.Join(t.Inputs, ", "), strings.Join(all, "; "))
 }

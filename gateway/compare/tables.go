@@ -16,16 +16,16 @@ type column struct {
 }
 
 // tables compares the tables of a decision.
-func (c *comparison) tables(old, new *model.Table, oldAt, newAt string) {
+func (c *comparison) tables(old, new *model.Table) {
 	if old.Hit != new.Hit {
 		c.add(Changed, "hit policy", "", old.Hit, new.Hit)
 	}
-	columns := c.columns(c.old.inputs(old, oldAt), c.new.inputs(new, newAt), "input column", false)
-	columns = append(columns, c.columns(c.old.outputs(old), c.new.outputs(new), "output column", true)...)
+	columns := c.columns(c.old.inputs(old), c.new.inputs(new), "input column", false)
+	columns = append(columns, c.columns(outputs(old), outputs(new), "output column", true)...)
 	for _, it := range columns {
 		if it.isOutput {
 			c.output(it.name, old.Outputs[it.old], new.Outputs[it.new])
-		} else if one, two := c.old.words.text(old.Inputs[it.old]), c.new.words.text(new.Inputs[it.new]); one != two {
+		} else if one, two := old.Inputs[it.old], new.Inputs[it.new]; one != two {
 			c.add(Changed, "input column", it.name, one, two)
 		}
 	}
@@ -33,20 +33,20 @@ func (c *comparison) tables(old, new *model.Table, oldAt, newAt string) {
 }
 
 // inputs are the names of the input columns: those of the file, or their expressions.
-func (s *side) inputs(t *model.Table, at string) []string {
-	names := make([]string, len(t.Inputs))
+func (s *side) inputs(t *model.Table) []string {
+	names, at := make([]string, len(t.Inputs)), s.written.Origins[t].Pointer
 	for i, text := range t.Inputs {
 		if names[i] = s.places[fmt.Sprintf("%s/inputs/%d", at, i)].Name; names[i] == "" {
-			names[i] = s.words.text(text)
+			names[i] = text
 		}
 	}
 	return names
 }
 
-func (s *side) outputs(t *model.Table) []string {
+func outputs(t *model.Table) []string {
 	names := make([]string, len(t.Outputs))
 	for i, output := range t.Outputs {
-		names[i] = s.words.name(output.Name)
+		names[i] = output.Name
 	}
 	return names
 }
@@ -81,10 +81,10 @@ func (c *comparison) output(name string, old, new model.Output) {
 	}
 	before, after := "", ""
 	if old.Default != nil {
-		before = c.old.words.text(*old.Default)
+		before = *old.Default
 	}
 	if new.Default != nil {
-		after = c.new.words.text(*new.Default)
+		after = *new.Default
 	}
 	if before != after {
 		c.add(Changed, "default", name, before, after)
@@ -92,7 +92,7 @@ func (c *comparison) output(name string, old, new model.Output) {
 }
 
 // cells are the texts of a rule in the columns that both tables have.
-func cells(w words, rule model.Rule, columns []column, isNew bool) []string {
+func cells(rule model.Rule, columns []column, isNew bool) []string {
 	texts := make([]string, len(columns))
 	for i, it := range columns {
 		at, from := it.old, rule.When
@@ -102,7 +102,7 @@ func cells(w words, rule model.Rule, columns []column, isNew bool) []string {
 		if it.isOutput {
 			from = rule.Then
 		}
-		texts[i] = w.text(from[at])
+		texts[i] = from[at]
 	}
 	return texts
 }
@@ -111,10 +111,10 @@ func cells(w words, rule model.Rule, columns []column, isNew bool) []string {
 func (c *comparison) rules(old, new *model.Table, columns []column) {
 	before, after := make([][]string, len(old.Rules)), make([][]string, len(new.Rules))
 	for i, rule := range old.Rules {
-		before[i] = cells(c.old.words, rule, columns, false)
+		before[i] = cells(rule, columns, false)
 	}
 	for i, rule := range new.Rules {
-		after[i] = cells(c.new.words, rule, columns, true)
+		after[i] = cells(rule, columns, true)
 	}
 	i, j := 0, 0
 	for _, pair := range append(samePairs(before, after), [2]int{len(before), len(after)}) {

@@ -18,6 +18,9 @@ type Table struct {
 	// nil where no line says which rules decided.
 	Hits    []int `json:"hits"`
 	Decided []int `json:"decided"`
+	// Missed says, by rule and column, where a rule missed: at the first column that wasn't met. It is filled where lines tell the
+	// misses.
+	Missed [][]bool `json:"-"`
 }
 
 // An Answer is what a line says of its request.
@@ -44,7 +47,7 @@ type part struct {
 	// begin is how a decision begins, and name the name of an entry.
 	begin, name string
 	// What its table and the hits of that have for keys, beside its own.
-	form, ofTable, ofHits form
+	form, ofTable, ofHits, ofMisses form
 }
 
 // New has counted nothing.
@@ -174,6 +177,8 @@ func (p *part) readTable(at *cursor) {
 			defaults = string(at.value()) == "true"
 		case `"decided":`:
 			t.readDecided(at)
+		case `"misses":`:
+			p.readMisses(at)
 		default:
 			at.value()
 		}
@@ -207,6 +212,47 @@ func (t *Table) readDecided(at *cursor) {
 	for is := at.open('[', ']'); is; is = at.more(']') {
 		t.Decided = counted(t.Decided, at.number())
 	}
+}
+
+// readMisses notes where rules missed.
+func (p *part) readMisses(at *cursor) {
+	for is := at.open('[', ']'); is; is = at.more(']') {
+		rule, column := p.miss(at)
+		p.table.missed(rule, column)
+	}
+}
+
+// miss is the rule and the column of a miss.
+func (p *part) miss(at *cursor) (rule, column int) {
+	number := 0
+	for is := at.open('{', '}'); is; is = at.more('}') {
+		switch at.key(&p.ofMisses, number) {
+		case `"rule":`:
+			rule = at.number()
+		case `"column":`:
+			column = at.number()
+		default:
+			at.value()
+		}
+		number++
+	}
+	return rule, column
+}
+
+// missed notes that a rule missed at a column, both from 1.
+func (t *Table) missed(rule, column int) {
+	if rule < 1 || rule > mostRules || column < 1 || column > mostRules {
+		return
+	}
+	for len(t.Missed) < rule {
+		t.Missed = append(t.Missed, nil)
+	}
+	row := t.Missed[rule-1]
+	for len(row) < column {
+		row = append(row, false)
+	}
+	row[column-1] = true
+	t.Missed[rule-1] = row
 }
 
 // hitRule is the number of the rule of a hit.
@@ -280,8 +326,20 @@ func mergedTables(one, other *Table) *Table {
 		one.None += other.None
 		one.Hits = sums(one.Hits, other.Hits)
 		one.Decided = sums(one.Decided, other.Decided)
+		for rule := range other.Missed {
+			one.mergeMissed(rule, other.Missed[rule])
+		}
 	}
 	return one
+}
+
+// mergeMissed adds the columns at which a rule missed.
+func (t *Table) mergeMissed(rule int, columns []bool) {
+	for column, is := range columns {
+		if is {
+			t.missed(rule+1, column+1)
+		}
+	}
 }
 
 // sums adds counts, of which the longer list stays; a nil one is no list.

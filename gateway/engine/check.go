@@ -15,8 +15,7 @@ import (
 // checkPatience is how long the check of a model may take.
 const checkPatience = 60 * time.Second
 
-// A Place is what the check says of one place of a model: a fault, a warning, or how many more there are. It is a line of
-// `desk check --json`.
+// A Place is what the check says of one place of a model: a fault, or how many more there are. It is a line of the engine's.
 type Place = json.RawMessage
 
 // A Lawful is what the check says of a model without a fault.
@@ -46,7 +45,7 @@ func (f *FaultyModel) Error() string {
 	return "the model has a fault: " + f.Fault
 }
 
-// Check asks `desk check --json` what a model is. Where it has a fault the error is a *FaultyModel.
+// Check asks the engine what a model is. Where it has a fault the error is a *FaultyModel.
 func Check(ctx context.Context, path string, memory uint64, text []byte) (*Lawful, []Place, error) {
 	ctx, stop := context.WithTimeout(ctx, checkPatience)
 	defer stop()

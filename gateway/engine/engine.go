@@ -124,8 +124,11 @@ func (e *engine) isDone(err error) bool {
 // live is the life of one process: whether it answered a request, and how it ended; no error where it was to end and did so
 // with status 0.
 func (e *engine) live() (bool, error) {
-	p, err := begin(e.pool.options.Path, e.pool.options.Memory,
-		"serve", "--clients", strconv.Itoa(Lanes), "--workers", "1", "--capacity", laneRoom)
+	words := []string{"serve", "--clients", strconv.Itoa(Lanes), "--workers", "1", "--capacity", laneRoom}
+	if e.pool.options.Tells {
+		words[0] = "explain"
+	}
+	p, err := begin(e.pool.options.Path, e.pool.options.Memory, words...)
 	if err != nil {
 		return false, err
 	}
@@ -278,6 +281,9 @@ func (e *engine) ask(text []byte, job *Job) []byte {
 	e.order++
 	job.line, job.order = e.lines, e.order
 	e.lanes[job.lane].sent.push(job)
+	if e.pool.options.Measures {
+		job.asked = time.Now()
+	}
 	if e.sent == 0 {
 		e.age, e.moved = 0, time.Now()
 	}
@@ -297,12 +303,15 @@ func (e *engine) tell(text []byte, model *Model) []byte {
 
 // read reads what the process writes to its end. It gives an error where that is none of an engine's lines.
 func (e *engine) read(p *process) error {
-	from := bufio.NewReaderSize(p.out, 256<<10)
+	from, read := bufio.NewReaderSize(p.out, 256<<10), lineReader(readLine)
+	if e.pool.options.Tells {
+		read = readToldLine
+	}
 	var replies []reply
 	var jobs []*Job
 	for {
 		var err, strange error
-		replies, err = readReplies(from, replies[:0])
+		replies, err = repliesBy(read, from, replies[:0])
 		jobs, strange = e.settle(replies, jobs[:0])
 		for at, job := range jobs {
 			if job != nil {
@@ -342,6 +351,9 @@ func (e *engine) settle(replies []reply, jobs []*Job) ([]*Job, error) {
 		}
 		e.sent--
 		e.sentBytes -= len(job.Rest)
+		if e.pool.options.Measures {
+			job.Queue, job.Work = job.asked.Sub(job.entered), e.moved.Sub(job.asked)
+		}
 		if e.alone == job {
 			e.alone = nil
 		}

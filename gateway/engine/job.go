@@ -60,6 +60,9 @@ type Outcome struct {
 	Value []byte
 	// Word is that of a refusal.
 	Word string
+	// Decided has the tables on the way, where the pool tells them. IsLong says that what the engine said of them is too long.
+	Decided []Decided
+	IsLong  bool
 }
 
 // A Job is a request on its way.
@@ -74,6 +77,10 @@ type Job struct {
 	// Done is told what became of it, once, by a goroutine of the pool. It must not wait.
 	Done func(*Job, Outcome)
 
+	// Queue is how long it waited, and Work how long an engine had it, where the pool measures that. They are set before Done.
+	Queue, Work time.Duration
+
+	asked   time.Time
 	gone    atomic.Bool
 	lane    int
 	line    uint64

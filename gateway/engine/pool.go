@@ -16,6 +16,10 @@ type Options struct {
 	Path string
 	// Processes is how many engines there are, at least one.
 	Processes int
+	// Measures says that jobs are to have their times.
+	Measures bool
+	// Tells has the engines say which rules decided: outcomes have them.
+	Tells bool
 	// Memory is the limit of each engine's address space in bytes; 0 is none.
 	Memory uint64
 	// Deadline is how long an engine may be at one request.

@@ -53,8 +53,15 @@ const mostReplies = 64
 // readReplies waits for a line of an engine, and reads it and those that came with it. What it gives with an error stood
 // before.
 func readReplies(from *bufio.Reader, replies []reply) ([]reply, error) {
+	return repliesBy(readLine, from, replies)
+}
+
+// A lineReader reads a line without its newline, or its first bytes and that it was cut.
+type lineReader func(from *bufio.Reader) (text []byte, cut bool, err error)
+
+func repliesBy(read lineReader, from *bufio.Reader, replies []reply) ([]reply, error) {
 	for {
-		text, cut, err := readLine(from)
+		text, cut, err := read(from)
 		if err != nil {
 			return replies, err
 		}
@@ -85,6 +92,9 @@ var (
 func readReply(text []byte, cut bool) (reply, error) {
 	lane, rest := laneOf(text)
 	if lane < 0 || !bytes.HasPrefix(rest, resultKey) {
+		if r, is, err := readTold(text, lane, rest, cut); is || err != nil {
+			return r, err
+		}
 		return readOther(text, lane)
 	}
 	if cut {

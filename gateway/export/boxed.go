@@ -10,6 +10,9 @@ import (
 
 // boxed writes the boxed expression at a place of the model.
 func (p *page) boxed(pointer string, e model.Expression, s *scope) *element {
+	if written, is := p.ofFile(pointer); is {
+		return p.literal("literalExpression", written, "")
+	}
 	switch e := e.(type) {
 	case model.List:
 		list := tag("list", "id", p.id("list"))
@@ -18,6 +21,9 @@ func (p *page) boxed(pointer string, e model.Expression, s *scope) *element {
 		}
 		return list
 	case model.Context:
+		if inner, at, is := p.File.Inner(e, pointer); is && p.IsWritten {
+			return p.boxed(at, inner, p.around(e, s))
+		}
 		return p.context(pointer, e, s)
 	case *model.Table:
 		return p.table(pointer+"/table", e, s)
@@ -37,7 +43,25 @@ func (p *page) expression(pointer, content string, s *scope) string {
 	return p.written(pointer, content, s.expression)
 }
 
+// ofFile is the text of the first file at a place, where such texts are written and there is one.
+func (p *page) ofFile(pointer string) (text string, is bool) {
+	text, is = p.File.Texts[pointer]
+	return text, is && p.IsWritten
+}
+
+// around is a scope in which what only the translation has is bound, whose texts are not written.
+func (p *page) around(c model.Context, s *scope) *scope {
+	s = s.inner()
+	for _, entry := range c.Entries {
+		s.bind(entry.Name, s.bound.ofBoxed(entry.Expr))
+	}
+	return s
+}
+
 func (p *page) written(pointer, content string, write func(string) (string, error)) string {
+	if text, is := p.ofFile(pointer); is {
+		return text
+	}
 	written, err := write(content)
 	var f *fault
 	switch {
@@ -54,6 +78,10 @@ func (p *page) context(pointer string, c model.Context, s *scope) *element {
 	s = s.inner()
 	for i, entry := range c.Entries {
 		value := s.bound.ofBoxed(entry.Expr)
+		if p.IsWritten && !p.File.IsOfFile(entry.Name) {
+			s.bind(entry.Name, value)
+			continue
+		}
 		variable := tag("variable", "id", p.id("variable"), "name", p.spell(entry.Name), "typeRef", p.scalar(value))
 		expr := p.boxed(fmt.Sprintf("%s/context/%d/expr", pointer, i), entry.Expr, s)
 		e.add(tag("contextEntry", "id", p.id("entry")).add(variable, expr))
@@ -95,7 +123,11 @@ func (p *page) table(pointer string, t *model.Table, s *scope) *element {
 	}
 	hit := policy(t)
 	e := tag("decisionTable", "id", p.id("table"), "hitPolicy", hit[0], "aggregation", hit[1])
-	for i, input := range t.Inputs {
+	inputs := t.Inputs
+	if p.IsWritten {
+		inputs = inputs[:p.File.InputsOf(t, pointer)]
+	}
+	for i, input := range inputs {
 		expr := p.literal("inputExpression", p.expression(fmt.Sprintf("%s/inputs/%d", pointer, i), input, s),
 			p.scalar(s.bound.ofText(input)))
 		e.add(tag("input", "id", p.id("input")).add(expr))
@@ -104,6 +136,7 @@ func (p *page) table(pointer string, t *model.Table, s *scope) *element {
 		e.add(p.output(pointer, t, i, s))
 	}
 	for i, rule := range t.Rules {
+		rule.When = rule.When[:len(inputs)]
 		e.add(p.rule(fmt.Sprintf("%s/rules/%d", pointer, i), t, rule, s))
 	}
 	return e
@@ -179,7 +212,11 @@ func (p *page) output(pointer string, t *model.Table, column int, s *scope) *ele
 	e := tag("output", "id", p.id("output"), "name", p.spell(output.Name), "typeRef", p.scalar(value))
 	place := fmt.Sprintf("%s/outputs/%d", pointer, column)
 	if p.keepsValues(place, t, column) {
-		e.add(tag("outputValues", "id", p.id("values")).add(text(strings.Join(output.Values, ", "))))
+		values, is := p.ofFile(place + "/values")
+		if !is {
+			values = strings.Join(output.Values, ", ")
+		}
+		e.add(tag("outputValues", "id", p.id("values")).add(text(values)))
 	}
 	switch {
 	case output.Default != nil:
@@ -249,7 +286,7 @@ func (p *page) rule(pointer string, t *model.Table, rule model.Rule, s *scope) *
 	}
 	for i, then := range rule.Then {
 		written := p.expression(fmt.Sprintf("%s/then/%d", pointer, i), then, s)
-		if (t.Hit == "C<" || t.Hit == "C>") && s.bound.ofText(then).maybe(isText) {
+		if _, is := p.ofFile(fmt.Sprintf("%s/then/%d", pointer, i)); !is && (t.Hit == "C<" || t.Hit == "C>") && s.bound.ofText(then).maybe(isText) {
 			// The least of texts is null here.
 			written = "0 + (" + written + ")"
 		}

@@ -3,22 +3,64 @@ package export
 import (
 	"encoding/json"
 	"sort"
+
+	"gateway/decimal"
 )
 
-// takeUnits notes the inputs and decisions whose numbers the model counts in units. The file has whole numbers of these, so it
-// gets no allowed values of their types, which are decimals.
-func (s *Source) takeUnits() {
+// findUnits notes the inputs and decisions whose numbers the model counts in units, and so dates and durations.
+func (s *Source) findUnits() {
 	for word, schema := range s.Types {
 		if schema.isCounted() {
 			s.Counted = append(s.Counted, word)
-			s.Types[word] = schema.withoutValues()
 		}
 	}
 	sort.Strings(s.Counted)
 }
 
+// CountedNames are the names in the first file of what is counted.
+func (s *Source) CountedNames() []string {
+	names := make([]string, len(s.Counted))
+	for at, word := range s.Counted {
+		names[at] = s.File.Name(word)
+	}
+	return names
+}
+
+// wholeTypes are the types of a file that has whole numbers of units: without the allowed values of their types, which are decimals.
+func (s *Source) wholeTypes() map[string]Schema {
+	types := make(map[string]Schema, len(s.Types))
+	for word, schema := range s.Types {
+		if types[word] = schema; schema.isCounted() {
+			types[word] = schema.withoutValues()
+		}
+	}
+	return types
+}
+
+// Decimals are how many decimals the numbers of each input have, by its name in the file, and those of its parts by a.b.
+func (s *Source) Decimals() map[string]int {
+	found := map[string]int{}
+	for _, word := range s.Model.Inputs {
+		s.decimals(found, s.File.Name(word), s.Types[word])
+	}
+	return found
+}
+
+func (s *Source) decimals(to map[string]int, name string, of Schema) {
+	if of.Items != nil {
+		s.decimals(to, name, *of.Items)
+	}
+	for word, part := range of.Properties {
+		s.decimals(to, name+"."+s.File.Name(word), part)
+	}
+	if of.shape().kinds&^isNull == isNumber {
+		_, exponent, _ := decimal.Parse(of.MultipleOf.String())
+		to[name] = -exponent
+	}
+}
+
 func (s Schema) isCounted() bool {
-	if s.MultipleOf != "" && s.MultipleOf != json.Number("1") || s.Per != "" || s.Items != nil && s.Items.isCounted() {
+	if s.MultipleOf != "" && s.MultipleOf != json.Number("1") || s.Per != "" || s.Format != "" || s.Items != nil && s.Items.isCounted() {
 		return true
 	}
 	for _, part := range s.Properties {
@@ -31,7 +73,7 @@ func (s Schema) isCounted() bool {
 
 // withoutValues is a schema whose counted numbers have no allowed values.
 func (s Schema) withoutValues() Schema {
-	if s.MultipleOf != "" || s.Per != "" {
+	if s.MultipleOf != "" || s.Per != "" || s.Format != "" {
 		s.Enum, s.Minimum, s.Above, s.Maximum, s.Below = nil, "", "", "", ""
 	}
 	if s.Items != nil {

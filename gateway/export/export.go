@@ -22,9 +22,13 @@ type Source struct {
 	Model *model.Model
 	// Names has how a word is spelled in the file; a word without a line is spelled as it is.
 	Names map[string]string
+	// File has the texts of the first file. Where IsWritten they are written, in place of those of the model, which counts in units.
+	File      model.Spelling
+	IsWritten bool
 	// Types has the JSON Schema of the values of an input or a decision, by its word.
 	Types map[string]Schema
-	// Counted are the inputs and decisions whose numbers the model counts in units: the file has whole numbers of these.
+	// Counted are the inputs and decisions whose numbers the model counts in units: but where IsWritten the file has whole numbers of
+	// these.
 	Counted []string
 	// Title is the name of the model; it may be empty.
 	Title string
@@ -59,19 +63,25 @@ func (r Refusal) String() string {
 // Read reads a model, {"model":M}, or the output of an import.
 func Read(data []byte) (Source, error) {
 	var whole struct {
-		Model json.RawMessage   `json:"model"`
-		Names map[string]string `json:"names"`
-		Types map[string]Schema `json:"types"`
+		Model  json.RawMessage   `json:"model"`
+		Names  map[string]string `json:"names"`
+		Locals map[string]string `json:"locals"`
+		Places json.RawMessage   `json:"places"`
+		Types  map[string]Schema `json:"types"`
 	}
 	if err := json.Unmarshal(data, &whole); err != nil {
 		return Source{}, fmt.Errorf("reading the model: %w", err)
 	}
 	source := Source{Names: whole.Names, Types: whole.Types, Imported: whole.Names != nil, Typed: true}
-	source.takeUnits()
+	source.findUnits()
+	var err error
+	if source.File, err = model.ReadSpelling(whole.Names, whole.Locals, whole.Places); err != nil {
+		return Source{}, err
+	}
+	source.IsWritten = len(source.File.Texts) > 0
 	if whole.Model == nil {
 		whole.Model = data
 	}
-	var err error
 	source.Model, err = model.Parse(whole.Model)
 	return source, err
 }
@@ -117,6 +127,9 @@ type page struct {
 func newPage(source Source) *page {
 	p := &page{Source: source, services: source.Model.Services, decisions: map[string]*model.Decision{},
 		shapes: map[string]shape{}, words: newDictionary(source.Names), counts: map[string]int{}}
+	if !p.IsWritten {
+		p.Types = source.wholeTypes()
+	}
 	if p.Title == "" {
 		p.Title = "Model"
 	}

@@ -22,6 +22,8 @@ type Schema struct {
 	// How the model counts numbers: as multiples of a power of ten, or a quotient as parts of one.
 	MultipleOf json.Number `json:"multipleOf"`
 	Per        json.Number `json:"per"`
+	// Format is of dates, times and durations, which the model has as whole numbers.
+	Format string `json:"format"`
 }
 
 // kindsOf are the kinds of values of each type of JSON Schema.
@@ -32,6 +34,9 @@ var kindsOf = map[string]kinds{
 
 // typeNames are the types of a schema, none where it names none.
 func (s Schema) typeNames() []string {
+	if s.Format != "" {
+		return []string{"integer", "null"}
+	}
 	var one string
 	if json.Unmarshal(s.Type, &one) == nil {
 		return []string{one}

@@ -205,11 +205,19 @@ func (p *parser) instance() Node {
 	return operand
 }
 
+// longTypes are FEEL's own types whose names have a keyword in them.
+var longTypes = NewScope(nil, "date and time", "days and time duration", "years and months duration")
+
 // typeName reads the name of a type, with what stands in angle brackets behind it.
 func (p *parser) typeName() string {
 	start := p.at
 	if p.current().kind != word {
 		p.stop("a type is due")
+	}
+	if taken, _ := longTypes.longest(p.source, p.all[p.at:]); taken > 0 {
+		p.at += taken
+		span := p.from(start)
+		return Canonical(p.source[span.Start:span.End])
 	}
 	for p.current().kind == word && !keywords[p.spell(p.current())] || p.is(".") {
 		p.at++

@@ -7,6 +7,7 @@ import (
 	"io/fs"
 	"os"
 	"path/filepath"
+	"syscall"
 	"time"
 )
 
@@ -14,7 +15,9 @@ const (
 	// nameForm is the form of a file's name, in universal time: names in order are files in order.
 	nameForm = "2006-01-02T150405.000000Z"
 	suffix   = ".jsonl"
-	markForm = "2006-01-02T15:04:05Z"
+	// fileMode and folderMode let the owner alone read what was decided about people.
+	fileMode   = 0o600
+	folderMode = 0o700
 )
 
 // A file is open for writing.
@@ -24,38 +27,55 @@ type file struct {
 	to    *bufio.Writer
 	// size is what was handed to the writer, synced what is on the disk.
 	size, synced int64
-	// marked is the second of the last mark of time.
-	marked int64
+	// begun is when it was created; first and last are the numbers of its entries.
+	begun       time.Time
+	first, last uint64
 }
 
-// create begins a file with its model, and has its name on the disk.
-func create(folder string, now time.Time, model Model) (*file, error) {
+// create begins a file with its model and what is said of it, and has its name on the disk.
+func create(folder string, now time.Time, model Model, chain *chainer) (*file, error) {
 	var opened *os.File
-	for {
+	for name := now; ; name = name.Add(time.Microsecond) {
 		var err error
-		path := filepath.Join(folder, now.UTC().Format(nameForm)+suffix)
-		opened, err = os.OpenFile(path, os.O_CREATE|os.O_EXCL|os.O_WRONLY, 0o640)
+		path := filepath.Join(folder, name.UTC().Format(nameForm)+suffix)
+		opened, err = os.OpenFile(path, os.O_CREATE|os.O_EXCL|os.O_WRONLY, fileMode)
 		if err == nil {
 			break
 		}
 		if !errors.Is(err, fs.ErrExist) {
 			return nil, err
 		}
-		now = now.Add(time.Microsecond)
 	}
-	f := &file{model: model, os: opened, to: bufio.NewWriterSize(opened, 256<<10)}
-	err := f.write(model.AppendLine(nil))
+	f := &file{model: model, os: opened, to: bufio.NewWriterSize(opened, 256<<10), begun: now, first: chain.at.n + 1}
+	f.last = f.first
+	err := f.write(chain.add(nil, &Entry{Asked: model.AppendLine(nil), About: aboutFile(now, model, chain.at)}))
 	if err == nil {
 		err = f.sync()
 	}
 	if err == nil {
 		err = syncFolder(folder)
 	}
-	if err != nil {
-		f.abandon()
-		return nil, err
+	if err == nil {
+		return f, nil
 	}
-	return f, nil
+	if left := f.abandon(); left != nil {
+		return nil, &lostError{left}
+	}
+	return nil, err
+}
+
+// A lostError ends a journal: its files are not what was recorded.
+type lostError struct{ error }
+
+func (l *lostError) Unwrap() error { return l.error }
+
+// aboutFile is what the first entry of a file says.
+func aboutFile(now time.Time, model Model, before link) []byte {
+	about := fmt.Sprintf(`"begins":true,"form":2,"time":%q,"before":"%s"`, now.UTC().Format(TimeForm), before)
+	if it, is := model.(Described); is {
+		return it.AppendAbout(append([]byte(about), ','))
+	}
+	return []byte(about)
 }
 
 // makeFolder makes a folder where it is missing, and has its name on the disk.
@@ -63,7 +83,7 @@ func makeFolder(folder string) error {
 	if _, err := os.Stat(folder); err == nil {
 		return nil
 	}
-	if err := os.MkdirAll(folder, 0o750); err != nil {
+	if err := os.MkdirAll(folder, folderMode); err != nil {
 		return err
 	}
 	return syncFolder(filepath.Dir(folder))
@@ -84,18 +104,6 @@ func (f *file) write(text []byte) error {
 	return err
 }
 
-// add writes lines, behind a mark of time where the last one is of another second.
-func (f *file) add(now time.Time, text []byte) error {
-	if second := now.Unix(); second != f.marked {
-		f.marked = second
-		mark := fmt.Sprintf("{\"client\":%q,\"close\":true}\n", now.UTC().Format(markForm))
-		if err := f.write([]byte(mark)); err != nil {
-			return err
-		}
-	}
-	return f.write(text)
-}
-
 func (f *file) sync() error {
 	if err := f.to.Flush(); err != nil {
 		return err
@@ -107,16 +115,44 @@ func (f *file) sync() error {
 	return nil
 }
 
-// abandon cuts a file that failed to what was synced, and closes it. One without anything is removed. What cannot be cut
-// now is cut when the journal is opened again.
-func (f *file) abandon() {
-	if f.synced == 0 {
-		_ = os.Remove(f.os.Name())
-	} else {
-		_ = f.os.Truncate(f.synced)
-		_ = f.os.Sync()
+// look says what others did to a file while it is open: its name is gone or leads to another file, or its size is another.
+func (f *file) look() error {
+	own, err := f.os.Stat()
+	if err != nil {
+		return fmt.Errorf("looking at %s: %w", f.os.Name(), err)
 	}
-	_ = f.os.Close()
+	if own.Size() != f.synced {
+		return fmt.Errorf("%s has %d bytes, and %d were written", f.os.Name(), own.Size(), f.synced)
+	}
+	if it, is := own.Sys().(*syscall.Stat_t); is && it.Nlink == 0 {
+		return fmt.Errorf("%s was deleted", f.os.Name())
+	}
+	named, err := os.Lstat(f.os.Name())
+	if err != nil {
+		return fmt.Errorf("%s was moved: %w", f.os.Name(), err)
+	}
+	if !os.SameFile(own, named) {
+		return fmt.Errorf("%s was replaced", f.os.Name())
+	}
+	return nil
+}
+
+// abandon cuts a file that failed to what was synced, and closes it. One without anything is removed. The error is that
+// entries may stand in it that were not recorded.
+func (f *file) abandon() error {
+	defer f.os.Close()
+	if f.synced == 0 {
+		if err := os.Remove(f.os.Name()); err != nil && !errors.Is(err, fs.ErrNotExist) {
+			return fmt.Errorf("removing what was written in part: %w", err)
+		}
+		return nil
+	}
+	if err := f.os.Truncate(f.synced); err != nil {
+		return fmt.Errorf("cutting what was written in part: %w", err)
+	}
+	// Where the disk fails, the next file fails too.
+	_ = f.os.Sync()
+	return nil
 }
 
 func (f *file) close() error {

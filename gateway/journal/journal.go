@@ -1,6 +1,7 @@
 package journal
 
 import (
+	"bytes"
 	"errors"
 	"fmt"
 	"os"
@@ -14,8 +15,15 @@ import (
 type Options struct {
 	// Size is about how many bytes a file has at most.
 	Size int64
+	// Keep is how long files are kept at least, Limit how many bytes all of them have at most; 0 is forever, and any.
+	Keep  time.Duration
+	Limit int64
 	// Synced is told after each group: its lines, its bytes, how long writing and syncing took, and the error.
 	Synced func(lines int, bytes int64, took time.Duration, err error)
+	// Ended is told when a file ends: its path, the number of its last entry, and the chain's sum then. Pruned is told of files
+	// that were removed, and why one could not be. Both may be nil.
+	Ended  func(path string, last uint64, sum string)
+	Pruned func(paths []string, last uint64, err error)
 }
 
 // A Model is one under which requests were answered.
@@ -24,31 +32,49 @@ type Model interface {
 	AppendLine(to []byte) []byte
 }
 
+// Described is a model that says more of itself at the beginning of a file.
+type Described interface {
+	Model
+	// AppendAbout adds members, without braces.
+	AppendAbout(to []byte) []byte
+}
+
+// TimeForm is the form of a time in an entry, in universal time.
+const TimeForm = "2006-01-02T15:04:05.000Z"
+
 // A Journal is a folder of files that is being written.
 type Journal struct {
 	folder  string
 	options Options
 	lock    *os.File
-	entries chan *entry
+	posts   chan *post
 	ended   chan struct{}
-	// closing guards entries against what comes behind the end.
+	// closing guards posts against what comes behind the end.
 	closing sync.RWMutex
 	closed  bool
-	// files are those that are open, the newest last. They belong to the one goroutine that writes.
+	// files are those that are open, the newest last; chain is at the last entry, and past are those that ended. They belong to
+	// the one goroutine that writes.
 	files []*file
+	chain *chainer
+	past  []kept
+	// begun is the last entry when the journal was opened.
+	begun link
 
 	mu     sync.Mutex
 	fault  error
 	failed time.Time
+	// lost is why nothing is recorded any more, or nil.
+	lost error
 }
 
-// An entry is what one call adds.
-type entry struct {
-	model Model
-	text  []byte
-	lines int
-	turn  bool
-	done  chan error
+// A post is what one call adds.
+type post struct {
+	model   Model
+	entries []Entry
+	size    int
+	// turn ends all files; look only sees whether they are as they were left.
+	turn, look bool
+	done       chan error
 }
 
 const (
@@ -61,6 +87,8 @@ const (
 	// faultPause is how long a journal that failed is not tried again.
 	faultPause = time.Second
 	lockName   = "lock"
+	// dayLong is how long a file is written at most where files are not kept forever.
+	dayLong = 24 * time.Hour
 )
 
 // ErrClosed says that a journal takes no more.
@@ -72,15 +100,16 @@ func Open(folder string, options Options) (journal *Journal, repaired []string, 
 	if err := makeFolder(folder); err != nil {
 		return nil, nil, fmt.Errorf("opening the journal: %w", err)
 	}
-	lock, err := os.OpenFile(filepath.Join(folder, lockName), os.O_CREATE|os.O_RDWR, 0o640)
+	lock, err := os.OpenFile(filepath.Join(folder, lockName), os.O_CREATE|os.O_RDWR, fileMode)
 	if err != nil {
 		return nil, nil, fmt.Errorf("opening the journal: %w", err)
 	}
-	if err := syscall.Flock(int(lock.Fd()), syscall.LOCK_EX|syscall.LOCK_NB); err != nil {
+	if err := take(lock); err != nil {
 		lock.Close()
 		return nil, nil, fmt.Errorf("opening the journal: another process writes %s: %w", folder, err)
 	}
-	if repaired, err = repair(folder); err != nil {
+	past, repaired, err := repair(folder)
+	if err != nil {
 		lock.Close()
 		return nil, nil, err
 	}
@@ -88,39 +117,86 @@ func Open(folder string, options Options) (journal *Journal, repaired []string, 
 		folder:  folder,
 		options: options,
 		lock:    lock,
-		entries: make(chan *entry, groupEntries),
+		posts:   make(chan *post, groupEntries),
 		ended:   make(chan struct{}),
+		chain:   newChainer(lastOf(past)),
+		past:    past,
 	}
+	j.begun = j.chain.at
 	go j.write()
 	return j, repaired, nil
+}
+
+// Begun is the number of the last entry when the journal was opened, and the chain's sum then.
+func (j *Journal) Begun() (n uint64, sum string) { return j.begun.n, j.begun.String() }
+
+// lockTries is how often the lock is tried, with a pause between: who only looks whether it is taken has it for a moment.
+const (
+	lockTries = 5
+	lockPause = 20 * time.Millisecond
+)
+
+// take takes the lock for this process.
+func take(lock *os.File) (err error) {
+	for try := 0; try < lockTries; try++ {
+		if err = syscall.Flock(int(lock.Fd()), syscall.LOCK_EX|syscall.LOCK_NB); err == nil {
+			return nil
+		}
+		time.Sleep(lockPause)
+	}
+	return err
 }
 
 // Append adds lines, each with its newline, that were answered under a model. They are on the disk when it returns
 // without an error. With an error none of them is.
 func (j *Journal) Append(model Model, text []byte, lines int) error {
-	return j.put(&entry{model: model, text: text, lines: lines, done: make(chan error, 1)})
+	entries := make([]Entry, 0, lines)
+	for _, line := range bytes.SplitAfter(text, []byte("\n")) {
+		if len(line) > 0 {
+			entries = append(entries, Entry{Asked: line})
+		}
+	}
+	return j.Record(model, entries)
+}
+
+// Record adds entries under a model. They are on the disk when it returns without an error. With an error none of them is.
+func (j *Journal) Record(model Model, entries []Entry) error {
+	size := 0
+	for at := range entries {
+		size += entries[at].size()
+	}
+	return j.put(&post{model: model, entries: entries, size: size, done: make(chan error, 1)})
 }
 
 // Turn ends all files: what comes is written to new ones.
 func (j *Journal) Turn() error {
-	return j.put(&entry{turn: true, done: make(chan error, 1)})
+	return j.put(&post{turn: true, done: make(chan error, 1)})
 }
 
-func (j *Journal) put(e *entry) error {
+// Look sees whether the files that are open are as they were left, and gives the error of one that is not.
+func (j *Journal) Look() error {
+	return j.put(&post{look: true, done: make(chan error, 1)})
+}
+
+func (j *Journal) put(p *post) error {
 	j.closing.RLock()
 	if j.closed {
 		j.closing.RUnlock()
 		return ErrClosed
 	}
-	j.entries <- e
+	j.posts <- p
 	j.closing.RUnlock()
-	return <-e.done
+	return <-p.done
 }
 
-// Fault is why the last lines could not be written, or nil. It is known for a second only: then they are tried again.
+// Fault is why the last lines could not be written, or nil. It is known for a second only: then they are tried again. A
+// journal whose files were changed by others is not tried again.
 func (j *Journal) Fault() error {
 	j.mu.Lock()
 	defer j.mu.Unlock()
+	if j.lost != nil {
+		return j.lost
+	}
 	if j.fault != nil && time.Since(j.failed) < faultPause {
 		return j.fault
 	}
@@ -131,7 +207,7 @@ func (j *Journal) Fault() error {
 func (j *Journal) Failing() bool {
 	j.mu.Lock()
 	defer j.mu.Unlock()
-	return j.fault != nil
+	return j.fault != nil || j.lost != nil
 }
 
 // Close writes what is left, and closes the files.
@@ -142,7 +218,7 @@ func (j *Journal) Close() error {
 		return nil
 	}
 	j.closed = true
-	close(j.entries)
+	close(j.posts)
 	j.closing.Unlock()
 	<-j.ended
 	err := j.turn()
@@ -152,26 +228,26 @@ func (j *Journal) Close() error {
 	return err
 }
 
-// write takes entries in groups.
+// write takes posts in groups.
 func (j *Journal) write() {
 	defer close(j.ended)
-	for first := range j.entries {
+	for first := range j.posts {
 		j.commit(j.group(first))
 	}
 }
 
-// group is an entry and those that wait behind it.
-func (j *Journal) group(first *entry) []*entry {
-	group := []*entry{first}
-	bytes := len(first.text)
-	for len(group) < groupEntries && bytes < groupBytes {
+// group is a post and those that wait behind it.
+func (j *Journal) group(first *post) []*post {
+	group := []*post{first}
+	size := first.size
+	for len(group) < groupEntries && size < groupBytes {
 		select {
-		case e, is := <-j.entries:
+		case p, is := <-j.posts:
 			if !is {
 				return group
 			}
-			group = append(group, e)
-			bytes += len(e.text)
+			group = append(group, p)
+			size += p.size
 		default:
 			return group
 		}
@@ -179,71 +255,127 @@ func (j *Journal) group(first *entry) []*entry {
 	return group
 }
 
-// commit writes a group, file by file, and tells each entry what became of it.
-func (j *Journal) commit(group []*entry) {
+// commit writes a group, file by file, and tells each post what became of it.
+func (j *Journal) commit(group []*post) {
 	start := time.Now()
-	var turns []*entry
+	var others []*post
 	var order []Model
-	byModel := map[Model][]*entry{}
-	for _, e := range group {
-		if e.turn {
-			turns = append(turns, e)
+	byModel := map[Model][]*post{}
+	for _, p := range group {
+		if p.turn || p.look {
+			others = append(others, p)
 			continue
 		}
-		if byModel[e.model] == nil {
-			order = append(order, e.model)
+		if byModel[p.model] == nil {
+			order = append(order, p.model)
 		}
-		byModel[e.model] = append(byModel[e.model], e)
+		byModel[p.model] = append(byModel[p.model], p)
+	}
+	if err := j.look(); err != nil {
+		j.lose(err)
 	}
 	for _, model := range order {
 		j.commitOne(start, model, byModel[model])
 	}
-	for _, e := range turns {
-		e.done <- j.turn()
+	for _, p := range others {
+		err := j.gone()
+		if p.turn && err == nil {
+			err = j.turn()
+		}
+		p.done <- err
 	}
 }
 
-func (j *Journal) commitOne(start time.Time, model Model, entries []*entry) {
-	bytes, err := j.add(start, model, entries)
+// look sees whether the files that are open are as they were left.
+func (j *Journal) look() error {
+	for _, f := range j.files {
+		if err := f.look(); err != nil {
+			return err
+		}
+	}
+	return nil
+}
+
+// lose ends the journal, the first time it is called.
+func (j *Journal) lose(err error) {
+	j.mu.Lock()
+	defer j.mu.Unlock()
+	if j.lost == nil {
+		j.lost = fmt.Errorf("the journal is not what was recorded, so nothing more is: %w", err)
+	}
+}
+
+// gone is why nothing is recorded any more, or nil.
+func (j *Journal) gone() error {
+	j.mu.Lock()
+	defer j.mu.Unlock()
+	return j.lost
+}
+
+func (j *Journal) commitOne(start time.Time, model Model, posts []*post) {
+	err := j.gone()
+	size := int64(0)
+	if err == nil {
+		size, err = j.add(start, model, posts)
+	}
+	var lost *lostError
+	if errors.As(err, &lost) {
+		j.lose(lost)
+	}
 	j.mu.Lock()
 	j.fault, j.failed = err, time.Now()
 	j.mu.Unlock()
 	lines := 0
-	for _, e := range entries {
-		lines += e.lines
-		e.done <- err
+	for _, p := range posts {
+		lines += len(p.entries)
+		p.done <- err
 	}
 	if j.options.Synced != nil {
-		j.options.Synced(lines, bytes, time.Since(start), err)
+		j.options.Synced(lines, size, time.Since(start), err)
 	}
 }
 
-// add writes entries of one model to its file. A file that fails is left, cut to what it had before.
-func (j *Journal) add(now time.Time, model Model, entries []*entry) (int64, error) {
+// add writes the entries of one model to its file. A file that fails is left, cut to what it had before, and the chain goes
+// on from there.
+func (j *Journal) add(now time.Time, model Model, posts []*post) (int64, error) {
 	f, err := j.fileOf(now, model)
 	if err != nil {
 		return 0, err
 	}
-	before := f.size
-	for _, e := range entries {
-		if err = f.add(now, e.text); err != nil {
-			break
-		}
-	}
-	if err == nil {
+	before, at := f.size, j.chain.at
+	if err = j.fill(f, posts); err == nil {
 		err = f.sync()
 	}
 	if err != nil {
+		j.chain.at = at
 		j.forget(f)
-		f.abandon()
+		j.past = append(j.past, f.kept(now))
+		if left := f.abandon(); left != nil {
+			return 0, &lostError{left}
+		}
 		return 0, fmt.Errorf("writing the journal: %w", err)
 	}
-	if f.size > j.options.Size {
-		j.forget(f)
+	f.last = j.chain.at.n
+	if f.size > j.options.Size || j.options.Keep > 0 && now.Sub(f.begun) > dayLong {
 		// The lines are on the disk, whatever closing says.
-		_ = f.close()
+		_ = j.finish(now, f)
 	}
 	return f.size - before, nil
+}
+
+// fill hands entries to the writer of a file.
+func (j *Journal) fill(f *file, posts []*post) error {
+	var text []byte
+	for _, p := range posts {
+		text = text[:0]
+		for at := range p.entries {
+			text = j.chain.add(text, &p.entries[at])
+		}
+		if err := f.write(text); err != nil {
+			return err
+		}
+	}
+	return nil
 }
 
 // fileOf is the file of a model, a new one where none is open.
@@ -254,15 +386,18 @@ func (j *Journal) fileOf(now time.Time, model Model) (*file, error) {
 		}
 	}
 	if len(j.files) == openFiles {
-		oldest := j.files[0]
-		j.forget(oldest)
-		_ = oldest.close()
+		_ = j.finish(now, j.files[0])
 	}
-	f, err := create(j.folder, now, model)
+	at := j.chain.at
+	f, err := create(j.folder, now, model, j.chain)
 	if err != nil {
+		j.chain.at = at
 		return nil, fmt.Errorf("beginning a file of the journal: %w", err)
 	}
 	j.files = append(j.files, f)
+	if err := j.prune(now, f); err != nil {
+		return nil, fmt.Errorf("pruning the journal: %w", err)
+	}
 	return f, nil
 }
 
@@ -275,14 +410,23 @@ func (j *Journal) forget(f *file) {
 	}
 }
 
-// turn closes all files.
+// finish ends a file.
+func (j *Journal) finish(now time.Time, f *file) error {
+	j.forget(f)
+	j.past = append(j.past, f.kept(now))
+	if j.options.Ended != nil {
+		j.options.Ended(f.os.Name(), j.chain.at.n, j.chain.at.String())
+	}
+	return f.close()
+}
+
+// turn ends all files.
 func (j *Journal) turn() error {
 	var first error
-	for _, f := range j.files {
-		if err := f.close(); err != nil && first == nil {
+	for len(j.files) > 0 {
+		if err := j.finish(time.Now(), j.files[0]); err != nil && first == nil {
 			first = fmt.Errorf("closing a file of the journal: %w", err)
 		}
 	}
-	j.files = nil
 	return first
 }

@@ -22,8 +22,8 @@ type Input struct {
 	Name string
 	// Schema is the JSON Schema of its type, and nil where nothing is said of it.
 	Schema json.RawMessage
-	// Required says that a request without it is refused.
-	Required bool
+	// Required says that a request without it is refused, NotNull that one with null is, whatever the schema says.
+	Required, NotNull bool
 }
 
 type object map[string]any
@@ -66,6 +66,9 @@ func call(service Service, name string, schemas object) object {
 	properties, example, required := object{}, object{}, []string{}
 	for _, input := range service.Inputs {
 		schema := Schema(input.Schema)
+		if input.NotNull {
+			withoutNull(schema)
+		}
 		properties[input.Name] = schema
 		example[input.Name] = Example(schema)
 		if input.Required {
@@ -122,7 +125,9 @@ func responses(result object) object {
 	all := object{"200": object{
 		"description": "The result; of a list, each request's result or problem in order",
 		"headers": object{
-			"Desk-Model":   header("The SHA-256 of the model's compact text"),
+			"Desk-Model":   header("The SHA-256 of all that decided"),
+			"Desk-Record":  header("The answer's own id, where a journal is kept"),
+			"Traceparent":  header("The same trace as the request's"),
 			"Desk-Engine":  header("The engine's version"),
 			"X-Request-Id": header("The request's id"),
 		},

@@ -39,3 +39,29 @@ func TestPageNamesEachService(t *testing.T) {
 		t.Errorf("%s", text)
 	}
 }
+
+// An input that may not be null has a schema without null.
+func TestInputsThatMayNotBeNull(t *testing.T) {
+	text, err := Page("0123456789abcdef", "0.9.0", false, []Service{{Name: "s", Strict: true, Inputs: []Input{
+		{Name: "a", Required: true, NotNull: true, Schema: json.RawMessage(`{"type":["string","null"],"enum":["x",null]}`)}}}})
+	if err != nil {
+		t.Fatal(err)
+	}
+	var page struct {
+		Components struct{ Schemas map[string]json.RawMessage }
+	}
+	if err := json.Unmarshal(text, &page); err != nil {
+		t.Fatal(err)
+	}
+	var got struct {
+		Properties map[string]map[string]any
+		Required   []string
+	}
+	if err := json.Unmarshal(page.Components.Schemas["sInputs"], &got); err != nil {
+		t.Fatal(err)
+	}
+	due := map[string]any{"type": "string", "enum": []any{"x"}}
+	if !reflect.DeepEqual(got.Properties["a"], due) || len(got.Required) != 1 {
+		t.Errorf("%+v, and %v is due", got, due)
+	}
+}

@@ -23,6 +23,10 @@ func flag(name, said string) object {
 	return object{"name": name, "in": "query", "schema": object{"type": "boolean"}, "description": said}
 }
 
+func word(name, said string) object {
+	return object{"name": name, "in": "query", "schema": object{"type": "string"}, "description": said}
+}
+
 func ofModel() object {
 	return object{"name": "model", "in": "query", "schema": object{"type": "string"},
 		"description": "The SHA-256 of a model that was checked; the one in force where it is missing"}
@@ -82,7 +86,9 @@ func modelBody() object {
 
 func modelPath() object {
 	put := sent("putModel", "Puts a model in force", modelBody(), object{"name": "If-Match", "in": "header",
-		"schema": object{"type": "string"}, "description": "The SHA-256 of the model that has to be in force, in quotes"})
+		"schema": object{"type": "string"}, "description": "The SHA-256 of the model that has to be in force, in quotes"},
+		word("name", "The name of the release"), word("version", "Its version; 409 if there is one of this name and version"),
+		word("why", "Why it is put"))
 	return object{
 		"get": asked("getModel", "The model in force", []object{
 			flag("text", "Its compact text alone"), flag("whole", "With its text, names, types, places and diagram")}),

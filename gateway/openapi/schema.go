@@ -1,6 +1,10 @@
 package openapi
 
-import "encoding/json"
+import (
+	"encoding/json"
+	"fmt"
+	"strings"
+)
 
 // Schema is a JSON Schema as OpenAPI 3.0 writes it: "nullable" in place of the type null. Where nothing is said of an input
 // it takes any value.
@@ -28,6 +32,7 @@ func translate(schema map[string]any) {
 	if schema["type"] == "integer" {
 		schema["format"] = "int64"
 	}
+	translateMoment(schema)
 	if _, is := schema["per"]; is {
 		delete(schema, "per")
 		schema["description"] = "A quotient, to 34 significant digits"
@@ -44,6 +49,46 @@ func translate(schema map[string]any) {
 	}
 	for _, part := range partsOf(schema) {
 		translate(part)
+	}
+}
+
+// unitNames are how the units of durations are called, with an example.
+var unitNames = map[any][2]string{"second": {"A days and time duration", "P1DT12H"}, "month": {"A years and months duration", "P1Y6M"}}
+
+// localTimes are how times without an offset are written.
+var localTimes = map[any]string{"time": "A time without an offset, as 12:30:00",
+	"date-time": "A date and time without an offset, as 2026-01-31T12:30:00"}
+
+// translateMoment says in words what OpenAPI has no keywords for: of which kind a duration is, and the bounds of dates and durations.
+func translateMoment(schema map[string]any) {
+	var said []string
+	if hasOffset, is := schema["offset"].(bool); is {
+		if !hasOffset {
+			// Formats of RFC 3339 have an offset.
+			said = append(said, localTimes[schema["format"]])
+			delete(schema, "format")
+		}
+		delete(schema, "offset")
+	}
+	if name, is := unitNames[schema["unit"]]; is {
+		said = append(said, name[0])
+	}
+	for _, bound := range [][2]string{{"formatMinimum", "at least"}, {"formatExclusiveMinimum", "after"}, {"formatMaximum", "at most"},
+		{"formatExclusiveMaximum", "before"}} {
+		if limit, is := schema[bound[0]].(string); is {
+			said = append(said, bound[1]+" "+limit)
+		}
+		delete(schema, bound[0])
+	}
+	delete(schema, "unit")
+	delete(schema, "clock")
+	if decimals, is := schema["decimals"].(float64); is {
+		said = append(said, fmt.Sprintf("with up to %v decimals of a second", decimals))
+		delete(schema, "decimals")
+	}
+	if len(said) > 0 {
+		text := strings.Join(said, ", ")
+		schema["description"] = strings.ToUpper(text[:1]) + text[1:]
 	}
 }
 
@@ -81,6 +126,9 @@ func Example(schema map[string]any) any {
 		}
 		return least
 	}
+	if text := exampleMoment(schema); text != "" {
+		return text
+	}
 	switch schema["type"] {
 	case "string":
 		return "text"
@@ -101,4 +149,37 @@ func Example(schema map[string]any) any {
 		return 1
 	}
 	return nil
+}
+
+// withoutNull takes null from the values of a schema.
+func withoutNull(schema map[string]any) {
+	delete(schema, "nullable")
+	values, is := schema["enum"].([]any)
+	if !is {
+		return
+	}
+	kept := make([]any, 0, len(values))
+	for _, value := range values {
+		if value != nil {
+			kept = append(kept, value)
+		}
+	}
+	schema["enum"] = kept
+}
+
+// exampleMoment is an example of a date, a time or a duration; empty of others.
+func exampleMoment(schema map[string]any) string {
+	said, _ := schema["description"].(string)
+	for _, text := range localTimes {
+		if strings.HasPrefix(said, text) {
+			return text[strings.LastIndexByte(text, ' ')+1:]
+		}
+	}
+	for _, unit := range unitNames {
+		if strings.HasPrefix(said, unit[0]) {
+			return unit[1]
+		}
+	}
+	format, _ := schema["format"].(string)
+	return map[string]string{"date": "2026-01-31", "time": "12:30:00+02:00", "date-time": "2026-01-31T12:30:00+02:00"}[format]
 }

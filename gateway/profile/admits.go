@@ -263,11 +263,12 @@ func (t *translator) wasTested(p phrase, due *valueType) bool {
 	if p.branches.otherwise.text != "null" || !x.isShort() || t.full {
 		return false
 	}
-	written, entries := t.written, len(t.frame.entries)
+	written, entries, civils := t.written, len(t.frame.entries), t.civils
+	t.civils = nil
 	conditions, why := t.admits(x, due, false)
 	isSame := why == "" && len(conditions) > 0 && len(t.frame.entries) == entries &&
 		allOf(conditions).text == p.branches.condition.text
-	t.written, t.frame.entries = written, t.frame.entries[:entries]
+	t.written, t.frame.entries, t.civils = written, t.frame.entries[:entries], civils
 	return isSame
 }
 

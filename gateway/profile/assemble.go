@@ -3,7 +3,9 @@ package profile
 import (
 	"encoding/json"
 	"fmt"
+	"strings"
 
+	"gateway/calendar"
 	"gateway/dmn"
 	"gateway/model"
 )
@@ -45,14 +47,18 @@ func (b *box) nesting(depth int) int {
 // assembler makes the model of boxes, and notes where each part came from.
 type assembler struct {
 	words   *words
+	tick    calendar.Tick
 	homes   map[*dmn.Element]home
 	places  map[string]Place
 	origins map[string]Origin
+	// counts tells that numbers are counted in units: then places have the texts of the files.
+	counts bool
 }
 
 // assembled is the result of a graph that was translated without a refusal.
-func assembled(g *graph, services []service) *Result {
-	a := &assembler{words: g.words, homes: g.refusals.homes, places: map[string]Place{}, origins: map[string]Origin{}}
+func assembled(g *graph, services []service, counts bool) *Result {
+	a := &assembler{words: g.words, tick: g.offsets.tick, homes: g.refusals.homes, places: map[string]Place{}, origins: map[string]Origin{},
+		counts: counts}
 	if len(g.sources) > 0 {
 		a.origin("", g.sources[0].file.Root)
 	}
@@ -61,13 +67,13 @@ func assembled(g *graph, services []service) *Result {
 	result.Model = model.Model{Inputs: []string{}, Decisions: []model.Decision{}, Services: []model.Service{}}
 	for i, n := range g.inputs {
 		result.Model.Inputs = append(result.Model.Inputs, n.word)
-		result.Types[n.word] = schema(n.of, g.words)
+		result.Types[n.word] = schema(n.of, g.words, g.offsets.tick)
 		a.place(fmt.Sprintf("/inputs/%d", i), n.element())
 	}
 	for i, n := range g.decisions {
 		pointer := fmt.Sprintf("/decisions/%d", i)
 		a.place(pointer, n.element())
-		result.Types[n.word] = schema(n.of, g.words)
+		result.Types[n.word] = schema(n.of, g.words, g.offsets.tick)
 		decision := model.Decision{Name: n.word, Needs: wordsOf(n.needs), Expr: a.box(n.logic, pointer+"/expr")}
 		result.Model.Decisions = append(result.Model.Decisions, decision)
 	}
@@ -110,14 +116,31 @@ func (a *assembler) place(pointer string, e *dmn.Element) {
 	a.places[pointer] = Place{ID: e.ID(), Name: e.Name()}
 }
 
+// text notes the text of an element, where the model has another one.
+func (a *assembler) text(pointer string, e *dmn.Element, translated string) {
+	if !a.counts || e == nil {
+		return
+	}
+	for _, child := range e.Children {
+		switch text := strings.TrimSpace(child.Text); {
+		case child.Tag == "inputExpression":
+			a.text(pointer, child, translated)
+		case child.Tag == "text" && text != translated && text != "":
+			place := a.places[pointer]
+			place.Text = text
+			a.places[pointer] = place
+		}
+	}
+}
+
 // counted notes how the values of a part are counted, where they are.
 func (a *assembler) counted(pointer string, value phrase) {
 	place := a.places[pointer]
 	switch {
 	case value.over != nil:
 		place.Over, place.Decimals = value.over.text, value.of.units.scale
-	case value.of.isCounted():
-		place.Type = schema(value.of, a.words)
+	case value.of.isCounted() || value.of.hasTemporal():
+		place.Type = schema(value.of, a.words, a.tick)
 	default:
 		return
 	}
@@ -137,8 +160,10 @@ func (a *assembler) box(b *box, pointer string) model.Expression {
 		}
 		return list
 	case contextBox:
+		a.text(pointer, b.origin, "")
 		return a.context(b, pointer)
 	}
+	a.text(pointer, b.origin, b.value.text)
 	return model.Literal(b.value.text)
 }
 
@@ -147,7 +172,7 @@ func (a *assembler) context(b *box, pointer string) model.Expression {
 	for i, entry := range b.entries {
 		at := fmt.Sprintf("%s/context/%d", pointer, i)
 		a.place(at, entry.origin)
-		if entry.of != nil && entry.of.isCounted() {
+		if entry.of != nil && (entry.of.isCounted() || entry.of.hasTemporal()) {
 			a.counted(at, phrase{of: entry.of})
 		}
 		made.Entries[i] = model.Entry{Name: entry.word, Expr: a.box(entry.value, at+"/expr")}
@@ -163,26 +188,77 @@ func (a *assembler) table(b *box, pointer string) model.Expression {
 		at := fmt.Sprintf("%s/table/inputs/%d", pointer, i)
 		a.place(at, e)
 		a.counted(at, b.columns[i])
+		a.text(at, e, b.table.Inputs[i])
 	}
 	for i, e := range b.gives {
-		a.place(fmt.Sprintf("%s/table/outputs/%d", pointer, i), e)
+		at := fmt.Sprintf("%s/table/outputs/%d", pointer, i)
+		a.place(at, e)
+		a.listed(at, e, b.table.Outputs[i])
 	}
 	for i, e := range b.rows {
 		at := fmt.Sprintf("%s/table/rules/%d", pointer, i)
 		a.place(at, e)
-		a.cells(at, e)
+		a.annotate(at, e)
+		a.cells(at, e, b.table.Rules[i])
 	}
 	return b.table
 }
 
-// cells notes where the entries of a rule are.
-func (a *assembler) cells(pointer string, rule *dmn.Element) {
-	for _, entry := range rule.Children {
-		switch entry.Tag {
-		case "inputEntry":
-			a.origin(fmt.Sprintf("%s/when/%d", pointer, a.homes[entry].index), entry)
-		case "outputEntry":
-			a.origin(fmt.Sprintf("%s/then/%d", pointer, a.homes[entry].index), entry)
+// annotate notes what the file says of a rule for people.
+func (a *assembler) annotate(pointer string, rule *dmn.Element) {
+	place := a.places[pointer]
+	for _, child := range rule.Children {
+		text := ""
+		switch child.Tag {
+		case "description":
+			text = strings.TrimSpace(child.Text)
+		case "annotationEntry":
+			text = annotation(child)
+		}
+		if text != "" {
+			place.Annotations = append(place.Annotations, text)
 		}
 	}
+	if len(place.Annotations) > 0 {
+		a.places[pointer] = place
+	}
+}
+
+func annotation(entry *dmn.Element) string {
+	for _, child := range entry.Children {
+		if child.Tag == "text" {
+			return strings.TrimSpace(child.Text)
+		}
+	}
+	return ""
+}
+
+// listed notes the default and the values of an output.
+func (a *assembler) listed(pointer string, output *dmn.Element, made model.Output) {
+	for _, child := range output.Children {
+		switch {
+		case child.Tag == "defaultOutputEntry" && made.Default != nil:
+			a.text(pointer+"/default", child, *made.Default)
+		case child.Tag == "outputValues":
+			a.text(pointer+"/values", child, strings.Join(made.Values, ", "))
+		}
+	}
+}
+
+// cells notes where the entries of a rule are, and their texts.
+func (a *assembler) cells(pointer string, rule *dmn.Element, made model.Rule) {
+	for _, entry := range rule.Children {
+		index := a.homes[entry].index
+		switch entry.Tag {
+		case "inputEntry":
+			a.cell(fmt.Sprintf("%s/when/%d", pointer, index), entry, made.When[index])
+		case "outputEntry":
+			a.cell(fmt.Sprintf("%s/then/%d", pointer, index), entry, made.Then[index])
+		}
+	}
+}
+
+func (a *assembler) cell(pointer string, entry *dmn.Element, made string) {
+	a.origin(pointer, entry)
+	a.text(pointer, entry, made)
 }

@@ -21,9 +21,20 @@ func (t *translator) expression(x dmn.Expression, s *scope) (*box, *valueType) {
 	if due == nil {
 		return made, of
 	}
-	return t.conform(made, of, due, func(why, instead string) {
+	made, of = t.conform(made, of, due, func(why, instead string) {
 		t.refusals.refuse(x.At(), textOf(x), why, instead)
 	})
+	return t.from(made, x), of
+}
+
+// from is what a text was made to, with its element where numbers are counted: the model has another text then.
+func (t *translator) from(b *box, x dmn.Expression) *box {
+	if b.origin != nil || !t.counts || textOf(x) == "" {
+		return b
+	}
+	made := *b
+	made.origin = x.At()
+	return &made
 }
 
 // textOf is the text of a literal expression; empty of others.
@@ -140,6 +151,7 @@ func (t *translator) contextEntry(entry *dmn.ContextEntry, made *box, of *valueT
 		value, valueOf = t.conform(value, valueOf, due, func(why, instead string) {
 			t.refusals.refuse(entry.Variable.Element, textOf(entry.Value), why, instead)
 		})
+		value = t.from(value, entry.Value)
 	}
 	word := t.words.of(entry.Variable.Name())
 	t.wrote(len(word) + bytesOfEntry)
@@ -187,6 +199,7 @@ func (t *translator) relationRow(x *dmn.Relation, row *dmn.List, s *scope) (*box
 			value, valueOf = t.conform(value, valueOf, due, func(why, instead string) {
 				t.refusals.refuse(cell.At(), textOf(cell), why, instead)
 			})
+			value = t.from(value, cell)
 		}
 		word := t.words.of(column.Name())
 		t.wrote(len(word) + bytesOfEntry)

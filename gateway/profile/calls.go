@@ -31,11 +31,9 @@ var builtins = map[string]builtin{
 
 // insteadOf tells what to write in place of functions that the engine has not.
 var insteadOf = map[string]string{
-	"mean":          "sum(l) divided by count(l), by a boxed context: see docs/MODEL.md, Division",
+	"mean":        "sum(l) divided by count(l), by a boxed context: see docs/MODEL.md, Division",
+	"day of week": "d.weekday, which is 1 for Monday", "month of year": "d.month",
 	"list contains": "a list of numbers, texts or booleans by its declared type, and a value of theirs",
-	"date":          dateInstead, "date and time": dateInstead, "time": "minutes since midnight, a number",
-	"duration": "a number of days, or of months", "years and months duration": "a number of months",
-	"now": "let the request bring the day", "today": "let the request bring the day",
 }
 
 // call translates an invocation: of business knowledge, or of a function of FEEL.
@@ -53,6 +51,9 @@ func (t *translator) call(n *feel.Call, s *scope) phrase {
 	if made, is := t.listCall(n, name.Name, s); is {
 		return made
 	}
+	if made, is := t.temporalCall(n, name.Name, s); is {
+		return made
+	}
 	function, found := builtins[name.Name]
 	if !found {
 		return t.refuse(n, "there is no function "+name.Name, t.insteadOfCall(n, name.Name))
@@ -65,6 +66,9 @@ func (t *translator) call(n *feel.Call, s *scope) phrase {
 		if a.of.kind == refusedKind {
 			return refused
 		}
+	}
+	if why, instead := withoutTemporals(name.Name, arguments); why != "" {
+		return t.refuse(n, why, instead)
 	}
 	if arguments, isFine := t.asScalars(n, name.Name, arguments); isFine {
 		return function.make(t, n, arguments)
@@ -191,9 +195,11 @@ func extremeCall(name string) func(*translator, *feel.Call, []phrase) phrase {
 			list = listing([]phrase{list}, listOf(list.of))
 		}
 		if list.of.kind == listKind {
-			switch list.of.element.kind {
-			case numberKind, nullKind, refusedKind:
+			switch element := list.of.element; {
+			case element.kind == numberKind || element.isNothing():
 				return call(name, numberOf(uncelled(list.of.within())), list)
+			case element.isTemporal():
+				return call(name, &valueType{kind: element.kind, sort: element.sort}, list)
 			}
 		}
 		return t.refuse(n, fmt.Sprintf("%s of what may be no numbers: the standard has a %s of texts, the profile has not",

@@ -52,6 +52,12 @@ func newCells(g *graph, said Decimals) *cells {
 func (c *cells) of(of *valueType, name string) *valueType {
 	own := *of
 	own.fitting = nil
+	if own.sort != nil {
+		own.sort.types = append(own.sort.types, &own)
+	}
+	if own.isTimed() {
+		c.named(feel.Canonical(name))
+	}
 	switch of.kind {
 	case numberKind, anyKind:
 		own.units = c.unitsOf(&own, name)
@@ -93,7 +99,7 @@ func (c *cells) named(canonical string) (int, bool) {
 		return c.said.Named[name], true
 	}
 	if dot := strings.LastIndexByte(canonical, '.'); dot > 0 {
-		return c.named(canonical[:dot])
+		return c.named(strings.TrimSpace(canonical[:dot]))
 	}
 	return 0, false
 }
@@ -157,7 +163,7 @@ func (c *cells) refuseUnused() bool {
 	}
 	sort.Strings(unused)
 	for _, name := range unused {
-		c.graph.refusals.refuse(c.graph.sources[0].file.Root, name, "decimals are said of it, and no number of an input has this name",
+		c.graph.refusals.refuse(c.graph.sources[0].file.Root, name, "decimals are said of it, and no number of an input or a decision has this name",
 			fmt.Sprintf("one of %s", c.someNames()))
 	}
 	return len(unused) > 0

@@ -60,9 +60,12 @@ func (r *tableReader) writeOutput(o *output, i int, all []phrase) {
 	}
 }
 
-// countsOtherwise tells whether a test has to be asked as a condition: a quotient, or a value of a finer unit than the
-// column's.
+// countsOtherwise tells whether a test has to be asked as a condition: a quotient, a value of a finer unit than the column's, or
+// one that is refused there since one of the two is a date.
 func (r *tableReader) countsOtherwise(value phrase, c column) bool {
+	if one, _ := mixed(value.of, c.value.of); one != nil {
+		return true
+	}
 	if !r.counts {
 		return value.isQuotient()
 	}

@@ -14,6 +14,9 @@ var turnedComparisons = map[string]string{"<": ">", ">": "<", "<=": ">=", ">=": 
 
 // compare is a comparison. Numbers that are counted otherwise are brought to one unit; of a constant it is that of the value.
 func (t *translator) compare(n feel.Node, l phrase, operator string, r phrase) phrase {
+	if refuseMixed(l.of, r.of, t.refusal(n)) {
+		return refused
+	}
 	if !t.counts && l.over == nil && r.over == nil || l.of.kind == refusedKind || r.of.kind == refusedKind {
 		return infix(l, operator, r, rankComparison, booleanType)
 	}
@@ -182,6 +185,9 @@ func (t *translator) crossed(n feel.Node, l phrase, left *big.Int, operator stri
 
 // between is x >= low and x <= high.
 func (t *translator) between(n feel.Node, x, low, high phrase) phrase {
+	if refuseMixed(x.of, low.of, t.refusal(n)) || refuseMixed(x.of, high.of, t.refusal(n)) {
+		return refused
+	}
 	if !t.counts && x.over == nil && low.over == nil && high.over == nil ||
 		!x.of.isCounted() && !low.of.isCounted() && !high.of.isCounted() && x.over == nil && low.over == nil && high.over == nil {
 		t.meeting(x, low)

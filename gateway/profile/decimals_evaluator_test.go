@@ -4,6 +4,7 @@ import (
 	"math/big"
 	"sort"
 	"strings"
+	"time"
 
 	"gateway/feel"
 )
@@ -126,6 +127,16 @@ func (e decimals) value(n feel.Node) any {
 		return e[n.Name]
 	case *feel.Input:
 		return e["?"]
+	case *feel.AtLiteral:
+		switch {
+		case strings.Contains(n.Text, "P"):
+			return readDuration(n.Text)
+		case strings.Contains(n.Text, "T"):
+			return readStamp(n.Text)
+		case strings.Contains(n.Text, ":"):
+			return readHour(n.Text)
+		}
+		return readDate(n.Text)
 	case *feel.List:
 		return e.values(n.Items)
 	case *feel.Context:
@@ -158,6 +169,15 @@ func (e decimals) value(n feel.Node) any {
 		return entryOf(e.value(n.Operand), n.Name)
 	case *feel.Call:
 		return e.call(n)
+	case *feel.Filter:
+		return e.filtered(n)
+	case *feel.Quantified:
+		for _, item := range e.value(n.Iterators[0].List).([]any) {
+			if e.with(n.Iterators[0].Name, item).value(n.Condition) == true {
+				return true
+			}
+		}
+		return false
 	}
 	return nil
 }
@@ -201,6 +221,9 @@ func (e decimals) chain(n *feel.Chain) any {
 }
 
 func calculated(operator string, a, b any) any {
+	if made, is := calculatedDates(operator, a, b); is {
+		return made
+	}
 	x, fine := a.(*big.Rat)
 	y, also := b.(*big.Rat)
 	if !fine || !also {
@@ -249,6 +272,26 @@ func before(a, b any) any {
 		if y, is := b.(string); is {
 			return x < y
 		}
+	case time.Time:
+		if y, is := b.(time.Time); is {
+			return x.Before(y)
+		}
+	case stamp:
+		if y, is := b.(stamp); is {
+			return x.Before(y.Time)
+		}
+	case hour:
+		if y, is := b.(hour); is {
+			return x < y
+		}
+	case span:
+		if y, is := b.(span); is {
+			return x < y
+		}
+	case term:
+		if y, is := b.(term); is {
+			return x < y
+		}
 	}
 	return nil
 }
@@ -291,12 +334,34 @@ func same(a, b any) any {
 		if y, is := b.(bool); is {
 			return x == y
 		}
+	case time.Time:
+		if y, is := b.(time.Time); is {
+			return x.Equal(y)
+		}
+	case stamp:
+		if y, is := b.(stamp); is {
+			return x.Equal(y.Time)
+		}
+	case hour:
+		if y, is := b.(hour); is {
+			return x == y
+		}
+	case span:
+		if y, is := b.(span); is {
+			return x == y
+		}
+	case term:
+		if y, is := b.(term); is {
+			return x == y
+		}
 	}
 	return nil
 }
 
 func entryOf(of any, name string) any {
 	switch v := of.(type) {
+	case time.Time, stamp, hour, span, term:
+		return partOfDate(of, name)
 	case record:
 		return v[name]
 	case []any:
@@ -345,7 +410,11 @@ func (e decimals) test(n feel.Node, x any) any {
 	if feel.Any(n, func(n feel.Node) bool { _, is := n.(*feel.Input); return is }) {
 		return e.with("?", x).value(n)
 	}
-	return same(x, e.value(n))
+	value := e.value(n)
+	if list, is := value.([]any); is {
+		return contained(list, x)
+	}
+	return same(x, value)
 }
 
 func (e decimals) call(n *feel.Call) any {
@@ -364,6 +433,8 @@ func (e decimals) call(n *feel.Call) any {
 		return calculated("-", roundedTo("decimal", net, 2), arguments[1])
 	case "not":
 		return negation(arguments[0])
+	case "date", "time", "date and time", "duration", "years and months duration", "list contains":
+		return calledDates(name, arguments)
 	case "abs":
 		if x, is := arguments[0].(*big.Rat); is {
 			return new(big.Rat).Abs(x)
@@ -411,6 +482,9 @@ func aggregated(name string, arguments []any) any {
 	if len(list) == 0 {
 		return nil
 	}
+	if made, is := extremeDate(name, list); is {
+		return made
+	}
 	soFar, is := list[0].(*big.Rat)
 	for _, item := range list[1:] {
 		x, also := item.(*big.Rat)
@@ -433,6 +507,8 @@ func aggregated(name string, arguments []any) any {
 // decimalText is a value as JSON, numbers in their shortest form.
 func decimalText(value any) string {
 	switch v := value.(type) {
+	case time.Time, stamp, hour, span, term:
+		return jsonOf(dateText(v))
 	case *big.Rat:
 		text := v.FloatString(60)
 		text = strings.TrimSuffix(strings.TrimRight(text, "0"), ".")

@@ -23,6 +23,10 @@ type writer struct {
 	// literals are those that were written.
 	literals []string
 	names    []string
+	// dated tells that dates and durations are written too.
+	dated bool
+	// mixes tells that a kind stands at times where another one is due.
+	mixes bool
 }
 
 func (w *writer) one(texts ...string) string { return texts[w.Intn(len(texts))] }
@@ -41,6 +45,12 @@ func (w *writer) number() string {
 	defer func() { w.depth-- }()
 	if w.depth > 3 || w.Intn(4) == 0 {
 		return w.one(w.name(), w.name(), w.literal())
+	}
+	if w.dated && w.Intn(3) == 0 {
+		return w.numberOfDates()
+	}
+	if w.mixes && w.Intn(12) == 0 {
+		return w.other()
 	}
 	switch w.Intn(22) {
 	case 0, 1:
@@ -93,6 +103,9 @@ func (w *writer) comparison() string { return w.one("<", "<=", ">", ">=", "=", "
 func (w *writer) condition() string {
 	w.depth++
 	defer func() { w.depth-- }()
+	if w.dated && w.Intn(2) == 0 {
+		return w.conditionOfDates()
+	}
 	switch w.Intn(12) {
 	case 0, 1, 2:
 		return fmt.Sprintf("%s %s %s", w.number(), w.comparison(), w.literal())
@@ -120,6 +133,9 @@ func (w *writer) interval() string {
 
 // result writes what a decision may give.
 func (w *writer) result() string {
+	if w.dated && w.Intn(2) == 0 {
+		return w.resultOfDates()
+	}
 	switch w.Intn(12) {
 	case 10:
 		return fmt.Sprintf("if %s then u else %s", w.condition(), w.one(w.name(), w.literal(), `"none"`))
@@ -168,6 +184,10 @@ func generate(w *writer) generated {
 		}
 		it.rows = append(it.rows, []string{w.entry(), second, w.number()})
 	}
+	of := "number"
+	if w.dated {
+		of = it.overDates(w)
+	}
 	policy, aggregation, _ := strings.Cut(it.hit, " ")
 	if policy == "RULE" {
 		policy, aggregation = it.hit, ""
@@ -177,11 +197,15 @@ func generate(w *writer) generated {
 		attributes += fmt.Sprintf(` aggregation=%q`, aggregation)
 	}
 	if w.Intn(3) == 0 && policy != "RULE ORDER" && (policy != "COLLECT" || aggregation != "") {
-		it.other = w.number()
+		it.other = map[string]func() string{"number": w.number, "date": w.date}[of]()
 	}
-	t := table(attributes, []column{{text: it.columns[0]}, {text: it.columns[1]}}, []column{{text: "r", of: "number", fallback: it.other}}, it.rows...)
+	t := table(attributes, []column{{text: it.columns[0]}, {text: it.columns[1]}}, []column{{text: "r", of: of, fallback: it.other}}, it.rows...)
 	needs := decimalNeeds
-	parts := append(decimalParts(), decision("e", "", literal(it.first), needs...), decision("d", "", literal(it.second), append([]string{"d:e"}, needs...)...),
+	parts := decimalParts()
+	if w.dated {
+		parts, needs = append(parts, generatedDateParts...), append(generatedDateNeeds, needs...)
+	}
+	parts = append(parts, decision("e", "", literal(it.first), needs...), decision("d", "", literal(it.second), append([]string{"d:e"}, needs...)...),
 		decision("t", "", t, needs...))
 	it.file = definitions(parts...)
 	return it
@@ -234,13 +258,18 @@ func (w *writer) request(result *profile.Result) string {
 	_ = json.Unmarshal(result.Types["c"], &record)
 	inputs = append(inputs, fmt.Sprintf(`"l":[%s,%s]`, number(list.Items), number(list.Items)), fmt.Sprintf(`"c":{"x":%s,"y":"b"}`, number(record.Properties["x"])),
 		`"s":`+w.one(`"a"`, `"b"`, "null"), `"f":`+w.one("true", "false"), `"u":`+w.one(number(result.Types["u"]), number(result.Types["u"]), "null", `"a"`), `"r":`+w.one("0", "0.125", "0.5"))
+	if w.dated {
+		inputs = append(inputs, w.requestOfDates()...)
+	}
 	return "{" + strings.Join(inputs, ",") + "}"
 }
 
 // due is what a decision of a generated file has to give.
 func (it *generated) due(t *testing.T, service string, values decimals) any {
 	scope := decimalScope()
-	scope.Add("e")
+	for _, name := range append([]string{"e"}, generatedDateNeeds...) {
+		scope.Add(name)
+	}
 	read := func(text string) feel.Node {
 		node, fault := feel.Expression(text, scope, nil)
 		if fault != nil {
@@ -294,10 +323,15 @@ func TestGeneratedDecimals(t *testing.T) {
 	if text := os.Getenv("DECIMAL_SEED"); text != "" {
 		seed, _ = strconv.ParseInt(text, 10, 64)
 	}
+	t.Run("numbers", func(t *testing.T) { holdGenerated(t, files, seed, false) })
+	t.Run("dates", func(t *testing.T) { holdGenerated(t, files, seed, true) })
+}
+
+func holdGenerated(t *testing.T, files int, seed int64, dated bool) {
 	d := startDesk(t)
 	refused, counts := map[string]int{}, map[string]int{}
 	for i := 0; i < files && !t.Failed(); i++ {
-		w := &writer{Rand: rand.New(rand.NewSource(seed*1_000_003 + int64(i)))}
+		w := &writer{Rand: rand.New(rand.NewSource(seed*1_000_003 + int64(i))), dated: dated}
 		it := generate(w)
 		read, err := dmn.Read("test.dmn", strings.NewReader(it.file))
 		if err != nil {
@@ -313,6 +347,9 @@ func TestGeneratedDecimals(t *testing.T) {
 		for j := 0; j < 6; j++ {
 			inputs := w.request(result)
 			values := decimalValues(t, inputs)
+			if dated {
+				values.readDates(t)
+			}
 			for _, service := range []string{"e", "d", "t"} {
 				came := countedAsk(d, result, service, inputs)
 				counts["answers"]++

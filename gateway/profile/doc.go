@@ -30,6 +30,12 @@
 // exact division, or a result, which is written to 34 digits. A rounding divides: see division.go. Its steps stand in front
 // of the expression, under the condition of its branch or rule: see steps.go.
 //
+// Dates, times and durations are whole numbers too, as package calendar counts them: a date by its day, the others in ticks of a
+// second or in months. The model can't tell them from numbers, so each meets its own kind alone and none is of the type Any: see
+// temporal.go. The year, the month and the day of a date are found by divisions of small numbers: see civil.go. What is calculated
+// past the years breaks a limit. Times with an offset are instants, which are compared and never written: see offsets.go. A clock
+// is an input: see clock.go.
+//
 // An import makes two passes: the first finds the types of inputs that declare none, the last translates. Where the files ask
 // for fractions, others between find the scales of inputs: one what meets fractions, and then as many as make some scale
 // finer. Files that ask for none are counted in ones, and become the model that they became before.

@@ -228,7 +228,7 @@ func (r *tableReader) checkKind(n feel.Node, c column) bool {
 	if literal == nil || literal.kind == nullKind || of.kind == anyKind || of.kind == refusedKind || of.kind == nullKind {
 		return true
 	}
-	if of.kind == listKind {
+	if of.kind == listKind || of.isTemporal() {
 		return true
 	}
 	if literal.kind != of.kind {

@@ -47,6 +47,8 @@ func (t *translator) value(n feel.Node, s *scope) phrase {
 		return t.call(n, s)
 	case *feel.If:
 		return t.branches(n, s)
+	case *feel.AtLiteral:
+		return t.atLiteral(n)
 	}
 	return t.listForm(n, s)
 }
@@ -214,6 +216,9 @@ func (t *translator) negation(n *feel.Negation, s *scope) phrase {
 	if inside.of.kind == refusedKind {
 		return inside
 	}
+	if inside.of.isTemporal() {
+		return t.refuse(n, "a value of the type "+inside.of.String()+" is negated", "a duration times -1")
+	}
 	o := inside.within(rankNegation)
 	made := phrase{text: "-" + o.text, rank: rankNegation, depth: 1 + o.depth, of: numberOf(uncelled(inside.of.units)), over: inside.over}
 	if inside.number != nil {
@@ -225,6 +230,9 @@ func (t *translator) negation(n *feel.Negation, s *scope) phrase {
 // path translates a.name.
 func (t *translator) path(n *feel.Path, s *scope) phrase {
 	operand := t.operand(n.Operand, s)
+	if operand.of.isTemporal() {
+		return t.temporalPart(n, operand)
+	}
 	of := operand.of.member(n.Name)
 	if n.Respelled || of != nil && of.kind == anyKind && !n.Quoted && hasOperator(n.Name) && operand.of.kind == anyKind {
 		return t.refuse(n, "behind the point it may be one name or a calculation with another one",
@@ -232,7 +240,7 @@ func (t *translator) path(n *feel.Path, s *scope) phrase {
 	}
 	if of == nil {
 		return t.refuse(n, "a value of the type "+operand.of.String()+" has no component "+n.Name,
-			"a component of its type; parts of dates and the like are not here")
+			"a component of its type")
 	}
 	o := operand.within(rankPath)
 	return phrase{text: o.text + "." + t.words.of(n.Name), rank: rankPath, depth: 1 + o.depth, of: of}
@@ -251,8 +259,6 @@ func between(x, low, high phrase) phrase {
 // left tells of the forms that the profile has not.
 func (t *translator) left(n feel.Node) phrase {
 	switch n := n.(type) {
-	case *feel.AtLiteral:
-		return t.refuse(n, "there are no dates, times or durations", dateInstead)
 	case *feel.Filter:
 		return t.refuse(n, "there are no filters and no indexes", "let the request bring what is wanted under its own name")
 	case *feel.For:

@@ -120,6 +120,7 @@ func (g *graph) addFree() bool {
 		of := *f.of
 		n := &node{name: f.name, word: g.words.of(f.name), file: f.file, input: &dmn.InputData{Element: f.at.Element},
 			of: &of, free: true}
+		g.offsets.add(n)
 		g.free.nodes = append(g.free.nodes, n)
 		g.inputs = append(g.inputs, n)
 		g.free.scope.bind(n.name, &binding{value: constant(n.word, n.of), input: true, free: n})

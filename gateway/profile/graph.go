@@ -58,10 +58,16 @@ type graph struct {
 	// walks counts the walks over the nodes.
 	walks int
 	free  *freeNames
+	// said are the decimals that are said of names; nil where nothing is counted.
+	said  *cells
+	clock *clock
+	// offsets say which times of inputs have an offset, and what they are counted in.
+	offsets *offsets
 }
 
-func newGraph(files []*dmn.File, r *refusals, w *words, freeInputs bool) *graph {
+func newGraph(files []*dmn.File, r *refusals, w *words, options Options) *graph {
 	g := &graph{refusals: r, words: w, byID: map[string]interface{}{}}
+	g.clock = newClock(g, options.Clock)
 	for i, file := range files {
 		r.know(file, i)
 	}
@@ -77,7 +83,8 @@ func newGraph(files []*dmn.File, r *refusals, w *words, freeInputs bool) *graph 
 	}
 	g.refuseTwice()
 	g.order()
-	g.free = newFreeNames(g, freeInputs)
+	g.free = newFreeNames(g, options.FreeInputs)
+	g.offsets = newOffsets(g, options)
 	return g
 }
 

@@ -2,6 +2,7 @@ package profile
 
 import (
 	"encoding/json"
+	"fmt"
 
 	"gateway/dmn"
 	"gateway/feel"
@@ -17,6 +18,8 @@ type Result struct {
 	Locals map[string]string
 	// Types has a JSON Schema for each input and decision of the model, by its word.
 	Types map[string]json.RawMessage
+	// Required has the words of the inputs that a caller has to give, and not as null.
+	Required []string
 	// Places has the element that a part of the model came from, by the part's JSON Pointer (RFC 6901).
 	Places map[string]Place
 	// Origins has the same parts, those without an id and a name too, with where they are in the files. The empty pointer is the
@@ -41,11 +44,15 @@ type Origin struct {
 type Place struct {
 	ID   string `json:"id"`
 	Name string `json:"name"`
+	// Text is what stands there in the file, where numbers are counted in units and the model has another text.
+	Text string `json:"text,omitempty"`
 	// Type is the JSON Schema of its values, where their numbers are counted in a unit. Those of a quotient are over the
 	// value of another entry of the same context: Over is its word, and Decimals how many the numerator has more than it.
 	Type     json.RawMessage `json:"type,omitempty"`
 	Over     string          `json:"over,omitempty"`
 	Decimals int             `json:"decimals,omitempty"`
+	// Annotations are those of a rule, and its description.
+	Annotations []string `json:"annotations,omitempty"`
 }
 
 // mostPasses is how many passes look for units that fit: each makes some unit finer.
@@ -59,6 +66,7 @@ func findUnits(g *graph, trees map[*dmn.Text]*tree, said *Decimals) *cells {
 		said = &none
 	}
 	c := newCells(g, *said)
+	g.said = c
 	passOver(g, trees, true)
 	c.begin()
 	for pass := 0; pass < mostPasses; pass++ {
@@ -89,7 +97,7 @@ func translate(g *graph, trees map[*dmn.Text]*tree, counts bool) (fractions bool
 		files[i] = s.file
 	}
 	t := &translator{words: g.words, refusals: g.refusals, members: membersOf(files), trees: trees, frame: &frame{},
-		active: map[*knowledge]bool{}, free: g.free, counts: counts}
+		active: map[*knowledge]bool{}, free: g.free, clock: g.clock, offsets: g.offsets, counts: counts, said: g.said}
 	for _, n := range g.ordered {
 		t.decision(n)
 		if t.full {
@@ -135,7 +143,28 @@ func (t *translator) decision(n *node) {
 	}
 	n.logic, n.of = t.expression(n.decision.Logic, s)
 	t.declared(n)
+	t.asSaid(n)
+	t.checkOffsets(n)
 	t.noteRange(n)
+}
+
+// asSaid counts a decision's numbers with the decimals that are said of its name: a request may bring so many where it is an input
+// decision.
+func (t *translator) asSaid(n *node) {
+	if !t.counts || t.said == nil || n.of.kind != numberKind || n.of.hasQuotient() {
+		return
+	}
+	scale, is := t.said.named(feel.Canonical(n.name))
+	if !is {
+		return
+	}
+	to := *n.of
+	to.units.scale, to.units.cell = scale, nil
+	n.logic = t.from(t.alignedBox(n.logic, n.of, &to, func(string, string) {
+		t.refusals.refuse(n.element(), n.name, fmt.Sprintf("its value may have %d decimals, and %d are said of it", n.of.units.scale, scale),
+			fmt.Sprintf("--decimals \"%s=%d\", or a rounding in it", spelled(n.name), n.of.units.scale))
+	}), n.decision.Logic)
+	n.of = &to
 }
 
 // declared holds a decision's logic against the type of its variable.
@@ -151,6 +180,7 @@ func (t *translator) declared(n *node) {
 	n.logic, n.of = t.conform(n.logic, n.of, due, func(why, instead string) {
 		t.refusals.refuse(v.Element, textOf(n.decision.Logic), "the decision's value: "+why, instead)
 	})
+	n.logic = t.from(n.logic, n.decision.Logic)
 }
 
 // unused translates business knowledge that nothing invokes, so that its places are told too.
@@ -162,12 +192,12 @@ func (t *translator) unused(k *knowledge) {
 	for i, p := range k.Logic.Parameters {
 		of := k.types.resolve(p.Element, p.TypeRef)
 		if of == nil {
-			of = &valueType{kind: anyKind, open: true}
+			of = &valueType{kind: anyKind, open: true, unasked: true}
 		}
 		arguments[i] = argument{value: boxOf(constant("null", nullType)), of: of}
 	}
 	used := k.used
-	t.types, t.near = k.types, k.Element
+	t.types, t.near, t.node = k.types, k.Element, nil
 	t.invoked(k, arguments, func(why, instead string) { t.refusals.refuse(k.Element, k.name, why, instead) })
 	k.used = used
 }

@@ -121,6 +121,9 @@ func (t *translator) someEqual(n *feel.Quantified, s *scope) (phrase, bool) {
 
 // instanceOf translates "x instance of number", string, boolean or list: of null each is false.
 func (t *translator) instanceOf(n *feel.InstanceOf, s *scope) (phrase, bool) {
+	if made, is := t.instanceOfTemporal(n, s); is {
+		return made, true
+	}
 	forms := map[string]string{"number": "(%[1]s - %[1]s = 0) = true", "string": `(%[1]s >= "") = true`,
 		"boolean": "(%[1]s = true or %[1]s = false) = true", "list": "(count(%[1]s) >= 0) = true"}
 	form, known := forms[n.Type]
@@ -130,6 +133,9 @@ func (t *translator) instanceOf(n *feel.InstanceOf, s *scope) (phrase, bool) {
 	x := t.short(t.operand(n.Operand, s))
 	if x.of.kind == refusedKind {
 		return refused, true
+	}
+	if x.of.isTemporal() {
+		return constant("false", booleanType), true
 	}
 	return phrase{text: fmt.Sprintf(form, x.within(rankPath).text), rank: rankComparison, depth: x.depth + 6, of: booleanType}, true
 }
@@ -386,7 +392,9 @@ func (t *translator) overFilter(n feel.Node, name string, filter *feel.Filter, s
 			members[i] = constant("1", numberType)
 		}
 	} else {
-		of = t.together(members, t.refusal(n))
+		if of = t.together(members, t.refusal(n)); of.hasTemporal() {
+			return t.refuse(n, "a sum of dates or durations: the standard has one of numbers alone", "a number"), true
+		}
 	}
 	parts := make([]phrase, len(members))
 	for i, condition := range conditions {

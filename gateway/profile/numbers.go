@@ -172,6 +172,9 @@ func (t *translator) aligned(p phrase, to *valueType, refuse func(why, instead s
 func (t *translator) together(values []phrase, refuse func(why, instead string)) *valueType {
 	of := nullType
 	for _, value := range values {
+		if refuseMixed(of, value.of, refuse) {
+			return refusedType
+		}
 		of = joined(of, value.of)
 	}
 	for i := range values {
@@ -449,6 +452,9 @@ func (t *translator) powered(n *feel.Binary, s *scope) phrase {
 	base, exponent := t.operand(n.Left, s), t.operand(n.Right, s)
 	if base.of.kind == refusedKind || exponent.of.kind == refusedKind {
 		return refused
+	}
+	if base.of.isTemporal() || exponent.of.isTemporal() {
+		return t.refuse(n, "a power of a date or a duration", "a number")
 	}
 	if exponent.number == nil || !exponent.number.IsInt() || exponent.number.Cmp(big.NewRat(1, 1)) < 0 ||
 		exponent.number.Cmp(big.NewRat(8, 1)) > 0 {

@@ -20,7 +20,13 @@ func (t *translator) chain(n *feel.Chain, s *scope) phrase {
 	case "and":
 		return chained(operands, n.Operators, rankAnd, booleanType)
 	case "*", "/":
+		if hasTemporals(operands) {
+			return t.temporalProduct(n, operands)
+		}
 		return t.product(n, operands)
+	}
+	if hasTemporals(operands) {
+		return t.temporalSum(n, operands)
 	}
 	return t.sum(n, operands)
 }

@@ -43,7 +43,7 @@ var bad = literal("string length(a)")
 // and how many services are left out.
 func TestOneBadPlaceRefusesWhatNeedsIt(t *testing.T) {
 	one, a := literal("1"), input("a", "string")
-	dated := `<itemDefinition name="tBad"><typeRef>date</typeRef></itemDefinition>` +
+	dated := `<itemDefinition name="tBad"><typeRef>context</typeRef></itemDefinition>` +
 		`<itemDefinition name="tHolder"><itemComponent name="c"><typeRef>tBad</typeRef></itemComponent></itemDefinition>`
 	for _, c := range []struct {
 		name, file, due string
@@ -184,7 +184,7 @@ func TestTooManyDecisionsForOneModel(t *testing.T) {
 
 // TestBadPlacesOfAGreatFile measures a file of many decisions and types, each bad or with a need of a bad one.
 func TestBadPlacesOfAGreatFile(t *testing.T) {
-	parts := []string{`<itemDefinition name="t0"><typeRef>date</typeRef></itemDefinition>`, input("a", "string")}
+	parts := []string{`<itemDefinition name="t0"><typeRef>context</typeRef></itemDefinition>`, input("a", "string")}
 	for i := 1; i < 2000; i++ {
 		parts = append(parts, fmt.Sprintf(`<itemDefinition name="t%d"><itemComponent name="c"><typeRef>t%d</typeRef></itemComponent>`+
 			`</itemDefinition>`, i, i-1))

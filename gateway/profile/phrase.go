@@ -37,6 +37,10 @@ type phrase struct {
 	of *valueType
 	// number is the value of a constant number; nil of what is none.
 	number *big.Rat
+	// moment is the whole number of a constant date or duration; nil of what is none.
+	moment *int64
+	// inDays is how many days a days and time duration has that is known to be of whole days; nil of others.
+	inDays *phrase
 	// over is the divisor of a quotient by a variable, which is above 0 or the quotient null; nil of what is none.
 	over *phrase
 	// members are those of a list that is written out.

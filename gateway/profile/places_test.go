@@ -12,7 +12,6 @@ import (
 // TestPlacesAsInAnEditor has a place that can't be taken for each kind of element, and how it is named.
 func TestPlacesAsInAnEditor(t *testing.T) {
 	no := literal("1 ** 0.5")
-	dateType := `<itemDefinition name="tDay"><typeRef>date</typeRef></itemDefinition>`
 	twoOutputs := []column{{text: "Discount"}, {text: "b"}}
 	ins := []column{{text: "a", of: "number"}, {text: "a + 1", of: "number"}}
 	labelled := strings.Replace(table("", ins, twoOutputs, []string{"1", "string(1)", "1", "1"}), "<input><inputExpression",
@@ -39,10 +38,10 @@ func TestPlacesAsInAnEditor(t *testing.T) {
 		{`decision "d", parameter "p"`, knowledge("k", []string{"p"}, literal("1")) + decision("d", "", `<invocation>`+
 			literal("k")+`<binding><parameter name="p"/>`+no+`</binding></invocation>`, "k:k")},
 		{`business knowledge "k"`, knowledge("k", nil, no) + decision("d", "", literal("1"))},
-		{`business knowledge "k", parameter "p"`, dateType + knowledge("k", []string{"p:time"}, literal("1")) +
+		{`business knowledge "k", parameter "p"`, knowledge("k", []string{"p:context"}, literal("1")) +
 			decision("d", "", literal("1"))},
-		{`input "i"`, input("i", "date") + decision("d", "", literal("1"))},
-		{`type "t", component "c"`, `<itemDefinition name="t"><itemComponent name="c"><typeRef>date</typeRef></itemComponent>` +
+		{`input "i"`, input("i", "context") + decision("d", "", literal("1"))},
+		{`type "t", component "c"`, `<itemDefinition name="t"><itemComponent name="c"><typeRef>context</typeRef></itemComponent>` +
 			`</itemDefinition>` + input("i", "t") + decision("d", "", literal("1"))},
 		{`decision "d", requirement`, `<decision id="d" name="d"><informationRequirement><requiredInput href="#none"/>` +
 			`</informationRequirement>` + literal("1") + `</decision>`},

@@ -9,6 +9,9 @@ import (
 func (t *translator) listOfBoxes(made *box, all []*valueType, refuse func(why, instead string)) *valueType {
 	of := nullType
 	for _, member := range all {
+		if refuseMixed(of, member, refuse) {
+			return refusedType
+		}
 		of = joined(of, member)
 	}
 	for i, member := range all {

@@ -23,8 +23,10 @@ func (r *run) renamed(result *Result) {
 		}
 	}
 	for _, n := range g.inputs {
-		add(n.word)
-		keys(n.of)
+		if n.of.clock == "" {
+			add(n.word)
+			keys(n.of)
+		}
 	}
 	answered := map[string]bool{}
 	for _, s := range result.Model.Services {

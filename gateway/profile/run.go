@@ -44,16 +44,19 @@ func Run(files []*dmn.File, options Options) *Report {
 	return alone.report()
 }
 
-// Check finds what options say of files: the names that become inputs by FreeInputs; and as refusals what they say of an
-// input that the files don't have.
+// Check finds what options say of files: the names that become inputs by FreeInputs and by Clock; and as refusals what they say
+// of an input that the files don't have.
 func Check(files []*dmn.File, options Options) (free []string, faults []Refusal) {
-	if !options.FreeInputs && options.Decimals == nil {
+	if !options.FreeInputs && options.Clock == "" && options.Offsets == nil && options.Decimals == nil {
 		return nil, nil
 	}
 	r := newRun(files, options)
 	r.translate()
 	for _, n := range r.graph.free.nodes {
 		free = append(free, n.name)
+	}
+	for _, name := range r.graph.clock.order {
+		free = append(free, r.graph.clock.nodes[name].name)
 	}
 	if r.fault {
 		r.refusals.only(map[*dmn.Element]bool{files[0].Root: true})
@@ -62,19 +65,25 @@ func Check(files []*dmn.File, options Options) (free []string, faults []Refusal)
 	return free, faults
 }
 
-// DecimalsOf finds how many decimals the numbers of the inputs of files have, each by its name; nil where all are whole.
-func DecimalsOf(files []*dmn.File, options Options) *Decimals {
+// Settled are options that say of files what was found of all of them: how many decimals the numbers of inputs have, and which
+// times have an offset. So a part of the files is read as the whole.
+func Settled(files []*dmn.File, options Options) Options {
 	r := newRun(files, options)
 	r.translate()
+	options.Decimals, options.Offsets = nil, r.graph.offsets.names()
 	if r.units == nil {
-		return nil
+		return options
 	}
 	found := NoDecimals()
 	found.Named = map[string]int{}
+	for _, name := range r.graph.offsets.timed {
+		found.Named[name] = r.graph.offsets.tick.Decimals
+	}
 	for _, each := range r.units.all {
 		found.Named[each.name] = each.scale
 	}
-	return &found
+	options.Decimals = &found
+	return options
 }
 
 // A run is one translation of some files.
@@ -93,7 +102,7 @@ type run struct {
 
 func newRun(files []*dmn.File, options Options) *run {
 	r := newRefusals()
-	return &run{files: files, options: options, refusals: r, graph: newGraph(files, r, newWords(), options.FreeInputs)}
+	return &run{files: files, options: options, refusals: r, graph: newGraph(files, r, newWords(), options)}
 }
 
 // translate makes the passes: those that find types are muted, the last translates.
@@ -105,6 +114,9 @@ func (r *run) translate() {
 		trees = map[*dmn.Text]*tree{}
 		counts = passOver(r.graph, trees, false) || counts
 	}
+	for r.graph.offsets.settle() {
+		counts = passOver(r.graph, trees, false) || counts
+	}
 	if counts {
 		r.units = findUnits(r.graph, trees, r.options.Decimals)
 	}
@@ -112,8 +124,12 @@ func (r *run) translate() {
 	if r.units != nil && !r.options.Part && r.alone == nil {
 		r.fault = r.units.refuseUnused()
 	}
+	if !r.options.Part && r.alone == nil {
+		r.fault = r.graph.offsets.refuseUnused(r.graph) || r.fault
+	}
 	translate(r.graph, trees, counts)
 	r.graph.free.note(r.refusals)
+	r.graph.clock.note(r.refusals)
 	r.graph.checkNesting()
 	if len(r.graph.decisions) == 0 && len(r.files) > 0 {
 		r.refusals.refuse(r.files[0].Root, "", "there is no decision", "a decision")
@@ -159,7 +175,8 @@ func (r *run) report() *Report {
 		r.refusals.refuse(g.decisions[mostDecisions].element(), "", fmt.Sprintf("there are over %d decisions", mostDecisions),
 			"several models")
 	}
-	result := assembled(g, services)
+	result := assembled(g, services, r.units != nil)
+	result.Required = requiredInputs(g, r.options.Nullable)
 	if r.options.Service == "" && len(services) == 0 {
 		defaultServices(g, result)
 	}

@@ -3,21 +3,23 @@ package profile
 import (
 	"encoding/json"
 	"math/big"
+	"strings"
 
+	"gateway/calendar"
 	"gateway/decimal"
 	"gateway/feel"
 )
 
-// schema is the JSON Schema of a type. Null conforms to each type; a number is whole.
-func schema(of *valueType, w *words) json.RawMessage {
-	text, err := json.Marshal(schemaOf(of, w))
+// schema is the JSON Schema of a type, of whose times the ticks are given. Null conforms to each type; a number is whole.
+func schema(of *valueType, w *words, tick calendar.Tick) json.RawMessage {
+	text, err := json.Marshal(schemaOf(of, w, tick))
 	if err != nil {
 		return json.RawMessage("{}")
 	}
 	return text
 }
 
-func schemaOf(of *valueType, w *words) map[string]interface{} {
+func schemaOf(of *valueType, w *words, tick calendar.Tick) map[string]interface{} {
 	made := map[string]interface{}{}
 	switch of.kind {
 	case numberKind:
@@ -34,19 +36,23 @@ func schemaOf(of *valueType, w *words) map[string]interface{} {
 		made["type"] = []string{"boolean", "null"}
 	case listKind:
 		made["type"] = []string{"array", "null"}
-		made["items"] = schemaOf(of.element, w)
+		made["items"] = schemaOf(of.element, w, tick)
 	case contextKind:
 		made["type"] = []string{"object", "null"}
 		properties := map[string]interface{}{}
 		for _, name := range of.order {
-			properties[w.of(name)] = schemaOf(of.fields[name], w)
+			properties[w.of(name)] = schemaOf(of.fields[name], w, tick)
 		}
 		for name, part := range of.more {
-			if part.isCounted() {
-				properties[w.of(name)] = schemaOf(part, w)
+			if part.isCounted() || part.hasTemporal() {
+				properties[w.of(name)] = schemaOf(part, w, tick)
 			}
 		}
 		made["properties"] = properties
+	}
+	if of.isTemporal() {
+		made["type"] = []string{"string", "null"}
+		of.describeTemporal(made, tick)
 	}
 	if len(of.allowed.all) == 0 {
 		narrow(made, of.noted.all)
@@ -73,8 +79,8 @@ func narrow(made map[string]interface{}, allowed []feel.Node) {
 		return
 	}
 	if interval, is := allowed[0].(*feel.Range); is && len(allowed) == 1 {
-		limit(made, interval.Low, interval.LowOpen, "minimum", "exclusiveMinimum")
-		limit(made, interval.High, interval.HighOpen, "maximum", "exclusiveMaximum")
+		limit(made, interval.Low, interval.LowOpen, "inimum")
+		limit(made, interval.High, interval.HighOpen, "aximum")
 		return
 	}
 	values := make([]interface{}, 0, len(allowed)+1)
@@ -100,16 +106,22 @@ func isSchema(allowed []feel.Node) bool {
 	return made["enum"] != nil || len(made) == 2
 }
 
-// limit adds an end of a range, where it is a whole number.
-func limit(made map[string]interface{}, end feel.Node, open bool, closedKey, openKey string) {
+// limit adds an end of a range, where it is a number, or a date or a duration: minimum or exclusiveMinimum, and of these
+// formatMinimum or formatExclusiveMinimum; so of the maximum.
+func limit(made map[string]interface{}, end feel.Node, open bool, key string) {
+	first := "m"
+	if open {
+		first = "exclusiveM"
+	}
+	if text, is := momentText(end); is {
+		made["format"+strings.ToUpper(first[:1])+first[1:]+key] = text
+		return
+	}
 	text := literalText(end)
 	if rational(end) == nil || text == "" {
 		return
 	}
-	if open {
-		closedKey = openKey
-	}
-	made[closedKey] = json.Number(text)
+	made[first+key] = json.Number(text)
 }
 
 // literalValue is a literal as a JSON value; false where it is none.
@@ -121,6 +133,9 @@ func literalValue(n feel.Node) (interface{}, bool) {
 		return n.Value, true
 	case *feel.Null:
 		return nil, true
+	}
+	if text, is := momentText(n); is {
+		return text, true
 	}
 	if text := literalText(n); text != "" {
 		return json.Number(text), true

@@ -406,12 +406,19 @@ func (r *tableReader) typeOf(hit string) *valueType {
 	case "C#":
 		return numberType
 	case "C+":
+		if of.hasTemporal() {
+			r.refusals.refuse(r.source.Element, r.source.Aggregation, "a sum of dates or durations: the standard has one of numbers alone",
+				"COLLECT without SUM, or a number")
+		}
 		if of.hasQuotient() {
 			r.refusals.refuse(r.source.Element, r.source.Aggregation, "a sum of quotients: each is rounded to 34 digits in the standard",
 				"a rounding in each output entry")
 		}
 		return numberOf(uncelled(of.within()))
 	case "C<", "C>":
+		if of.isTemporal() {
+			return &valueType{kind: of.kind}
+		}
 		if of.kind != numberKind && of.kind != nullKind && of.kind != refusedKind {
 			r.refusals.refuse(r.source.Element, r.source.Aggregation,
 				"MIN and MAX of what may be no numbers: the standard has them of texts, the profile has not",

@@ -103,9 +103,9 @@ func TestRefusedForms(t *testing.T) {
 		"9223372036854775808":                   "past 9223372036854775807",
 		"a / 3 + 1":                             "a quotient may only be",
 		"a ** 9":                                "a whole number from 1 to 8",
-		`@"2020-01-01"`:                         "no dates",
-		`date("2020-01-01")`:                    "no function date",
-		`duration("P1D")`:                       "no function duration",
+		`@"2020-02-30"`:                         "February 2020 has 29 days",
+		`date("2020-1-1")`:                      "a date is written as 2026-01-31",
+		`duration("P1Y1D")`:                     "is no duration",
 		"string length(\"a\")":                  "no function string length",
 		"l[1]":                                  "no filters",
 		"l[item > 3]":                           "no filters",
@@ -130,7 +130,7 @@ func TestRefusedForms(t *testing.T) {
 		"distinct values(l)":                    "no function distinct values",
 		"mean(l)":                               "no function mean",
 		"(function(x) x)(1)":                    "functions are no values",
-		"date and time(\"2020-01-01T00\")":      "no function date and time",
+		"date and time(\"2020-01-01T00\")":      "a time is written as",
 	} {
 		if why != "" {
 			t.Run(text, func(t *testing.T) { refusedWith(t, expression(text, "", parts...), why) })

@@ -28,9 +28,11 @@ type translator struct {
 	column *phrase
 	// near is the element of the decision or business knowledge that is translated.
 	near *dmn.Element
-	// free are the names that nothing declares, node is the decision at hand.
+	// free are the names that nothing declares, node is the decision at hand; nil in business knowledge that nothing invokes.
 	free *freeNames
 	node *node
+	// clock has the inputs that a clock fills.
+	clock *clock
 	// gone counts the members of lists that were gone through.
 	gone int
 	// inCell tells that an output entry is held against its types: what it needs goes in front of the table.
@@ -40,10 +42,16 @@ type translator struct {
 	// counts tells that numbers are counted in units, fractions that the files have what asks for it: decimals, a division,
 	// a power, a rounding.
 	counts, fractions bool
+	// said are the decimals that are said of names; nil where nothing is counted.
+	said *cells
 	// finest is the most decimals with which a number of the decision at hand is counted.
 	finest int
 	// guard is the condition of the branch or the rule at hand; nil where there is none.
 	guard *guard
+	// offsets say what times are counted in.
+	offsets *offsets
+	// civils are the parts of dates that were asked for.
+	civils map[civilKey]*civil
 	// written counts the bytes of the model so far.
 	written int
 	full    bool
@@ -78,7 +86,7 @@ func (t *translator) inFront(word string, b *box, of *valueType) phrase {
 
 // short is a phrase that may be written more than once.
 func (t *translator) short(p phrase) phrase {
-	if p.isShort() || p.number != nil && t.counts {
+	if p.isShort() || p.number != nil && t.counts || p.moment != nil {
 		return p
 	}
 	return t.part(p)
@@ -87,7 +95,7 @@ func (t *translator) short(p phrase) phrase {
 // part makes a phrase an entry in front of the expression, under the condition of its branch.
 func (t *translator) part(p phrase) phrase {
 	made := t.hoisted("part", t.boxed(t.conditioned(p)), p.of)
-	made.number, made.over, made.branches = p.number, p.over, p.branches
+	made.number, made.over, made.branches, made.inDays = p.number, p.over, p.branches, p.inDays
 	return made
 }
 

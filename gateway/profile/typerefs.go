@@ -66,18 +66,16 @@ func (t *types) refuseCycles(item *dmn.ItemDefinition, state map[*dmn.ItemDefini
 var builtinTypes = map[string]*valueType{
 	"any": anyType, "number": numberType, "integer": numberType, "long": numberType, "double": numberType,
 	"string": textType, "boolean": booleanType, "list": listOf(anyType), "null": nullType,
+	"date": dateType, "days and time duration": dayDurationType, "daytimeduration": dayDurationType,
+	"years and months duration": monthDurationType, "yearmonthduration": monthDurationType,
+	"time": timeType, "date and time": dateTimeType, "datetime": dateTimeType,
 }
 
 // mostParts is how many parts a type may have: a value of more could not be.
 const mostParts = 10_000
 
-const dateInstead = "a number, as 20260131 for a day: see docs/MODEL.md, Dates and times"
-
 // foreignTypes are the types that the model has no values of, with what to write instead.
 var foreignTypes = map[string]string{
-	"date": dateInstead, "time": "minutes since midnight, a number", "date and time": dateInstead, "datetime": dateInstead,
-	"days and time duration": "a number of days or minutes", "daytimeduration": "a number of days or minutes",
-	"years and months duration": "a number of months", "yearmonthduration": "a number of months",
 	"function": "business knowledge models are invoked by their names", "context": "a type with its components",
 }
 
@@ -96,6 +94,7 @@ func (t *types) resolve(e *dmn.Element, ref string) *valueType {
 	}
 	name := strings.ToLower(feel.Canonical(local))
 	if builtin, found := builtinTypes[name]; found {
+		t.fractions = t.fractions || builtin.isTemporal()
 		return builtin
 	}
 	if instead, found := foreignTypes[name]; found {

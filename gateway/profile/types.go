@@ -10,6 +10,15 @@ const (
 	booleanKind
 	listKind
 	contextKind
+	dateKind
+	// dayDurationKind is of days and time durations, monthDurationKind of years and months durations.
+	dayDurationKind
+	monthDurationKind
+	// timeKind and dateTimeKind are without an offset, the others with one.
+	timeKind
+	dateTimeKind
+	offsetTimeKind
+	offsetDateTimeKind
 	// refusedKind is of what was refused: it fits everywhere, so that nothing is told of it twice.
 	refusedKind
 )
@@ -44,10 +53,20 @@ type valueType struct {
 	// more are entries that values have beside those of a declared type: they can't be named, but they are counted too.
 	more map[string]*valueType
 
+	// sort says of an input whether its times have an offset; nil of others.
+	sort *timeSort
+	// clock is the zone of the clock that fills an input; empty of others.
+	clock string
+
+	// told tells that it is of what was refused: what it meets is told no more.
+	told bool
+
 	// open tells that it is of an input without a declared type: what it is given to may tell its type. For an entry of
 	// such an input, parent and field tell which.
 	open   bool
 	parent *valueType
+	// unasked tells that it is of a parameter without a declared type of business knowledge that nothing invokes.
+	unasked bool
 	// fitting keeps how other contexts stand to this one, which may have many entries.
 	fitting map[*valueType]fit
 	field   string
@@ -80,11 +99,14 @@ func (t *valueType) String() string {
 	case contextKind:
 		return "context"
 	}
+	if t.isTemporal() {
+		return temporalNames[t.kind]
+	}
 	return "Any"
 }
 
 func (t *valueType) isScalar() bool {
-	return t.kind == numberKind || t.kind == textKind || t.kind == booleanKind
+	return t.kind == numberKind || t.kind == textKind || t.kind == booleanKind || t.isTemporal()
 }
 
 // mayBe tells whether a value of the type may be of a kind, null apart.
@@ -109,7 +131,7 @@ func (t *valueType) fitOf(due *valueType) fit {
 		t.becomes(due)
 	}
 	switch {
-	case t == due, due.kind == anyKind, t.kind == nullKind, due.kind == refusedKind, t.kind == refusedKind:
+	case t == due, due.kind == anyKind, t.kind == nullKind, t.isTemporal() && t.kind == withOffset[due.kind], due.kind == refusedKind, t.kind == refusedKind:
 		return fits
 	case t.kind == anyKind:
 		return mayFit
@@ -171,6 +193,9 @@ func (t *valueType) becomes(due *valueType) {
 		}
 	}
 	t.kind, t.element, t.allowed, t.narrow, t.implying = due.kind, due.element, due.allowed, unknown, nil
+	if due.isTemporal() {
+		t.units = units{}
+	}
 	if due.kind == contextKind {
 		t.fields = make(map[string]*valueType, len(due.fields))
 		t.order = nil
@@ -201,7 +226,7 @@ func joined(a, b *valueType) *valueType {
 	case a.kind == contextKind:
 		return joinedContexts(a, b)
 	}
-	return &valueType{kind: a.kind, units: joinedUnits(a.units, b.units), common: commonValues(a.values(), b.values())}
+	return &valueType{kind: a.kind, units: joinedUnits(a.units, b.units), common: commonValues(a.values(), b.values()), sort: either(a.sort, b.sort)}
 }
 
 // mostJoined is how many entries two contexts may have that are joined entry by entry; of greater ones nothing is known.
@@ -228,7 +253,7 @@ func (t *valueType) member(name string) *valueType {
 	switch t.kind {
 	case anyKind:
 		if t.open {
-			return &valueType{kind: anyKind, open: true, parent: t, field: name, units: t.units}
+			return &valueType{kind: anyKind, open: true, parent: t, field: name, units: t.units, unasked: t.unasked}
 		}
 		if t.units != (units{}) {
 			return &valueType{kind: anyKind, units: t.units}

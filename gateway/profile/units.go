@@ -215,10 +215,16 @@ func (t *valueType) hasNumbers() bool {
 
 // countedAs gives a declared type the units of the values that it is declared for.
 func countedAs(due, of *valueType) *valueType {
-	if !of.hasUnits() {
+	if !of.hasUnits() && !of.hasTemporal() {
 		return due
 	}
 	switch {
+	case due.kind == anyKind && of.hasTemporal():
+		return of
+	case of.isTemporal() && (withOffset[due.kind] == of.kind || due.kind == of.kind && of.sort != nil):
+		own := *due
+		own.kind, own.sort = of.kind, of.sort
+		return &own
 	case due.kind == numberKind || due.kind == anyKind:
 		if of.within() == (units{}) {
 			return due

@@ -5,6 +5,7 @@ import (
 	"fmt"
 
 	"gateway/engine"
+	"gateway/lines"
 )
 
 // An Asked is a model that is asked without HTTP. It reads requests and writes results just as HTTP does: names, types and
@@ -18,6 +19,9 @@ func Ask(ctx context.Context, path string, memory uint64, source *Source) (*Aske
 	s := &Service{options: Options{Engine: path, Memory: memory}}
 	model, err := s.read(ctx, source, "")
 	if err != nil {
+		return nil, err
+	}
+	if err := model.noteRules(); err != nil {
 		return nil, err
 	}
 	return &Asked{model}, nil
@@ -85,6 +89,17 @@ func (a *Asked) Request(service string, inputs []byte, job *engine.Job, room []b
 	return room, nil
 }
 
+// EngineRequest makes the request of a service, by its word, from inputs as an engine takes them.
+func (a *Asked) EngineRequest(service string, inputs []byte, job *engine.Job) *Refusal {
+	of := a.model.services[service]
+	if of == nil {
+		return refusalOf(problemService.with(fmt.Sprintf("%q is no service of the model", service)))
+	}
+	rest := append([]byte(inputsKey), inputs...)
+	job.Model, job.Rest = a.model.engine, append(rest, of.tail...)
+	return nil
+}
+
 // Refused is why there is no result in an outcome, or nil where there is one.
 func (a *Asked) Refused(outcome engine.Outcome) *Refusal {
 	if p := problemOf(outcome); p != nil {
@@ -103,3 +118,26 @@ func (a *Asked) Result(service string, value []byte) []byte {
 
 // Explained is an explanation with the names of the file.
 func (a *Asked) Explained(told []byte) []byte { return a.model.named(told) }
+
+// Rules are the rules that decided as JSON, with what the file says of them.
+func (a *Asked) Rules(decided []engine.Decided) []byte { return a.model.appendRules(nil, decided) }
+
+// Inputs are the inputs of a request as an engine takes them, with the names and decimals of the file.
+func (a *Asked) Inputs(service string, inputs []byte) []byte {
+	if len(a.model.words) == 0 && !a.model.counts {
+		return inputs
+	}
+	tree, err := lines.Tree(inputs)
+	members, is := tree.(map[string]any)
+	if err != nil || !is || a.model.services[service] == nil {
+		return inputs
+	}
+	shown := make(map[string]any, len(members))
+	for word, value := range members {
+		if of := a.model.types[word]; of != nil && of.IsCounted() {
+			value = of.Decimals(value)
+		}
+		shown[a.model.nameOf(word)] = a.model.toNames[word].Write(value)
+	}
+	return lines.Compact(nil, shown)
+}

@@ -4,7 +4,6 @@ import (
 	"context"
 	"errors"
 	"fmt"
-	"strconv"
 	"sync/atomic"
 
 	"gateway/engine"
@@ -28,6 +27,10 @@ type call struct {
 	problems []*problem
 	outcomes []engine.Outcome
 	jobs     []*engine.Job
+	// sent has the inputs of requests that were refused before an engine was asked, where they are recorded; asked has the job
+	// of each request, once that was needed.
+	sent  map[int][]byte
+	asked []*engine.Job
 	// explained has how each answer came about, where that was asked for and there is an answer.
 	explained []engine.Explanation
 	// left is how many jobs are out, users how many of the jobs and the handler still hold the bytes.
@@ -45,8 +48,12 @@ type call struct {
 }
 
 // newCall reads the body of a call to a service, which is named by its word or by its name in the file.
-func (s *Service) newCall(model *served, name string, body []byte) (*call, *problem) {
+// What the file requires is asked for where a caller asks to decide.
+func (s *Service) newCall(model *served, name string, body []byte, decides bool) (*call, *problem) {
 	service := model.services[name]
+	if service != nil && decides {
+		service = service.ofCallers()
+	}
 	if service == nil {
 		p := problemService.with(fmt.Sprintf("%q is no service of the model", name))
 		p.Services = model.serviceNames()
@@ -54,10 +61,15 @@ func (s *Service) newCall(model *served, name string, body []byte) (*call, *prob
 	}
 	c := &call{service: s, model: model, decision: service, done: make(chan struct{})}
 	if lines.Begins(body) != '[' {
-		if _, p := model.request(service, body, &c.one.job, service.room(1, len(body))); p != nil {
-			return nil, p
-		}
 		c.problems, c.outcomes, c.jobs = c.one.problem[:], c.one.outcome[:], c.one.jobs[:0]
+		p := model.clockProblem(body)
+		if p == nil {
+			_, p = model.request(service, body, &c.one.job, service.room(1, len(body)))
+		}
+		if p != nil {
+			c.note(0, body, p)
+			return c, p
+		}
 		c.add(0, &c.one.job, c.settle)
 		return c, nil
 	}
@@ -79,11 +91,29 @@ func (c *call) readList(service *decisionService, body []byte) *problem {
 	jobs, room := make([]engine.Job, len(items)), service.room(len(items), len(body))
 	settle := c.settle
 	for at, item := range items {
-		if room, c.problems[at] = c.model.request(service, body[item.Start:item.End], &jobs[at], room); c.problems[at] == nil {
+		text := body[item.Start:item.End]
+		if c.problems[at] = c.model.clockProblem(text); c.problems[at] == nil {
+			room, c.problems[at] = c.model.request(service, text, &jobs[at], room)
+		}
+		if c.problems[at] == nil {
 			c.add(at, &jobs[at], settle)
+		} else {
+			c.note(at, text, c.problems[at])
 		}
 	}
 	return nil
+}
+
+// note keeps the inputs of a request that is refused, where that is recorded.
+func (c *call) note(at int, inputs []byte, p *problem) {
+	c.problems[at] = p
+	if c.service.recorder == nil || !p.isRecorded() {
+		return
+	}
+	if c.sent == nil {
+		c.sent = map[int][]byte{}
+	}
+	c.sent[at] = oneLine(inputs)
 }
 
 // add adds a request, which settle is told of.
@@ -174,50 +204,6 @@ func (c *call) wait(ctx context.Context) error {
 		}
 		return errGone
 	}
-}
-
-// keep writes what was accepted into the journal, under the id of the call.
-func (c *call) keep(id string) *problem {
-	if c.service.journal == nil {
-		return nil
-	}
-	size, count := 0, 0
-	for _, job := range c.jobs {
-		if isAccepted(c.outcomes[job.Place].Kind) {
-			size += len(job.Rest) + maxID + 24
-			count++
-		}
-	}
-	if count == 0 {
-		return nil
-	}
-	text := make([]byte, 0, size)
-	for _, job := range c.jobs {
-		if isAccepted(c.outcomes[job.Place].Kind) {
-			text = c.appendKept(text, id, job)
-		}
-	}
-	if err := c.service.journal.Append(c.model.engine, text, count); err != nil {
-		c.service.logJournal(err)
-		return problemJournal.with("")
-	}
-	return nil
-}
-
-func isAccepted(kind engine.Kind) bool {
-	return kind == engine.Result || kind == engine.Limit || kind == engine.Huge
-}
-
-func (c *call) appendKept(text []byte, id string, job *engine.Job) []byte {
-	text = append(text, `{"client":"`...)
-	text = append(text, id...)
-	if c.isList {
-		text = append(text, '#')
-		text = strconv.AppendInt(text, int64(job.Place), 10)
-	}
-	text = append(text, `",`...)
-	text = append(text, job.Rest...)
-	return append(text, '\n')
 }
 
 // problemOf is the problem of an outcome, or nil where it is a result.

@@ -23,19 +23,25 @@ type asking struct {
 	turn    *turn
 }
 
-// servicesPath answers POST /v1/services/SERVICE, and gives the status.
-func (s *Service) servicesPath(w http.ResponseWriter, r *http.Request, id string) int {
+// servicesPath answers POST /v1/services/SERVICE, and gives the status. What the log says of it is noted in v.
+func (s *Service) servicesPath(w http.ResponseWriter, r *http.Request, id string, v *visit) int {
 	if !takes(w, r, http.MethodPost) {
 		return http.StatusMethodNotAllowed
 	}
 	asked, p := s.readAsking(w, r)
+	v.who, v.service = asked.who, asked.name
 	if p != nil {
 		p.write(w, id)
 		return p.Status
 	}
 	defer s.turns.end(asked.turn)
+	name := s.naming(w, r, id, asked.who)
+	v.record = name.own
 	c, p := s.ask(asked)
 	if p != nil {
+		if c != nil {
+			p = c.keep(name, p)
+		}
 		s.bodies.give(int64(len(asked.body)))
 		p.write(w, id)
 		return p.Status
@@ -49,13 +55,27 @@ func (s *Service) servicesPath(w http.ResponseWriter, r *http.Request, id string
 		problemLeft.with("").write(w, id)
 		return statusGone
 	}
-	p = c.keep(id)
-	if p == nil && asked.explain {
+	if asked.explain {
 		p = c.explain(r.Context(), false)
 	}
+	p = c.keep(name, p)
 	s.metrics.asked(c)
+	v.see(c)
 	w.Header()["Desk-Model"] = c.model.sum
 	return c.answer(w, r, id, asked.turn, p)
+}
+
+// naming is by what a call is known. Where it is recorded the answer has its own id.
+func (s *Service) naming(w http.ResponseWriter, r *http.Request, id string, who caller) naming {
+	name := naming{own: id, who: who}
+	if s.recorder == nil {
+		return name
+	}
+	if values := r.Header["X-Request-Id"]; len(values) == 1 && values[0] == id {
+		name.own, name.given = ownID(time.Now()), id
+	}
+	w.Header()["Desk-Record"] = []string{name.own}
+	return name
 }
 
 // answer gives the answer, or a problem of the whole call. Where engines were asked it comes behind those of the calls
@@ -88,7 +108,7 @@ func (s *Service) readAsking(w http.ResponseWriter, r *http.Request) (it asking,
 	if it.explain, p = wantsExplanation(r.URL.RawQuery); p != nil {
 		return it, p
 	}
-	if s.journal != nil && s.journal.Fault() != nil {
+	if s.recorder != nil && s.recorder.journal.Fault() != nil {
 		return it, problemJournal.with("")
 	}
 	if it.body, p = s.readBody(w, r); p != nil {
@@ -127,12 +147,13 @@ func wantsExplanation(query string) (bool, *problem) {
 	return wanted == "true", nil
 }
 
-// ask makes a call and puts its requests in, under the model in force at that moment.
+// ask makes a call and puts its requests in, under the model in force at that moment. With a problem the call is there where
+// its requests were read.
 func (s *Service) ask(asked asking) (*call, *problem) {
 	for {
-		c, p := s.newCall(s.model.Load(), asked.name, asked.body)
+		c, p := s.newCall(s.model.Load(), asked.name, asked.body, true)
 		if p != nil {
-			return nil, p
+			return c, p
 		}
 		if asked.explain && len(c.jobs) > maxExplained {
 			return nil, problemLong.with("at most 100 requests of a list are explained")

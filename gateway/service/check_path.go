@@ -8,6 +8,7 @@ import (
 	"sync"
 
 	"gateway/engine"
+	"gateway/tell"
 )
 
 // A wholePage is a model with all that is known of it, for who draws it.
@@ -61,7 +62,7 @@ func newWhole(source *Source, sum string, findings []json.RawMessage) *wholePage
 }
 
 func (m *served) whole() *wholePage {
-	return newWhole(m.source, m.engine.Sum, m.warnings)
+	return newWhole(m.source, m.wholeSum, m.warnings)
 }
 
 // mostKept is how many models are kept that were checked and not put.
@@ -73,11 +74,19 @@ type shelf struct {
 	models []*served
 }
 
+// key is the sum by which a model is found: that of its text where nothing else is known of it.
+func (m *served) key() string {
+	if m.wholeSum == "" {
+		return m.engine.Sum
+	}
+	return m.wholeSum
+}
+
 func (s *shelf) add(model *served) {
 	s.mu.Lock()
 	defer s.mu.Unlock()
 	for _, other := range s.models {
-		if other.engine.Sum == model.engine.Sum && string(other.source.Places) == string(model.source.Places) {
+		if other.key() == model.key() && string(other.source.Places) == string(model.source.Places) {
 			return
 		}
 	}
@@ -91,7 +100,7 @@ func (s *shelf) find(sum string) *served {
 	s.mu.Lock()
 	defer s.mu.Unlock()
 	for at := len(s.models) - 1; at >= 0; at-- {
-		if s.models[at].engine.Sum == sum {
+		if s.models[at].key() == sum {
 			return s.models[at]
 		}
 	}
@@ -102,7 +111,7 @@ func (s *shelf) find(sum string) *served {
 func (s *Service) asked(r *http.Request) (*served, *problem) {
 	inForce := s.model.Load()
 	sum := r.URL.Query().Get("model")
-	if sum == "" || sum == inForce.engine.Sum {
+	if sum == "" || sum == inForce.wholeSum {
 		return inForce, nil
 	}
 	if model := s.shelf.find(sum); model != nil {
@@ -144,7 +153,7 @@ func (s *Service) checked(w http.ResponseWriter, r *http.Request) (*wholePage, *
 	var faulty *engine.FaultyModel
 	switch {
 	case errors.As(err, &faulty):
-		page := newWhole(source, engine.NewModel(source.Text).Sum, faulty.Places)
+		page := newWhole(source, source.Sum(), faulty.Places)
 		page.IsLawful, page.Fault, page.Missing = false, faulty.Fault, missingFault
 		return page, nil
 	case err != nil:
@@ -178,7 +187,7 @@ func (s *Service) tables(ctx context.Context, model *served) (analysed, error) {
 	}
 	found, err := engine.Tables(ctx, s.options.Engine, s.options.Memory, model.source.Text)
 	if err == nil {
-		it.found = append([]engine.Place{}, found...)
+		it.found, err = tell.TableLines(model.source.Text, found)
 	}
 	return analysed{Tables: it.found}, err
 }
@@ -211,7 +220,7 @@ func (s *Service) tablesOf(r *http.Request) (*tablesPage, *problem) {
 	if p != nil {
 		return nil, p
 	}
-	page := &tablesPage{Sum: model.engine.Sum}
+	page := &tablesPage{Sum: model.wholeSum}
 	p = s.explained(r.Context(), theTables, func(ctx context.Context) (err error) {
 		page.analysed, err = s.tables(ctx, model)
 		return err
@@ -268,7 +277,7 @@ func (s *Service) askedCall(r *http.Request, body []byte) (*call, *problem) {
 	if p != nil {
 		return nil, p
 	}
-	c, p := s.newCall(model, name, body)
+	c, p := s.newCall(model, name, body, false)
 	if p != nil {
 		return nil, p
 	}

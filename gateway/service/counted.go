@@ -4,6 +4,7 @@ import (
 	"encoding/json"
 	"fmt"
 	"math/big"
+	"strings"
 
 	"gateway/decimal"
 	"gateway/lines"
@@ -20,19 +21,12 @@ type countedPart struct {
 
 // countParts reads how the values at the places of the model are counted.
 func (m *served) countParts() error {
-	m.parts, m.pointers = map[string]countedPart{}, map[string]string{}
-	var form struct {
-		Decisions []struct {
-			Name string `json:"name"`
-		} `json:"decisions"`
-	}
-	if err := json.Unmarshal(m.source.Text, &form); err != nil {
-		return fmt.Errorf("%w: %v", ErrNoModel, err)
-	}
-	for at, decision := range form.Decisions {
-		m.pointers[decision.Name] = fmt.Sprintf("/decisions/%d/expr", at)
+	m.parts, m.fromFile = map[string]countedPart{}, map[string]bool{}
+	if err := m.pointTo(); err != nil {
+		return err
 	}
 	var places map[string]struct {
+		Text     string          `json:"text"`
 		Type     json.RawMessage `json:"type"`
 		Over     string          `json:"over"`
 		Decimals int             `json:"decimals"`
@@ -40,7 +34,11 @@ func (m *served) countParts() error {
 	if len(m.source.Places) > 0 && json.Unmarshal(m.source.Places, &places) != nil {
 		return nil
 	}
+	m.isTranslated = m.counts
 	for pointer, place := range places {
+		m.isTranslated = m.isTranslated || place.Text != ""
+		expression, _, _ := strings.Cut(pointer, "/table/")
+		m.fromFile[expression] = true
 		part := countedPart{over: place.Over, decimals: place.Decimals}
 		if place.Type != nil {
 			var err error
@@ -51,6 +49,23 @@ func (m *served) countParts() error {
 		if part.of != nil || part.over != "" {
 			m.parts[pointer] = part
 		}
+	}
+	return nil
+}
+
+// pointTo notes where the expressions of decisions are.
+func (m *served) pointTo() error {
+	m.pointers = map[string]string{}
+	var form struct {
+		Decisions []struct {
+			Name string `json:"name"`
+		} `json:"decisions"`
+	}
+	if err := json.Unmarshal(m.source.Text, &form); err != nil {
+		return fmt.Errorf("%w: %v", ErrNoModel, err)
+	}
+	for at, decision := range form.Decisions {
+		m.pointers[decision.Name] = fmt.Sprintf("/decisions/%d/expr", at)
 	}
 	return nil
 }
@@ -97,6 +112,7 @@ func (m *served) countContext(part map[string]any, pointer string, of *types.Typ
 	list, _ := part["entries"].([]any)
 	values := map[string]any{}
 	var kept []any
+	var hidden hiddenTable
 	for at, entry := range list {
 		entry, is := entry.(map[string]any)
 		word, named := entry["name"].(string)
@@ -104,10 +120,11 @@ func (m *served) countContext(part map[string]any, pointer string, of *types.Typ
 			continue
 		}
 		values[word] = entry["value"]
+		at := fmt.Sprintf("%s/context/%d", pointer, at)
 		if !m.isOfFile(word) {
+			hidden = m.hidden(entry, at, hidden)
 			continue
 		}
-		at := fmt.Sprintf("%s/context/%d", pointer, at)
 		m.countPart(entry, at+"/expr", m.parts[at].of, nil)
 		kept = append(kept, entry)
 	}
@@ -125,6 +142,35 @@ func (m *served) countContext(part map[string]any, pointer string, of *types.Typ
 	delete(part, "result")
 	for key, value := range result {
 		part[key] = value
+	}
+	if part["table"] == nil && part["entries"] == nil && part["members"] == nil && hidden.table != nil {
+		m.countHidden(hidden, values)
+		part["table"] = hidden.table
+	}
+}
+
+// A hiddenTable is one of the file that the translation put in front: its value is tested after it, or counted again.
+type hiddenTable struct {
+	table   map[string]any
+	pointer string
+}
+
+// hidden is the table of an entry that the translation made of one in the file; else that of an entry before it.
+func (m *served) hidden(entry map[string]any, pointer string, before hiddenTable) hiddenTable {
+	if table, is := entry["table"].(map[string]any); is && m.fromFile[pointer+"/expr"] {
+		return hiddenTable{table, pointer + "/expr"}
+	}
+	return before
+}
+
+// countHidden gives the inputs of such a table their decimals. The unit of what its rules give isn't known here.
+func (m *served) countHidden(hidden hiddenTable, entries map[string]any) {
+	m.countTable(hidden.table, hidden.pointer, types.Any, entries)
+	hits, _ := hidden.table["hits"].([]any)
+	for _, hit := range hits {
+		if hit, is := hit.(map[string]any); is {
+			delete(hit, "value")
+		}
 	}
 }
 

@@ -89,3 +89,27 @@ func TestDecimalsOverHTTP(t *testing.T) {
 		t.Error("the page says otherwise how numbers are counted")
 	}
 }
+
+// divided is what desk import writes of b: x / 3 > 1 of whole numbers, and of a table c whose value is tested and counted again.
+const divided = `{"model":{"inputs":["x"],"decisions":[{"name":"b","needs":["x"],"expr":{"context":[{"name":"numerator_1","expr":"x"}],"result":"numerator_1 > 3"}},` +
+	`{"name":"c","needs":["x"],"expr":{"context":[{"name":"rule_1","expr":{"table":{"hit":"U","inputs":["x"],"outputs":[{"name":"o"}],"rules":[{"when":["-"],` +
+	`"then":["true"]}]}}},{"name":"value_1","expr":{"table":{"hit":"F","inputs":["x"],"outputs":[{"name":"o"}],"rules":[{"when":["< 3"],"then":["5"]},` +
+	`{"when":["-"],"then":["7"]}]}}}],"result":"if value_1 < 7 then value_1 else null"}}],"services":[` +
+	`{"name":"b","outputs":["b"],"encapsulated":[],"inputDecisions":[],"inputData":["x"]},{"name":"c","outputs":["c"],"encapsulated":[],"inputDecisions":[],` +
+	`"inputData":["x"]}]},"names":{"x":"x","b":"b","c":"c","o":"o"},"types":{"x":{"type":["integer","null"]},"b":{"type":["boolean","null"]}},` +
+	`"places":{"/decisions/0/expr":{"id":"","name":"","text":"x / 3 > 1"},"/decisions/1/expr/context/1/expr/table/rules/0/then/0":{"id":"","name":"","text":"0.5"}}}`
+
+// TestWhatIsTranslatedIsNotExplained explains what the file has, also where no number is counted in a unit: entries that the translation
+// put in front are left out, and the table of one that came from the file is told.
+func TestWhatIsTranslatedIsNotExplained(t *testing.T) {
+	r := serve(t, divided, Options{})
+	defer r.stop(t)
+	for path, due := range map[string]string{
+		"b": `"decisions":[{"name":"b","value":true}]`,
+		"c": `"decisions":[{"name":"c","table":{"decided":[2],"defaults":false,"hits":[{"rule":2}],"inputs":[4],"policy":"F"},"value":null}]`,
+	} {
+		if status, text, _ := send(t, "POST", r.url+"/v1/services/"+path+"?explain=true", `{"x":4}`); status != 200 || !strings.Contains(text, due) {
+			t.Errorf("%s: %d %s, and %s is due", path, status, text, due)
+		}
+	}
+}

@@ -9,6 +9,7 @@ import (
 
 	"gateway/coverage"
 	"gateway/engine"
+	"gateway/journal"
 	"gateway/lines"
 )
 
@@ -108,6 +109,9 @@ func (c *covering) read(body []byte) {
 
 // line reads one line: a request, the inputs of one, or one of the other lines that `desk serve` takes, which is skipped.
 func (c *covering) line(number int, text []byte) {
+	if journal.IsAbout(text) {
+		return
+	}
 	it := lineAsked{number: number}
 	object, other, fault := c.reader.Read(text, lines.MaxNesting)
 	if fault != nil || other {

@@ -93,7 +93,7 @@ func (c *call) explanation(at int) engine.Explanation {
 
 // named gives the decisions of an explanation the names of the file.
 func (m *served) named(told json.RawMessage) json.RawMessage {
-	if m.counts && told != nil {
+	if m.isTranslated && told != nil {
 		return m.countedNames(told)
 	}
 	if len(m.words) == 0 || told == nil {

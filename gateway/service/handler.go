@@ -65,7 +65,11 @@ func (s *Service) handler() http.Handler {
 			return
 		}
 		if isCall {
-			s.metrics.called(s.servicesPath(w, r, id), time.Since(start))
+			v := &visit{trace: s.traceOf(w, r)}
+			status := s.servicesPath(w, r, id, v)
+			took := time.Since(start)
+			s.metrics.called(status, took)
+			s.visited(v, id, status, took)
 			return
 		}
 		path := pages[r.URL.Path]
@@ -96,6 +100,11 @@ func requestID(r *http.Request, now time.Time) string {
 	if values := r.Header["X-Request-Id"]; len(values) == 1 && isID(values[0]) {
 		return values[0]
 	}
+	return ownID(now)
+}
+
+// ownID is an id that no other call has.
+func ownID(now time.Time) string {
 	id := make([]byte, 0, 48)
 	id = now.UTC().AppendFormat(id, "20060102T150405.000Z-")
 	id = append(id, idStart...)
@@ -178,7 +187,7 @@ func (s *Service) unready() string {
 		return "the service is about to end"
 	case s.pool.Ready() == 0:
 		return "no engine is ready"
-	case s.journal != nil && s.journal.Failing():
+	case s.recorder != nil && s.recorder.journal.Failing():
 		return "the journal cannot be written"
 	}
 	return ""
@@ -188,7 +197,12 @@ func (s *Service) readyPath(w http.ResponseWriter, r *http.Request) {
 	if !takes(w, r, http.MethodGet, http.MethodHead) {
 		return
 	}
-	page := map[string]any{"status": "ready", "engines": s.pool.Ready(), "due": s.pool.Processes()}
+	if s.recorder != nil {
+		// What is gone under it is seen here too.
+		_ = s.recorder.journal.Look()
+	}
+	page := map[string]any{"status": "ready", "engines": s.pool.Ready(), "due": s.pool.Processes(),
+		"release": s.model.Load().release()}
 	status := http.StatusOK
 	if why := s.unready(); why != "" {
 		page["status"], status = why, http.StatusServiceUnavailable
@@ -231,13 +245,14 @@ func (s *Service) openAPIPath(w http.ResponseWriter, r *http.Request) {
 	var services []openapi.Service
 	for _, form := range model.lawful.Services {
 		service := openapi.Service{Name: model.nameOf(form.Name), Strict: model.isStrict, Result: model.resultSchema(form.Name)}
-		for _, word := range form.Parameters {
+		known := model.services[form.Name].ofCallers()
+		for _, word := range model.services[form.Name].inputs {
 			service.Inputs = append(service.Inputs, openapi.Input{Name: model.nameOf(word), Schema: model.schema(word),
-				Required: model.isStrict && isOneOf(word, model.services[form.Name].required)})
+				Required: model.isStrict && isOneOf(word, known.required), NotNull: known.notNull[word]})
 		}
 		services = append(services, service)
 	}
-	page, err := openapi.Page(model.engine.Sum, s.version, s.tokens.Load() != nil, services)
+	page, err := openapi.Page(model.wholeSum, s.version, s.tokens.Load() != nil, services)
 	if err != nil {
 		problemInside.with(err.Error()).write(w, w.Header().Get("X-Request-Id"))
 		return

@@ -19,7 +19,9 @@ type metrics struct {
 	requests *prometheus.CounterVec
 	restarts prometheus.Counter
 	puts     *prometheus.CounterVec
-	nulls    *prometheus.CounterVec
+	// releaseFaults counts releases that could not be put in force.
+	releaseFaults prometheus.Counter
+	nulls         *prometheus.CounterVec
 
 	journalLines, journalBytes, journalFaults prometheus.Counter
 	journalSeconds                            prometheus.Histogram
@@ -52,6 +54,7 @@ func newMetrics(s *Service) *metrics {
 	m.requests = counters("requests_total", "Requests that were asked of engines, by what became of them.", "outcome")
 	m.restarts = counter("engine_restarts_total", "Engines that ended and were begun anew.")
 	m.puts = counters("puts_total", "Models that were put, by the status of the answer.", "status")
+	m.releaseFaults = counter("release_faults_total", "Releases that could not be put in force.")
 	m.nulls = counters("null_results_total", "Results that are null, by the name of the service.", "service")
 	m.journalLines = counter("journal_lines_total", "Requests written to the journal.")
 	m.journalBytes = counter("journal_bytes_total", "Bytes written to the journal.")
@@ -59,6 +62,7 @@ func newMetrics(s *Service) *metrics {
 	m.journalSeconds = times("journal_sync_seconds", "How long writing and syncing a group took.")
 	m.ok, m.result = m.calls.WithLabelValues("200"), m.requests.WithLabelValues("result")
 	m.gauges(s)
+	m.registry.MustRegister(&modelInfo{s})
 	m.registry.MustRegister(collectors.NewGoCollector(),
 		collectors.NewProcessCollector(collectors.ProcessCollectorOpts{}))
 	return m
@@ -78,6 +82,12 @@ func (m *metrics) gauges(s *Service) {
 		}
 		return 0
 	})
+	gauge("model_overridden", "1 where the model of the command line is not served, since another was put before the start.", func() float64 {
+		if s.isOverridden && s.model.Load().origin == originPut {
+			return 1
+		}
+		return 0
+	})
 	gauge("outstanding", "Requests that are taken and not yet answered.", func() float64 {
 		requests, _ := s.clients.count()
 		return float64(requests)
@@ -91,6 +101,25 @@ func (m *metrics) gauges(s *Service) {
 	gauge("model_since_seconds", "When the model in force was put in force, in seconds since 1970.", func() float64 {
 		return float64(s.model.Load().since.Unix())
 	})
+}
+
+// modelInfo is a metric whose labels say which model is in force.
+type modelInfo struct{ of *Service }
+
+var modelInfoForm = prometheus.NewDesc("desk_model_info", "1, with labels that say which model is in force.",
+	[]string{"name", "version", "sha256", "origin"}, nil)
+
+// Describe says what is collected.
+func (i *modelInfo) Describe(to chan<- *prometheus.Desc) { to <- modelInfoForm }
+
+// Collect gives the metric.
+func (i *modelInfo) Collect(to chan<- prometheus.Metric) {
+	model := i.of.model.Load()
+	if model == nil {
+		return
+	}
+	it := model.source.namedBy()
+	to <- prometheus.MustNewConstMetric(modelInfoForm, prometheus.GaugeValue, 1, it.Name, it.Version, model.wholeSum, model.origin)
 }
 
 func (m *metrics) handler() http.Handler {

@@ -28,12 +28,23 @@ type Options struct {
 	Deadline  time.Duration
 	// Tokens is a file of tokens, Journal a folder, State a file that keeps the model last put; each may be empty.
 	Tokens, Journal, State string
-	// JournalSize is about how many bytes a file of the journal has at most.
-	JournalSize int64
+	// Releases is the folder of releases that is followed, or empty.
+	Releases string
+	// JournalSize is about how many bytes a file of the journal has at most. Keep is how long its files are kept, and
+	// JournalLimit how many bytes they have at most in all; 0 is forever, and any.
+	JournalSize, JournalLimit int64
+	Keep                      time.Duration
+	// Redact has the names of inputs whose values the journal is not to have, RedactKey the file of the key of their sums.
+	Redact    []string
+	RedactKey string
+	// Version is this program's.
+	Version string
 	// ClientLimit and Limit are the most requests of one client and in all that are taken and not yet answered.
 	ClientLimit, Limit int
 	// Log writes a line for the operator.
 	Log func(form string, words ...any)
+	// Access writes a line of the log as JSON: one for each call, put, release and refused token; nil where the log has text.
+	Access func(line []byte)
 	// Turn is sent to whenever the journal is to begin new files and the tokens are to be read again.
 	Turn <-chan struct{}
 }
@@ -84,6 +95,16 @@ func (o *Options) Check() error {
 		return fmt.Errorf("--client-limit is at least 1, and --limit at least as much")
 	case o.JournalSize < 1<<20:
 		return fmt.Errorf("--journal-size is at least 1MiB")
+	case o.JournalLimit != 0 && o.JournalLimit < 2*o.JournalSize:
+		return fmt.Errorf("--journal-limit is at least twice --journal-size")
+	case o.Keep < 0 || o.Keep != 0 && o.Keep < time.Hour:
+		return fmt.Errorf("--keep is at least 1h")
+	case o.Journal == "" && (o.JournalLimit != 0 || o.Keep != 0 || len(o.Redact) > 0):
+		return fmt.Errorf("--keep, --journal-limit and --redact need --journal")
+	case o.Releases != "" && o.State != "":
+		return fmt.Errorf("--releases keeps what is put as releases, so --state can't be given too")
+	case (len(o.Redact) > 0) != (o.RedactKey != ""):
+		return fmt.Errorf("--redact needs --redact-key, and --redact-key needs --redact")
 	}
 	return nil
 }

@@ -254,12 +254,15 @@ func standIn(t *testing.T, told string) string {
 
 // What the check finds of tables is told of the model in force and of one that is checked, where the engine tells it.
 func TestTables(t *testing.T) {
-	told := `{"lawful":true}` + "\n" + `{"warning":"unneeded","pointer":"/inputs/1"}` + "\n" +
-		`{"table":"/decisions/0/expr/table","complete":false}` + "\n" + `{"finding":"never","table":"/decisions/0/expr/table","rules":[3]}` + "\n"
-	due := `"tables":[{"table":"/decisions/0/expr/table","complete":false},{"finding":"never","table":"/decisions/0/expr/table","rules":[3]}]`
+	const model = `{"inputs":["a"],"decisions":[{"name":"d","needs":["a"],"expr":{"table":{"hit":"F","inputs":["a"],"outputs":[{"name":"x"}],` +
+		`"rules":[{"when":["[5..3]"],"then":["1"]}]}}}],"services":[{"name":"s","outputs":["d"],"encapsulated":[],"inputDecisions":[],"inputData":["a"]}]}`
+	told := `{"lawful":true}` + "\n" + `{"table":"/decisions/0/expr/table","complete":false,"steps":7}` + "\n" + `{"finding":"never","rules":[0]}` + "\n"
+	// The model is written with sorted keys: {"decisions":[{"expr":{"table":{.
+	const place = `"table":"/decisions/0/expr/table","line":1,"column":32`
+	due := `"tables":[{` + place + `,"complete":false,"asked":null,"words":null,"steps":7},{"finding":"never",` + place + `,"rules":[1]}]`
 	for _, it := range []struct{ engine, due string }{{standIn(t, told), due}, {standIn(t, `{"lawful":true}`+"\n"), `"tables":[]`}} {
-		r := serve(t, first, Options{Engine: it.engine, Processes: 1})
-		for _, call := range []struct{ method, path, body string }{{"GET", "/v1/tables", ""}, {"POST", "/v1/check", first}} {
+		r := serve(t, model, Options{Engine: it.engine, Processes: 1})
+		for _, call := range []struct{ method, path, body string }{{"GET", "/v1/tables", ""}, {"POST", "/v1/check", model}} {
 			if status, text, _ := send(t, call.method, r.url+call.path, call.body); status != 200 || !strings.Contains(text, it.due) {
 				t.Errorf("%s: %d %s, and %s is due", call.path, status, text, it.due)
 			}

@@ -57,6 +57,8 @@ var (
 		"errors has each place, as desk check --json tells it. The model that was in force stays."}
 	problemMatch = &problemKind{"match", http.StatusPreconditionFailed, "Another model is in force",
 		"If-Match names another model than the one in force."}
+	problemVersion = &problemKind{"version", http.StatusConflict, "There is such a release",
+		"Releases are not changed. Give another version in the query, or in the body's release."}
 	problemBusy = &problemKind{"busy", http.StatusTooManyRequests, "The client has too many requests out",
 		"Wait for answers, or as long as Retry-After says."}
 	problemFull = &problemKind{"full", http.StatusServiceUnavailable, "The service has too many requests",
@@ -84,7 +86,7 @@ var problemKinds = func() map[string]*problemKind {
 	kinds := map[string]*problemKind{}
 	for _, kind := range []*problemKind{
 		problemSyntax, problemHeader, problemTwice, problemUnknown, problemLeft, problemToken, problemRight, problemPath, problemService, problemUnkept, problemMethod,
-		problemLong, problemShape, problemValue, problemLimit, problemModel, problemMatch, problemBusy, problemFull,
+		problemLong, problemShape, problemValue, problemLimit, problemModel, problemMatch, problemVersion, problemBusy, problemFull,
 		problemStopping, problemJournal, problemState, problemWaited, problemLate, problemDied, problemHuge, problemInside,
 	} {
 		kinds[kind.word] = kind

@@ -5,6 +5,7 @@ import (
 	"context"
 	"encoding/json"
 	"errors"
+	"fmt"
 	"net/http"
 	"strconv"
 	"strings"
@@ -12,6 +13,7 @@ import (
 
 	"gateway/engine"
 	"gateway/lines"
+	"gateway/release"
 )
 
 // modelPath answers GET and PUT /v1/model.
@@ -31,9 +33,9 @@ func (s *Service) modelPath(w http.ResponseWriter, r *http.Request) {
 	}
 	model := s.model.Load()
 	w.Header()["Desk-Model"] = model.sum
-	w.Header().Set("ETag", `"`+model.engine.Sum+`"`)
+	w.Header().Set("ETag", `"`+model.wholeSum+`"`)
 	if r.URL.Query().Get("text") == "true" {
-		writeJSON(w, http.StatusOK, model.engine.Text)
+		model.writeText(w)
 		return
 	}
 	if r.URL.Query().Get("whole") == "true" {
@@ -41,6 +43,20 @@ func (s *Service) modelPath(w http.ResponseWriter, r *http.Request) {
 		return
 	}
 	writePage(w, http.StatusOK, model.page(s.version))
+}
+
+// writeText answers with a text that puts the same model when it is sent back: the compact text, or what desk import writes
+// where a file has names or types.
+func (m *served) writeText(w http.ResponseWriter) {
+	text := m.engine.Text
+	if m.wholeSum != m.engine.Sum {
+		var err error
+		if text, err = m.source.text(); err != nil {
+			problemInside.with(err.Error()).write(w, w.Header().Get("X-Request-Id"))
+			return
+		}
+	}
+	writeJSON(w, http.StatusOK, text)
 }
 
 // listPath answers GET /v1/services, also with a slash at its end.
@@ -57,9 +73,16 @@ func (s *Service) listPath(w http.ResponseWriter, r *http.Request) {
 	writePage(w, http.StatusOK, map[string]any{"services": model.servicePages()})
 }
 
+// Where a model in force may be from.
+const (
+	originFiles = "command line"
+	originPut   = "put"
+)
+
 // A putPage is what PUT /v1/model answers.
 type putPage struct {
 	Sum      string            `json:"sha256"`
+	Release  *Release          `json:"release"`
 	Before   string            `json:"before"`
 	Kept     bool              `json:"kept"`
 	Services []string          `json:"services"`
@@ -68,6 +91,7 @@ type putPage struct {
 
 func (s *Service) putPath(w http.ResponseWriter, r *http.Request, id string, who caller) {
 	page, model, p := s.putModel(w, r, who)
+	s.toldPut(id, who, page, p)
 	if p != nil {
 		s.metrics.puts.WithLabelValues(strconv.Itoa(p.Status)).Inc()
 		p.write(w, id)
@@ -75,7 +99,7 @@ func (s *Service) putPath(w http.ResponseWriter, r *http.Request, id string, who
 	}
 	s.metrics.puts.WithLabelValues(strconv.Itoa(http.StatusOK)).Inc()
 	w.Header()["Desk-Model"] = model.sum
-	w.Header().Set("ETag", `"`+model.engine.Sum+`"`)
+	w.Header().Set("ETag", `"`+model.wholeSum+`"`)
 	writePage(w, http.StatusOK, page)
 }
 
@@ -99,21 +123,25 @@ func (s *Service) putModel(w http.ResponseWriter, r *http.Request, who caller) (
 		return nil, nil, problemStopping.with("")
 	}
 	before := s.model.Load()
-	if match := r.Header.Get("If-Match"); match != "" && match != "*" && !strings.Contains(match, `"`+before.engine.Sum+`"`) {
-		return nil, nil, problemMatch.with("the model in force has the SHA-256 " + before.engine.Sum)
+	if match := r.Header.Get("If-Match"); match != "" && match != "*" && !strings.Contains(match, `"`+before.wholeSum+`"`) {
+		return nil, nil, problemMatch.with("the model in force has the SHA-256 " + before.wholeSum)
+	}
+	source.Release = s.released(source, before, who, r.URL.Query().Get)
+	if p = source.Release.problem(); p != nil {
+		return nil, nil, p
 	}
 	// Whoever puts a model may go away meanwhile; it is put all the same.
 	ctx, stop := context.WithTimeout(context.Background(), putPatience)
 	defer stop()
-	model, err := s.read(ctx, source, "put")
+	model, err := s.read(ctx, source, originPut)
 	if err != nil {
 		return nil, nil, faultProblem(err)
 	}
 	if p := s.putInForce(ctx, before, model); p != nil {
 		return nil, nil, p
 	}
-	page := &putPage{Sum: model.engine.Sum, Before: before.engine.Sum, Kept: s.statePath != "",
-		Services: model.serviceNames(), Warnings: model.warnings}
+	page := &putPage{Sum: model.wholeSum, Release: source.Release, Before: before.wholeSum,
+		Kept: s.statePath != "" || s.options.Releases != "", Services: model.serviceNames(), Warnings: model.warnings}
 	if page.Warnings == nil {
 		page.Warnings = []json.RawMessage{}
 	}
@@ -122,21 +150,41 @@ func (s *Service) putModel(w http.ResponseWriter, r *http.Request, who caller) (
 
 // putInForce keeps a model, and puts it in force for whatever comes from now on.
 func (s *Service) putInForce(ctx context.Context, before, model *served) *problem {
-	if s.statePath != "" {
-		if err := writeState(s.statePath, model.source); err != nil {
-			s.options.Log("%v", err)
-			return problemState.with("")
-		}
+	var err error
+	switch {
+	case s.options.Releases != "":
+		err = s.keepRelease(model)
+	case s.statePath != "":
+		err = writeState(s.statePath, model.source)
 	}
+	if errors.Is(err, release.ErrExists) {
+		return problemVersion.with(err.Error())
+	}
+	if err != nil {
+		s.options.Log("%v", err)
+		return problemState.with("")
+	}
+	s.inForce(ctx, model, func() { s.logModel(fmt.Sprintf("a model was put by %s", model.source.Release.Who), before, model) })
+	return nil
+}
+
+// logModel logs that another model is in force, where the log has text.
+func (s *Service) logModel(said string, before, model *served) {
+	if s.options.Access == nil {
+		s.options.Log("%s: SHA-256 %s, before it %s", said, model.wholeSum, before.wholeSum)
+	}
+}
+
+// inForce puts a model in force for whatever comes from now on, and says so at once.
+func (s *Service) inForce(ctx context.Context, model *served, say func()) {
 	s.pool.Switch(model.engine, func() {
 		model.since = time.Now()
 		s.model.Store(model)
 	})
-	s.options.Log("a model was put: SHA-256 %s, before it %s", model.engine.Sum, before.engine.Sum)
+	say()
 	if err := s.pool.Settle(ctx); err != nil {
-		s.options.Log("a model was put, and not all engines have taken it yet: %v", err)
+		s.options.Log("a model is in force, and not all engines have taken it yet: %v", err)
 	}
-	return nil
 }
 
 // source reads a body as a model.

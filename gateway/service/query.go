@@ -15,7 +15,7 @@ const anyName = "*"
 
 // queryWords are the words that the queries of a path take; of other paths any are ignored.
 var queryWords = map[string][]string{
-	"/v1/model":            {"text", "whole"},
+	"/v1/model":            {"text", "whole", "name", "version", "why"},
 	listStart:              {},
 	servicesPath:           {},
 	servicesPath + anyName: {"explain"},

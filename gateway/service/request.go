@@ -46,7 +46,7 @@ func (m *served) renamed(service *decisionService, text []byte, job *engine.Job,
 // worded makes a request from inputs with the model's words. Their members are bounded within whole, of which they are a part.
 func (m *served) worded(service *decisionService, text, whole []byte, members []lines.Member, job *engine.Job,
 	room []byte) ([]byte, *problem) {
-	if p := m.undeclared(service, members); p != nil {
+	if p := m.undeclared(service, whole, members); p != nil {
 		return room, p
 	}
 	if m.counts {
@@ -74,7 +74,7 @@ func (m *served) worded(service *decisionService, text, whole []byte, members []
 
 // undeclared refuses an input that no service of the model takes, and says which one is missing, where the model has the types of its
 // inputs.
-func (m *served) undeclared(service *decisionService, members []lines.Member) *problem {
+func (m *served) undeclared(service *decisionService, whole []byte, members []lines.Member) *problem {
 	if !m.isStrict {
 		return nil
 	}
@@ -85,10 +85,20 @@ func (m *served) undeclared(service *decisionService, members []lines.Member) *p
 		}
 	}
 	last := lastMembers(members)
+	for at, member := range members {
+		value := whole[member.Value.Start:member.Value.End]
+		if service.notNull[member.Key] && string(value) == "null" && !comesAgain(members, last, at) {
+			return problemValue.at(m.pointer("/"+lines.Token(member.Key)), fmt.Sprintf("%q is null, and the file declares its type; "+
+				"its allowed values may list null, or desk import may have --nullable", m.nameOf(member.Key)))
+		}
+	}
 	for _, input := range service.required {
 		if !hasMember(members, last, input) {
-			return problemValue.at(m.pointer("/"+lines.Token(input)), fmt.Sprintf("%q is missing, and its type doesn't admit null",
-				m.nameOf(input)))
+			why := "its type doesn't admit null"
+			if service.notNull[input] {
+				why = "the file declares its type; its allowed values may list null, or desk import may have --nullable"
+			}
+			return problemValue.at(m.pointer("/"+lines.Token(input)), fmt.Sprintf("%q is missing, and %s", m.nameOf(input), why))
 		}
 	}
 	return nil

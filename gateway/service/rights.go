@@ -18,6 +18,8 @@ import (
 type caller struct {
 	// client is the name under which its requests keep their order; empty where they keep none.
 	client string
+	// token is the name of its token, named what it said in X-Client; each may be empty.
+	token, named string
 	// mayPut says that a PUT of it is taken.
 	mayPut bool
 }
@@ -107,17 +109,18 @@ func (s *Service) caller(r *http.Request) (caller, *problem) {
 	}
 	all := s.tokens.Load()
 	if all == nil {
-		return caller{client: named, mayPut: r.Method == http.MethodPut && isLocal(r)}, nil
+		return caller{client: named, named: named, mayPut: r.Method == http.MethodPut && isLocal(r)}, nil
 	}
 	scheme, sent, _ := strings.Cut(r.Header.Get("Authorization"), " ")
 	it, is := (*all)[sha256.Sum256([]byte(strings.TrimSpace(sent)))]
 	if !is || !strings.EqualFold(scheme, "Bearer") {
+		s.refusedToken(r)
 		return caller{}, problemToken.with("")
 	}
 	if r.Method == http.MethodPost && !it.mayCall {
 		return caller{}, problemRight.with("the token " + it.name + " may not call")
 	}
-	who := caller{client: it.name, mayPut: it.mayPut}
+	who := caller{client: it.name, token: it.name, named: named, mayPut: it.mayPut}
 	if named != "" {
 		who.client = it.name + " " + named
 	} else if it.spread {

@@ -27,12 +27,17 @@ type served struct {
 	// values with the names of the file.
 	types   map[string]*types.Type
 	toNames map[string]*types.Keys
+	// clocks has the inputs that the clock fills, by their words and names; now is the time.
+	clocks map[string]string
+	now    func() time.Time
 	// counts says that some number is counted in a unit: requests and results have decimals.
 	counts bool
-	// parts say how values at JSON Pointers into the model are counted, pointers where the expression of a decision is; nil
-	// where nothing is counted.
-	parts    map[string]countedPart
-	pointers map[string]string
+	// parts say how values at JSON Pointers into the model are counted, pointers where the expression of a decision is, and fromFile
+	// what the file has. Where isTranslated, the model has parts that the file doesn't have.
+	parts        map[string]countedPart
+	pointers     map[string]string
+	fromFile     map[string]bool
+	isTranslated bool
 	// isStrict says that the types of the inputs are known, and that inputs which the model doesn't have are refused; isKnown
 	// has those that it has. One that another service takes is left aside.
 	isStrict bool
@@ -40,8 +45,13 @@ type served struct {
 	// origin says where the model came from, and since when it is in force.
 	origin string
 	since  time.Time
-	// sum is the header with the SHA-256 of the text.
-	sum []string
+	// wholeSum is the one over all that decides, and sum the header with it.
+	wholeSum string
+	sum      []string
+	// rules has what the file says of rules, by their pointers; recorded is what each line of the journal says of the model.
+	rules    map[string]ruleNote
+	recorded []byte
+	by       *recorder
 	// analysis is what is found of its tables.
 	analysis analysis
 }
@@ -49,10 +59,14 @@ type served struct {
 // A decisionService is one service of a model.
 type decisionService struct {
 	word, name string
-	// inputs are the words of its parameters, in the model's order.
-	inputs []string
+	// inputs are the words of its parameters that requests bring, in the model's order; clocks are those that the clock fills.
+	inputs, clocks []string
 	// required are those of the inputs whose types don't admit null.
 	required []string
+	// strict is the service as callers have it: it requires also what the file does. nil where that is no more.
+	strict *decisionService
+	// notNull has those of the required inputs whose types admit null all the same.
+	notNull map[string]bool
 	// outputs are the words of its output decisions.
 	outputs    []string
 	parameters map[string]bool
@@ -78,15 +92,22 @@ func (s *Service) read(ctx context.Context, source *Source, origin string) (*ser
 	it := &served{
 		source: source, engine: engine.NewModel(source.Text), lawful: lawful, warnings: warnings,
 		services: map[string]*decisionService{}, words: map[string]string{}, types: map[string]*types.Type{}, origin: origin,
-		since: time.Now(), isStrict: len(source.Types) > 0 && !s.options.Lenient,
+		since: time.Now(), now: time.Now, clocks: map[string]string{}, isStrict: len(source.Types) > 0 && !s.options.Lenient,
 	}
 	line := len(it.engine.AppendLine(nil)) - 1
 	if line > lines.MaxLine {
 		return nil, fmt.Errorf("%w: its line would have %d bytes, and at most %d are read", errLongModel, line, lines.MaxLine)
 	}
-	it.sum = []string{it.engine.Sum}
+	it.wholeSum = source.Sum()
+	it.sum = []string{it.wholeSum}
 	if err := it.index(); err != nil {
 		return nil, err
+	}
+	if s.recorder != nil {
+		if err := it.noteRules(); err != nil {
+			return nil, err
+		}
+		it.remember(s.recorder)
 	}
 	return it, engine.Try(ctx, s.options.Engine, s.options.Memory, it.engine)
 }
@@ -126,18 +147,18 @@ func (m *served) index() (err error) {
 		}
 	}
 	for _, form := range m.lawful.Services {
-		service := &decisionService{word: form.Name, name: m.nameOf(form.Name), inputs: form.Parameters, parameters: map[string]bool{}}
+		service := &decisionService{word: form.Name, name: m.nameOf(form.Name), parameters: map[string]bool{}}
 		for _, parameter := range form.Parameters {
 			service.parameters[parameter] = true
+			m.addInput(service, parameter)
 		}
 		service.tail = append(lines.AppendQuoted([]byte(`,"service":`), form.Name), '}')
 		m.services[service.word] = service
 		m.services[service.name] = service
 	}
-	if m.counts = m.isCounted(); m.counts {
-		if err := m.countParts(); err != nil {
-			return err
-		}
+	m.counts = m.isCounted()
+	if err := m.countParts(); err != nil {
+		return err
 	}
 	return m.describe()
 }
@@ -165,6 +186,8 @@ func (m *served) serviceNames() []string {
 // A modelPage is what GET /v1/model tells.
 type modelPage struct {
 	Sum      string                     `json:"sha256"`
+	TextSum  string                     `json:"textSha256"`
+	Release  *Release                   `json:"release,omitempty"`
 	Engine   string                     `json:"engine"`
 	Origin   string                     `json:"origin"`
 	Since    time.Time                  `json:"since"`
@@ -188,7 +211,7 @@ type servicePage struct {
 
 func (m *served) page(version string) *modelPage {
 	page := &modelPage{
-		Sum: m.engine.Sum, Engine: version, Origin: m.origin, Since: m.since.UTC(), Inputs: m.names(m.lawful.Inputs),
+		Sum: m.wholeSum, TextSum: m.engine.Sum, Release: m.source.Release, Engine: version, Origin: m.origin, Since: m.since.UTC(), Inputs: m.names(m.lawful.Inputs),
 		Decision: []decisionPage{}, Warnings: m.warnings,
 	}
 	if page.Warnings == nil {
@@ -212,7 +235,7 @@ func (m *served) servicePages() []servicePage {
 	pages := []servicePage{}
 	for _, form := range m.lawful.Services {
 		name := m.nameOf(form.Name)
-		pages = append(pages, servicePage{name, m.names(form.Parameters), servicePath(name)})
+		pages = append(pages, servicePage{name, m.names(m.services[form.Name].inputs), servicePath(name)})
 	}
 	return pages
 }

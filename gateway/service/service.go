@@ -11,6 +11,7 @@ import (
 	"path/filepath"
 	"runtime"
 	"runtime/debug"
+	"strings"
 	"sync"
 	"sync/atomic"
 	"time"
@@ -30,7 +31,8 @@ type Service struct {
 	// hasTables says that the engine's check tells what it finds of tables.
 	hasTables bool
 	pool      *engine.Pool
-	journal   *journal.Journal
+	// recorder is nil where no journal is kept.
+	recorder  *recorder
 	statePath string
 	clients   *clients
 	turns     *turns
@@ -41,11 +43,14 @@ type Service struct {
 	shelf     shelf
 	// explaining bounds how many explanations are made at once.
 	explaining chan struct{}
-	// putting lets one model be put at a time.
-	putting sync.Mutex
+	// putting lets one model be put at a time, following is what was seen of the folder of releases.
+	putting   sync.Mutex
+	following following
 	// stopping says that the service is to end.
-	stopping    atomic.Bool
-	connections atomic.Int64
+	stopping atomic.Bool
+	// isOverridden says that the model of the command line is not served, since another was put before.
+	isOverridden bool
+	connections  atomic.Int64
 }
 
 var errLongModel = errors.New("the model is too long")
@@ -101,6 +106,9 @@ func Run(ctx context.Context, options Options) error {
 		return err
 	}
 	go s.renew(ctx)
+	if options.Releases != "" {
+		go s.follow(ctx)
+	}
 	return s.serve(ctx)
 }
 
@@ -115,7 +123,7 @@ func newService(ctx context.Context, options Options) (*Service, error) {
 	s.bodies.limit = bodiesLimit
 	s.explaining = make(chan struct{}, options.Processes)
 	s.metrics = newMetrics(s)
-	if s.statePath == "" && options.Journal != "" {
+	if s.statePath == "" && options.Journal != "" && options.Releases == "" {
 		s.statePath = filepath.Join(options.Journal, stateName)
 	}
 	return s, s.loadTokens()
@@ -139,14 +147,8 @@ func (s *Service) loadTokens() error {
 // begin opens the journal, reads the model and starts the engines.
 func (s *Service) begin(ctx context.Context) error {
 	if s.options.Journal != "" {
-		opened, repaired, err := journal.Open(s.options.Journal,
-			journal.Options{Size: s.options.JournalSize, Synced: s.metrics.synced})
-		if err != nil {
+		if err := s.openJournal(); err != nil {
 			return err
-		}
-		s.journal = opened
-		for _, sentence := range repaired {
-			s.options.Log("journal: %s", sentence)
 		}
 	}
 	model, err := s.firstModel(ctx)
@@ -155,7 +157,8 @@ func (s *Service) begin(ctx context.Context) error {
 	}
 	s.model.Store(model)
 	s.pool = engine.Start(engine.Options{
-		Path: s.options.Engine, Processes: s.options.Processes, Memory: s.options.Memory,
+		Path: s.options.Engine, Processes: s.options.Processes, Memory: s.options.Memory, Tells: s.recorder != nil,
+		Measures: s.options.Access != nil,
 		Deadline: s.options.Deadline, Patience: waitPatience, Died: s.died,
 	}, model.engine)
 	ctx, stop := context.WithTimeout(ctx, putPatience)
@@ -166,27 +169,89 @@ func (s *Service) begin(ctx context.Context) error {
 	return nil
 }
 
-// firstModel is the one last put, where one was kept, and else that of the command line.
+// openJournal opens the journal.
+func (s *Service) openJournal() error {
+	r := &recorder{}
+	var err error
+	if r.redact, err = newRedactor(s.options.Redact, s.options.RedactKey); err != nil {
+		return err
+	}
+	if r.engine, err = programOf(s.options.Engine, s.version); err != nil {
+		return err
+	}
+	own, err := os.Executable()
+	if err != nil {
+		return fmt.Errorf("finding this program: %w", err)
+	}
+	if r.program, err = programOf(own, s.options.Version); err != nil {
+		return err
+	}
+	opened, repaired, err := journal.Open(s.options.Journal, journal.Options{Size: s.options.JournalSize, Keep: s.options.Keep,
+		Limit: s.options.JournalLimit, Synced: s.metrics.synced, Ended: s.fileEnded, Pruned: s.filesPruned})
+	if err != nil {
+		return err
+	}
+	for _, sentence := range repaired {
+		s.options.Log("journal: %s", sentence)
+	}
+	if n, sum := opened.Begun(); n > 0 {
+		s.options.Log("journal: it goes on after entry %d, whose sum is %s", n, sum)
+	}
+	r.journal = opened
+	s.recorder = r
+	return nil
+}
+
+// fileEnded logs the head of the journal's chain, which is to be kept where the journal's owner can't change it.
+func (s *Service) fileEnded(path string, last uint64, sum string) {
+	s.options.Log("journal: %s ended; the head of the chain is %s, at entry %d", path, sum, last)
+}
+
+func (s *Service) filesPruned(paths []string, last uint64, err error) {
+	if err != nil {
+		s.options.Log("journal: not all of %s could be removed: %v", strings.Join(paths, ", "), err)
+		return
+	}
+	s.options.Log("journal: %s were removed, with the entries up to %d", strings.Join(paths, ", "), last)
+}
+
+// firstModel is the release in force, or the model last put where one was kept, and else that of the command line.
 func (s *Service) firstModel(ctx context.Context) (*served, error) {
+	if s.options.Releases != "" {
+		return s.firstRelease(ctx)
+	}
 	if s.statePath == "" {
-		return s.read(ctx, s.options.Model, "command line")
+		return s.read(ctx, s.options.Model, originFiles)
 	}
 	put, err := readState(s.statePath)
 	if err != nil {
 		return nil, err
 	}
 	if put == nil {
-		return s.read(ctx, s.options.Model, "command line")
+		return s.read(ctx, s.options.Model, originFiles)
 	}
-	model, err := s.read(ctx, put, "put")
+	model, err := s.read(ctx, put, originPut)
 	if err != nil {
 		return nil, fmt.Errorf("the model last put, in %s: %w", s.statePath, err)
 	}
-	if string(put.Text) != string(s.options.Model.Text) {
-		s.options.Log("serving the model last put, from %s, and not %s; to go back, remove that file",
-			s.statePath, s.options.Named)
+	if model.wholeSum != s.options.Model.Sum() {
+		s.isOverridden = true
+		s.options.Log("serving the model last put, from %s, and not %s; to go back, remove that file. %s", s.statePath,
+			s.options.Named, put.namedBy().story())
 	}
 	return model, nil
+}
+
+// story says who put a model.
+func (r *Release) story() string {
+	if r.Who == "" {
+		return "Who put it was not kept"
+	}
+	text := fmt.Sprintf("It was put by %s, %s, as %s %s", r.Who, r.When, r.Name, r.Version)
+	if r.Why != "" {
+		text += ": " + r.Why
+	}
+	return text
 }
 
 func (s *Service) died(number int, err error) {
@@ -202,13 +267,16 @@ func (s *Service) renew(ctx context.Context) {
 			return
 		case <-s.options.Turn:
 		}
-		if s.journal != nil {
-			if err := s.journal.Turn(); err != nil {
+		if s.recorder != nil {
+			if err := s.recorder.journal.Turn(); err != nil {
 				s.options.Log("%v", err)
 			}
 		}
 		if err := s.loadTokens(); err != nil {
 			s.options.Log("the tokens stay as they were: %v", err)
+		}
+		if s.options.Releases != "" {
+			s.followOnce(ctx, true)
 		}
 		s.options.Log("the journal has new files, and the tokens were read again")
 	}
@@ -239,7 +307,7 @@ func (s *Service) serve(ctx context.Context) error {
 	}()
 	model := s.model.Load()
 	s.options.Log("serving %s, SHA-256 %s, on http://%s with %d engines of version %s",
-		s.originOf(model), model.engine.Sum, s.options.Listener.Addr(), s.options.Processes, s.version)
+		s.originOf(model), model.wholeSum, s.options.Listener.Addr(), s.options.Processes, s.version)
 	notify("READY=1")
 	select {
 	case err := <-failed:
@@ -250,8 +318,11 @@ func (s *Service) serve(ctx context.Context) error {
 }
 
 func (s *Service) originOf(model *served) string {
-	if model.origin == "put" {
+	switch model.origin {
+	case originPut:
 		return "the model last put"
+	case originRelease:
+		return "the release " + model.called()
 	}
 	return s.options.Named
 }
@@ -294,8 +365,8 @@ func (s *Service) stop(server *http.Server, listener net.Listener, ended <-chan 
 		_ = server.Close()
 	}
 	note(s.pool.Close(ctx))
-	if s.journal != nil {
-		note(s.journal.Close())
+	if s.recorder != nil {
+		note(s.recorder.journal.Close())
 	}
 	if first == nil {
 		s.options.Log("ended: all that was taken is answered")

@@ -20,10 +20,14 @@ type Source struct {
 	Locals map[string]string
 	// Types has a JSON Schema for each input of which the file says the type.
 	Types map[string]json.RawMessage
+	// Required has the words of the inputs that a caller over HTTP has to give, and not as null.
+	Required []string
 	// Places has what stands in the file at each JSON Pointer into the model.
 	Places json.RawMessage
 	// Diagram has where the diagram of the file draws each input and decision, by its word; nil where it draws not all.
 	Diagram json.RawMessage
+	// Release says which model it is; nil where nothing does.
+	Release *Release
 }
 
 // ErrNoModel says that a text is no model in JSON. What is wrong inside of a model is not found here.
@@ -31,12 +35,14 @@ var ErrNoModel = errors.New("it is no model: neither a model in JSON, nor {\"mod
 
 // imported is what desk import writes; with the model alone it is a line of the engine.
 type imported struct {
-	Model   json.RawMessage            `json:"model"`
-	Names   map[string]string          `json:"names,omitempty"`
-	Locals  map[string]string          `json:"locals,omitempty"`
-	Types   map[string]json.RawMessage `json:"types,omitempty"`
-	Places  json.RawMessage            `json:"places,omitempty"`
-	Diagram json.RawMessage            `json:"diagram,omitempty"`
+	Model    json.RawMessage            `json:"model"`
+	Names    map[string]string          `json:"names,omitempty"`
+	Locals   map[string]string          `json:"locals,omitempty"`
+	Types    map[string]json.RawMessage `json:"types,omitempty"`
+	Required []string                   `json:"required,omitempty"`
+	Places   json.RawMessage            `json:"places,omitempty"`
+	Diagram  json.RawMessage            `json:"diagram,omitempty"`
+	Release  *Release                   `json:"release,omitempty"`
 }
 
 // ReadSource reads a model in JSON: the model itself, {"model":M}, or what desk import writes.
@@ -48,7 +54,8 @@ func ReadSource(text []byte) (*Source, error) {
 	if err := json.Unmarshal(text, &it); err != nil {
 		return nil, fmt.Errorf("%w: %v", ErrNoModel, err)
 	}
-	source := &Source{Names: it.Names, Locals: it.Locals, Types: it.Types, Places: it.Places, Diagram: it.Diagram}
+	source := &Source{Names: it.Names, Locals: it.Locals, Types: it.Types, Required: it.Required, Places: it.Places, Diagram: it.Diagram,
+		Release: it.Release}
 	model := []byte(it.Model)
 	if model == nil {
 		model = text
@@ -66,8 +73,12 @@ func ReadSource(text []byte) (*Source, error) {
 }
 
 func (s *Source) imported() imported {
-	return imported{Model: s.Text, Names: s.Names, Locals: s.Locals, Types: s.Types, Places: s.Places, Diagram: s.Diagram}
+	return imported{Model: s.Text, Names: s.Names, Locals: s.Locals, Types: s.Types, Required: s.Required, Places: s.Places, Diagram: s.Diagram,
+		Release: s.Release}
 }
+
+// Whole is the source as desk import writes it, with its release.
+func (s *Source) Whole() ([]byte, error) { return s.text() }
 
 // text is the source as desk import writes it.
 func (s *Source) text() ([]byte, error) {

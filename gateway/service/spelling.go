@@ -116,8 +116,34 @@ func (d *decisionService) describe(m *served, outputs []string, values map[strin
 			d.required = append(d.required, input)
 		}
 	}
-	d.toWords = types.ToWords(types.Object(m.typesOf(d.inputs)), m.source.Names)
+	defer d.restrict(m)
+	d.toWords = types.ToWords(types.Object(m.typesOf(append(append([]string(nil), d.clocks...), d.inputs...))), m.source.Names)
 	d.toNames = types.ToNames(named, m.source.Names)
+}
+
+// restrict makes the service as callers have it.
+func (d *decisionService) restrict(m *served) {
+	if !m.isStrict {
+		return
+	}
+	own := *d
+	own.required, own.notNull = append([]string(nil), d.required...), map[string]bool{}
+	for _, word := range m.source.Required {
+		if d.parameters[word] && !isOneOf(word, own.required) {
+			own.required, own.notNull[word] = append(own.required, word), true
+		}
+	}
+	if len(own.notNull) > 0 {
+		d.strict = &own
+	}
+}
+
+// ofCallers is the service as callers have it.
+func (d *decisionService) ofCallers() *decisionService {
+	if d.strict != nil {
+		return d.strict
+	}
+	return d
 }
 
 func some(values map[string]*types.Type, words []string) map[string]*types.Type {

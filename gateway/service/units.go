@@ -38,7 +38,7 @@ func (m *served) countedInputs(service *decisionService, whole []byte, members [
 		made = append(lines.AppendQuoted(made, member.Key), ':')
 		made = append(made, value...)
 	}
-	return append(made, '}'), nil
+	return append(m.addClocks(made, service, members), '}'), nil
 }
 
 // unitsOf is one input as the engine has it.

@@ -6,6 +6,7 @@ import (
 	"fmt"
 	"strings"
 	"sync/atomic"
+	"time"
 
 	"gateway/dmn"
 	"gateway/feel"
@@ -124,8 +125,13 @@ func (r *runner) plan(c *Case, result *Result) *test {
 		}
 		t.inputs[word] = value
 	}
+	for word, of := range s.types {
+		if _, brought := t.inputs[word]; of.HasClock() && !brought {
+			t.inputs[word] = of.At(time.Now())
+		}
+	}
 	if !result.Error {
-		t.due = result.Expected.due(s.words)
+		t.due = asDue(s.result, result.Expected.due(s.words))
 	}
 	t.of, t.question = s, len(s.questions)
 	s.questions = append(s.questions, t.inputs)

@@ -47,6 +47,10 @@ func (s *subject) counted(word string, value any) (any, error) {
 	if of == nil {
 		of = types.Any
 	}
+	value, err := placed(of, value)
+	if err != nil {
+		return nil, err
+	}
 	units, fault := of.Counted(value)
 	if fault != nil {
 		return nil, errors.New(strings.TrimPrefix(strings.ReplaceAll(fault.Pointer, "/", ": ")+": "+fault.Reason, ": "))

@@ -11,8 +11,8 @@ import (
 // words gives the word of a name of the file; a name that has none stays as it is.
 type words map[string]string
 
-// json is a value as the engine reads it: with the words of the model in contexts. An error tells of a value that the
-// profile has not: a fraction, a date, a duration.
+// json is a value as the engine reads it: with the words of the model in contexts, and dates and durations as dated. An error
+// says that there is no such value.
 func (v *Value) json(w words) (any, error) {
 	switch {
 	case v == nil || v.Nil:
@@ -107,6 +107,8 @@ func (s *Scalar) json() (any, error) {
 		return strings.TrimSpace(s.Text) == "true", nil
 	case s.isNumber():
 		return number(strings.TrimSpace(s.Text))
+	case datedKinds[kind]:
+		return dated{kind, strings.TrimSpace(s.Text)}, nil
 	default:
 		return nil, fmt.Errorf("the profile has no values of the type %s", kind)
 	}

@@ -1,7 +1,6 @@
 package tell
 
 import (
-	"encoding/json"
 	"fmt"
 	"sort"
 	"strings"
@@ -20,54 +19,81 @@ type cell struct {
 // A textRun are the texts between two, neither included; an end that is nil is open.
 type textRun struct{ above, below *string }
 
-// A piece is a part of a cell, as the engine writes it.
-type piece struct {
-	From, To     *int64
-	Text         *string
+// A factCell are the values of one column in a finding, as the engine writes them.
+type factCell struct {
+	Null   bool   `json:"null"`
+	True   bool   `json:"true"`
+	False  bool   `json:"false"`
+	Parted bool   `json:"parted"`
+	From   *int64 `json:"from"`
+	To     *int64 `json:"to"`
+	// Texts are words of the column.
+	Texts []string `json:"texts"`
+	// TextsBut are the words of the column, where all others are of the cell.
+	TextsBut *[]string `json:"texts_but"`
+	// But are the words of the column between two, where those between these that are no word are of the cell. One of the two that is
+	// nil is no bound.
+	But          *[]string `json:"but"`
 	Above, Below *string
-	TextsBut     *[]string       `json:"texts_but"`
-	Value        json.RawMessage `json:"value"`
-	Else         json.RawMessage `json:"else"`
 }
 
-// cellOf reads the pieces of a cell.
-func cellOf(pieces []json.RawMessage) (cell, error) {
-	var c cell
-	for _, raw := range pieces {
-		var p piece
-		if err := json.Unmarshal(raw, &p); err != nil {
-			return c, fmt.Errorf("reading a cell: %w", err)
-		}
-		c.add(p)
+// values are those of a cell as they are told.
+func (f *factCell) values() cell {
+	c := cell{null: f.Null, yes: f.True, no: f.False, parted: f.Parted, words: f.Texts}
+	if f.From != nil && f.To != nil {
+		c.numbers = []span{{*f.From, *f.To}}
 	}
-	return c, nil
+	switch {
+	case f.TextsBut != nil:
+		c.allBut, c.words = true, without(*f.TextsBut, setOf(f.Texts))
+	case f.But != nil && f.Above == nil && f.Below == nil:
+		c.allBut, c.words = true, without(*f.But, setOf(f.Texts))
+	case f.But != nil:
+		c.runs = runs(f.Above, f.Below, *f.But, setOf(f.Texts))
+		c.words = without(f.Texts, setOf(*f.But))
+		c.joinLeast()
+	}
+	return c
 }
 
-func (c *cell) add(p piece) {
-	switch {
-	case p.From != nil || p.To != nil:
-		s := span{least, greatest}
-		if p.From != nil {
-			s.low = *p.From
+// without are the texts that are none of these.
+func without(texts []string, others set) (left []string) {
+	for _, text := range texts {
+		if !others[text] {
+			left = append(left, text)
 		}
-		if p.To != nil {
-			s.high = *p.To
+	}
+	return left
+}
+
+// runs are the texts between two, parted at the words between them that are not of the cell.
+func runs(above, below *string, but []string, own set) (all []textRun) {
+	for at := range but {
+		if word := &but[at]; !own[*word] {
+			all, above = appendRun(all, textRun{above, word}), word
 		}
-		c.numbers = append(c.numbers, s)
-	case p.Text != nil:
-		c.words = append(c.words, *p.Text)
-	case p.TextsBut != nil:
-		c.allBut, c.words = true, *p.TextsBut
-	case p.Else != nil:
-		c.parted = true
-	case string(p.Value) == "true":
-		c.yes = true
-	case string(p.Value) == "false":
-		c.no = true
-	case string(p.Value) == "null":
-		c.null = true
-	default:
-		c.runs = append(c.runs, textRun{p.Above, p.Below})
+	}
+	return appendRun(all, textRun{above, below})
+}
+
+// appendRun adds a run, unless it has no text: none is less than the empty one, and none is between a text and the same with U+0000
+// after it.
+func appendRun(all []textRun, r textRun) []textRun {
+	isVoid := r.below != nil && (r.above == nil && *r.below == "" || r.above != nil && *r.below == *r.above+"\x00")
+	if isVoid {
+		return all
+	}
+	return append(all, r)
+}
+
+// joinLeast makes one of the empty text and of a run that begins after it.
+func (c *cell) joinLeast() {
+	if len(c.words) == 0 || c.words[0] != "" || len(c.runs) == 0 || c.runs[0].above == nil || *c.runs[0].above != "" {
+		return
+	}
+	c.runs[0].above, c.words = nil, c.words[1:]
+	if c.runs[0].below == nil {
+		c.allBut, c.words, c.runs = true, nil, nil
 	}
 }
 

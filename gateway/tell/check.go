@@ -100,7 +100,7 @@ func run(ctx context.Context, engine string, input []byte, errOut io.Writer, wor
 	return output, 0, nil
 }
 
-// Told words what `desk check --json` found in a model: output are the engine's lines, input is what it read.
+// Told words what the engine found in a model: output are its lines, input is what it read.
 func Told(options CheckOptions, input, output []byte) (told []byte, err error) {
 	defer recovered(&err)
 	facts, err := readFacts(output)

@@ -71,13 +71,22 @@ func (e *explainer) explain(m members, out io.Writer) {
 	}
 }
 
-// addHead adds who asks for what, by which model that is answered, and the inputs in the order of their names.
+// addHead adds who asks for what, by which model that is answered, and the inputs in the order of their names. A row of a file has no
+// client, and is asked of one model.
 func addHead(to *page, m members) {
-	fmt.Fprintf(to, "line %d: client ", m.number("line"))
-	addQuotedName(to, m.text("client"), mostClient)
-	fmt.Fprintf(to, ", ticket %d, asks for ", m.number("ticket"))
+	fmt.Fprintf(to, "line %d: ", m.number("line"))
+	isOfClient := m.get("client") != nil
+	if isOfClient {
+		to.WriteString("client ")
+		addQuotedName(to, m.text("client"), mostClient)
+		fmt.Fprintf(to, ", ticket %d, ", m.number("ticket"))
+	}
+	to.WriteString("asks for ")
 	addName(to, m.text("service"))
-	fmt.Fprintf(to, "\n  model %s\n", m.text("model"))
+	to.addByte('\n')
+	if isOfClient {
+		fmt.Fprintf(to, "  model %s\n", m.text("model"))
+	}
 	inputs := membersOf(m.get("inputs"))
 	order := make([]int, 0, len(inputs)/2)
 	for at := 0; at+1 < len(inputs); at += 2 {

@@ -89,9 +89,22 @@ func (t *explainedTable) rules() []explainedRule {
 	}
 	for _, miss := range t.told.list("misses") {
 		m := membersOf(miss)
-		at(m.get("rule")).column = m.get("column")
+		at(m.get("rule")).column = t.missedAt(m.get("column"))
 	}
 	return rules
+}
+
+// missedAt is the column at which a rule missed. One after those of the table has conditions of others: it is empty where these may
+// be several.
+func (t *explainedTable) missedAt(column []byte) []byte {
+	number, err := strconv.Atoi(string(column))
+	switch {
+	case err != nil || number <= len(t.Inputs):
+		return column
+	case len(t.Inputs) == 1:
+		return []byte("1")
+	}
+	return []byte{}
 }
 
 // addRows adds the heads of the columns, the rules, how many are left out, and the defaults where these decided.
@@ -187,6 +200,9 @@ func (r *explainedRule) addNote(to *page, blanks int) {
 	case r.hit != nil:
 		addBlanks(to, blanks)
 		addGiven(to, membersOf(r.hit))
+	case r.column != nil && len(r.column) == 0:
+		addBlanks(to, blanks)
+		to.WriteString("misses")
 	case r.column != nil:
 		addBlanks(to, blanks)
 		to.WriteString("misses at column ")

@@ -7,8 +7,7 @@ import (
 	"fmt"
 )
 
-// facts are what the engine says of a model: the lines of `desk check --json`, of which only these members are read. All words are
-// this package's.
+// facts are what the engine says of a model, in lines of JSON. All words are this package's.
 type facts struct {
 	IsLawful bool   `json:"lawful"`
 	Fault    string `json:"fault"`
@@ -18,7 +17,7 @@ type facts struct {
 	tables []*factTable
 	// untold is how many tables are not told of.
 	untold int
-	// notes are the lines of requests of which something is told, and how many more notes there are.
+	// notes are the lines of requests that are refused, and how many more are.
 	notes     []factNote
 	moreNotes int
 }
@@ -32,15 +31,14 @@ type factPlace struct {
 	Length int `json:"length"`
 }
 
-// A factNote is a line of requests of which something is told.
+// A factNote is a line of requests that is refused, or how many more are.
 type factNote struct {
 	Line int `json:"line"`
-	// Note is the word of it: that by which a line is refused, or another.
+	// Note is the word by which it is refused.
 	Note string `json:"note"`
 	More int    `json:"more"`
 	// Fault is that of a model that is refused.
 	Fault string `json:"fault"`
-	Said  string `json:"said"`
 }
 
 // A factTable is what was found of a decision table. What is nil was not decided.
@@ -49,30 +47,69 @@ type factTable struct {
 	Complete *bool  `json:"complete"`
 	Asked    *bool  `json:"asked"`
 	Words    *bool  `json:"words"`
-	Unique   *bool  `json:"unique"`
-	Steps    int    `json:"steps"`
-	findings []*factFinding
+	// Unique is empty where overlaps don't count under the hit policy, and null where it was not decided.
+	Unique    json.RawMessage `json:"unique"`
+	Steps     int             `json:"steps"`
+	Undecided undecided       `json:"undecided"`
+	findings  []*factFinding
 	// more is how many more findings there are of each kind.
 	more map[string]int
-	// lines are these as the engine wrote them.
-	lines []byte
+}
+
+// isUnique says whether no two rules overlap; nil where that was not decided or not asked.
+func (t *factTable) isUnique() *bool {
+	switch string(t.Unique) {
+	case "true":
+		is := true
+		return &is
+	case "false":
+		return new(bool)
+	}
+	return nil
+}
+
+// A ruleList are rules, of which the first is rule 1.
+type ruleList []int
+
+// UnmarshalJSON reads rules as the engine writes them, of which the first is rule 0.
+func (l *ruleList) UnmarshalJSON(text []byte) error {
+	var rules []int
+	if err := json.Unmarshal(text, &rules); err != nil {
+		return fmt.Errorf("reading rules: %w", err)
+	}
+	*l = make(ruleList, len(rules))
+	for at, rule := range rules {
+		(*l)[at] = rule + 1
+	}
+	return nil
+}
+
+// An undecided says why something about a table is not known.
+type undecided struct {
+	// Rules have tests that names or lists decide, Outputs are two rules that both apply and of which names decide what they give,
+	// and Ranks are rules of which it is not known which go before them.
+	Rules   ruleList `json:"rules,omitempty"`
+	Outputs ruleList `json:"outputs,omitempty"`
+	Ranks   ruleList `json:"ranks,omitempty"`
+	// Steps says that the steps of a search ran out.
+	Steps bool `json:"steps,omitempty"`
 }
 
 // A factFinding is a finding of a table.
 type factFinding struct {
-	Finding string              `json:"finding"`
-	Rules   []int               `json:"rules"`
-	Witness []json.RawMessage   `json:"witness"`
-	Inputs  json.RawMessage     `json:"inputs"`
-	Cells   [][]json.RawMessage `json:"cells"`
-	IsAsked *bool               `json:"asked"`
-	IsSure  *bool               `json:"sure"`
-	More    int                 `json:"more"`
+	Finding string            `json:"finding"`
+	Rules   ruleList          `json:"rules"`
+	Witness []json.RawMessage `json:"witness"`
+	Cells   []factCell        `json:"cells"`
+	IsAsked *bool             `json:"asked"`
+	// Before are rules that go before one that never decides.
+	Before ruleList `json:"before"`
+	More   int      `json:"more"`
 }
 
 var errNoFacts = errors.New("the engine said nothing")
 
-// readFacts reads the lines of `desk check --json`.
+// readFacts reads the lines of the engine's check.
 func readFacts(output []byte) (*facts, error) {
 	first, rest, _ := bytes.Cut(output, []byte("\n"))
 	f := &facts{}
@@ -107,7 +144,7 @@ func (f *facts) take(line []byte) error {
 		f.untold = untold.More
 		return err
 	case bytes.HasPrefix(line, []byte(`{"table":`)):
-		table := &factTable{more: map[string]int{}, lines: withEnd(line)}
+		table := &factTable{more: map[string]int{}}
 		f.tables = append(f.tables, table)
 		return json.Unmarshal(line, table)
 	case bytes.HasPrefix(line, []byte(`{"finding":`)):
@@ -135,7 +172,6 @@ func (f *facts) takeFinding(line []byte) error {
 		return errors.New("a finding comes before its table")
 	}
 	table := f.tables[len(f.tables)-1]
-	table.lines = append(table.lines, withEnd(line)...)
 	if finding.More > 0 {
 		table.more[finding.Finding] = finding.More
 		return nil
@@ -143,6 +179,3 @@ func (f *facts) takeFinding(line []byte) error {
 	table.findings = append(table.findings, finding)
 	return nil
 }
-
-// withEnd is a line with its newline.
-func withEnd(line []byte) []byte { return append(append([]byte(nil), line...), '\n') }

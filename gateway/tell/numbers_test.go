@@ -60,20 +60,15 @@ func TestTextForNumber(t *testing.T) {
 	}
 }
 
-// TestManyTexts counts the notes past the first 1,000, the engine's and others.
+// TestManyTexts counts the notes past the first 1,000.
 func TestManyTexts(t *testing.T) {
 	const model = `{"inputs":["p","q"],"decisions":[{"name":"d","needs":["p"],"expr":` +
 		`{"table":{"hit":"F","inputs":["p"],"outputs":[{"name":"x"}],"rules":[{"when":["> 5"],"then":["1"]}]}}}],` +
 		`"services":[{"name":"s","outputs":["d"],"encapsulated":[],"inputDecisions":[],"inputData":["p"]}]}`
 	const lines = 1500
-	// The engine's note of each line is that q is no parameter: it lists 1,000 of them, and counts 500.
-	facts := `{"lawful":true}` + "\n"
-	for line := 2; line < mostNotes+2; line++ {
-		facts += fmt.Sprintf(`{"line":%d,"note":"no parameter"}`+"\n", line)
-	}
-	facts += `{"more":500}` + "\n"
+	// On each line q is no parameter, and p is a text.
 	input := model + "\n" + strings.Repeat(`{"client":"c","service":"s","inputs":{"p":"6","q":1}}`+"\n", lines)
-	told, err := Told(CheckOptions{Requests: true}, []byte(input), []byte(facts))
+	told, err := Told(CheckOptions{Requests: true}, []byte(input), []byte(`{"lawful":true}`))
 	if count := strings.Count(string(told), "\nline "); err != nil || count != mostNotes || !strings.HasSuffix(string(told), "\nand 2000 notes more\n") {
 		t.Errorf("%v: %d notes, and %q", err, count, told[len(told)-40:])
 	}

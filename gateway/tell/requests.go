@@ -27,8 +27,9 @@ type note struct {
 // A reading is what is known while lines of requests are read.
 type reading struct {
 	report *report
-	// refused are the lines that the engine refuses, by their numbers.
+	// refused are the lines that the engine refuses, by their numbers: the first 1,000, the last of which is this.
 	refused map[int]factNote
+	last    int
 	// services are those of the model in force, names in its order.
 	services map[string][]string
 	names    []string
@@ -36,8 +37,10 @@ type reading struct {
 	used map[string]set
 	// numbers are the values of which all tests ask for numbers.
 	numbers map[valueName]bool
-	// told is how many notes were put, engines how many of them are the engine's, and ownMore how many others were not put.
-	told, engines, ownMore int
+	// closed are the clients that were closed.
+	closed set
+	// told is how many notes were put, more how many others were not.
+	told, more int
 }
 
 // notes tells what the engine refuses of the lines of requests, and what is odd in the others.
@@ -45,24 +48,24 @@ func (r *report) notes() {
 	if len(r.requests) == 0 {
 		return
 	}
-	reading := &reading{report: r, refused: map[int]factNote{}}
+	reading := &reading{report: r, refused: map[int]factNote{}, closed: set{}, more: r.facts.moreNotes}
 	for _, it := range r.facts.notes {
-		switch it.Note {
-		case "service", "no parameter", "missing", "value":
-		default:
-			reading.refused[it.Line] = it
-		}
+		reading.refused[it.Line], reading.last = it, it.Line
 	}
 	reading.take(r.file.model)
 	rest := r.requests
-	for number := 2; len(rest) > 0 && (reading.told < mostNotes || reading.hasOwn()); number++ {
+	for number := 2; len(rest) > 0; number++ {
 		var line []byte
 		line, rest, _ = bytes.Cut(rest, []byte("\n"))
-		for _, it := range reading.of(number, line) {
+		found := reading.of(number, line)
+		if number > reading.last && r.facts.moreNotes > 0 {
+			found = uncounted(found)
+		}
+		for _, it := range found {
 			reading.count(number, it)
 		}
 	}
-	if more := reading.more(); more > 0 {
+	if more := reading.more; more > 0 {
 		r.put(func() string { return fmt.Sprintf("and %d notes more\n", more) },
 			func() string { return object(nil).number("more", more).line() })
 		r.noticeAt(ofRequests+"more", Note, Spot{}, "", fmt.Sprintf("and %d notes more", more))
@@ -71,30 +74,11 @@ func (r *report) notes() {
 
 // count puts a note, or counts it where enough were put.
 func (r *reading) count(number int, it note) {
-	switch {
-	case r.told < mostNotes:
+	if r.told < mostNotes {
 		r.put(number, it)
-		if !it.isOwn() {
-			r.engines++
-		}
-	case it.isOwn():
-		r.ownMore++
+		return
 	}
-}
-
-// isOwn reports whether the engine doesn't know of a note.
-func (n note) isOwn() bool { return n.word == noteEntry || n.word == noteText }
-
-// hasOwn reports whether requests to the model may have notes that the engine doesn't know of.
-func (r *reading) hasOwn() bool { return len(r.used)+len(r.numbers) > 0 }
-
-// more is how many notes were not put: the engine's that it counts, its others, and those that it doesn't know of.
-func (r *reading) more() int {
-	more := r.report.facts.moreNotes + r.ownMore
-	if rest := len(r.report.facts.notes) - r.engines; rest > 0 {
-		more += rest
-	}
-	return more
+	r.more++
 }
 
 func (r *reading) put(number int, it note) {
@@ -117,11 +101,11 @@ func (r *reading) take(m *model.Model) {
 
 // of are the notes on a line.
 func (r *reading) of(number int, line []byte) []note {
-	if refused, is := r.refused[number]; is {
+	if refused, is := r.refused[number]; is && refused.Note != "service" && refused.Note != "value" {
 		return []note{{word: refused.Note, said: refusal(refused, line)}}
 	}
 	doc := lines.NewDocument(line)
-	if doc == nil {
+	if doc == nil || r.isRefused(doc) && number > r.last {
 		return nil
 	}
 	if under, ok := doc.Member(doc.Whole, "model"); ok {
@@ -140,6 +124,29 @@ func (r *reading) of(number int, line []byte) []note {
 		return []note{{"service", service, near, orMeant(`"`+service+`" is no service`, near)}}
 	}
 	return r.notesOf(doc, service, names, doc.Members(inputs))
+}
+
+// isRefused reports whether the engine refuses a request by its form or by its client. It counts such a line, also where it no
+// longer tells which it is.
+func (r *reading) isRefused(doc *lines.Document) bool {
+	name, hasName := doc.Member(doc.Whole, "client")
+	client, _ := doc.Text(name)
+	if closing, ok := doc.Member(doc.Whole, "close"); ok && string(doc.Raw(closing)) == "true" {
+		r.closed[client] = true
+	}
+	_, _, isAsked := asked(doc)
+	isRequest := hasName && client != "" && len(client) <= mostName && len(doc.Members(doc.Whole)) == 3
+	return isAsked && (!isRequest || r.closed[client])
+}
+
+// uncounted are notes but for one of a refusal that the engine counts.
+func uncounted(notes []note) []note {
+	for at, it := range notes {
+		if it.word == "service" || it.word == "value" {
+			return append(notes[:at:at], notes[at+1:]...)
+		}
+	}
+	return notes
 }
 
 // asked is the service and the inputs of a request; false of another line.
@@ -259,24 +266,13 @@ func refusal(refused factNote, line []byte) string {
 	case "shape":
 		return misshapen(line)
 	case "model":
-		return "a model with the fault " + refused.modelFault() + "; the one before stays in force"
+		return "a model with the fault " + refused.Fault + "; the one before stays in force"
 	case "closed":
 		return "the client is closed"
 	case "capacity":
 		return "a capacity is from 1 to 4096"
 	}
 	return refused.Note
-}
-
-// modelFault is the fault of a model that is refused.
-func (n factNote) modelFault() string {
-	if n.Fault != "" {
-		return n.Fault
-	}
-	// The engine of today has it in its sentence alone.
-	_, behind, _ := strings.Cut(n.Said, "the fault ")
-	fault, _, _ := strings.Cut(behind, ";")
-	return fault
 }
 
 // misshapen says why a JSON value is none of the lines of `serve`.
@@ -303,6 +299,8 @@ const (
 	saidNoLine = "an object with client, service and inputs alone is due"
 	// mostMembers is how many members of an object are looked at.
 	mostMembers = 4
+	// mostName is how many bytes the name of a client may have.
+	mostName = 64
 )
 
 // lineKeys are those of the lines of `serve`, in their order.
@@ -319,7 +317,7 @@ func dueOf(doc *lines.Document, members map[string]lines.Node) string {
 		if has(key) {
 			name, ok = doc.Text(members[key])
 		}
-		return ok && name != "" && len(name) <= 64
+		return ok && name != "" && len(name) <= mostName
 	}
 	is := func(key string, kind byte) bool { return doc.Kind(members[key]) == kind }
 	isTrue := func(key string) bool { return string(doc.Raw(members[key])) == "true" }

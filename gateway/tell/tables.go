@@ -5,16 +5,10 @@ import (
 	"fmt"
 	"strings"
 
-	"gateway/feel"
-	"gateway/feel/strict"
 	"gateway/model"
 )
 
 const (
-	// mostFindings is how many findings of a kind the engine tells of a table.
-	mostFindings = 100
-	// mostSteps is how many steps the engine takes for one search.
-	mostSteps = 2_000_000
 	// mostRules is how many rules are told in a line.
 	mostRules = 10
 )
@@ -24,17 +18,17 @@ var errNoTable = errors.New("the engine tells of a table that is none")
 // tables tells what was found of the decision tables.
 func (r *report) tables() error {
 	for _, facts := range r.facts.tables {
-		if r.format == JSON {
-			r.out.Write(r.file.moved(facts))
-			continue
-		}
 		place := placeOf(facts.Table)
 		table := r.file.table(place)
 		if table == nil {
 			return errNoTable
 		}
-		t := &tableReport{report: r, facts: facts, table: table, place: place, tests: testsOf(table)}
-		if err := t.tell(); err != nil {
+		t := &tableReport{report: r, facts: facts, table: table, place: place}
+		write := t.tell
+		if r.format == JSON {
+			write = t.lines
+		}
+		if err := write(); err != nil {
 			return err
 		}
 	}
@@ -52,17 +46,17 @@ type tableReport struct {
 	facts *factTable
 	table *model.Table
 	place Place
-	tests [][]strict.Tests
-	// kinds are those that the tests of each column ask for, names what the columns are called.
-	kinds []kinds
-	names []string
-	// met is how many tests were asked of values.
-	met int
+	// kinds are those that the tests of each column ask for, names what the columns are called, columns whether requests give them.
+	kinds  []kinds
+	names  []string
+	inputs *columns
 }
 
 func (t *tableReport) tell() error {
+	tests := testsOf(t.table)
+	t.inputs = t.columns()
 	for at, input := range t.table.Inputs {
-		t.kinds = append(t.kinds, columnKinds(columnOf(t.tests, at)))
+		t.kinds = append(t.kinds, columnKinds(columnOf(tests, at)))
 		t.names = append(t.names, columnName(input))
 	}
 	owner := t.file.words(t.place[:len(t.place)-1])
@@ -71,9 +65,7 @@ func (t *tableReport) tell() error {
 		rules = "rule"
 	}
 	t.say("table: %s%s: %d %s, %s: %s%s\n", t.file.at(t.place), owner, len(t.table.Rules), rules, t.table.Hit, t.completeness(), t.overlapWords())
-	if err := t.findings(); err != nil {
-		return err
-	}
+	t.findings()
 	t.allMore()
 	t.notDecided()
 	return nil
@@ -81,17 +73,8 @@ func (t *tableReport) tell() error {
 
 // columnName is what a column is called: a name or a path as it is, any other expression in quotes.
 func columnName(input string) string {
-	node, ok := strict.ReadExpression(input)
-	way := ""
-	for ok {
-		switch of := node.(type) {
-		case *feel.Name:
-			return of.Name + way
-		case *feel.Path:
-			node, way = of.Operand, "."+of.Name+way
-		default:
-			ok = false
-		}
+	if way := wayOf(input); way != nil {
+		return strings.Join(way, ".")
 	}
 	return quoted(input)
 }
@@ -121,33 +104,28 @@ func (t *tableReport) overlapWords() string {
 	switch {
 	case !t.hasOverlaps():
 		return ""
-	case isTrue(t.facts.Unique):
+	case isTrue(t.facts.isUnique()):
 		return ", no two rules overlap"
-	case isFalse(t.facts.Unique):
+	case isFalse(t.facts.isUnique()):
 		return ", rules overlap"
 	}
 	return ", overlaps not decided"
 }
 
 // findings tells the findings in the engine's order, and behind the gaps which columns have none for other kinds of values.
-func (t *tableReport) findings() error {
+func (t *tableReport) findings() {
 	rest := rest{columns: make([]bool, len(t.kinds))}
 	for _, kind := range []struct {
 		name  string
-		parts func(*factFinding) ([]string, error)
+		parts func(*factFinding) []string
 	}{{"overlap", t.overlap}, {"gap", t.gap}, {otherKinds, rest.gatherer(t)}, {"never", t.never}, {"masked", t.masked}} {
 		for _, finding := range t.facts.findings {
-			parts, err := kind.parts(finding)
-			if err != nil {
-				return err
-			}
-			if len(parts) > 0 {
+			if parts := kind.parts(finding); len(parts) > 0 {
 				t.say("  %s\n", strings.Join(parts, "    "))
 				t.noticeOf(kind.name, finding.Rules, strings.Join(parts, "; "))
 			}
 		}
 	}
-	return nil
 }
 
 // otherKinds is the kind of a notice that no rule hits for other kinds of values than those asked.
@@ -180,38 +158,37 @@ func (t *tableReport) tableNotice(kind string, level Level, place Place, said st
 	t.noticeAt(ofTable+kind, level, t.file.position(place), place.Pointer(), behindColon(t.file.words(owner), said))
 }
 
-func (t *tableReport) overlap(f *factFinding) ([]string, error) {
+func (t *tableReport) overlap(f *factFinding) []string {
 	if f.Finding != "overlap" || len(f.Rules) < 2 {
-		return nil, nil
+		return nil
 	}
-	cells, err := t.cells(f)
-	parts := append([]string{fmt.Sprintf("rules %d and %d both apply%s", f.Rules[0], f.Rules[1], cells)}, unsure(f)...)
-	return append(parts, t.table.Hit+" gives null"), err
+	parts := append([]string{fmt.Sprintf("rules %d and %d both apply%s", f.Rules[0], f.Rules[1], t.cells(f))}, t.unsure()...)
+	return append(parts, t.table.Hit+" gives null")
 }
 
 // cells are the values of each column in a finding.
-func (t *tableReport) cells(f *factFinding) (string, error) {
+func (t *tableReport) cells(f *factFinding) string {
 	var text strings.Builder
-	for at, pieces := range f.Cells {
-		c, err := cellOf(pieces)
-		if err != nil || at >= len(t.names) {
-			return "", err
+	for at := range f.Cells {
+		if at >= len(t.names) {
+			break
 		}
 		before := ", "
 		if at == 0 {
 			before = ": "
 		}
+		c := f.Cells[at].values()
 		text.WriteString(before + t.names[at] + " " + c.text())
 	}
-	return text.String(), nil
+	return text.String()
 }
 
 // unsure says that it is not known whether the columns can have the values of a finding.
-func unsure(f *factFinding) []string {
-	if isFalse(f.IsSure) {
-		return []string{"if the columns can take these values together"}
+func (t *tableReport) unsure() []string {
+	if t.inputs.isFree {
+		return nil
 	}
-	return nil
+	return []string{"if the columns can take these values together"}
 }
 
 // A rest is what the gaps among other kinds of values than those asked have in common.
@@ -222,12 +199,11 @@ type rest struct {
 }
 
 // gap tells a gap among the kinds of values that are asked.
-func (t *tableReport) gap(f *factFinding) ([]string, error) {
+func (t *tableReport) gap(f *factFinding) []string {
 	if f.Finding != "gap" || isFalse(f.IsAsked) {
-		return nil, nil
+		return nil
 	}
-	cells, err := t.cells(f)
-	parts := []string{"no rule" + cells}
+	parts := []string{"no rule" + t.cells(f)}
 	if len(f.Witness) > 0 {
 		values := make([]string, len(f.Witness))
 		for at, value := range f.Witness {
@@ -235,32 +211,30 @@ func (t *tableReport) gap(f *factFinding) ([]string, error) {
 		}
 		parts = append(parts, "e.g. "+strings.Join(values, ", "))
 	}
-	parts = append(parts, unsure(f)...)
+	parts = append(parts, t.unsure()...)
 	if t.hasDefault() {
-		return append(parts, "the default"), err
+		return append(parts, "the default")
 	}
-	return append(parts, "null"), err
+	return append(parts, "null")
 }
 
 // gatherer gathers what all gaps have in common, and tells it behind the last.
-func (r *rest) gatherer(t *tableReport) func(*factFinding) ([]string, error) {
+func (r *rest) gatherer(t *tableReport) func(*factFinding) []string {
 	left := 0
 	for _, finding := range t.facts.findings {
 		if finding.Finding == "gap" {
 			left++
 		}
 	}
-	return func(f *factFinding) ([]string, error) {
+	return func(f *factFinding) []string {
 		if f.Finding != "gap" {
-			return nil, nil
+			return nil
 		}
-		if err := t.gather(r, f); err != nil {
-			return nil, err
-		}
+		t.gather(r, f)
 		if left--; left > 0 {
-			return nil, nil
+			return nil
 		}
-		return t.restText(r), nil
+		return t.restText(r)
 	}
 }
 
@@ -276,18 +250,17 @@ func (t *tableReport) hasDefault() bool {
 
 // gather notes the columns of a gap that have values of other kinds than those asked, and lack some that are asked: a column that
 // has them all says nothing of its own.
-func (t *tableReport) gather(rest *rest, f *factFinding) error {
-	for at, pieces := range f.Cells {
-		c, err := cellOf(pieces)
-		if err != nil || at >= len(t.kinds) {
-			return err
+func (t *tableReport) gather(rest *rest, f *factFinding) {
+	for at := range f.Cells {
+		if at >= len(t.kinds) {
+			return
 		}
+		c := f.Cells[at].values()
 		if k := t.kinds[at]; c.hasOthers(k) && !c.covers(k) {
 			rest.columns[at] = true
 			rest.hasNull = rest.hasNull || c.null && !k.null
 		}
 	}
-	return nil
 }
 
 func (t *tableReport) restText(rest *rest) []string {
@@ -305,31 +278,31 @@ func (t *tableReport) restText(rest *rest) []string {
 		kinds = "null and other kinds of "
 	}
 	text := "no rule for " + kinds + strings.Join(names, ", ")
-	if t.facts.more["gap"] > 0 {
+	if t.facts.more["gap"]+t.facts.more["other gap"] > 0 {
 		text += ", and perhaps of others"
 	}
 	return []string{text}
 }
 
-func (t *tableReport) never(f *factFinding) ([]string, error) {
+func (t *tableReport) never(f *factFinding) []string {
 	if f.Finding != "never" || len(f.Rules) == 0 {
-		return nil, nil
+		return nil
 	}
-	return []string{fmt.Sprintf("rule %d never hits", f.Rules[0])}, nil
+	return []string{fmt.Sprintf("rule %d never hits", f.Rules[0])}
 }
 
-func (t *tableReport) masked(f *factFinding) ([]string, error) {
+func (t *tableReport) masked(f *factFinding) []string {
 	if f.Finding != "masked" || len(f.Rules) == 0 {
-		return nil, nil
+		return nil
 	}
 	before := "stand before it"
 	if t.table.Hit == "P" {
 		before = "go before it"
 	}
-	if len(f.Rules) == 2 {
+	if len(f.Before) == 1 {
 		before = map[string]string{"stand before it": "stands before it", "go before it": "goes before it"}[before]
 	}
-	return []string{fmt.Sprintf("rule %d never decides: %s %s", f.Rules[0], ruleNumbers(f.Rules[1:]), before)}, nil
+	return []string{fmt.Sprintf("rule %d never decides: %s %s", f.Rules[0], ruleNumbers(f.Before), before)}
 }
 
 // ruleNumbers are the numbers of rules, as "rules 2, 3 and 5".
@@ -360,7 +333,7 @@ func (t *tableReport) allMore() {
 		finding, words string
 		more           int
 	}{
-		{"overlap", "overlaps", t.facts.more["overlap"]}, {"gap", "gaps", t.moreGaps()},
+		{"overlap", "overlaps", t.facts.more["overlap"]}, {"gap", "gaps", t.facts.more["gap"]},
 		{"never", "rules that never hit", t.facts.more["never"]}, {"masked", "rules that never decide", t.facts.more["masked"]},
 	} {
 		if kind.more > 0 {
@@ -368,25 +341,4 @@ func (t *tableReport) allMore() {
 			t.tableNotice(kind.finding, Warning, t.place, fmt.Sprintf("and %d more %s", kind.more, kind.words))
 		}
 	}
-}
-
-// mostGapCells is how many columns' values are asked for in the gaps of a table.
-const mostGapCells = 20_000
-
-// moreGaps is how many more gaps there are among the kinds that are asked. The engine counts those of other kinds with them, so
-// there are none where it told fewer than it may.
-func (t *tableReport) moreGaps() int {
-	most, told := mostFindings, 0
-	if columns := len(t.names); columns > 0 && mostGapCells/columns < most {
-		most = mostGapCells / columns
-	}
-	for _, finding := range t.facts.findings {
-		if finding.Finding == "gap" && isTrue(finding.IsAsked) {
-			told++
-		}
-	}
-	if told < most {
-		return 0
-	}
-	return t.facts.more["gap"]
 }

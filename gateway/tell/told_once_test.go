@@ -21,13 +21,13 @@ func TestToldOnce(t *testing.T) {
 	}{
 		"an overlap, without the tables": {twoRules("U", "> 5", ">5", ""), "", []string{"rule 1 has the same tests"}},
 		"an overlap": {twoRules("U", "> 5", ">5", ""),
-			table + `false,"unique":false}` + "\n" + `{"finding":"overlap","table":"/decisions/0/expr/table","rules":[1,2],"witness":[6],"cells":[[{"from":6}]]}`, nil},
+			table + `false,"unique":false}` + "\n" + `{"finding":"overlap","rules":[0,1],"witness":[6],"cells":[{"from":6,"to":9}]}`, nil},
 		"a rule that never hits": {twoRules("C", "[65..18)", "-", ""),
-			table + `true}` + "\n" + `{"finding":"never","table":"/decisions/0/expr/table","rules":[1]}`, nil},
+			table + `true}` + "\n" + `{"finding":"never","rules":[0]}`, nil},
 		"another rule that never hits": {twoRules("C", "-", "[65..18)", ""),
-			table + `true}` + "\n" + `{"finding":"never","table":"/decisions/0/expr/table","rules":[1]}`, []string{"no value meets [65..18)"}},
+			table + `true}` + "\n" + `{"finding":"never","rules":[0]}`, []string{"no value meets [65..18)"}},
 		"a masked rule": {twoRules("F", "-", "5", ""),
-			table + `true}` + "\n" + `{"finding":"masked","table":"/decisions/0/expr/table","rules":[2,1]}`, nil},
+			table + `true}` + "\n" + `{"finding":"masked","rules":[1],"before":[0]}`, nil},
 		"a default":               {twoRules("C", "-", "5", `,"default":"0"`), table + `true}`, []string{`output 1 "x", default: some rule hits in each case`}},
 		"a default that is taken": {twoRules("C", "4", "5", `,"default":"0"`), table + `false}`, nil},
 	} {

@@ -10,12 +10,13 @@ import (
 	"gateway/lines"
 )
 
-// IsCounted says whether numbers in values of this type are counted: the engine has them as whole numbers of a unit.
+// IsCounted says whether something in values of this type is counted: the engine has numbers as whole numbers of a unit, and so
+// dates and durations.
 func (t *Type) IsCounted() bool {
 	if t == nil {
 		return false
 	}
-	if !t.unit.IsWhole() || t.items.IsCounted() {
+	if !t.unit.IsWhole() || t.moment != nil || t.items.IsCounted() {
 		return true
 	}
 	for _, part := range t.properties {
@@ -124,6 +125,8 @@ func (t *Type) units(value any, pointer string) (any, *lines.ValueFault) {
 	case json.Number:
 		text, fault := t.number(value.String(), pointer)
 		return json.Number(text), fault
+	case string:
+		return t.moment.units(value, pointer)
 	case []any:
 		for at, item := range value {
 			made, fault := t.itemType().units(item, fmt.Sprintf("%s/%d", pointer, at))
@@ -163,10 +166,13 @@ func (t *Type) number(text, pointer string) (string, *lines.ValueFault) {
 		lines.Brief([]byte(text), 40), t.unit.Text(fmt.Sprint(int64(lines.MaxNumber))))}
 }
 
-// Decimals is a value of the engine as one of this type.
+// Decimals is a value of the engine as one of this type: with decimals, dates and durations.
 func (t *Type) Decimals(value any) any {
 	switch value := value.(type) {
 	case json.Number:
+		if t.moment != nil {
+			return t.moment.shown(value)
+		}
 		return json.Number(t.unit.Text(value.String()))
 	case []any:
 		for at, item := range value {
@@ -179,6 +185,12 @@ func (t *Type) Decimals(value any) any {
 	}
 	return value
 }
+
+// IsMoment says whether values of this type are dates or durations.
+func (t *Type) IsMoment() bool { return t != nil && t.moment != nil }
+
+// Property is the type of what stands under a key.
+func (t *Type) Property(key string) *Type { return t.property(key) }
 
 // Item is the type of the items of a list.
 func (t *Type) Item() *Type { return t.itemType() }

@@ -1,8 +1,10 @@
 // Package types holds values to the JSON Schemas that desk import writes of the types of DMN files: the keywords type, enum,
-// minimum, maximum, exclusiveMinimum, exclusiveMaximum, multipleOf, items and properties, and per. Other keywords say nothing.
+// minimum, maximum, exclusiveMinimum, exclusiveMaximum, multipleOf, format, items and properties; per and unit; and of dates and
+// durations formatMinimum and its kin. Other keywords say nothing.
 //
 // The engine counts in whole numbers. Of a type with multipleOf 0.01 they are hundredths; of one with per 1200 they are 1200ths:
-// quotients, whose decimals need not end.
+// quotients, whose decimals need not end. Of a text with format date they are days; of one with format time or date-time, which has
+// an offset where offset is true, seconds; and of one with format duration its unit, second or month. Seconds may have decimals.
 package types
 
 import (
@@ -10,6 +12,7 @@ import (
 	"fmt"
 	"math/big"
 	"strings"
+	"time"
 
 	"gateway/decimal"
 	"gateway/lines"
@@ -26,6 +29,10 @@ type Type struct {
 	properties map[string]*Type
 	// order has the names of the properties in the order of their bytes.
 	order []string
+	// moment is how texts of dates and durations are read; nil of other types.
+	moment *moment
+	// clock is the zone of the clock that fills an input of the type; nil of others.
+	clock *time.Location
 	// unit is what whole numbers of the engine count: of a type without kinds, in all its parts.
 	unit decimal.Unit
 }
@@ -50,6 +57,15 @@ type form struct {
 	ExclusiveMaximum json.Number     `json:"exclusiveMaximum"`
 	MultipleOf       json.Number     `json:"multipleOf"`
 	Per              json.Number     `json:"per"`
+	Format           string          `json:"format"`
+	Earliest         string          `json:"formatMinimum"`
+	Latest           string          `json:"formatMaximum"`
+	After            string          `json:"formatExclusiveMinimum"`
+	Before           string          `json:"formatExclusiveMaximum"`
+	Unit             string          `json:"unit"`
+	Clock            string          `json:"clock"`
+	Offset           bool            `json:"offset"`
+	Decimals         int             `json:"decimals"`
 	Items            json.RawMessage `json:"items"`
 	Properties       map[string]json.RawMessage
 }
@@ -62,7 +78,7 @@ func Read(text json.RawMessage) (*Type, error) {
 	if err := decoder.Decode(&it); err != nil {
 		return nil, fmt.Errorf("reading a type: %w", err)
 	}
-	t := &Type{enum: it.Enum, properties: map[string]*Type{}}
+	t := &Type{enum: it.Enum, properties: map[string]*Type{}, moment: momentOf(&it)}
 	switch kind := it.Type.(type) {
 	case string:
 		t.kinds = []string{kind}
@@ -74,6 +90,9 @@ func Read(text json.RawMessage) (*Type, error) {
 	for _, value := range it.Enum {
 		t.listed = append(t.listed, string(lines.Compact(nil, value)))
 	}
+	if err := t.filledBy(it.Clock); err != nil {
+		return nil, fmt.Errorf("reading a type: %w", err)
+	}
 	if err := t.countedBy(&it); err != nil {
 		return nil, fmt.Errorf("reading a type: %w", err)
 	}
@@ -81,6 +100,10 @@ func Read(text json.RawMessage) (*Type, error) {
 	t.bound(it.Maximum, false, false)
 	t.bound(it.ExclusiveMinimum, true, true)
 	t.bound(it.ExclusiveMaximum, false, true)
+	t.boundMoment(it.Earliest, true, false)
+	t.boundMoment(it.Latest, false, false)
+	t.boundMoment(it.After, true, true)
+	t.boundMoment(it.Before, false, true)
 	return t, t.parts(&it)
 }
 
@@ -132,6 +155,8 @@ func (t *Type) check(value any, pointer string) *lines.ValueFault {
 	switch value := value.(type) {
 	case json.Number:
 		return t.checkNumber(value, pointer)
+	case string:
+		return t.checkText(value, pointer)
 	case []any:
 		return t.checkItems(value, pointer)
 	case map[string]any:
@@ -142,11 +167,16 @@ func (t *Type) check(value any, pointer string) *lines.ValueFault {
 
 func (t *Type) checkNumber(value json.Number, pointer string) *lines.ValueFault {
 	at, is := new(big.Rat).SetString(value.String())
+	return t.checkEnds(at, is, value.String(), pointer)
+}
+
+// checkEnds holds a number, which is shown as text, to the bounds.
+func (t *Type) checkEnds(at *big.Rat, is bool, text, pointer string) *lines.ValueFault {
 	for _, end := range t.ends {
 		if is && end.holds(at) {
 			continue
 		}
-		return &lines.ValueFault{Pointer: pointer, Reason: fmt.Sprintf("%s is not allowed: it has to be %s", value, end)}
+		return &lines.ValueFault{Pointer: pointer, Reason: fmt.Sprintf("%s is not allowed: it has to be %s", text, end)}
 	}
 	return nil
 }
@@ -220,7 +250,7 @@ func kindOf(value any) string {
 func (t *Type) TakesNull() bool { return t.takes("null") && t.isListedText([]byte("null")) }
 
 func (t *Type) isListed(value any) bool {
-	return len(t.enum) == 0 || t.isListedText(lines.Compact(nil, value))
+	return len(t.enum) == 0 || t.isListedText(lines.Compact(nil, t.moment.plain(value)))
 }
 
 func shown(value any) string {

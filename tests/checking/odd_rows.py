@@ -311,7 +311,11 @@ ORDER: Rows = [
         '["<= 10 "]',
         [f"{RANK}.rules[1]: two hits: rule 1 has the same tests, so where both hit the result is null"],
     ),
-    ('["\\"High\\"", "> 1000"]', '["not(\\"none\\", \\"Low\\")", "-"]', []),
+    (
+        '["\\"High\\"", "> 1000"]',
+        '["not(\\"none\\", \\"Low\\")", "-"]',
+        [f"{FEE}.inputs[1]: unused column: each rule takes everything here, so it decides nothing"],
+    ),
     (
         '["50"]',
         '["\\"50\\""]',
@@ -424,7 +428,7 @@ NEVER: Rows = [
         [f"{FEE}.inputs[1]: no entry: parts has no entry hal, so it is null; is it half?"],
     ),
     ('"fee + rank"', '"fee + rank.rank"', ["decisions[4].expr: no entry: rank has no entry rank, so it is null"]),
-    ('"fee + rank"', '"fee.fee + rank"', []),
+    ('"fee + rank"', '"fee.fee + rank"', ["decisions[4].expr: no entry: fee has no entry fee, so it is null"]),
     ('"fee + rank"', '"fee + (rank).rank"', ["decisions[4].expr: no entry: rank has no entry rank, so it is null"]),
     ('"fee + rank"', '"if rank = 3 then fee else 0"', ["decisions[4].expr: never given: rank never is 3"]),
     ('"fee + rank"', '"[fee, 2 + 2 != rank]"', ["decisions[4].expr: never given: rank never is 4"]),

@@ -15,8 +15,17 @@ case "$*" in
 *) exec "{engine}" "$@" ;;
 esac
 """
-NUMBERS = {"from": -9223372036854775807, "to": 9223372036854775807}
-OTHERS = [{"texts_but": []}, {"value": True}, {"value": False}, {"value": None}, {"else": {"kinds": ["list", "context"], "values": []}}]
+LEAST, GREATEST = -9223372036854775807, 9223372036854775807
+# Of a table nothing is undecided.
+DECIDED = {"rules": [], "outputs": [], "ranks": [], "steps": False}
+
+
+def cell(low: int | None = None, high: int = GREATEST, *, texts: tuple[str, ...] = (), but: tuple[str, ...] | None = None,
+         null: bool = False, others: bool = False) -> dict:
+    """Values of a column, as the engine writes them."""
+    of = {"null": null, "true": others, "false": others, "parted": others}
+    of |= {} if low is None else {"from": low, "to": high}
+    return of | {"texts": list(texts)} | ({} if but is None else {"texts_but": list(but)})
 
 
 def table(policy: str, columns: list[str], rules: list[list[str]], output: dict | None = None) -> dict:
@@ -34,13 +43,11 @@ def model(inputs: list[str], decisions: dict[str, tuple[list[str], dict]]) -> di
 # Of whole numbers, no rule hits where a is 10 to 19 and b 6 or more. Rules 2 and 3 hit where a is 20 or more and b is 5.
 ONE_OF_EACH = model(["a", "b"], {"d": (["a", "b"], table("U", ["a", "b"], [["< 10", "-"], [">= 10", "<= 5"], [">= 20", ">= 5"]]))})
 TOLD_OF_EACH = [
-    {"table": TABLE, "complete": False, "asked": False, "words": False, "unique": False, "steps": 60},
-    {"finding": "overlap", "table": TABLE, "rules": [2, 3], "witness": [20, 5], "cells": [[{"from": 20}], [{"from": 5, "to": 5}]],
-     "inputs": {"a": 20, "b": 5}},
-    {"finding": "gap", "table": TABLE, "rules": [], "witness": [10, 6], "cells": [[{"from": 10, "to": 19}], [{"from": 6}]],
-     "inputs": {"a": 10, "b": 6}, "asked": True},
-    {"finding": "gap", "table": TABLE, "rules": [], "witness": [None, 0], "cells": [OTHERS, [NUMBERS, *OTHERS]],
-     "inputs": {"a": None, "b": 0}, "asked": False},
+    {"table": TABLE, "complete": False, "asked": False, "words": False, "unique": False, "steps": 60, "undecided": DECIDED},
+    {"finding": "overlap", "rules": [1, 2], "witness": [20, 5], "cells": [cell(20), cell(5, 5)]},
+    {"finding": "gap", "rules": [], "witness": [10, 6], "cells": [cell(10, 19), cell(6)], "asked": True},
+    {"finding": "gap", "rules": [], "witness": [None, 0], "cells": [cell(but=(), null=True, others=True),
+                                                                    cell(LEAST, but=(), null=True, others=True)], "asked": False},
 ]
 # A rule that never hits, one behind others, texts, a path into an input, and columns that are no inputs.
 SEVERAL = model(["a", "t"], {
@@ -50,15 +57,13 @@ SEVERAL = model(["a", "t"], {
 })
 FIRST, LAST = "/decisions/1/expr/table", "/decisions/2/expr/table"
 TOLD_OF_SEVERAL = [
-    {"table": FIRST, "complete": False, "asked": None, "words": True, "unique": False, "steps": 9},
-    {"finding": "gap", "table": FIRST, "rules": [], "witness": [5, "y"], "cells": [[{"from": 5}, {"value": None}], [
-        {"texts_but": ["x", "w"]}, {"from": "a", "below": "c"}, {"from": "k", "below": "m\0"}]], "inputs": {"a": {"b": 5}, "t": "y"}, "asked": True},
-    {"finding": "gap", "table": FIRST, "more": 7},
-    {"finding": "never", "table": FIRST, "rules": [4]},
-    {"finding": "masked", "table": FIRST, "rules": [3, 1, 2]},
-    {"table": LAST, "complete": True, "asked": True, "words": True, "unique": True, "steps": 9},
-    {"finding": "overlap", "table": LAST, "rules": [1, 2], "witness": [2, 10], "cells": [[{"to": 2}, {"text": "z"}], [
-        {"from": 10, "to": 12}]], "sure": False},
+    {"table": FIRST, "complete": False, "asked": None, "words": True, "unique": False, "steps": 9, "undecided": DECIDED},
+    {"finding": "gap", "rules": [], "witness": [5, "y"], "cells": [cell(5, null=True), cell(but=("x", "w"))], "asked": True},
+    {"finding": "gap", "more": 7},
+    {"finding": "never", "rules": [3]},
+    {"finding": "masked", "rules": [2], "before": [0, 1]},
+    {"table": LAST, "complete": True, "asked": True, "words": True, "unique": True, "steps": 9, "undecided": DECIDED},
+    {"finding": "overlap", "rules": [0, 1], "witness": [2, 10], "cells": [cell(LEAST, 2, texts=("z",)), cell(10, 12)]},
 ]
 
 
@@ -137,7 +142,7 @@ class Found:
         self.browser.open(self.stood_in("several", SEVERAL, TOLD_OF_SEVERAL), {"a": {"b": 1, "c": 2}, "t": "old"})
         self.browser.comes(self.verdicts, ["complete for the words that its rules ask for",
                                            "complete: some rule hits, whatever the values; no two rules overlap"], "what is found")
-        assert self.listed() == ['no rule hits: a.b >= 5 or null, t any text but "x", "w" or ["a".."c") or ["k".."m"]',
+        assert self.listed() == ['no rule hits: a.b >= 5 or null, t any text but "x", "w"',
                                  "and 7 more gaps",
                                  "rule 4 never hits", "rule 3 never decides: rules 1, 2 go before it"], self.listed()
         assert self.marks() == {"4": "rule 4 never hits", "3": "rule 3 never decides: rules 1, 2 go before it"}, self.marks()

@@ -77,7 +77,7 @@ def wrong_overlaps(row: Row, scan: Scan, told: Told) -> Iterator[str]:
 
 
 def wrong_masked(row: Row, scan: Scan, told: Told) -> Iterator[str]:
-    found = {it.rules[0]: it.rules[1:] for it in told.of("masked") if it.rules[0] not in row.never}
+    found = {it.rules[0]: it.before for it in told.of("masked") if it.rules[0] not in row.never}
     due = set(row.masked) if row.hit in ("F", "P") else set()
     if row.is_constant and set(found) != due or not set(found) <= due:
         yield f"masked: {found}"
@@ -109,7 +109,9 @@ def wrong(row: Row, told: Told) -> Iterator[str]:
         yield fault
         return
     scan = row.scan
-    yield from (f"{it}: {told.line[it]}, and {due} is due" for it, due in zip(ANSWERS, row.told, strict=True) if not is_due(told.line[it], due))
+    yield from (f"{it}: {told.line.get(it)}, and {due} is due" for it, due in zip(ANSWERS, row.told, strict=True) if not is_due(told.line.get(it), due))
+    if ("unique" in told.line) != (row.hit in ("U", "A")):
+        yield f"unique stands in {told.line}"
     never = sorted(it.rules[0] for it in told.of("never"))
     if row.is_constant and never != sorted(row.never) or not set(never) <= set(row.never):
         yield f"never: {never}"

@@ -46,6 +46,11 @@ class Finding:
         return self.line["rules"]  # type: ignore[return-value]
 
     @property
+    def before(self) -> list[int]:
+        """Of a rule that never decides, those that go before it."""
+        return self.line["before"]  # type: ignore[return-value]
+
+    @property
     def witness(self) -> Values:
         return tuple(self.line["witness"])  # type: ignore[arg-type]
 
@@ -61,12 +66,12 @@ class Finding:
     def fault(self, columns: int) -> str | None:
         """What is wrong with its form, if anything is."""
         has_values = self.kind in ("gap", "overlap")
-        keys = {"finding", "table", "line", "column", "rules"} | ({"witness", "cells"} if has_values else set()) | ({"asked"} if self.kind == "gap" else set())
+        own = {"gap": {"witness", "cells", "asked"}, "overlap": {"witness", "cells"}, "masked": {"before"}}.get(self.kind, set())
+        keys = {"finding", "table", "line", "column", "rules"} | own
         most = keys | ({"inputs", "sure"} if has_values else set())
         if not keys <= set(self.line) <= most:
             return f"the keys {sorted(self.line)}"
-        count = {"gap": 0, "overlap": 2, "never": 1}.get(self.kind)
-        if count is not None and len(self.rules) != count or self.kind == "masked" and len(self.rules) < 2:
+        if len(self.rules) != {"gap": 0, "overlap": 2}.get(self.kind, 1) or self.kind == "masked" and not self.before:
             return f"the rules {self.rules}"
         if self.line.get("sure", False) is not False or self.line.get("asked", True) not in (True, False):
             return "sure is not false, or asked neither true nor false"
@@ -90,9 +95,9 @@ class Told:
 
     def fault(self, columns: int) -> str | None:
         """What is wrong with the form of its lines, if anything is."""
-        if set(self.line) != {"table", "line", "column", "complete", "asked", "words", "unique", "steps"}:
+        if set(self.line) - {"unique", "undecided"} != {"table", "line", "column", "complete", "asked", "words", "steps"}:
             return f"the keys {sorted(self.line)}"
-        if any(kind(self.line[it]) not in ("bool", "NoneType") for it in ("complete", "asked", "words", "unique")):
+        if any(kind(self.line.get(it)) not in ("bool", "NoneType") for it in ("complete", "asked", "words", "unique")):
             return f"an answer that is none: {self.line}"
         if kind(self.line["steps"]) != "int" or any(it not in FOUND for it in self.more):
             return f"steps or more: {self.line}, {self.more}"

@@ -4,6 +4,7 @@ from __future__ import annotations
 
 from collections import defaultdict
 from collections.abc import Iterable, Iterator
+from textwrap import fill
 
 from .reach import Reach
 from .sources import Item, Key
@@ -15,7 +16,7 @@ CALLS = {
     "R": ("replay", "crates/desk_replaying/src/run.rt", "a script of lines"),
     "S": ("serve", "crates/desk_serving/src/run.rt", "many clients, with workers in threads"),
     "E": ("explain", "crates/desk_explaining/src/run.rt", "answers with reasons"),
-    "P": ("dmn_check", "crates/dmn_places/src/ crates/dmn_check/src/", "each place of a fault"),
+    "P": ("dmn_check", "crates/dmn_check/src/", "each place of a fault"),
     "C": ("check", "crates/desk_checking/src/model_check.rt", "a model, and what is written of it"),
     "D": ("run_desk", "crates/desk_commands/src/run.rt", "the program: words, streams, status"),
 }
@@ -28,18 +29,20 @@ This page is for people who want to check what the promises rest on. `tools/trus
 A proof shows that a function does what its contract says. It doesn't show that the contract says what was meant: read
 the contract, and the definitions that it is made of. The list below has them, lowest crate first and what is used
 before what uses it. Nothing else has to be read. Code that misses its contract and wrong proofs fail the check. Apart
-from these, trust the toolchain: prover, compiler, the ported libraries' own statements, and the C library.
+from these, trust the toolchain (prover, compiler, the ported libraries' own statements), the C library and the
+operating system. `./desk` hands `serve` and `replay` over to `dist/desk`: trust its builder, or build it.
 
-Begin with `Broker::run`, which [PROMISES.md](PROMISES.md#one-contract-read-aloud) reads aloud. `specs/*.antt` has
+Begin with `Broker::run`, which [PROMISES.md](PROMISES.md#one-contract-explained) explains. `specs/*.antt` has
 definitions; `src/*.rt` has types, the models by which contracts see them, and traits.
 
 ```console
 $ tools/trust --lines Broker::run | tail -2
-crates/box_core/src/broker.rt: 23-30, 34-38
+crates/box_core/src/broker.rt: 24-31, 35-39
     Broker Model for Broker
 ```
 
-So each file's lines and names are printed for a call. `tools/trust --why NAME` says what reaches NAME.
+So each file's lines and names are printed for a call (a range may contain blank lines). `tools/trust --why NAME` says
+what reaches NAME.
 
 **How the list was made.** The script follows names: from a contract to definitions, from these to the names in them,
 from a type to its fields and its model, from a trait to its ghost members and clauses. Of a type with a model, private
@@ -169,11 +172,13 @@ class Page:
             if where.endswith(".rt"):
                 place = f"{linked(where)} {min(items[0].lines)}-{max(items[0].lines)}"
             rows.append(f"| {letter} | `{name}`: {does} | {place} | {self.count(self.called[letter]):,} |")
-        return [*rows, f"| | all | | {self.count(self.all):,} |"]
+        both = self.count(self.called["D"] | self.called["S"])
+        rests = fill(f"For `desk serve` read the files with D or S, {both:,} lines; for another command those with D. Blank lines don't count.", 120)
+        return [*rows, f"| | all | | {self.count(self.all):,} |", "", *rests.splitlines()]
 
     def files(self) -> list[str]:
         """Each file, with how many of its lines are to be read, and for which calls."""
-        lines = ["## The files", "", "Each with the number of lines to read, and the letters of the calls that need them.", ""]
+        lines = ["## The files", "", "Each with its lines for all calls together, and the letters of the calls that need it.", ""]
         for file in self.in_order(self.all):
             own = {key for key in self.all if key[0] == file}
             letters = self.letters((letter, bool(own & keys)) for letter, keys in self.called.items())

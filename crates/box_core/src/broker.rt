@@ -1,8 +1,9 @@
 //! Clients by their numbers, each with a mailbox, and the requests that wait to be taken.
-ghost use Rattle.std.specs.Prelude.{◌≡◌, List, [], Err, IfOk, IfErr, length};
+ghost use Rattle.std.specs.Prelude.{◌≡◌, List, [], Err, IfOk, IfErr, OnErr, length};
 ghost use Rattle.std.specs.Arc.{arc_value};
 ghost use Rattle.box_core.specs.History as history;
 ghost use Rattle.box_core.specs.Table.{Step, Legal};
+ghost use Rattle.box_core.specs.Own.{AnswersOwn};
 ghost use Rattle.box_core.specs.Claims.{HandedInOrder, HandedWhole, ClosedRefuses, Continues};
 ghost use Rattle.box_core.specs.Views.{event_of, report_of, history_of, added_report, submitted_report, taken_report, answer_report, released_report, closed_report, resized_report, standing_of};
 ghost use Rattle.box_core.specs.Mail.{standing_at};
@@ -110,6 +111,21 @@ impl<W: Work> Broker<W> {
             return Err(Refusal::NoClient);
         };
         Ok(mailbox.answer(done))
+    }
+
+    /// Runs the work that was taken under a client's ticket, and keeps its outcome: as `answer` does with that work, which is
+    /// not compared with itself. None where the broker has no such client.
+    pub fn answer_own(&mut self, client: u32, ticket: u64) -> Result<Option<Answered>, AllocError>
+        ensures answered { IfOk result (λ told. AnswersOwn W.request W.result_of self.old client ticket (standing_at self.old client ticket) told self.new) }
+        ensures unchanged { OnErr result (self.new ≡ self.old) }
+        ensures clients { length self.new ≡ length self.old }
+    {
+        let alloc = *self.boxes.allocator();
+        let Some(mailbox) = self.boxes.get_mut(client as usize) else {
+            return Ok(None);
+        };
+        let told = mailbox.answer_own(alloc, ticket)?;
+        Ok(Some(told))
     }
 
     /// Hands out the client's next result, if it is kept. It is refused only as `NoClient`. No memory is taken.

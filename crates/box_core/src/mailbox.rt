@@ -4,6 +4,7 @@ ghost use Rattle.std.specs.Arc.{arc_value};
 ghost use Rattle.box_core.specs.Table.{AnswerReport, OrMemory, take_report};
 ghost use Rattle.box_core.specs.Views.{answered_report, taken_report, status_of_standing};
 ghost use Rattle.box_core.specs.declared.faults.Answered.TheVariants as answered;
+ghost use Rattle.box_core.specs.Own.{own_answer};
 ghost use Rattle.box_core.specs.Mail.{IsCapacity, is_no_capacity, fresh, accepted_in, refusal_in, status_in, next_in, with_request, with_taken, with_kept, with_handed, with_close, with_capacity, resize_refusal_in, status_of_place, open_in, Status, Waiting, Unknown, Running, Settled};
 
 use crate::faults::{Answered, BoxFault, Refusal};
@@ -88,6 +89,24 @@ impl<W: Work> Place<W> {
         }
         self.kept = Some(done.into_outcome());
         Answered::Kept
+    }
+
+    // Runs the work of this place, if it was taken and no outcome is kept, and keeps the outcome.
+    fn settle_own(&mut self, alloc: Global) -> Result<Answered, AllocError>
+        ensures answered { IfOk result (λ told. told ≡ own_answer (status_of_place (Some self.old))) }
+        ensures kept { IfOk result (λ told. told ≡ answered.Kept → self.new ≡ record { work = self.old.work; taken = self.old.taken; kept = Some (W.result_of (W.request self.old.work)) }) }
+        ensures dropped { IfOk result (λ told. told ≢ answered.Kept → self.new ≡ self.old) }
+        ensures unchanged { OnErr result (self.new ≡ self.old) }
+    {
+        match (self.taken, self.kept.is_some()) {
+            (false, _) => Ok(Answered::Strange),
+            (true, true) => Ok(Answered::Repeated),
+            (true, false) => {
+                let outcome = self.work.run(alloc)?;
+                self.kept = Some(outcome);
+                Ok(Answered::Kept)
+            }
+        }
     }
 
     // Where the ticket of this place stands.
@@ -278,6 +297,24 @@ impl<W: Work> Mailbox<W> {
             return Answered::Strange;
         };
         place.settle(done)
+    }
+
+    /// Runs the work that was taken under a ticket, and keeps its outcome: as `answer` does with that work, which is not
+    /// compared with itself. What else it is called is decided in the order of `answer`, and changes nothing.
+    pub(crate) fn answer_own(&mut self, alloc: Global, ticket: u64) -> Result<Answered, AllocError>
+        ensures answered { IfOk result (λ told. told ≡ own_answer (status_in self.old ticket)) }
+        ensures kept { IfOk result (λ told. (work : W) → status_in self.old ticket ≡ Running work → self.new ≡ with_kept (W.result_of (W.request work)) ticket self.old) }
+        ensures dropped { IfOk result (λ told. told ≢ answered.Kept → self.new ≡ self.old) }
+        ensures unchanged { OnErr result (self.new ≡ self.old) }
+    {
+        if ticket < self.handed {
+            return Ok(Answered::Repeated);
+        }
+        let index = (ticket - self.handed) as usize;
+        let Some(place) = self.places.get_mut(index) else {
+            return Ok(Answered::Strange);
+        };
+        place.settle_own(alloc)
     }
 
     /// Hands out the next result, in the order of the tickets, if it is kept.

@@ -1,3 +1,4 @@
 pub mod FirstFaults
-pub mod Placing
+pub mod Lines
 pub mod Requesting
+pub mod Telling

@@ -59,7 +59,7 @@ abbrev behind : Data → List (Reading Line) → List (Reading Line)
 behind model readings = readings ++ Says (Model model) ∷ []
 
 -- so many lines of the text passed the gate, and these of them are refused
-pub record Passed (model : Data) (text : List ℕ) (index : ℕ) (rest : List ℕ) (gate : Gate) (refused : List RefusedLine) : Type 0 where
+pub record Passed (model : Data) (text : List ℕ) (index : ℕ) (rest : List ℕ) (gate : Gate) (refused : List RefusedLine) (count : ℕ) : Type 0 where
   pub seen : List (List ℕ)
   pub all : lines_of text ≡ seen ++ lines_of rest
   pub many : length seen ≡ index
@@ -67,12 +67,18 @@ pub record Passed (model : Data) (text : List ℕ) (index : ℕ) (rest : List �
   pub read : AreRead (reverse seen) readings
   pub stands : IsOpenAfter gate (behind model readings)
   pub are : (lanes : ℕ) → length seen < lanes → refused ≡ take most_refused (refused_lines lanes (behind model readings))
+  pub counts : (lanes : ℕ) → length seen < lanes → count ≡ length (refused_lines lanes (behind model readings))
+  pub few : count ≤ index
 
 none_of_model : {M : Type 0} (json : Data) (r : Result M ModelFault) (k : ℕ) (text : List ℕ) → newer_model json r None ≡ Some text → refused_by (model_answer k r) ≡ []
 none_of_model json (Ok m) k text e = refl
 none_of_model json (Err f) k text e = cc
 
-pub none_passed : (model : Data) (text : List ℕ) (gate : Gate) (refused : List RefusedLine) → refused ≡ [] → IsOpenAfter gate (Says (Model model) ∷ []) → Passed model text 0 text gate refused
+nothing_refused : (model : Data) (gate : Gate) (lanes : ℕ) → IsOpenAfter gate (Says (Model model) ∷ []) → refused_lines lanes (Says (Model model) ∷ []) ≡ []
+nothing_refused model gate lanes stands =
+    append-nil (refused_by (model_answer 1 (read_model model))) ∙ none_of_model model (read_model model) 1 (arc_value gate.plan) stands.model
+
+pub none_passed : (model : Data) (text : List ℕ) (gate : Gate) (refused : List RefusedLine) → refused ≡ [] → IsOpenAfter gate (Says (Model model) ∷ []) → Passed model text 0 text gate refused 0
 none_passed model text gate refused none stands = record {
   seen = [];
   all = refl;
@@ -80,26 +86,30 @@ none_passed model text gate refused none stands = record {
   readings = [];
   read = tt;
   stands = stands;
-  are = λ lanes less.
-      let nothing : refused_lines lanes (Says (Model model) ∷ []) ≡ [] = append-nil (refused_by (model_answer 1 (read_model model))) ∙ none_of_model model (read_model model) 1 (arc_value gate.plan) stands.model in
-      none ∙ sym (take_all most_refused [] (omega arith)) ∙ ap (take most_refused) (sym nothing);
+  are = λ lanes less. none ∙ sym (take_all most_refused [] (omega arith)) ∙ ap (take most_refused) (sym (nothing_refused model gate lanes stands));
+  counts = λ lanes less. sym (ap length (nothing_refused model gate lanes stands));
+  few = omega arith;
 }
 
 -- there are as many readings as lines
 as_many : (seen : List (List ℕ)) (readings : List (Reading Line)) → AreRead (reverse seen) readings → length readings ≡ length seen
 as_many seen readings read = read-length (reverse seen) readings read ∙ length-reverse seen
 
-pub few_refused : (model : Data) (text : List ℕ) (index : ℕ) (rest : List ℕ) (gate : Gate) (refused : List RefusedLine) → Passed model text index rest gate refused → length refused ≤ most_refused
-few_refused model text index rest gate refused p =
+pub few_refused : (model : Data) (text : List ℕ) (index : ℕ) (rest : List ℕ) (gate : Gate) (refused : List RefusedLine) (count : ℕ) → Passed model text index rest gate refused count → length refused ≤ most_refused
+few_refused model text index rest gate refused count p =
     let lanes = suc (length p.seen) in
     let xs = refused_lines lanes (behind model p.readings) in
     omega (arith, ap length (p.are lanes (omega arith)), length-take most_refused xs)
 
-pub one_passed : (model : Data) (text : List ℕ) (index : ℕ) (rest line left : List ℕ) (old new : Gate) (refused refused' : List RefusedLine) (found : Option RefusedLine)
-    → Passed model text index rest old refused → 0 < length rest → line ≡ take (prefix_len goes_on rest) rest → left ≡ drop (prefix_len goes_on rest) rest
+pub one_at_most : (found : Option RefusedLine) → length (listed found) ≤ 1
+one_at_most None = omega arith
+one_at_most (Some line) = omega arith
+
+pub one_passed : (model : Data) (text : List ℕ) (index : ℕ) (rest line left : List ℕ) (old new : Gate) (refused refused' : List RefusedLine) (count count' : ℕ) (found : Option RefusedLine)
+    → Passed model text index rest old refused count → count' ≡ count + length (listed found) → 0 < length rest → line ≡ take (prefix_len goes_on rest) rest → left ≡ drop (prefix_len goes_on rest) rest
     → PassesText old (index + 2) line found new → (length refused ≤ most_refused → refused' ≡ take most_refused (refused ++ listed found))
-    → Passed model text (index + 1) (drop 1 left) new refused'
-one_passed model text index rest line left old new refused refused' found p some first others passes adds =
+    → Passed model text (index + 1) (drop 1 left) new refused' count'
+one_passed model text index rest line left old new refused refused' count count' found p counted some first others passes adds =
     let earlier = behind model p.readings in
     let long : length earlier ≡ index + 1 = omega (arith, length-append p.readings (Says (Model model) ∷ []), as_many p.seen p.readings p.read, p.many) in
     let number : index + 2 ≡ number_after earlier = omega (arith, long) in
@@ -117,23 +127,31 @@ one_passed model text index rest line left old new refused refused' found p some
           let enough : length earlier < lanes = omega (arith, length-append p.seen (line ∷ []), p.many, long, less) in
           let fewer : length p.seen < lanes = omega (arith, p.many, long, enough) in
           let xs = refused_lines lanes earlier in
-          adds (few_refused model text index rest old refused p)
+          adds (few_refused model text index rest old refused count p)
           ∙ ap (λ rs. take most_refused (rs ++ listed found)) (p.are lanes fewer)
           ∙ take_more most_refused xs (listed found)
           ∙ ap (λ ys. take most_refused (xs ++ ys)) (sym (passed.0 lanes enough))
           ∙ ap (take most_refused) (sym (one_more_line lanes earlier passes.0));
+      counts = λ lanes less.
+          let enough : length earlier < lanes = omega (arith, length-append p.seen (line ∷ []), p.many, long, less) in
+          let fewer : length p.seen < lanes = omega (arith, p.many, long, enough) in
+          let xs = refused_lines lanes earlier in
+          let all = one_more_line lanes earlier passes.0 ∙ ap (λ ys. xs ++ ys) (passed.0 lanes enough) in
+          omega (arith, counted, p.counts lanes fewer, ap length all, length-append xs (listed found));
+      few = omega (arith, counted, p.few, one_at_most found);
     }
 
 no_text : (text : List ℕ) → length text ≤ 0 → text ≡ []
 no_text [] h = refl
 no_text (b ∷ text) h = absurd (omega (arith, h))
 
-pub all_passed : (model : Data) (text : List ℕ) (index : ℕ) (rest : List ℕ) (gate : Gate) (refused : List RefusedLine) → Passed model text index rest gate refused → length rest ≤ 0
-    → AreRefused model (lines_of text) refused
-all_passed model text index rest gate refused p done =
+pub all_passed : (model : Data) (text : List ℕ) (index : ℕ) (rest : List ℕ) (gate : Gate) (refused : List RefusedLine) (count : ℕ) → Passed model text index rest gate refused count → length rest ≤ 0
+    → AreRefused model (lines_of text) refused count
+all_passed model text index rest gate refused count p done =
     let whole : lines_of text ≡ p.seen = p.all ∙ ap (λ t. p.seen ++ lines_of t) (no_text rest done) ∙ append-nil p.seen in
     record {
       readings = p.readings;
       read = subst (λ ls. AreRead (reverse ls) p.readings) (sym whole) p.read;
-      are = λ lanes less. p.are lanes (omega (arith, ap length whole, less));
+      first_are = λ lanes less. p.are lanes (omega (arith, ap length whole, less));
+      count_is = λ lanes less. p.counts lanes (omega (arith, ap length whole, less));
     }

@@ -1,7 +1,8 @@
 pub mod Input
-pub mod Told
 pub mod FirstFault
-pub mod Placed
+pub mod Told
 pub mod Requests
-pub mod GoesOn
+pub mod Output
 pub mod Checked
+pub mod Known
+pub mod Verdicts

@@ -1,115 +1,85 @@
 //! The places of all faults of a model.
-ghost use Rattle.std.specs.Prelude.{◌≡◌, IsTrue, OnOk, option_map, string_bytes};
+ghost use Rattle.std.specs.Prelude.{◌≡◌, ◌++◌, OnOk, Some, option_map};
+ghost use Rattle.std.specs.List.{flat_map};
+ghost use Rattle.desk_lines.specs.Lines.{ended};
 ghost use Rattle.dmn_check.specs.ToldView.{told_view};
 ghost use Rattle.dmn_form.specs.ModelView.{model_view};
-ghost use Rattle.desk_checking.specs.Placed.{Adds, all_due, lines_due, needs_due, parts_due};
-ghost use Rattle.desk_checking.specs.GoesOn.{known_lines};
+ghost use Rattle.desk_checking.specs.Told.{need_lines, part_lines, place_lines};
+ghost use Rattle.desk_checking.specs.Known.{known_lines};
 
-use crate::helping::Subject;
-use crate::lines::add_places;
-use crate::report::add_for_people;
+use crate::fault_lines::add_places;
 use dmn_check::{
     Told, bad_services, cycles, refused_tables, repeated_names, too_large, unfit_rules,
     unknown_names, unlawful_names, unread_texts,
 };
+use dmn_form::WrittenModel;
 use dmn_plan::ModelFault;
 use std::alloc::{AllocError, Global};
 
-/// Tells a fault: how many places have it, and the first 100; as lines of JSON, or for people.
-fn tell(
+/// Adds the lines of a fault of the requirements, which is not known where a name is unknown or stands twice, or decisions are too many.
+fn add_known(
     alloc: Global,
-    is_json: bool,
-    subject: Subject<'_>,
-    fault: ModelFault,
-    told: &Told,
-    text: &mut String,
-) -> Result<(), AllocError>
-    ensures { IsTrue is_json → OnOk result (Adds (lines_due fault (told_view told.now)) (string_bytes text.old) (string_bytes text.new)) }
-{
-    if is_json {
-        return add_places(alloc, subject, fault, told, text);
-    }
-    add_for_people(alloc, subject, fault, told, text)
-}
-
-/// The same of a fault of the requirements, which is not known where a name is unknown or stands twice, or decisions are too many.
-fn tell_known(
-    alloc: Global,
-    is_json: bool,
-    subject: Subject<'_>,
     fault: ModelFault,
     told: &Option<Told>,
-    text: &mut String,
+    text: &mut Vec<u8>,
 ) -> Result<(), AllocError>
-    ensures { IsTrue is_json → OnOk result (Adds (known_lines fault (option_map told_view told.now)) (string_bytes text.old) (string_bytes text.new)) }
+    ensures { OnOk result (text.new.items ≡ text.old.items ++ flat_map ended (known_lines fault (option_map told_view told.now))) }
 {
     let Some(told) = told else {
         return Ok(());
     };
-    tell(alloc, is_json, subject, fault, told, text)
+    add_places(alloc, fault, told, text)
 }
 
-/// Tells the faults of names and texts.
-fn tell_parts(
+/// Adds the faults of names and texts.
+fn add_part_faults(
     alloc: Global,
-    is_json: bool,
-    subject: Subject<'_>,
-    text: &mut String,
+    model: &WrittenModel,
+    text: &mut Vec<u8>,
 ) -> Result<(), AllocError>
-    ensures { IsTrue is_json → OnOk result (Adds (parts_due (model_view subject.entry.model.now)) (string_bytes text.old) (string_bytes text.new)) }
+    ensures { OnOk result (text.new.items ≡ text.old.items ++ flat_map ended (part_lines (model_view model.now))) }
 {
-    let model = subject.model;
     let unlawful = unlawful_names(alloc, model)?;
-    tell(alloc, is_json, subject, ModelFault::Name, &unlawful, text)?;
+    add_places(alloc, ModelFault::Name, &unlawful, text)?;
     let repeated = repeated_names(alloc, model)?;
-    tell(alloc, is_json, subject, ModelFault::Twice, &repeated, text)?;
+    add_places(alloc, ModelFault::Twice, &repeated, text)?;
     let unread = unread_texts(alloc, model)?;
-    tell(
-        alloc,
-        is_json,
-        subject,
-        ModelFault::Expression,
-        &unread,
-        text,
-    )?;
+    add_places(alloc, ModelFault::Expression, &unread, text)?;
     let refused = refused_tables(alloc, model)?;
-    tell(alloc, is_json, subject, ModelFault::Table, &refused, text)?;
+    add_places(alloc, ModelFault::Table, &refused, text)?;
     let unfit = unfit_rules(alloc, model)?;
-    tell(alloc, is_json, subject, ModelFault::Table, &unfit, text)?;
+    add_places(alloc, ModelFault::Table, &unfit, text)?;
     Ok(())
 }
 
-/// Tells the faults of what needs what.
-fn tell_needs(
+/// Adds the faults of what needs what.
+fn add_need_faults(
     alloc: Global,
-    is_json: bool,
-    subject: Subject<'_>,
-    text: &mut String,
+    model: &WrittenModel,
+    text: &mut Vec<u8>,
 ) -> Result<(), AllocError>
-    ensures { IsTrue is_json → OnOk result (Adds (needs_due (model_view subject.entry.model.now)) (string_bytes text.old) (string_bytes text.new)) }
+    ensures { OnOk result (text.new.items ≡ text.old.items ++ flat_map ended (need_lines (model_view model.now))) }
 {
-    let model = subject.model;
     let unknown = unknown_names(alloc, model)?;
-    tell(alloc, is_json, subject, ModelFault::Unknown, &unknown, text)?;
+    add_places(alloc, ModelFault::Unknown, &unknown, text)?;
     let rings = cycles(alloc, model)?;
-    tell_known(alloc, is_json, subject, ModelFault::Cycle, &rings, text)?;
+    add_known(alloc, ModelFault::Cycle, &rings, text)?;
     let unfit = bad_services(alloc, model)?;
-    tell_known(alloc, is_json, subject, ModelFault::Service, &unfit, text)?;
+    add_known(alloc, ModelFault::Service, &unfit, text)?;
     let large = too_large(alloc, model)?;
-    tell(alloc, is_json, subject, ModelFault::Large, &large, text)?;
+    add_places(alloc, ModelFault::Large, &large, text)?;
     Ok(())
 }
 
-/// Tells the places of all faults that are told with places, the faults in their order.
-pub(crate) fn tell_faults(
+/// Adds the places of all faults that are told with places, the faults in their order.
+pub(crate) fn add_faults(
     alloc: Global,
-    is_json: bool,
-    subject: Subject<'_>,
-    text: &mut String,
+    model: &WrittenModel,
+    text: &mut Vec<u8>,
 ) -> Result<(), AllocError>
-    ensures { IsTrue is_json → OnOk result (Adds (all_due (model_view subject.entry.model.now)) (string_bytes text.old) (string_bytes text.new)) }
+    ensures { OnOk result (text.new.items ≡ text.old.items ++ flat_map ended (place_lines (Some (model_view model.now)))) }
 {
-    tell_parts(alloc, is_json, subject, text)?;
-    tell_needs(alloc, is_json, subject, text)?;
+    add_part_faults(alloc, model, text)?;
+    add_need_faults(alloc, model, text)?;
     Ok(())
 }

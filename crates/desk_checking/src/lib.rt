@@ -1,35 +1,26 @@
 //! `desk check`: reads one model, and says whether it is lawful, or where it is wrong; and of its decision tables, whether they answer
-//! every case.
+//! every case. What it says are lines of JSON.
 #![tactic(auto)]
 
+mod answers;
+mod cells;
 mod cut;
+mod fault_lines;
 mod faults;
-mod file_places;
 mod findings;
-mod helping;
 mod input;
-mod keys_twice;
-mod lines;
 mod long;
 mod model_check;
-mod no_json;
-mod notes;
-mod once;
+mod model_line;
 mod options;
-mod place_words;
-mod policy_help;
-mod quoted;
-mod report;
-mod request_words;
+mod parts;
 mod requests;
-mod sentence;
-mod shaped;
+mod same_outputs;
+mod same_tree;
 mod subject;
-mod summary;
+mod table_lines;
 mod tables;
-mod told;
-mod warned;
-mod warning_line;
+mod undecided;
 
 pub use findings::{CheckFault, CheckFindings};
 pub use model_check::check;

@@ -3,8 +3,6 @@
 /// The options of `desk check`.
 #[derive(Clone, Copy, Debug, PartialEq, Eq)]
 pub struct CheckOptions {
-    /// What is told is lines of JSON.
-    pub json: bool,
     /// Behind the model, which is the first line, stand lines of requests.
     pub requests: bool,
     /// Of each decision table is told which values no rule hits, which rules overlap and which decide nothing.

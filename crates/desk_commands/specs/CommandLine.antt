@@ -28,7 +28,7 @@ flag name = record (new_rule name) {
   action = Some SetTrue;
 }
 
--- `check [--json] [--requests] [--tables] [--strict]`
+-- `check [--json] [--requests] [--tables] [--strict]`; `--json` is taken, and means nothing
 abbrev pub check_app : App
 check_app = with_rule (with_rule (with_rule (with_rule (new_app (codes "check")) (flag (codes "json"))) (flag (codes "requests")))
     (flag (codes "tables"))) (flag (codes "strict"))
@@ -42,9 +42,9 @@ serving app = with_rule (with_rule (with_rule app (number_option (codes "clients
 abbrev pub serve_app : App
 serve_app = serving (new_app (codes "serve"))
 
--- `explain [--clients N] [--workers N] [--capacity N] [--misses] [--text]`
+-- `explain [--clients N] [--workers N] [--capacity N] [--misses]`
 abbrev pub explain_app : App
-explain_app = with_rule (with_rule (serving (new_app (codes "explain"))) (flag (codes "misses"))) (flag (codes "text"))
+explain_app = with_rule (serving (new_app (codes "explain"))) (flag (codes "misses"))
 
 -- `desk replay`, `desk serve`, `desk check` and `desk explain`: one of the subcommands has to be named, and `--version` tells the version
 abbrev pub desk_command : App
@@ -102,7 +102,6 @@ is_true (Some text) = bytes_eq text (codes "true")
 
 -- the options of `check` as the words give them
 pub record AreCheckOptionsOf (rows : List Row) (options : CheckOptions) : Type 0 where
-  pub json : options.json ≡ is_true (first_of (codes "json") rows)
   pub requests : options.requests ≡ is_true (first_of (codes "requests") rows)
   pub tables : options.tables ≡ is_true (first_of (codes "tables") rows)
   pub strict : options.strict ≡ is_true (first_of (codes "strict") rows)

@@ -1,7 +1,6 @@
 -- What the program does with its words, what its status says of that, and what it tells.
 use Rattle.std.specs.Prelude.{◌≡◌, ◌≢◌, ◌⊎◌, ◌<◌, ℕ, List, [], length, codes, Bool, true, false, Option, Some, None, Result, Ok, Err}
 use Rattle.clap.specs.Kinds.{Kinds, IsAmong}
-use Rattle.clap.specs.Words.{first_of}
 use Rattle.clap.specs.declared.error.kind.ErrorKind.{ErrorKind}
 use Rattle.clap.specs.declared.error.kind.ErrorKind.TheVariants as kind
 use Rattle.desk_lines.specs.Device.{Reader, Writer}
@@ -15,13 +14,12 @@ use Rattle.desk_checking.specs.Checked.{Checked}
 use Rattle.desk_checking.specs.declared.findings.CheckFault.{CheckFault}
 use Rattle.desk_checking.specs.declared.findings.CheckFindings.{CheckFindings}
 use Rattle.desk_checking.specs.declared.options.CheckOptions.{CheckOptions}
-use Rattle.desk_explaining.specs.Printed.{AnyLines}
 use Rattle.desk_explaining.specs.Script as explaining
 use Rattle.desk_explaining.specs.declared.options.ExplainOptions.{ExplainOptions}
 use Rattle.desk_replaying.specs.Script as replaying
 use Rattle.desk_serving.specs.Script.{Served, ServedInPart}
 use Rattle.desk_serving.specs.declared.options.Options.{Options}
-use Rattle.desk_commands.specs.CommandLine.{AreCheckOptionsOf, AreExplainOptionsOf, AreOptionsOf, Named, Replay, Serve, Check, Explain, is_true}
+use Rattle.desk_commands.specs.CommandLine.{AreCheckOptionsOf, AreExplainOptionsOf, AreOptionsOf, Named, Replay, Serve, Check, Explain}
 
 -- ## The statuses
 
@@ -109,10 +107,8 @@ module _ (reader reader' : Reader) (writer writer' : Writer) where
   abbrev pub ServedWith : ℕ → Result (Unit {0}) FrontFault → Type 0
   ServedWith lanes end = Ran (Served lanes) (ServedInPart lanes) reader reader' writer writer' end
 
-  -- in texts for people, of which nothing is said, or in lines
-  abbrev pub Explained : ExplainOptions → Bool → Result (Unit {0}) FrontFault → Type 0
-  Explained options true end = RanAtOnce AnyLines reader reader' writer writer' end
-  Explained options false end = RanAtOnce (explaining.Script options.misses options.clients) reader reader' writer writer' end
+  abbrev pub Explained : ExplainOptions → Result (Unit {0}) FrontFault → Type 0
+  Explained options end = RanAtOnce (explaining.Script options.misses options.clients) reader reader' writer writer' end
 
   module _ (faults faults' : Writer) (status : ℕ) where
     -- what is promised of each command
@@ -122,7 +118,7 @@ module _ (reader reader' : Reader) (writer writer' : Writer) where
     Does (Check rows) = (options : CheckOptions) × AreCheckOptionsOf rows options
         × EndsBy (Checked options reader reader' writer writer') status_of_check faults faults' status
     Does (Explain rows) = (options : ExplainOptions) × AreExplainOptionsOf rows options
-        × EndsBy (Explained options (is_true (first_of (codes "text") rows))) status_of faults faults' status
+        × EndsBy (Explained options) status_of faults faults' status
 
 -- ## A command line
 

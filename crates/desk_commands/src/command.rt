@@ -67,7 +67,7 @@ fn replay<'a>(alloc: Global) -> Command<'a>
 fn check<'a>(alloc: Global) -> Result<Command<'a>, AllocError>
     ensures { IfOk result (λ command. app_of command ≡ check_app) }
 {
-    let json = "What is told is lines of JSON";
+    let json = "Means nothing: what is told is lines of JSON without it too";
     let requests = "Behind the model, which is line 1, stand lines of requests";
     let tables =
         "Of each decision table is told whether it answers every case, and where it doesn't";
@@ -107,13 +107,11 @@ fn explain<'a>(alloc: Global) -> Result<Command<'a>, AllocError>
     ensures { IfOk result (λ command. app_of command ≡ explain_app) }
 {
     let misses = "Each rule that missed is told with the first column that was not met";
-    let text = "What is told is text for people to read";
     let explain = Command::new(alloc, "explain")
         .about(help::EXPLAIN_ABOUT)
         .after_help(help::EXPLAIN);
     let explain = serving(alloc, explain)?;
-    let explain = with_option(explain, flag(alloc, "misses", misses))?;
-    with_option(explain, flag(alloc, "text", text))
+    with_option(explain, flag(alloc, "misses", misses))
 }
 
 /// The command `serve`, with its options.

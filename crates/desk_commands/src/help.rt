@@ -88,48 +88,26 @@ pub const CHECK: &str =
     r#"Standard input is one model in JSON, of any layout: the model itself, or {"model":M} as in a line of
 serve. With --requests it is the first line, and behind it stand lines of requests as in serve.
 
-Of a lawful model it tells the inputs, the decisions with their kinds, and the services with their
-parameters; then warnings, of what is lawful and mostly a mistake, at most 100 of each kind; and then
-what is odd in the requests, the first 1,000 of these: a name that is no parameter, a parameter that is
-missing, and each line that serve refuses: for its form, an unknown service, what is no value, a client
-that was closed, a capacity that is not 1 to 4096. Otherwise it tells the first fault, and the places of
-this fault and of later ones, at most 100 of each (of table 100 tables and 100 rules). Of a text it tells
-where its reading stops and what could stand there, and what to write in its place, where that is known:
+Standard output has lines of JSON. The first is {"lawful":true,..} with the inputs, the decisions with
+their kinds and the services with their parameters, or {"fault":F}. Behind a fault stand its places and
+those of later faults, at most 100 of each (of table 100 tables and 100 rules), and how many more there
+are. With --tables the decision tables of a lawful model follow, each with what is found of it, and with
+--requests the first 1,000 lines that serve refuses. With --strict as well as --tables the status is 4
+where a table has a gap and no default, rules that overlap where that makes the result null, or rules
+that never apply or never decide, and where one of these isn't known. A gap counts among values of the
+kinds that the column's tests ask for.
 
-  expression: a text has no reading
-  expression: 1 place
-    decisions[3] "discount", rule 9, input 3 "age": no unary tests: ">= 5 and < 7"
-      stops at "and" (character 6): "," or the end is due
-      write [5..7)
-
-With --tables it tells behind the warnings of each decision table whether it answers every case: values for which no
-rule applies, rules that overlap where that makes the result null (under U, and under A where they give other
-outputs), rules that never apply, and under F and P those that never decide. At most 100 of each kind a table:
-
-  table: decisions[0] "risk": 4 rules, U: not complete, rules overlap
-    rules 2 and 3 both apply: age 50, region any    U gives null
-    no rule: claims <= -1, age >= 25    e.g. -1, 25    the default
-    no rule for null and other kinds of claims, age
-
-With --strict as well the status is 4 where a table has one of these, or where that can't be decided. A gap counts
-among values of the kinds that the column's tests ask for, and where no output has a default. Without --tables
---strict means nothing.
-
-Decisions, services and the model's inputs have their index in brackets: the first is number 0, as in
-JSON. Rules, inputs and outputs of a table, members, values and needs are numbered from 1.
+The program with all commands says this in words, with hints and warnings.
 
 Examples:
   desk check < examples/loan.json
-  desk check --json < examples/loan.json
-  desk check --requests < examples/clients.jsonl
   desk check --tables < examples/loan.json
 
-The status is 0 where the model is lawful, whatever the warnings, the tables and the requests are, 3 where it
-has a fault, 4 where --strict refuses a table, and 1 where a fault ended the run. Standard error then has one
-word: read, write, long (more than 64 MiB came) or memory.
+The status is 0 where the model is lawful, 3 where it has a fault, 4 where --strict refuses a table, and
+1 where a fault ended the run. Standard error then has one word: read, write, long (more than 64 MiB
+came) or memory.
 
-docs/MODEL.md in the repository says what a model is and what each fault means, docs/LINES.md what
-the lines of --json are."#;
+docs/MODEL.md in the repository says what a model is and what each fault means."#;
 
 /// The lines of `explain`.
 pub const EXPLAIN: &str =
@@ -148,9 +126,8 @@ context its entries.
 
 One thread answers, so --workers and --capacity change nothing here.
 
-Examples:
+Example:
   desk explain < examples/clients.jsonl
-  desk explain --text < examples/explain/loan.jsonl
 
 The status is 0 at the end of the input, and 1 where a fault ended the run. Standard error then has
 one word: read, write, long (more than 2^40 bytes came) or memory.

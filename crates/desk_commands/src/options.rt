@@ -1,5 +1,5 @@
 //! The options of `serve`, `check` and `explain`, as the words of the command line give them.
-ghost use Rattle.std.specs.Prelude.{◌≡◌, ◌≤◌, codes};
+ghost use Rattle.std.specs.Prelude.{◌≡◌, ◌≤◌};
 ghost use Rattle.clap.specs.Words.{first_of, found_of, rows_of};
 ghost use Rattle.desk_commands.specs.CommandLine.{AreCheckOptionsOf, AreExplainOptionsOf, AreOptionsOf, IsNumberOf, is_true};
 
@@ -50,7 +50,6 @@ pub fn check_options_of(matches: &ArgMatches<'_>) -> CheckOptions
     ensures { AreCheckOptionsOf (rows_of (found_of matches.now)) result }
 {
     CheckOptions {
-        json: is_given(matches, "json"),
         requests: is_given(matches, "requests"),
         tables: is_given(matches, "tables"),
         strict: is_given(matches, "strict"),
@@ -65,11 +64,4 @@ pub fn explain_options_of(matches: &ArgMatches<'_>) -> ExplainOptions
         clients: number_of(matches, "clients", MOST_CLIENTS),
         misses: is_given(matches, "misses"),
     }
-}
-
-/// Whether `explain` tells texts for people.
-pub fn is_text(matches: &ArgMatches<'_>) -> bool
-    ensures { result ≡ is_true (first_of (codes "text") (rows_of (found_of matches.now))) }
-{
-    is_given(matches, "text")
 }

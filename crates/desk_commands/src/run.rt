@@ -9,11 +9,11 @@ ghost use Rattle.desk_commands.specs.CommandLine.{IsCommand, kinds_of, named_by,
 ghost use Rattle.desk_commands.specs.Status.{Does, EndsBy, Explained, Refuses, Replayed, Runs, Says, ServedWith, end_text, fault_line, no_utf8_line, status_of, status_of_check, status_of_kind, status_of_model, stopped, wrong_words};
 
 use crate::command::read_words;
-use crate::options::{check_options_of, explain_options_of, is_text, options_of};
+use crate::options::{check_options_of, explain_options_of, options_of};
 use clap::error::ErrorKind;
 use clap::{ArgMatches, Error};
 use desk_checking::{CheckFindings, CheckOptions, check};
-use desk_explaining::{ExplainOptions, explain, explain_in_text};
+use desk_explaining::{ExplainOptions, explain};
 use desk_lines::{FrontFault, Sink, Source, write_all};
 use desk_replaying::replay;
 use desk_serving::{Options, serve};
@@ -134,22 +134,21 @@ fn run_check<R: Source, W: Sink, F: Sink>(
     }
 }
 
-/// Explains the answers to the lines of the reader, in texts for people or in lines.
-fn run_explain<R: Source, W: Sink>(
+/// Explains the answers to the lines of the reader, and tells the fault that ends it, if one does.
+fn run_explain<R: Source, W: Sink, F: Sink>(
     alloc: Global,
     options: &ExplainOptions,
-    in_text: bool,
     reader: &mut R,
     writer: &mut W,
-) -> Result<(), FrontFault>
+    faults: &mut F,
+) -> u8
     requires read_counts { (R.seen reader.old).faults < 2 ^ 64 - 1 }
     requires write_counts { (W.seen writer.old).faults < 2 ^ 64 - 1 }
-    ensures { Explained (R.seen reader.old) (R.seen reader.new) (W.seen writer.old) (W.seen writer.new) options.now in_text result }
+    requires fault_counts { (F.seen faults.old).faults < 2 ^ 64 - 1 }
+    ensures { EndsBy (Explained (R.seen reader.old) (R.seen reader.new) (W.seen writer.old) (W.seen writer.new) options.now)
+        status_of (F.seen faults.old) (F.seen faults.new) result }
 {
-    if in_text {
-        return explain_in_text(alloc, options, reader, writer);
-    }
-    explain(alloc, options, reader, writer)
+    tell_end(explain(alloc, options, reader, writer), faults)
 }
 
 /// Replays the script of the reader, and tells the fault that ends it, if one does.
@@ -190,11 +189,7 @@ fn run_command<T: Threads + Wait + Sync, R: Source, W: Sink, F: Sink>(
         return run_check(alloc, check_options_of(found), reader, writer, faults);
     }
     if let Some(found) = matches.subcommand_matches("explain") {
-        let options = explain_options_of(found);
-        return tell_end(
-            run_explain(alloc, &options, is_text(found), reader, writer),
-            faults,
-        );
+        return run_explain(alloc, &explain_options_of(found), reader, writer, faults);
     }
     run_replay(alloc, reader, writer, faults)
 }

@@ -2,5 +2,4 @@ pub mod Due
 pub mod Script
 pub mod StateView
 pub mod ExplainedLine
-pub mod Printed
 pub mod Reasons

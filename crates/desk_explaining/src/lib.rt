@@ -5,12 +5,9 @@ mod answering;
 mod explanation;
 mod laws;
 mod options;
-mod printing;
 mod run;
 mod state;
-mod text;
 
 pub use laws::reasons_are_added;
 pub use options::ExplainOptions;
-pub use printing::explain_in_text;
 pub use run::explain;

@@ -12,7 +12,7 @@ use desk_wire::Session;
 use std::alloc::Global;
 
 /// The state before the first line.
-pub fn first_state(alloc: Global, options: &ExplainOptions) -> State
+fn first_state(alloc: Global, options: &ExplainOptions) -> State
     ensures starts { Stands result options.now.clients [] }
     ensures misses { result.misses ≡ options.now.misses }
 {

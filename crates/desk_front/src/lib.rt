@@ -3,7 +3,7 @@
 #![tactic(auto)]
 
 pub use desk_checking::{CheckFault, CheckFindings, CheckOptions, RefusedLine, Word, check};
-pub use desk_explaining::{ExplainOptions, explain, explain_in_text};
+pub use desk_explaining::{ExplainOptions, explain};
 pub use desk_lines::{Counted, FrontFault, Sink, Source, write_all};
 pub use desk_replaying::replay;
 pub use desk_serving::{Options, serve};

@@ -3,7 +3,8 @@ ghost use Rattle.std.specs.Prelude.{◌≡◌, [], IfOk, IfErr, Ok, Some};
 ghost use Rattle.std.specs.Arc.{arc_value};
 ghost use Rattle.serde_json.specs.View.{view};
 ghost use Rattle.box_core.specs.History as broker;
-ghost use Rattle.box_core.specs.Views.{event_of, status_of_standing};
+ghost use Rattle.box_core.specs.Mail.{standing_at};
+ghost use Rattle.box_core.specs.Views.{event_of};
 ghost use Rattle.desk_replaying.specs.Due.{request_under, asks_with, Asks};
 ghost use Rattle.desk_replaying.specs.StateView.{Stands, HasEffect, IsUnmade, LoadsModel, AsksFor, Answers, AnswersAt, AnswersBy, Opens, number_in, client_in, model_of};
 ghost use Rattle.desk_replaying.specs.LineView.{line_view};
@@ -11,7 +12,7 @@ ghost use Rattle.desk_replaying.specs.LineView.{line_view};
 use crate::line::{Line, line_in};
 use crate::reports::report_on;
 use crate::state::{Effect, State};
-use box_core::{Broker, Done, Event, Report as BrokerReport, Standing};
+use box_core::{Answered, Broker, Done, Event, Report as BrokerReport};
 use desk_wire::{Heard, Listener, Word, add_refusal};
 use dmn_plan::{ModelFault, Plan, Task};
 use serde_json::Value;
@@ -133,37 +134,30 @@ impl State {
         }
     }
 
-    /// The work of a ticket that stands so answers it, if it was taken. An answer that was kept stays.
-    fn answer_standing(
-        &mut self,
-        alloc: Global,
-        client: u32,
-        ticket: u64,
-        standing: Standing<Task>,
-    ) -> Effect
-        ensures { AnswersAt self.old client ticket (Some (status_of_standing standing)) result self.new }
-    {
-        match standing {
-            Standing::Running(work) => self.answer_by(alloc, client, ticket, work),
-            Standing::Settled => Effect::Reported(BrokerReport::Repeated),
-            Standing::Waiting(_) => Effect::Refused(Word::Strange),
-            Standing::Unknown => Effect::Refused(Word::Strange),
-        }
-    }
-
-    fn answer(&mut self, alloc: Global, name: &str, ticket: u64) -> Effect
+    /// The work that was taken under a client's ticket answers it. An answer that was kept stays.
+    fn answer(&mut self, name: &str, ticket: u64) -> Effect
         ensures { AnswersBy self.old ticket (number_in self.old name.now) result self.new }
     {
         let Some(client) = self.number_of(name) else {
             return Effect::Refused(Word::NoClient);
         };
-        let Ok(found) = self.broker.standing(client, ticket) else {
+        self.answer_own(client, ticket)
+    }
+
+    fn answer_own(&mut self, client: u32, ticket: u64) -> Effect
+        ensures { AnswersAt self.old client ticket (standing_at self.old.broker client ticket) result self.new }
+    {
+        let Ok(found) = self.broker.answer_own(client, ticket) else {
             return Effect::Refused(Word::Memory);
         };
-        let Some(standing) = found else {
+        let Some(told) = found else {
             return Effect::Refused(Word::Strange);
         };
-        self.answer_standing(alloc, client, ticket, standing)
+        match told {
+            Answered::Kept => Effect::Reported(BrokerReport::Kept),
+            Answered::Repeated => Effect::Reported(BrokerReport::Repeated),
+            Answered::Strange => Effect::Refused(Word::Strange),
+        }
     }
 
     fn answer_with(
@@ -209,7 +203,7 @@ impl State {
             Line::Open(name, capacity) => self.open(alloc, name, *capacity),
             Line::Submit(name, service, inputs) => Ok(self.submit(alloc, name, service, inputs)),
             Line::Take(name, ticket) => Ok(self.take(name, *ticket)),
-            Line::Answer(name, ticket) => Ok(self.answer(alloc, name, *ticket)),
+            Line::Answer(name, ticket) => Ok(self.answer(name, *ticket)),
             Line::AnswerWith(name, ticket, service, inputs) => Ok(self.answer_with(
                 alloc, name, *ticket, service, inputs,
             )),

@@ -3,6 +3,7 @@ mod Constants
 mod Halves
 mod HitRules
 mod Joins
+mod Listings
 mod OnClasses
 mod OnTexts
 mod PairSearches

@@ -10,3 +10,4 @@ pub mod Sharing
 pub mod Telling
 pub mod Joining
 pub mod Ranking
+pub mod Listing

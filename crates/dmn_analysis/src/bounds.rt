@@ -127,6 +127,21 @@ impl Bounds {
         Ok(hull)
     }
 
+    /// Adds what is to be known of a rule whose tests list these numbers, which rise.
+    pub(crate) fn add_listed(&mut self, numbers: &[i64]) -> Result<(), AllocError> {
+        let (start, end) = match (numbers.first(), numbers.last()) {
+            (Some(first), Some(last)) => (*first, *last),
+            _ => (self.high, self.low),
+        };
+        for number in numbers {
+            self.cut(*number)?;
+            self.cut(number.saturating_add(1))?;
+        }
+        self.starts.push(start)?;
+        self.ends.push(end)?;
+        Ok(())
+    }
+
     /// Adds what is to be known of the tests of a rule.
     pub(crate) fn add(&mut self, tests: &TestsTree) -> Result<(), AllocError> {
         let hull = match tests {

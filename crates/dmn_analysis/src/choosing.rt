@@ -3,8 +3,8 @@ use crate::bounds::Bounds;
 use crate::cell::{Cell, Others, Words};
 use crate::cutting::{Cut, Kinds, cut_cell, of_kinds, of_other_kinds};
 use crate::halving::middle;
+use crate::row::Row;
 use crate::rule_on::asked;
-use dmn_table::Rule;
 use std::alloc::{AllocError, Global};
 
 /// A cut of one of the cells, and how dear it is: the less, the better.
@@ -29,6 +29,21 @@ fn better(one: Option<Choice>, other: Choice) -> Option<Choice> {
     }
 }
 
+// Whether it is known that each value of the cell meets the entry of a rule at a place, or that none does, as is asked.
+fn entry_is_sure(
+    words: &Words,
+    cell: Cell,
+    row: &Row,
+    place: usize,
+    met: bool,
+    steps: &mut u64,
+) -> bool {
+    let Some(tests) = row.rule().tests.get(place) else {
+        return false;
+    };
+    asked(words, cell, tests, row.listing(place), met, steps)
+}
+
 /// The rules that don't hit for all values of the cell at a place, as far as that column goes, and how many do.
 #[derive(Drop)]
 struct Mixed {
@@ -40,7 +55,7 @@ impl Mixed {
     fn of(
         alloc: Global,
         words: &Words,
-        rules: &[Rule],
+        rows: &[Row],
         cell: Cell,
         place: usize,
         left: &[usize],
@@ -51,13 +66,10 @@ impl Mixed {
             met: 0,
         };
         for number in left {
-            let Some(rule) = rules.get(*number) else {
+            let Some(row) = rows.get(*number) else {
                 continue;
             };
-            let Some(tests) = rule.tests.get(place) else {
-                continue;
-            };
-            if asked(words, cell, tests, true, steps) {
+            if entry_is_sure(words, cell, row, place, true, steps) {
                 mixed.met = mixed.met.saturating_add(1);
             } else {
                 mixed.rules.push(*number)?;
@@ -70,20 +82,17 @@ impl Mixed {
     fn count_in(
         &self,
         words: &Words,
-        rules: &[Rule],
+        rows: &[Row],
         cell: Cell,
         place: usize,
         steps: &mut u64,
     ) -> usize {
         let mut count = self.met;
         for number in &self.rules {
-            let Some(rule) = rules.get(*number) else {
+            let Some(row) = rows.get(*number) else {
                 continue;
             };
-            let Some(tests) = rule.tests.get(place) else {
-                continue;
-            };
-            if !asked(words, cell, tests, false, steps) {
+            if !entry_is_sure(words, cell, row, place, false, steps) {
                 count = count.saturating_add(1);
             }
         }
@@ -163,7 +172,7 @@ struct Sorted {
 
 fn sort_kinds(
     words: &Words,
-    rules: &[Rule],
+    rows: &[Row],
     cell: Cell,
     place: usize,
     mixed: &Mixed,
@@ -182,7 +191,7 @@ fn sort_kinds(
         }
         sorted.first = *kind;
         sorted.count = sorted.count.saturating_add(1);
-        if mixed.count_in(words, rules, part, place, steps) == mixed.met {
+        if mixed.count_in(words, rows, part, place, steps) == mixed.met {
             sorted.dull = joined(sorted.dull, *kind);
             sorted.dull_count = sorted.dull_count.saturating_add(1);
         }
@@ -193,13 +202,13 @@ fn sort_kinds(
 // The choice to part the kinds of a cell; None where there is but one.
 fn kinds_choice(
     words: &Words,
-    rules: &[Rule],
+    rows: &[Row],
     cell: Cell,
     place: usize,
     mixed: &Mixed,
     steps: &mut u64,
 ) -> Option<Choice> {
-    let sorted = sort_kinds(words, rules, cell, place, mixed, steps);
+    let sorted = sort_kinds(words, rows, cell, place, mixed, steps);
     if sorted.count < 2 {
         return None;
     }
@@ -213,8 +222,8 @@ fn kinds_choice(
     }
     let part = of_kinds(cell, sorted.first);
     let rest = of_other_kinds(cell, sorted.first);
-    let lower = mixed.count_in(words, rules, part, place, steps);
-    let upper = mixed.count_in(words, rules, rest, place, steps);
+    let lower = mixed.count_in(words, rows, part, place, steps);
+    let upper = mixed.count_in(words, rows, rest, place, steps);
     Some(Choice {
         place,
         cut: Cut::Kinds(sorted.first),
@@ -239,7 +248,7 @@ fn texts_cut(cell: Cell) -> Option<Cut> {
 // The choice to cut the texts of a cell.
 fn texts_choice(
     words: &Words,
-    rules: &[Rule],
+    rows: &[Row],
     cell: Cell,
     place: usize,
     mixed: &Mixed,
@@ -247,8 +256,8 @@ fn texts_choice(
 ) -> Option<Choice> {
     let cut = texts_cut(cell)?;
     let (low, high) = cut_cell(cell, cut)?;
-    let lower = mixed.count_in(words, rules, low, place, steps);
-    let upper = mixed.count_in(words, rules, high, place, steps);
+    let lower = mixed.count_in(words, rows, low, place, steps);
+    let upper = mixed.count_in(words, rows, high, place, steps);
     Some(Choice {
         place,
         cut,
@@ -258,18 +267,25 @@ fn texts_choice(
 
 fn bounds_of(
     alloc: Global,
-    rules: &[Rule],
+    rows: &[Row],
     cell: Cell,
     place: usize,
     mixed: &Mixed,
 ) -> Result<Bounds, AllocError> {
     let mut bounds = Bounds::new(alloc, cell.low, cell.high);
     for number in &mixed.rules {
-        let Some(rule) = rules.get(*number) else {
+        let Some(row) = rows.get(*number) else {
             continue;
         };
-        if let Some(tests) = rule.tests.get(place) {
-            bounds.add(tests.tree())?;
+        match row.listing(place) {
+            Some(listing) if !listing.is_barred => {
+                bounds.add_listed(listing.numbers_in(cell.low, cell.high))?;
+            }
+            _ => {
+                if let Some(tests) = row.rule().tests.get(place) {
+                    bounds.add(tests.tree())?;
+                }
+            }
         }
     }
     bounds.cuts.sort_unstable();
@@ -315,26 +331,26 @@ fn numbers_choice(bounds: &Bounds, place: usize, met: usize) -> Option<Choice> {
 fn choice_in(
     alloc: Global,
     words: &Words,
-    rules: &[Rule],
+    rows: &[Row],
     cell: Cell,
     place: usize,
     left: &[usize],
     steps: &mut u64,
 ) -> Result<Option<Choice>, AllocError> {
-    let mixed = Mixed::of(alloc, words, rules, cell, place, left, steps)?;
+    let mixed = Mixed::of(alloc, words, rows, cell, place, left, steps)?;
     if mixed.rules.is_empty() {
         return Ok(None);
     }
-    if let Some(choice) = kinds_choice(words, rules, cell, place, &mixed, steps) {
+    if let Some(choice) = kinds_choice(words, rows, cell, place, &mixed, steps) {
         return Ok(Some(choice));
     }
-    if let Some(choice) = texts_choice(words, rules, cell, place, &mixed, steps) {
+    if let Some(choice) = texts_choice(words, rows, cell, place, &mixed, steps) {
         return Ok(Some(choice));
     }
     if cell.low >= cell.high {
         return Ok(None);
     }
-    let bounds = bounds_of(alloc, rules, cell, place, &mixed)?;
+    let bounds = bounds_of(alloc, rows, cell, place, &mixed)?;
     Ok(numbers_choice(&bounds, place, mixed.met))
 }
 
@@ -343,7 +359,7 @@ fn choice_in(
 pub(crate) fn choose(
     alloc: Global,
     words: &[Words],
-    rules: &[Rule],
+    rows: &[Row],
     cells: &[Cell],
     left: &[usize],
     steps: &mut u64,
@@ -353,7 +369,7 @@ pub(crate) fn choose(
         let Some(words) = words.get(place) else {
             continue;
         };
-        if let Some(choice) = choice_in(alloc, words, rules, *cell, place, left, steps)? {
+        if let Some(choice) = choice_in(alloc, words, rows, *cell, place, left, steps)? {
             best = better(best, choice);
         }
     }

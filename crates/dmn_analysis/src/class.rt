@@ -311,10 +311,42 @@ fn other_texts_equal(texts: &[ArcStr], value: &Value) -> Option<bool>
     let Value::Text(text) = value else {
         return Some(false);
     };
-    if is_among(text.as_str(), texts) {
+    if is_found(text.as_str(), texts) {
         return Some(false);
     }
     None
+}
+
+// Whether a text is found among these, which are in order, by halving.
+fn is_found(text: &str, texts: &[ArcStr]) -> bool
+    ensures { IsTrue result → list_any (λ t. bytes_eq text.now (arc_str_bytes t)) texts.now ≡ true }
+{
+    let place = first_text(texts, text);
+    if place >= texts.len() {
+        return false;
+    }
+    texts[place].as_str() == text
+}
+
+/// The place of the first of these texts, which are in order, that isn't less than another. Nothing is promised of it: what is found
+/// there is looked at.
+pub(crate) fn first_text(texts: &[ArcStr], text: &str) -> usize {
+    let (mut from, mut to) = (0, texts.len());
+    for _turn in 0..64 {
+        if from >= to {
+            return from;
+        }
+        let middle = from + (to - from) / 2;
+        let Some(one) = texts.get(middle) else {
+            return from;
+        };
+        if is_less(one.as_str(), text) {
+            from = middle + 1;
+        } else {
+            to = middle;
+        }
+    }
+    from
 }
 
 pub(crate) fn is_among(text: &str, texts: &[ArcStr]) -> bool

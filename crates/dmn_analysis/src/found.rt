@@ -1,6 +1,5 @@
 //! What is told of a table.
 use crate::cell::{Cell, Words};
-use crate::pieces::Part;
 use feel_value::Feel;
 
 /// Values for which no rule hits.
@@ -8,8 +7,6 @@ use feel_value::Feel;
 pub struct Gap {
     /// Of each column some values: for none of them does a rule hit.
     pub cells: Vec<Cell>,
-    /// The same, with the texts.
-    pub parts: Vec<Part>,
     /// Some of them, one a column.
     pub values: Vec<Feel>,
 }
@@ -37,7 +34,7 @@ pub struct Overlap {
     pub first: usize,
     pub second: usize,
     /// Of each column some values for which both hit.
-    pub parts: Vec<Part>,
+    pub cells: Vec<Cell>,
     /// Some of them, one a column.
     pub values: Vec<Feel>,
 }
@@ -45,6 +42,8 @@ pub struct Overlap {
 /// The pairs of rules that hit for the same values.
 #[derive(Drop)]
 pub struct Overlaps {
+    /// The texts that stand in the tests of each column.
+    pub words: Vec<Words>,
     /// Pairs, as many as are wanted.
     pub found: Vec<Overlap>,
     /// How many others were found.

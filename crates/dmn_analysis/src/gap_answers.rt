@@ -16,7 +16,7 @@ use crate::cell::{Cell, Words};
 use crate::found::{Gap, Gaps};
 use crate::gaps::{Bare, Pending, Search, go_through};
 use crate::joined::joined_where_right;
-use crate::pieces::parts_of;
+use crate::row::rows_of;
 use crate::whole::whole;
 use crate::witness::values_of;
 use crate::words::all_words;
@@ -41,7 +41,6 @@ pub(crate) fn places(alloc: Global, count: usize) -> Result<Vec<usize>, AllocErr
 // anything.
 fn gap_of(
     alloc: Global,
-    words: &[Words],
     rules: &[Rule],
     cells: &[Cell],
     values: Vec<Feel>,
@@ -57,11 +56,9 @@ fn gap_of(
     if !all_miss(alloc, rules, &values)? {
         return Ok(None);
     }
-    let parts = parts_of(alloc, words, cells)?;
     let copy = Vec::from_slice(alloc, cells)?;
     Ok(Some(Gap {
         cells: copy,
-        parts,
         values,
     }))
 }
@@ -105,7 +102,7 @@ fn tell(
         let Some(values) = values_of(alloc, words, cells)? else {
             continue;
         };
-        let Some(gap) = gap_of(alloc, words, rules, cells, values, count)? else {
+        let Some(gap) = gap_of(alloc, rules, cells, values, count)? else {
             is_all = false;
             continue;
         };
@@ -192,13 +189,14 @@ pub fn find_gaps(
     let Some(cells) = whole(alloc, &words, asked, count)? else {
         return Ok(nothing_told(alloc, words));
     };
+    let rows = rows_of(alloc, rules)?;
     let left = places(alloc, rules.len())?;
     let first = Pending { cells, left };
     let mut rest = steps;
     let search = go_through(
         alloc,
         &words,
-        rules,
+        &rows,
         rules.len(),
         first,
         usize::MAX,
@@ -210,7 +208,7 @@ pub fn find_gaps(
         open,
         sure: _,
     } = search;
-    let all = joined_where_right(alloc, &words, rules, bare, count)?;
+    let all = joined_where_right(alloc, &words, &rows, bare, count)?;
     let told = tell(alloc, &words, rules, &all, count, most)?;
     let is_all = are_all(&told, &pending, &open);
     let Told { found, more, .. } = told;

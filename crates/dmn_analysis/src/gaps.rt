@@ -1,6 +1,5 @@
 //! A search for values for which no rule hits.
 ghost use Rattle.std.specs.Prelude.{◌≡◌, ◌<◌, List, [], OnOk, IfOk, false, map};
-ghost use Rattle.dmn_table.specs.Parts.{rule_view};
 ghost use Rattle.dmn_analysis.specs.Cells.{AllInOrder};
 ghost use Rattle.dmn_analysis.specs.Constant.{AreConstant};
 ghost use Rattle.dmn_analysis.specs.Cutting.{AreHalves};
@@ -8,10 +7,10 @@ ghost use Rattle.dmn_analysis.specs.Searching.{AreLeft, HasEntry, Knows, KnowsBu
 ghost use Rattle.dmn_analysis.specs.declared.cell.Cell.{Cell as CellData};
 
 use crate::cell::{Cell, Words};
+use crate::row::Row;
 use crate::rule_on::{cannot_hit, first_unsettled};
 use crate::searching::{Outlook, Unsure, halves, outlook_for, possible};
 use crate::witness::is_void;
-use dmn_table::Rule;
 use std::alloc::{AllocError, Global};
 
 /// Cells, with the rules that may hit for values of them.
@@ -50,27 +49,27 @@ pub(crate) enum Chosen {
 fn chosen_in(
     alloc: Global,
     words: &[Words],
-    rules: &[Rule],
+    rows: &[Row],
     chosen: usize,
     cells: &[Cell],
     steps: &mut u64,
 ) -> Result<Chosen, AllocError>
-    ensures { IfOk result (TellsChosen words.now (map rule_view rules.now) chosen cells.now) }
+    ensures { IfOk result (TellsChosen words.now rows.now chosen cells.now) }
 {
-    if chosen >= rules.len() {
+    if chosen >= rows.len() {
         return Ok(Chosen::Hits);
     }
-    if cannot_hit(words, cells, &rules[chosen], steps) {
+    if cannot_hit(words, cells, &rows[chosen], steps) {
         return Ok(Chosen::Misses);
     }
-    let Some(place) = first_unsettled(words, cells, &rules[chosen], steps) else {
+    let Some(place) = first_unsettled(words, cells, &rows[chosen], steps) else {
         return Ok(Chosen::Hits);
     };
     let unsure = Unsure {
         rule: chosen,
         place,
     };
-    match halves(alloc, words, rules, cells, &[chosen], unsure, steps)? {
+    match halves(alloc, words, rows, cells, &[chosen], unsure, steps)? {
         Some((lower, upper)) => Ok(Chosen::Cut(lower, upper)),
         None => Ok(Chosen::Open),
     }
@@ -102,17 +101,17 @@ impl Search {
         &mut self,
         alloc: Global,
         words: &[Words],
-        rules: &[Rule],
+        rows: &[Row],
         cells: &[Cell],
         left: Vec<usize>,
         unsure: Unsure,
         steps: &mut u64,
     ) -> Result<(), AllocError>
-        requires { HasEntry (map rule_view rules.now) cells.now unsure }
+        requires { HasEntry rows.now cells.now unsure }
         ensures known { OnOk result ((s : Scene) → AllInOrder s.words → KnowsBut s cells.now self.old → AreLeft s cells.now left.items → Knows s self.new) }
-        ensures decided { OnOk result (AreConstant (map rule_view rules.now) → self.old.open.items ≡ [] → self.new.open.items ≡ []) }
+        ensures decided { OnOk result (AreConstant rows.now → self.old.open.items ≡ [] → self.new.open.items ≡ []) }
     {
-        let Some((lower, upper)) = halves(alloc, words, rules, cells, &left, unsure, steps)? else {
+        let Some((lower, upper)) = halves(alloc, words, rows, cells, &left, unsure, steps)? else {
             self.open.push(unsure.rule)?;
             return Ok(());
         };
@@ -125,20 +124,20 @@ impl Search {
         &mut self,
         alloc: Global,
         words: &[Words],
-        rules: &[Rule],
+        rows: &[Row],
         next: Pending,
         steps: &mut u64,
     ) -> Result<(), AllocError>
         requires { AllInOrder words.now }
-        ensures known { OnOk result ((s : Scene) → s.words ≡ words.now → s.rules ≡ map rule_view rules.now → KnowsBut s next.cells.items self.old → AreLeft s next.cells.items next.left.items → Knows s self.new) }
-        ensures decided { OnOk result (AreConstant (map rule_view rules.now) → self.old.open.items ≡ [] → self.new.open.items ≡ []) }
+        ensures known { OnOk result ((s : Scene) → s.words ≡ words.now → s.rules ≡ rows.now → KnowsBut s next.cells.items self.old → AreLeft s next.cells.items next.left.items → Knows s self.new) }
+        ensures decided { OnOk result (AreConstant rows.now → self.old.open.items ≡ [] → self.new.open.items ≡ []) }
     {
         let void = is_void(alloc, words, &next.cells)?;
         if void {
             return Ok(());
         }
-        let left = possible(alloc, words, rules, &next.cells, &next.left, steps)?;
-        match outlook_for(words, rules, &next.cells, &left, steps) {
+        let left = possible(alloc, words, rows, &next.cells, &next.left, steps)?;
+        match outlook_for(words, rows, &next.cells, &left, steps) {
             Outlook::Nothing => {
                 let Pending { cells, left: _ } = next;
                 self.bare.push(Bare { cells })?;
@@ -149,7 +148,7 @@ impl Search {
                 Ok(())
             }
             Outlook::Unsure(unsure) => {
-                self.part(alloc, words, rules, &next.cells, left, unsure, steps)?;
+                self.part(alloc, words, rows, &next.cells, left, unsure, steps)?;
                 Ok(())
             }
         }
@@ -160,19 +159,19 @@ impl Search {
         &mut self,
         alloc: Global,
         words: &[Words],
-        rules: &[Rule],
+        rows: &[Row],
         chosen: usize,
         next: Pending,
         steps: &mut u64,
     ) -> Result<(), AllocError>
         requires { AllInOrder words.now }
-        ensures known { OnOk result ((s : Scene) → s.words ≡ words.now → s.rules ≡ map rule_view rules.now → s.chosen ≡ chosen → KnowsBut s next.cells.items self.old → AreLeft s next.cells.items next.left.items → Knows s self.new) }
-        ensures decided { OnOk result (AreConstant (map rule_view rules.now) → self.old.open.items ≡ [] → self.new.open.items ≡ []) }
+        ensures known { OnOk result ((s : Scene) → s.words ≡ words.now → s.rules ≡ rows.now → s.chosen ≡ chosen → KnowsBut s next.cells.items self.old → AreLeft s next.cells.items next.left.items → Knows s self.new) }
+        ensures decided { OnOk result (AreConstant rows.now → self.old.open.items ≡ [] → self.new.open.items ≡ []) }
     {
-        match chosen_in(alloc, words, rules, chosen, &next.cells, steps)? {
+        match chosen_in(alloc, words, rows, chosen, &next.cells, steps)? {
             Chosen::Misses => Ok(()),
             Chosen::Hits => {
-                self.look(alloc, words, rules, next, steps)?;
+                self.look(alloc, words, rows, next, steps)?;
                 Ok(())
             }
             Chosen::Cut(lower, upper) => {
@@ -201,15 +200,15 @@ fn is_enough(found: usize, most: usize) -> bool
 pub(crate) fn go_through(
     alloc: Global,
     words: &[Words],
-    rules: &[Rule],
+    rows: &[Row],
     chosen: usize,
     first: Pending,
     most: usize,
     steps: &mut u64,
 ) -> Result<Search, AllocError>
     requires { AllInOrder words.now }
-    ensures known { IfOk result (λ search. (s : Scene) → s.words ≡ words.now → s.rules ≡ map rule_view rules.now → s.chosen ≡ chosen → s.first ≡ first.left.items → s.whole ≡ first.cells.items → Knows s search) }
-    ensures decided { IfOk result (λ search. AreConstant (map rule_view rules.now) → search.open.items ≡ []) }
+    ensures known { IfOk result (λ search. (s : Scene) → s.words ≡ words.now → s.rules ≡ rows.now → s.chosen ≡ chosen → s.first ≡ first.left.items → s.whole ≡ first.cells.items → Knows s search) }
+    ensures decided { IfOk result (λ search. AreConstant rows.now → search.open.items ≡ []) }
     ensures ended { IfOk result (λ search. most ≡ 18446744073709551615 → 0 < steps.new → search.pending.items ≡ []) }
 {
     let mut search = Search {
@@ -230,7 +229,7 @@ pub(crate) fn go_through(
         let Some(next) = search.pending.pop() else {
             return Ok(search);
         };
-        search.turn(alloc, words, rules, chosen, next, steps)?;
+        search.turn(alloc, words, rows, chosen, next, steps)?;
     }
     // So many turns have taken all of the steps.
     *steps = 0;

@@ -16,7 +16,7 @@ use crate::gap_answers::{distinct, is_done, places};
 use crate::gaps::Pending;
 use crate::pairing::{MOST_PAIRS, Pair, pairs_of};
 use crate::pairs::{PairSearch, Shared, find_shared};
-use crate::pieces::parts_of;
+use crate::row::rows_of;
 use crate::whole::whole;
 use crate::witness::values_of;
 use crate::words::all_words;
@@ -77,11 +77,11 @@ fn overlap_of(
     let Some(values) = witness(alloc, words, rules, cells, first, second, count)? else {
         return Ok(None);
     };
-    let parts = parts_of(alloc, words, cells)?;
+    let copy = Vec::from_slice(alloc, cells)?;
     Ok(Some(Overlap {
         first,
         second,
-        parts,
+        cells: copy,
         values,
     }))
 }
@@ -116,11 +116,12 @@ fn tell(
     Ok(found)
 }
 
-fn nothing_told(alloc: Global) -> Overlaps
+fn nothing_told(alloc: Global, words: Vec<Words>) -> Overlaps
     ensures found { result.found.items ≡ [] }
     ensures undecided { result.is_all ≡ false }
 {
     Overlaps {
+        words,
         found: Vec::new(alloc),
         more: 0,
         is_all: false,
@@ -174,16 +175,18 @@ pub fn find_overlaps(
     let count = table.inputs().len();
     let words = all_words(alloc, rules, count)?;
     let Some(cells) = whole(alloc, &words, asked, count)? else {
-        return Ok(nothing_told(alloc));
+        return Ok(nothing_told(alloc, words));
     };
+    let rows = rows_of(alloc, rules)?;
     let left = places(alloc, rules.len())?;
     let first = Pending { cells, left };
     let mut rest = steps;
-    let search = find_shared(alloc, &words, rules, first, MOST_SHARED, &mut rest)?;
+    let search = find_shared(alloc, &words, &rows, first, MOST_SHARED, &mut rest)?;
     let pairs = pairs_of(alloc, &search.shared)?;
     let found = tell(alloc, &words, rules, &search.shared, &pairs, count, most)?;
     let is_all = are_all(&search, pairs.len(), &found);
     Ok(Overlaps {
+        words,
         more: pairs.len().saturating_sub(found.len()),
         found,
         is_all,

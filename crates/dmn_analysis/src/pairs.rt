@@ -1,7 +1,6 @@
 //! A search for values for which two rules hit.
 ghost use Rattle.std.specs.Prelude.{◌≡◌, ◌<◌, ◌≤◌, List, [], OnOk, IfOk, length, map};
 ghost use Rattle.std.specs.List.{All};
-ghost use Rattle.dmn_table.specs.Parts.{rule_view};
 ghost use Rattle.dmn_analysis.specs.Cells.{AllInOrder};
 ghost use Rattle.dmn_analysis.specs.Constant.{AreConstant};
 ghost use Rattle.dmn_analysis.specs.Cutting.{AreHalves};
@@ -11,9 +10,9 @@ ghost use Rattle.dmn_analysis.specs.declared.cell.Cell.{Cell as CellData};
 
 use crate::cell::{Cell, Words};
 use crate::gaps::Pending;
+use crate::row::Row;
 use crate::searching::{are_few, first_unsure, halves, possible};
 use crate::witness::values_of;
-use dmn_table::Rule;
 use std::alloc::{AllocError, Global};
 
 /// Cells for whose values each of these rules hits.
@@ -78,24 +77,24 @@ impl PairSearch {
         &mut self,
         alloc: Global,
         words: &[Words],
-        rules: &[Rule],
+        rows: &[Row],
         next: Pending,
         steps: &mut u64,
     ) -> Result<(), AllocError>
         requires { AllInOrder words.now }
-        ensures known { OnOk result ((s : Scene) → s.words ≡ words.now → s.rules ≡ map rule_view rules.now → KnowsPairsBut s next.cells.items self.old → AreLeft s next.cells.items next.left.items → IsRising next.left.items → KnowsPairs s self.new) }
-        ensures decided { OnOk result (AreConstant (map rule_view rules.now) → self.old.open.items ≡ [] → self.new.open.items ≡ []) }
+        ensures known { OnOk result ((s : Scene) → s.words ≡ words.now → s.rules ≡ rows.now → KnowsPairsBut s next.cells.items self.old → AreLeft s next.cells.items next.left.items → IsRising next.left.items → KnowsPairs s self.new) }
+        ensures decided { OnOk result (AreConstant rows.now → self.old.open.items ≡ [] → self.new.open.items ≡ []) }
     {
-        let left = possible(alloc, words, rules, &next.cells, &next.left, steps)?;
+        let left = possible(alloc, words, rows, &next.cells, &next.left, steps)?;
         if are_few(&left) {
             return Ok(());
         }
-        let Some(unsure) = first_unsure(words, rules, &next.cells, &left, steps) else {
+        let Some(unsure) = first_unsure(words, rows, &next.cells, &left, steps) else {
             let Pending { cells, left: _ } = next;
             self.share(alloc, words, cells, left)?;
             return Ok(());
         };
-        let Some((lower, upper)) = halves(alloc, words, rules, &next.cells, &left, unsure, steps)?
+        let Some((lower, upper)) = halves(alloc, words, rows, &next.cells, &left, unsure, steps)?
         else {
             self.open.push(unsure.rule)?;
             return Ok(());
@@ -110,14 +109,14 @@ impl PairSearch {
 pub(crate) fn find_shared(
     alloc: Global,
     words: &[Words],
-    rules: &[Rule],
+    rows: &[Row],
     first: Pending,
     most: usize,
     steps: &mut u64,
 ) -> Result<PairSearch, AllocError>
     requires { AllInOrder words.now }
-    ensures known { IfOk result (λ search. (s : Scene) → s.words ≡ words.now → s.rules ≡ map rule_view rules.now → s.first ≡ first.left.items → s.whole ≡ first.cells.items → IsRising first.left.items → KnowsPairs s search) }
-    ensures decided { IfOk result (λ search. AreConstant (map rule_view rules.now) → search.open.items ≡ []) }
+    ensures known { IfOk result (λ search. (s : Scene) → s.words ≡ words.now → s.rules ≡ rows.now → s.first ≡ first.left.items → s.whole ≡ first.cells.items → IsRising first.left.items → KnowsPairs s search) }
+    ensures decided { IfOk result (λ search. AreConstant rows.now → search.open.items ≡ []) }
     ensures ended { IfOk result (λ search. 0 < most → 0 < steps.new → search.shared.items ≡ [] → search.pending.items ≡ []) }
 {
     let mut search = PairSearch {
@@ -134,7 +133,7 @@ pub(crate) fn find_shared(
         let Some(next) = search.pending.pop() else {
             return Ok(search);
         };
-        search.turn(alloc, words, rules, next, steps)?;
+        search.turn(alloc, words, rows, next, steps)?;
     }
     // So many turns have taken all of the steps.
     *steps = 0;

@@ -1,6 +1,5 @@
 //! What a search through the cells of a table does at each turn.
 ghost use Rattle.std.specs.Prelude.{◌≡◌, ◌<◌, ◌≤◌, false, IsTrue, IfOk, IfSome, None, length, map};
-ghost use Rattle.dmn_table.specs.Parts.{rule_view};
 ghost use Rattle.std.specs.List.{All};
 ghost use Rattle.dmn_analysis.specs.Constant.{AreConstant};
 ghost use Rattle.dmn_analysis.specs.Cutting.{AreHalves};
@@ -12,8 +11,8 @@ use crate::choosing::choose;
 use crate::constant::are_constant;
 use crate::cutting::cut_cells;
 use crate::halving::cells_in_two;
+use crate::row::Row;
 use crate::rule_on::{cannot_hit, first_unsettled, must_hit};
-use dmn_table::Rule;
 use std::alloc::{AllocError, Global};
 
 /// Whether at most one rule is left.
@@ -28,21 +27,21 @@ pub(crate) fn are_few(left: &[usize]) -> bool
 pub(crate) fn possible(
     alloc: Global,
     words: &[Words],
-    rules: &[Rule],
+    rows: &[Row],
     cells: &[Cell],
     left: &[usize],
     steps: &mut u64,
 ) -> Result<Vec<usize>, AllocError>
-    ensures left { IfOk result (λ kept. (s : Scene) → s.words ≡ words.now → s.rules ≡ map rule_view rules.now → AreLeft s cells.now left.now → AreLeft s cells.now kept.items) }
-    ensures there { IfOk result (λ kept. All (λ r. r < length rules.now) kept.items) }
+    ensures left { IfOk result (λ kept. (s : Scene) → s.words ≡ words.now → s.rules ≡ rows.now → AreLeft s cells.now left.now → AreLeft s cells.now kept.items) }
+    ensures there { IfOk result (λ kept. All (λ r. r < length rows.now) kept.items) }
     ensures rising { IfOk result (λ kept. IsRising left.now → IsRising kept.items) }
 {
     let mut kept = Vec::with_capacity(alloc, left.len())?;
     for number in left {
-        if *number >= rules.len() {
+        if *number >= rows.len() {
             continue;
         }
-        if cannot_hit(words, cells, &rules[*number], steps) {
+        if cannot_hit(words, cells, &rows[*number], steps) {
             continue;
         }
         kept.push(*number)?;
@@ -71,24 +70,24 @@ pub(crate) enum Outlook {
 /// What is known of the rules that are left.
 pub(crate) fn outlook_for(
     words: &[Words],
-    rules: &[Rule],
+    rows: &[Row],
     cells: &[Cell],
     left: &[usize],
     steps: &mut u64,
 ) -> Outlook
-    requires { All (λ r. r < length rules.now) left.now }
-    ensures { TellsOutlook words.now (map rule_view rules.now) cells.now left.now result }
+    requires { All (λ r. r < length rows.now) left.now }
+    ensures { TellsOutlook words.now rows.now cells.now left.now result }
 {
     if left.is_empty() {
         return Outlook::Nothing;
     }
     let rule = left[0];
-    let Some(place) = first_unsettled(words, cells, &rules[rule], steps) else {
+    let Some(place) = first_unsettled(words, cells, &rows[rule], steps) else {
         return Outlook::Sure(rule);
     };
     for other in 1..left.len() {
         let rule = left[other];
-        if must_hit(words, cells, &rules[rule], steps) {
+        if must_hit(words, cells, &rows[rule], steps) {
             return Outlook::Sure(rule);
         }
     }
@@ -98,18 +97,18 @@ pub(crate) fn outlook_for(
 /// An entry of the first of these rules that isn't known to hit for all values of the cells; None where each of them hits for all.
 pub(crate) fn first_unsure(
     words: &[Words],
-    rules: &[Rule],
+    rows: &[Row],
     cells: &[Cell],
     left: &[usize],
     steps: &mut u64,
 ) -> Option<Unsure>
-    requires { All (λ r. r < length rules.now) left.now }
-    ensures entry { IfSome result (HasEntry (map rule_view rules.now) cells.now) }
-    ensures must { result ≡ None → All (IsMustHit words.now (map rule_view rules.now) cells.now) left.now }
+    requires { All (λ r. r < length rows.now) left.now }
+    ensures entry { IfSome result (HasEntry rows.now cells.now) }
+    ensures must { result ≡ None → All (IsMustHit words.now rows.now cells.now) left.now }
 {
     for number in left {
         let rule = *number;
-        if let Some(place) = first_unsettled(words, cells, &rules[rule], steps) {
+        if let Some(place) = first_unsettled(words, cells, &rows[rule], steps) {
             return Some(Unsure { rule, place });
         }
     }
@@ -120,14 +119,14 @@ pub(crate) fn first_unsure(
 fn best_halves(
     alloc: Global,
     words: &[Words],
-    rules: &[Rule],
+    rows: &[Row],
     cells: &[Cell],
     left: &[usize],
     steps: &mut u64,
 ) -> Result<Option<(Vec<Cell>, Vec<Cell>)>, AllocError>
     ensures { IfOk result (λ found. IfSome found (λ halves. AreHalves cells.now halves.0.items halves.1.items)) }
 {
-    let Some(choice) = choose(alloc, words, rules, cells, left, steps)? else {
+    let Some(choice) = choose(alloc, words, rows, cells, left, steps)? else {
         return Ok(None);
     };
     let found = cut_cells(alloc, cells, choice.place, choice.cut)?;
@@ -137,15 +136,15 @@ fn best_halves(
 /// The cells cut in two at this entry's column, where the entry is constant.
 fn plain_halves(
     alloc: Global,
-    rules: &[Rule],
+    rows: &[Row],
     cells: &[Cell],
     unsure: Unsure,
 ) -> Result<Option<(Vec<Cell>, Vec<Cell>)>, AllocError>
-    requires { HasEntry (map rule_view rules.now) cells.now unsure }
+    requires { HasEntry rows.now cells.now unsure }
     ensures halves { IfOk result (λ found. IfSome found (λ halves. AreHalves cells.now halves.0.items halves.1.items)) }
-    ensures unless { IfOk result (λ found. found ≡ None → AreConstant (map rule_view rules.now) → ⊥) }
+    ensures unless { IfOk result (λ found. found ≡ None → AreConstant rows.now → ⊥) }
 {
-    let tests = &rules[unsure.rule].tests;
+    let tests = &rows[unsure.rule].rule().tests;
     if !are_constant(&tests[unsure.place]) {
         return Ok(None);
     }
@@ -158,19 +157,19 @@ fn plain_halves(
 pub(crate) fn halves(
     alloc: Global,
     words: &[Words],
-    rules: &[Rule],
+    rows: &[Row],
     cells: &[Cell],
     left: &[usize],
     unsure: Unsure,
     steps: &mut u64,
 ) -> Result<Option<(Vec<Cell>, Vec<Cell>)>, AllocError>
-    requires { HasEntry (map rule_view rules.now) cells.now unsure }
+    requires { HasEntry rows.now cells.now unsure }
     ensures halves { IfOk result (λ found. IfSome found (λ halves. AreHalves cells.now halves.0.items halves.1.items)) }
-    ensures unless { IfOk result (λ found. found ≡ None → AreConstant (map rule_view rules.now) → ⊥) }
+    ensures unless { IfOk result (λ found. found ≡ None → AreConstant rows.now → ⊥) }
 {
-    if let Some(halves) = best_halves(alloc, words, rules, cells, left, steps)? {
+    if let Some(halves) = best_halves(alloc, words, rows, cells, left, steps)? {
         return Ok(Some(halves));
     }
-    let found = plain_halves(alloc, rules, cells, unsure)?;
+    let found = plain_halves(alloc, rows, cells, unsure)?;
     Ok(found)
 }

@@ -1,7 +1,6 @@
 //! What is told of single rules of a table: that they never hit, or never before others do.
-ghost use Rattle.std.specs.Prelude.{◌≡◌, [], IsTrue, IfOk, IfSome, map};
+ghost use Rattle.std.specs.Prelude.{◌≡◌, [], IsTrue, IfOk, IfSome};
 ghost use Rattle.std.specs.List.{All};
-ghost use Rattle.dmn_table.specs.Parts.{rule_view};
 ghost use Rattle.dmn_analysis.specs.Cells.{AllInOrder};
 ghost use Rattle.dmn_analysis.specs.Claims.{GoesBefore, IsMaskedAmong, IsNeverMetAmong};
 ghost use Rattle.dmn_analysis.specs.Ranking.{AreRanks};
@@ -13,9 +12,10 @@ use crate::found::{Mask, Masks};
 use crate::gap_answers::{distinct, is_done, places};
 use crate::gaps::{Bare, Pending, go_through};
 use crate::ranking::{Rank, ranks, rules_ahead, unranked};
+use crate::row::{Row, rows_of};
 use crate::whole::whole;
 use crate::words::all_words;
-use dmn_table::{HitPolicy, Rule, Table};
+use dmn_table::{HitPolicy, Table};
 use std::alloc::{AllocError, Global};
 
 /// How many steps it takes at most to find whether a rule ever hits.
@@ -32,21 +32,21 @@ fn are_covered(bare: &[Bare]) -> bool
 fn behind(
     alloc: Global,
     words: &[Words],
-    rules: &[Rule],
+    rows: &[Row],
     cells: &[Cell],
     rule: usize,
     others: Vec<usize>,
     steps: &mut u64,
 ) -> Result<Option<Vec<usize>>, AllocError>
     requires { AllInOrder words.now }
-    ensures { IfOk result (λ found. IfSome found (λ sure. IsBehind words.now (map rule_view rules.now) cells.now rule others.items)) }
+    ensures { IfOk result (λ found. IfSome found (λ sure. IsBehind words.now rows.now cells.now rule others.items)) }
 {
     let copy = Vec::from_slice(alloc, cells)?;
     let first = Pending {
         cells: copy,
         left: others,
     };
-    let search = go_through(alloc, words, rules, rule, first, 1, steps)?;
+    let search = go_through(alloc, words, rows, rule, first, 1, steps)?;
     if !are_covered(&search.bare) {
         return Ok(None);
     }
@@ -59,17 +59,17 @@ fn behind(
 fn rules_out(
     alloc: Global,
     words: &[Words],
-    rules: &[Rule],
+    rows: &[Row],
     cells: &[Cell],
 ) -> Result<Vec<usize>, AllocError>
     requires { AllInOrder words.now }
-    ensures { IfOk result (λ out. All (λ i. IsBehind words.now (map rule_view rules.now) cells.now i []) out.items) }
+    ensures { IfOk result (λ out. All (λ i. IsBehind words.now rows.now cells.now i []) out.items) }
 {
     let mut out = Vec::new(alloc);
-    for rule in 0..rules.len() {
+    for rule in 0..rows.len() {
         let mut steps = STEPS_A_RULE;
         let none = Vec::new(alloc);
-        let Some(_) = behind(alloc, words, rules, cells, rule, none, &mut steps)? else {
+        let Some(_) = behind(alloc, words, rows, cells, rule, none, &mut steps)? else {
             continue;
         };
         out.push(rule)?;
@@ -88,7 +88,8 @@ pub fn never_met(alloc: Global, table: &Table, asked: &[Asked]) -> Result<Vec<us
     let Some(cells) = whole(alloc, &words, asked, count)? else {
         return Ok(Vec::new(alloc));
     };
-    let out = rules_out(alloc, &words, rules, &cells)?;
+    let rows = rows_of(alloc, rules)?;
+    let out = rules_out(alloc, &words, &rows, &cells)?;
     Ok(out)
 }
 
@@ -139,9 +140,9 @@ fn masks(
     requires order { AllInOrder words.now }
     ensures { IfOk result (λ found. All (λ k. IsMaskedOn table.now words.now cells.now k.rule) found.items) }
 {
-    let rules = table.rules();
+    let rows = rows_of(alloc, table.rules())?;
     let mut found = Vec::new(alloc);
-    for rule in 0..rules.len() {
+    for rule in 0..rows.len() {
         if *steps == 0 {
             return Ok(found);
         }
@@ -149,7 +150,7 @@ fn masks(
         if others.is_empty() {
             continue;
         }
-        let Some(behind) = behind(alloc, words, rules, cells, rule, others, steps)? else {
+        let Some(behind) = behind(alloc, words, &rows, cells, rule, others, steps)? else {
             continue;
         };
         if behind.is_empty() {

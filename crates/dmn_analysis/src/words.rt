@@ -48,8 +48,8 @@ pub(crate) fn in_order(texts: Vec<ArcStr>) -> Vec<ArcStr> {
     texts
 }
 
-// Whether each of these texts is less than the one behind it.
-fn are_in_order(texts: &[ArcStr]) -> bool
+/// Whether each of these texts is less than the one behind it.
+pub(crate) fn are_in_order(texts: &[ArcStr]) -> bool
     ensures { IsTrue result → AreInOrder texts.now }
 {
     for i in 1..texts.len() {

@@ -16,8 +16,8 @@ use Rattle.dmn_plan.specs.Faults.{needs_of, needs_itself, has_cycle}
 use Rattle.dmn_plan.specs.Plans.{place_name}
 use Rattle.dmn_plan.proofs.RequirementCycles.{cycle_by_name, later_distinct, needs_of_one}
 use Rattle.dmn_plan.proofs.ServicesByName.{as_many_places, few_need}
-use Rattle.dmn_places.specs.declared.place.Step.TheVariants as step
-use Rattle.dmn_places.specs.declared.place.Key.TheVariants as key
+use Rattle.dmn_check.specs.declared.place.Step.TheVariants as step
+use Rattle.dmn_check.specs.declared.place.Key.TheVariants as key
 use Rattle.dmn_check.specs.declared.finding.Mistake.TheVariants as mistake
 use Rattle.dmn_check.specs.Cycles.{cycle, cycles}
 use Rattle.dmn_check.specs.Findings.{each_of}

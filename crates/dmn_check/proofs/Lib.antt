@@ -1,3 +1,4 @@
+pub mod Pointers
 pub mod Walking
 pub mod Logics
 pub mod Presence

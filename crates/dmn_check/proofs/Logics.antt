@@ -8,8 +8,8 @@ use Rattle.dmn_form.specs.declared.written.WrittenLogic.{WrittenLogic, Table, Li
 use Rattle.dmn_form.proofs.LogicSteps.{logic_view-Context, logic_view-ContextWith}
 use Rattle.dmn_names.specs.Parts.{entry_names}
 use Rattle.dmn_names.proofs.Walks.{entry_names_view}
-use Rattle.dmn_places.specs.declared.place.Step.TheVariants as step
-use Rattle.dmn_places.specs.declared.place.Key.TheVariants as key
+use Rattle.dmn_check.specs.declared.place.Step.TheVariants as step
+use Rattle.dmn_check.specs.declared.place.Key.TheVariants as key
 use Rattle.dmn_check.specs.Findings.{Finding, behind}
 use Rattle.dmn_check.specs.Look.{Look, logic_findings, entry_findings}
 use Rattle.dmn_check.specs.LookView.{members_findings_view, entries_findings_view, context_findings_view}

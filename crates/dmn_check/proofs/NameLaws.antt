@@ -10,9 +10,9 @@ use Rattle.dmn_form.specs.Model.{Name, expression, table, list, context, context
 use Rattle.dmn_form.specs.Draft.{WrittenTable, Logic, Written, Draft}
 use Rattle.dmn_names.specs.Names.{have_bad, have_twice, has_bad_name, has_name_twice}
 use Rattle.dmn_names.specs.Parts.{output_names, entry_names, lists_in, member_lists, entry_lists, decision_lists, service_lists, value_names, service_names, part_lists, name_lists}
-use Rattle.dmn_places.specs.declared.place.Step.TheVariants as step
-use Rattle.dmn_places.specs.declared.place.Key.{Key}
-use Rattle.dmn_places.specs.declared.place.Key.TheVariants as key
+use Rattle.dmn_check.specs.declared.place.Step.TheVariants as step
+use Rattle.dmn_check.specs.declared.place.Key.{Key}
+use Rattle.dmn_check.specs.declared.place.Key.TheVariants as key
 use Rattle.dmn_check.specs.declared.marks.NameFault.{NameFault}
 use Rattle.dmn_check.specs.declared.marks.NameFault.TheVariants.{Unlawful, Repeated}
 use Rattle.dmn_check.specs.Findings.{Finding, behind, here, each_of}

@@ -6,9 +6,9 @@ use Rattle.dmn_form.specs.Model.{Name, expression, table, list, context, context
 use Rattle.dmn_form.specs.Draft.{WrittenTable, Logic, Written}
 use Rattle.dmn_logic.specs.Parts.{texts_in, member_texts, entry_texts, tables_in, member_tables, entry_tables}
 use Rattle.dmn_names.specs.Parts.{entry_names}
-use Rattle.dmn_places.specs.declared.place.Step.{Step}
-use Rattle.dmn_places.specs.declared.place.Step.TheVariants as step
-use Rattle.dmn_places.specs.declared.place.Key.TheVariants as key
+use Rattle.dmn_check.specs.declared.place.Step.{Step}
+use Rattle.dmn_check.specs.declared.place.Step.TheVariants as step
+use Rattle.dmn_check.specs.declared.place.Key.TheVariants as key
 use Rattle.dmn_check.specs.declared.finding.Mistake.{Mistake}
 use Rattle.dmn_check.specs.Findings.{Finding, behind, here, each_from, each_of}
 use Rattle.dmn_check.specs.Look.{Look, logic_findings, member_findings, entry_findings, decision_findings, decisions_findings}

@@ -9,8 +9,8 @@ use Rattle.dmn_table.specs.declared.fault.TableFault.TheVariants.{Columns, Opera
 use Rattle.dmn_form.specs.Draft.{WrittenRule, WrittenTable, Draft}
 use Rattle.dmn_logic.specs.Parts.{texts_in, tables_in}
 use Rattle.dmn_logic.specs.Faults.{is_refused, has_refused_table}
-use Rattle.dmn_places.specs.declared.place.Step.TheVariants as step
-use Rattle.dmn_places.specs.declared.place.Key.TheVariants as key
+use Rattle.dmn_check.specs.declared.place.Step.TheVariants as step
+use Rattle.dmn_check.specs.declared.place.Key.TheVariants as key
 use Rattle.dmn_check.specs.declared.finding.Mistake.TheVariants as mistake
 use Rattle.dmn_check.specs.Findings.{each_of}
 use Rattle.dmn_check.specs.Rules.{is_unfit, unfit_rule, unfit_in_table, rules_look, unfit_rules}

@@ -19,8 +19,8 @@ use Rattle.dmn_plan.specs.Plans.{place_name}
 use Rattle.dmn_plan.specs.ServicesByPlace.{inner_places, parameter_places, do_share}
 use Rattle.dmn_plan.proofs.ServicesByName.{tells, AreNamesOf}
 use Rattle.dmn_plan.proofs.ServicesFaults.{back, no_stranger, inner_below, parameter_below, inner_names, bad_by_name}
-use Rattle.dmn_places.specs.declared.place.Step.TheVariants as step
-use Rattle.dmn_places.specs.declared.place.Key.TheVariants as key
+use Rattle.dmn_check.specs.declared.place.Step.TheVariants as step
+use Rattle.dmn_check.specs.declared.place.Key.TheVariants as key
 use Rattle.dmn_check.specs.declared.finding.ServiceFault.{ServiceFault}
 use Rattle.dmn_check.specs.declared.finding.ServiceFault.TheVariants.{NoOutput, Stranger, Shared, Unlisted}
 use Rattle.dmn_check.specs.Findings.{each_of}

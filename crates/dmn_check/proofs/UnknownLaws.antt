@@ -8,8 +8,8 @@ use Rattle.dmn_form.specs.Draft.{Written, Draft}
 use Rattle.dmn_names.specs.Names.{has_unknown_name}
 use Rattle.dmn_names.specs.Parts.{value_names}
 use Rattle.dmn_names.specs.Places.{place_among}
-use Rattle.dmn_places.specs.declared.place.Step.TheVariants as step
-use Rattle.dmn_places.specs.declared.place.Key.TheVariants as key
+use Rattle.dmn_check.specs.declared.place.Step.TheVariants as step
+use Rattle.dmn_check.specs.declared.place.Key.TheVariants as key
 use Rattle.dmn_check.specs.declared.finding.Mistake.TheVariants as mistake
 use Rattle.dmn_check.specs.Findings.{each_of}
 use Rattle.dmn_check.specs.Told.{have_any, capped}

@@ -4,8 +4,8 @@ use Rattle.std.specs.List.{list_any}
 use Rattle.dmn_form.specs.Draft.{WrittenColumn, WrittenRule, WrittenTable, Draft}
 use Rattle.dmn_logic.specs.Parts.{texts_in, tables_in}
 use Rattle.dmn_logic.specs.Faults.{has_no_expression, is_unread_column, is_unread_rule, is_unread_table, has_unread_text}
-use Rattle.dmn_places.specs.declared.place.Step.TheVariants as step
-use Rattle.dmn_places.specs.declared.place.Key.TheVariants as key
+use Rattle.dmn_check.specs.declared.place.Step.TheVariants as step
+use Rattle.dmn_check.specs.declared.place.Key.TheVariants as key
 use Rattle.dmn_check.specs.declared.finding.TextKind.{TextKind}
 use Rattle.dmn_check.specs.declared.finding.TextKind.TheVariants.{Expression, UnaryTests, Literal}
 use Rattle.dmn_check.specs.declared.finding.Mistake.TheVariants as mistake

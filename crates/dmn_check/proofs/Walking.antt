@@ -2,8 +2,8 @@
 use Rattle.std.proofs.Common.{◌≡◌, ℕ, zero, suc, ◌+◌, ◌-◌, ◌<◌, List, [], ◌∷◌, ◌++◌, map, length, take, drop, get_or, refl, sym, ap, ◌∙◌, append_assoc, arith}
 use Rattle.std.proofs.lemmas.List.{at_drop_more}
 use Rattle.std.proofs.lemmas.Grind.{common_steps}
-use Rattle.dmn_places.specs.declared.place.Step.{Step}
-use Rattle.dmn_places.specs.declared.place.Step.TheVariants.{Index}
+use Rattle.dmn_check.specs.declared.place.Step.{Step}
+use Rattle.dmn_check.specs.declared.place.Step.TheVariants.{Index}
 use Rattle.dmn_check.specs.Findings.{Place, Finding, moved, behind, each_from}
 use Rattle.dmn_check.specs.Notes.{Notes, empty, into, out, kept, counted, with_one, with_all}
 

@@ -1,7 +1,7 @@
 -- What is wrong, and where: lists of findings, in the order in which the parts stand in the model.
 use Rattle.std.specs.Prelude.{ℕ, ◌+◌, List, [], ◌∷◌, ◌++◌, map, Bool, if◌then◌else◌}
-use Rattle.dmn_places.specs.declared.place.Step.{Step}
-use Rattle.dmn_places.specs.declared.place.Step.TheVariants.{Index}
+use Rattle.dmn_check.specs.declared.place.Step.{Step}
+use Rattle.dmn_check.specs.declared.place.Step.TheVariants.{Index}
 use Rattle.dmn_check.specs.declared.finding.Mistake.{Mistake}
 
 -- the steps from a part of the model to a place in it

@@ -1,3 +1,4 @@
+pub mod Pointer
 pub mod Findings
 pub mod Notes
 pub mod NotesView

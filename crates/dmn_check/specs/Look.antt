@@ -3,8 +3,8 @@ use Rattle.std.specs.Prelude.{ℕ, ◌+◌, List, [], ◌++◌}
 use Rattle.dmn_form.specs.Model.{Name, expression, table, list, context, context_with, Members, no_members, member, Entries, no_entries, entry}
 use Rattle.dmn_form.specs.Draft.{WrittenTable, Logic, Written}
 use Rattle.dmn_names.specs.Parts.{entry_names}
-use Rattle.dmn_places.specs.declared.place.Step.TheVariants as step
-use Rattle.dmn_places.specs.declared.place.Key.TheVariants as key
+use Rattle.dmn_check.specs.declared.place.Step.TheVariants as step
+use Rattle.dmn_check.specs.declared.place.Key.TheVariants as key
 use Rattle.dmn_check.specs.Findings.{Finding, behind, each_of}
 
 -- the findings of a text outside of tables, of a table, and of a context by the names of its entries

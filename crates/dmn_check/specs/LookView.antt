@@ -4,8 +4,8 @@ use Rattle.std.specs.declared.alloc.Global.{Global}
 use Rattle.dmn_form.specs.Model.{members_of, entries_of}
 use Rattle.dmn_form.specs.LogicView.{logic_view, entry_view}
 use Rattle.dmn_form.specs.declared.written.WrittenLogic.{WrittenLogic}
-use Rattle.dmn_places.specs.declared.place.Step.TheVariants as step
-use Rattle.dmn_places.specs.declared.place.Key.TheVariants as key
+use Rattle.dmn_check.specs.declared.place.Step.TheVariants as step
+use Rattle.dmn_check.specs.declared.place.Key.TheVariants as key
 use Rattle.dmn_check.specs.Findings.{Finding, behind}
 use Rattle.dmn_check.specs.Look.{Look, member_findings, entry_findings}
 

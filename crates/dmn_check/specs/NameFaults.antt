@@ -5,9 +5,9 @@ use Rattle.feel_text.specs.Lexical.{is_name}
 use Rattle.dmn_form.specs.Model.{Name, Service}
 use Rattle.dmn_form.specs.Draft.{Written, Draft}
 use Rattle.dmn_names.specs.Parts.{output_names, value_names, service_names}
-use Rattle.dmn_places.specs.declared.place.Step.TheVariants as step
-use Rattle.dmn_places.specs.declared.place.Key.{Key}
-use Rattle.dmn_places.specs.declared.place.Key.TheVariants as key
+use Rattle.dmn_check.specs.declared.place.Step.TheVariants as step
+use Rattle.dmn_check.specs.declared.place.Key.{Key}
+use Rattle.dmn_check.specs.declared.place.Key.TheVariants as key
 use Rattle.dmn_check.specs.declared.finding.Mistake.{Mistake}
 use Rattle.dmn_check.specs.declared.finding.Mistake.TheVariants as mistake
 use Rattle.dmn_check.specs.declared.marks.NameFault.{NameFault}

@@ -1,6 +1,6 @@
 -- The first findings of a list, and how many there are.
 use Rattle.std.specs.Prelude.{ℕ, suc, ◌-◌, List, [], ◌∷◌, ◌++◌, length, take, nat_lt, if◌then◌else◌}
-use Rattle.dmn_places.specs.declared.place.Step.{Step}
+use Rattle.dmn_check.specs.declared.place.Step.{Step}
 use Rattle.dmn_check.specs.declared.finding.Mistake.{Mistake}
 use Rattle.dmn_check.specs.Findings.{Place, Finding}
 

@@ -2,8 +2,8 @@
 use Rattle.std.specs.Prelude.{ℕ, List, [], length, Bool, not}
 use Rattle.dmn_table.specs.Faults.{fits_columns}
 use Rattle.dmn_form.specs.Draft.{WrittenRule, WrittenTable, Draft}
-use Rattle.dmn_places.specs.declared.place.Step.TheVariants as step
-use Rattle.dmn_places.specs.declared.place.Key.TheVariants as key
+use Rattle.dmn_check.specs.declared.place.Step.TheVariants as step
+use Rattle.dmn_check.specs.declared.place.Key.TheVariants as key
 use Rattle.dmn_check.specs.declared.finding.Mistake.TheVariants as mistake
 use Rattle.dmn_check.specs.Findings.{Finding, behind, here, each_of}
 use Rattle.dmn_check.specs.Look.{Look, decisions_findings}

@@ -6,8 +6,8 @@ use Rattle.dmn_form.specs.Model.{Service}
 use Rattle.dmn_form.specs.Draft.{Draft}
 use Rattle.dmn_names.specs.Places.{has_stranger}
 use Rattle.dmn_plan.specs.Faults.{reaches_unlisted}
-use Rattle.dmn_places.specs.declared.place.Step.TheVariants as step
-use Rattle.dmn_places.specs.declared.place.Key.TheVariants as key
+use Rattle.dmn_check.specs.declared.place.Step.TheVariants as step
+use Rattle.dmn_check.specs.declared.place.Key.TheVariants as key
 use Rattle.dmn_check.specs.declared.finding.Mistake.TheVariants as mistake
 use Rattle.dmn_check.specs.declared.finding.ServiceFault.{ServiceFault}
 use Rattle.dmn_check.specs.declared.finding.ServiceFault.TheVariants.{NoOutput, Stranger, Shared, Unlisted}

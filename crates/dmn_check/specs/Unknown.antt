@@ -4,8 +4,8 @@ use Rattle.feel_value.specs.Distinct.{is_among}
 use Rattle.dmn_form.specs.Model.{Name}
 use Rattle.dmn_form.specs.Draft.{Written, Draft}
 use Rattle.dmn_names.specs.Parts.{value_names}
-use Rattle.dmn_places.specs.declared.place.Step.TheVariants as step
-use Rattle.dmn_places.specs.declared.place.Key.TheVariants as key
+use Rattle.dmn_check.specs.declared.place.Step.TheVariants as step
+use Rattle.dmn_check.specs.declared.place.Key.TheVariants as key
 use Rattle.dmn_check.specs.declared.finding.Mistake.TheVariants as mistake
 use Rattle.dmn_check.specs.Findings.{Finding, behind, here, each_of}
 

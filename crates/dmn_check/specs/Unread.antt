@@ -3,8 +3,8 @@ use Rattle.std.specs.Prelude.{ℕ, List, [], ◌++◌, Bool, Option, None, Some}
 use Rattle.std.specs.Option.{is_none}
 use Rattle.feel_text.specs.Readings.{expr_of, tests_of, literal_of}
 use Rattle.dmn_form.specs.Draft.{WrittenColumn, WrittenRule, WrittenTable, Draft}
-use Rattle.dmn_places.specs.declared.place.Step.TheVariants as step
-use Rattle.dmn_places.specs.declared.place.Key.TheVariants as key
+use Rattle.dmn_check.specs.declared.place.Step.TheVariants as step
+use Rattle.dmn_check.specs.declared.place.Key.TheVariants as key
 use Rattle.dmn_check.specs.declared.finding.TextKind.{TextKind}
 use Rattle.dmn_check.specs.declared.finding.TextKind.TheVariants.{Expression, UnaryTests, Literal}
 use Rattle.dmn_check.specs.declared.finding.Mistake.TheVariants as mistake

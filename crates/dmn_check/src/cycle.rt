@@ -18,10 +18,10 @@ use crate::chase::needs_itself;
 use crate::finding::Mistake;
 use crate::graph::needs_of;
 use crate::notes::Notes;
+use crate::place::{Key, Step};
 use crate::told::Told;
 use dmn_form::WrittenModel;
 use dmn_names::Places;
-use dmn_places::{Key, Step};
 use std::alloc::{AllocError, Global};
 
 /// Whether the decision at an index needs itself.

@@ -2,7 +2,7 @@
 ghost use Rattle.std.specs.Prelude.{◌≡◌};
 ghost use Rattle.dmn_check.specs.FaultOf.{fault_of};
 
-use dmn_places::Place;
+use crate::place::Place;
 use dmn_plan::ModelFault;
 use dmn_table::TableFault;
 

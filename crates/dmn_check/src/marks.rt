@@ -1,8 +1,8 @@
 //! Which names of a list have a fault.
 ghost use Rattle.std.specs.Prelude.{◌≡◌, not, OnOk, IfOk, map, if◌then◌else◌};
 ghost use Rattle.feel_text.specs.Lexical.{is_name as is_name_of};
-ghost use Rattle.dmn_places.specs.declared.place.Step.TheVariants as step;
-ghost use Rattle.dmn_places.specs.declared.place.Key.TheVariants as key;
+ghost use Rattle.dmn_check.specs.declared.place.Step.TheVariants as step;
+ghost use Rattle.dmn_check.specs.declared.place.Key.TheVariants as key;
 ghost use Rattle.dmn_check.specs.Findings.{behind, here};
 ghost use Rattle.dmn_check.specs.NameFaults.{mistake_of, marks, in_texts, in_named};
 ghost use Rattle.dmn_check.specs.NameMarks.{is_in_text};
@@ -11,8 +11,8 @@ ghost use Rattle.dmn_check.specs.NotesView.{notes_view};
 
 use crate::finding::Mistake;
 use crate::notes::Notes;
+use crate::place::{Key, Step};
 use dmn_names::Named;
-use dmn_places::{Key, Step};
 use feel_lang::is_name;
 use std::alloc::{AllocError, Global};
 use std::collections::BTreeSet;

@@ -4,8 +4,8 @@ ghost use Rattle.dmn_form.specs.FormView.{table_view};
 ghost use Rattle.dmn_form.specs.ModelView.{decision_view, service_view, model_view};
 ghost use Rattle.dmn_names.specs.Names.{has_bad_name, has_name_twice};
 ghost use Rattle.dmn_names.specs.Parts.{output_names, value_names, service_names};
-ghost use Rattle.dmn_places.specs.declared.place.Step.TheVariants as step;
-ghost use Rattle.dmn_places.specs.declared.place.Key.TheVariants as key;
+ghost use Rattle.dmn_check.specs.declared.place.Step.TheVariants as step;
+ghost use Rattle.dmn_check.specs.declared.place.Key.TheVariants as key;
 ghost use Rattle.dmn_check.specs.Findings.{behind, each_of};
 ghost use Rattle.dmn_check.specs.NameFaults.{marks, in_named, under, of_values, of_heads, of_parts, within_decision, within_service, name_faults, unlawful_names as unlawful_names_in, repeated_names as repeated_names_in};
 ghost use Rattle.dmn_check.specs.Notes.{with_all};
@@ -16,11 +16,11 @@ ghost use Rattle.dmn_check.specs.ToldView.{told_view};
 use crate::look::Look;
 use crate::marks::{NameFault, marks_of, note_named, note_texts};
 use crate::notes::Notes;
+use crate::place::{Key, Step};
 use crate::told::Told;
 use crate::walk::walk_logic;
 use dmn_form::{WrittenDecision, WrittenLogic, WrittenModel, WrittenService, WrittenTable};
 use dmn_names::{Named, names_of_values};
-use dmn_places::{Key, Step};
 use std::alloc::{AllocError, Global};
 
 /// Notes the names with the fault in the array of texts under a key.

@@ -4,7 +4,7 @@ ghost use Rattle.dmn_check.specs.Notes.{empty, into, out, kept, noted};
 ghost use Rattle.dmn_check.specs.NotesView.{notes_view, findings_view};
 
 use crate::finding::{Finding, Mistake};
-use dmn_places::{Place, Step};
+use crate::place::{Place, Step};
 use std::alloc::{AllocError, Global};
 
 /// The most findings that are kept.

@@ -13,11 +13,11 @@ ghost use Rattle.dmn_check.specs.ToldView.{told_view};
 use crate::finding::Mistake;
 use crate::look::Look;
 use crate::notes::Notes;
+use crate::place::{Key, Step};
 use crate::refused::rule_fits;
 use crate::told::Told;
 use crate::walk::walk_decisions;
 use dmn_form::{WrittenLogic, WrittenModel, WrittenRule, WrittenTable};
-use dmn_places::{Key, Step};
 use std::alloc::{AllocError, Global};
 
 /// Whether a rule has another number of entries than there are columns.

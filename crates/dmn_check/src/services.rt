@@ -19,11 +19,11 @@ ghost use Rattle.dmn_check.specs.ToldView.{told_view};
 use crate::finding::{Mistake, ServiceFault};
 use crate::graph::needs_of;
 use crate::notes::Notes;
+use crate::place::{Key, Step};
 use crate::told::Told;
 use dmn_form::{WrittenModel, WrittenService};
 use dmn_graph::{reach, set_of};
 use dmn_names::{Places, ServicePlaces};
-use dmn_places::{Key, Step};
 use std::alloc::{AllocError, Global};
 
 /// Whether one of these places is among the others.

@@ -14,10 +14,10 @@ ghost use Rattle.dmn_check.specs.Unknown.{unknown_name, unknown_needs, unknown_n
 
 use crate::finding::Mistake;
 use crate::notes::Notes;
+use crate::place::{Key, Step};
 use crate::told::Told;
 use dmn_form::{WrittenDecision, WrittenModel};
 use dmn_names::Places;
-use dmn_places::{Key, Step};
 use std::alloc::{AllocError, Global};
 
 /// Whether the name is neither an input's nor a decision's.

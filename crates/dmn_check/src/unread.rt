@@ -2,8 +2,8 @@
 ghost use Rattle.std.specs.Prelude.{◌≡◌, not, OnOk, IfOk, map, option_map, string_bytes, is_some, nat_lt};
 ghost use Rattle.feel_text.specs.Readings.{expr_of, tests_of, literal_of};
 ghost use Rattle.dmn_form.specs.FormView.{column_view, rule_view, table_view};
-ghost use Rattle.dmn_places.specs.declared.place.Step.TheVariants as step;
-ghost use Rattle.dmn_places.specs.declared.place.Key.TheVariants as key;
+ghost use Rattle.dmn_check.specs.declared.place.Step.TheVariants as step;
+ghost use Rattle.dmn_check.specs.declared.place.Key.TheVariants as key;
 ghost use Rattle.dmn_check.specs.Findings.{behind, each_of};
 ghost use Rattle.dmn_check.specs.Notes.{with_all};
 ghost use Rattle.dmn_check.specs.NotesView.{notes_view};
@@ -16,10 +16,10 @@ ghost use Rattle.dmn_logic.specs.Faults.{has_unread_text};
 use crate::finding::{Mistake, TextKind};
 use crate::look::Look;
 use crate::notes::Notes;
+use crate::place::{Key, Step};
 use crate::told::Told;
 use crate::walk::walk_decisions;
 use dmn_form::{WrittenColumn, WrittenLogic, WrittenModel, WrittenRule, WrittenTable};
-use dmn_places::{Key, Step};
 use feel_lang::{ReadFault, read_expr, read_literal, read_tests};
 use std::alloc::{AllocError, Global};
 

@@ -10,8 +10,8 @@ ghost use Rattle.dmn_check.specs.NotesView.{notes_view};
 
 use crate::look::Look;
 use crate::notes::Notes;
+use crate::place::{Key, Step};
 use dmn_form::{WrittenDecision, WrittenLogic};
-use dmn_places::{Key, Step};
 use std::alloc::{AllocError, Global};
 
 /// Looks at each part of a boxed expression. It goes as deep as that is.

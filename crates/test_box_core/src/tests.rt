@@ -339,6 +339,55 @@ fn histories_in_one_run(rt: HostRuntime) -> Result<(), Fail> {
     Ok(())
 }
 
+/// Which ticket of which client its own work answers, and what that is called: of no client, of a ticket that was never given, of
+/// one that waits, and twice of one that was taken.
+const OWN: &[(u32, u64, Option<Answered>)] = &[
+    (1, 0, None),
+    (0, 7, Some(Answered::Strange)),
+    (0, 1, Some(Answered::Strange)),
+    (0, 0, Some(Answered::Kept)),
+    (0, 0, Some(Answered::Repeated)),
+];
+
+/// What is asked before and after.
+const BEFORE_OWN: &[(Ask, Said)] = &[
+    (Ask::Add(2), Said::Added(0)),
+    (Ask::Submit(0, 4), Said::Accepted(0)),
+    (Ask::Submit(0, 6), Said::Accepted(1)),
+    (Ask::Take(0, 0), Said::Taken(0)),
+];
+
+const AFTER_OWN: &[(Ask, Said)] = &[
+    (Ask::Answer(0, 0, 4), Said::Repeated),
+    (Ask::Release(0), Said::Handed(0, 5)),
+    (Ask::Release(0), Said::Nothing),
+    (Ask::Take(0, 1), Said::Taken(1)),
+];
+
+// The work under this ticket answers it so.
+fn answers_itself(
+    rt: &impl Abort,
+    broker: &mut Broker<Successor>,
+    client: u32,
+    ticket: u64,
+    due: Option<Answered>,
+) -> Result<(), AllocError> {
+    assert_eq!(rt; broker.answer_own(client, ticket)?, due);
+    Ok(())
+}
+
+#[test]
+fn works_answer_their_tickets(rt: HostRuntime) -> Result<(), Fail> {
+    let mut broker = Broker::new(rt.alloc());
+    follows(&rt, rt.alloc(), &mut broker, 0, BEFORE_OWN)?;
+    for (client, ticket, due) in OWN {
+        answers_itself(&rt, &mut broker, *client, *ticket, *due)?;
+    }
+    follows(&rt, rt.alloc(), &mut broker, 1, AFTER_OWN)?;
+    answers_itself(&rt, &mut broker, 0, 0, Some(Answered::Repeated))?;
+    Ok(())
+}
+
 // The broker adds this client, or says why not.
 fn adds(
     rt: &impl Abort,

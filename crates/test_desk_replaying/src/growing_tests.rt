@@ -2,11 +2,10 @@
 use crate::script::{ANSWERS, LINES, is_lawful};
 use desk_lines::{Counted, FrontFault};
 use desk_replaying::replay;
-use full_heap::FullHeap;
 use std::alloc::{AllocError, Global};
 use std::process::Abort;
 use std::test::Fail;
-use test_devices::Page;
+use test_devices::{FullHeap, Page};
 
 /// How a run ends, and what it writes, where the heap gives no more than this.
 fn ran_within(alloc: Global, spare: usize) -> Result<(Result<(), FrontFault>, Page), AllocError> {

@@ -1,9 +1,12 @@
-//! Readers and writers for tests: they give and take bytes in pieces, fail at some call, or take no memory.
+//! A heap that refuses requests for memory, and readers and writers for tests: they give and take bytes in pieces, fail at some call,
+//! or take no memory.
 #![tactic(auto)]
 
+mod full_heap;
 mod page;
 mod pieces;
 
+pub use full_heap::FullHeap;
 pub use page::Page;
 pub use pieces::{ONE_BYTE, Pieces, Sips, WELL, Way};
 

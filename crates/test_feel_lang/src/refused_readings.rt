@@ -1,9 +1,9 @@
 //! Readers while the heap refuses requests for memory.
 use feel_lang::{ReadFault, is_name, read_expr, read_literal, read_tests};
-use full_heap::FullHeap;
 use std::alloc::{AllocError, Global};
 use std::process::Abort;
 use std::test::Fail;
+use test_devices::FullHeap;
 
 /// Sizes of what the heap still gives, from nothing to more than enough.
 const SPARES: &[usize] = &[0, 1040, 1600, 2080, 4096, 16384, 65536];

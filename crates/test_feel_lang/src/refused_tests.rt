@@ -3,10 +3,10 @@ use feel_lang::{
     Env, Expr, Held, Needs, Tests, eval, holds, read_expr, read_expr_under, read_tests,
 };
 use feel_value::{Feel, Outcome, Value};
-use full_heap::FullHeap;
 use std::alloc::{AllocError, Global};
 use std::process::Abort;
 use std::test::Fail;
+use test_devices::FullHeap;
 
 fn number(rt: &impl Abort, n: i64) -> Feel {
     Feel::of(Value::Number(n)).expect(rt, "a number within the limits")

@@ -3,9 +3,9 @@ use crate::logic::{logic, shown};
 use dmn_logic::{Logic, evaluate};
 use feel_lang::Env;
 use feel_value::Outcome;
-use full_heap::FullHeap;
 use std::alloc::{AllocError, Global};
 use std::test::Fail;
+use test_devices::FullHeap;
 
 /// How long the names are, in bytes.
 const LENGTH: usize = 100_000;

@@ -6,14 +6,13 @@ ghost use Rattle.lanes.specs.Made.{fault_in};
 use crate::gate_tests::{Holding, requests};
 use crate::runs::{Ended, MODEL, is_begun, is_due, serve_once, with_model};
 use desk_front::{FrontFault, Options};
-use full_heap::FullHeap;
 use lanes::{Gate, OpenGate};
 use std::alloc::{AllocError, Global};
 use std::process::Abort;
 use std::sync::Wait;
 use std::test::Fail;
 use std::thread::Threads;
-use test_devices::Page;
+use test_devices::{FullHeap, Page};
 
 /// The least room, in bytes. It grows by a half from run to run.
 const LEAST: usize = 256;

@@ -1,13 +1,12 @@
 //! Runs in which requests for memory are refused.
 use crate::runs::{Ended, MODEL, is_begun, is_due, serve_once, with_model};
 use desk_front::{FrontFault, Options};
-use full_heap::FullHeap;
 use lanes::OpenGate;
 use std::alloc::Global;
 use std::sync::Wait;
 use std::test::Fail;
 use std::thread::Threads;
-use test_devices::Page;
+use test_devices::{FullHeap, Page};
 
 /// Lines behind the model.
 const LINES: &str = r#"{"client":"a","service":"s","inputs":{"a":1}}

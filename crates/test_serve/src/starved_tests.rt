@@ -1,12 +1,12 @@
 //! A request for which there will never be memory ends the run.
 use crate::runs::{Ended, serve_once};
 use desk_front::{FrontFault, Options};
-use full_heap::FullHeap;
 use lanes::Gate;
 use std::alloc::{AllocError, Global};
 use std::sync::atomic::{AtomicBool, Ordering};
 use std::test::Fail;
 use std::{io, thread};
+use test_devices::FullHeap;
 
 /// The service counts the entries `n` of a list of contexts, for which a list of them all is made.
 const MODEL: &str =

@@ -1,7 +1,7 @@
 // A case: the inputs of a request, what is told of them under each model, and the address that has them.
 import * as api from "./api.js";
 import { drawDifferences } from "./changed.js";
-import { button, byID, el, first, readJSON, show, unseen, writeJSON } from "./dom.js";
+import { button, byID, el, first, isObject, readJSON, show, unseen, writeJSON } from "./dom.js";
 import { outcome } from "./logic.js";
 import { listOf } from "./model.js";
 import { chooseService, goTo } from "./show.js";
@@ -69,9 +69,9 @@ export async function tryWitness(view, finding) {
     view.say(`The form cannot be filled with these values: ${whyNot(it, view, finding)}.`);
     return;
   }
-  fillFrom(it.name(service.name), merged(state.inputs, finding.inputs));
+  fillFrom(it.name(service.name), merged(state.inputs, it.inputsInFile(finding.inputs)));
   await decide();
-  const values = finding.witness.map((value, at) => `${view.column(at)} ${show(value)}`).join(", ");
+  const values = view.witness(finding).map((value, at) => `${view.column(at)} ${show(value)}`).join(", ");
   const isTaken = state.told[state.shown] !== undefined;
   view.say(`The form has ${values}. `, isTaken ? "The rules that hit are lit." : "The service does not take them: see the form.");
 }
@@ -93,7 +93,6 @@ function whyNot(it, view, finding) {
 
 /** An object with the members of another one put into it, also within members that both have. */
 function merged(object, other) {
-  const isObject = (value) => value !== null && typeof value === "object" && !Array.isArray(value);
   if (!isObject(object) || !isObject(other)) return other;
   const pairs = Object.entries(other).map(([key, value]) => [key, merged(object[key], value)]);
   return { ...object, ...Object.fromEntries(pairs) };
@@ -150,20 +149,22 @@ function whichRules(word, part) {
 }
 
 /** The table that made a value: that of the part itself, of its result, or of the entry that this names. */
-function tableOf(expr, part, pointer) {
+function tableOf(whole, part, from) {
+  const { expr, pointer } = model().written(whole, from);
   if (part?.table) return { table: expr?.table, told: part.table, pointer: `${pointer}/table` };
   if (!part?.result) return null;
-  const entry = listOf(expr?.context).findIndex((it) => it?.name === expr.result);
-  if (entry < 0) return tableOf(expr?.result, part.result, `${pointer}/result`);
-  return tableOf(expr.context[entry].expr, listOf(part.entries)[entry], `${pointer}/context/${entry}/expr`);
+  const entries = listOf(expr?.context).map((entry, at) => ({ entry, at })).filter(({ entry }) => model().isOfFile(entry ?? undefined));
+  const kept = entries.findIndex(({ entry }) => entry?.name === expr.result);
+  if (kept < 0) return tableOf(expr?.result, part.result, `${pointer}/result`);
+  return tableOf(entries[kept].entry.expr, listOf(part.entries)[kept], `${pointer}/context/${entries[kept].at}/expr`);
 }
 
 /** The values that the tests of a rule met, where one rule alone is told. */
 function byValues({ table, told, pointer }, rules) {
-  if (rules.length !== 1) return "";
-  const tests = listOf(listOf(table?.rules)[rules[0] - 1]?.when);
-  const met = tests.flatMap((text, at) =>
-    (text === "-" ? [] : [`${model().column(pointer, table, at)} is ${show(listOf(told.inputs)[at])}`]));
+  if (rules.length !== 1 || !table || !told.inputs) return "";
+  const test = (at) => model().text(listOf(table.rules)[rules[0] - 1]?.when?.[at], `${pointer}/rules/${rules[0] - 1}/when/${at}`);
+  const met = model().inputsOf(pointer, table).flatMap((_, at) =>
+    (test(at) === "-" ? [] : [`${model().column(pointer, table, at)} is ${show(told.inputs[at])}`]));
   return met.length > 0 ? `: ${met.join(" and ")}` : "";
 }
 

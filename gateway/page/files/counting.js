@@ -13,7 +13,7 @@ export async function takeRequests(file) {
   state.coverage?.stop();
   const progress = byID("progress");
   let told = 0;
-  const coverage = new Coverage(file, model(), model().name(state.service), (part) => {
+  const coverage = new Coverage(file, model(), model().name(state.service), byID("comma").checked, (part) => {
     // Each change is drawn, and may be read out.
     if (performance.now() - told < PAUSE) return;
     told = performance.now();
@@ -29,6 +29,10 @@ export async function takeRequests(file) {
   await tried(() => coverage.run());
   if (state.coverage !== coverage) return;
   progress.hidden = byID("stop").hidden = true;
+  if (!coverage.records) {
+    byID("counted").replaceChildren();
+    return;
+  }
   drawCoverage(coverage);
 }
 
@@ -106,6 +110,7 @@ function answersOf(coverage) {
 async function openLine(coverage, answer) {
   await tried(async () => {
     const line = readJSON(await coverage.request(answer.line));
+    if (line === null) return;
     const isRequest = typeof line.service === "string" && line.inputs !== undefined;
     fillFrom(isRequest ? line.service : coverage.service, isRequest ? line.inputs : line);
     await decide();

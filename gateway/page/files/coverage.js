@@ -1,22 +1,22 @@
-// Counts over a file of requests: it is read in pieces of whole lines, a few of which are asked at once.
+// Counts over a file of requests: it is read in pieces of whole records, a few of which are asked at once.
 import { cover, Problem } from "./api.js";
 import { writeJSON } from "./dom.js";
 import { listOf, tablesOf } from "./model.js";
+import { bytesOf, openRecords } from "./records.js";
 
 const PIECE = 512 * 1024;
 const LONGEST = 16 * 1024 * 1024;
-/** Where the end of a piece is looked for first: most lines are shorter. */
-const TAIL = 8 * 1024;
 /** A browser has six connections to a service at once: one is left for what is asked meanwhile. */
 const AT_ONCE = 5;
 const NEWLINE = 10;
 
 export class Coverage {
-  /** `onprogress` is called with how much of the file was counted, from 0 to 1. */
-  constructor(file, model, service, onprogress) {
-    Object.assign(this, { file, model, service, onprogress });
+  /** `onprogress` is called with how much of the file was counted, from 0 to 1. Numbers of CSV have a decimal comma if `isComma`. */
+  constructor(file, model, service, isComma, onprogress) {
+    Object.assign(this, { file, model, service, isComma, onprogress });
     this.tables = new Map();
     this.pieces = [];
+    this.answers = [];
     this.done = 0;
     this.start = performance.now();
     this.isWhole = false;
@@ -25,6 +25,7 @@ export class Coverage {
 
   /** Counts to the end of the file, or until it is stopped: then over what was counted by then. */
   async run() {
+    this.records = await openRecords(this.file, this.model, this.model.word(this.service), this.isComma);
     const pieces = this.parts();
     const worker = async () => {
       for (let next = await pieces.next(); !next.done; next = await pieces.next()) await this.ask(next.value);
@@ -45,12 +46,12 @@ export class Coverage {
     this.abort.abort();
   }
 
-  /** The file in pieces of whole lines. They are hardly read here: the browser sends them, and the service counts their lines. */
+  /** The file in pieces of whole records. */
   async* parts() {
-    const [one, two, three] = await this.bytes(0, 3);
-    let start = one === 0xef && two === 0xbb && three === 0xbf ? 3 : 0;
-    while (start < this.file.size) {
-      const end = await this.endOfLines(start);
+    const { blob } = this.records;
+    let { start } = this.records;
+    while (start < blob.size) {
+      const end = await this.endOfRecords(start);
       const piece = { start, end, answers: [] };
       this.pieces.push(piece);
       yield piece;
@@ -58,39 +59,48 @@ export class Coverage {
     }
   }
 
-  async bytes(start, end) {
-    return new Uint8Array(await this.file.slice(start, end).arrayBuffer());
-  }
-
-  /** Where the whole lines end that begin here and fit into a piece; the first one may be longer. */
-  async endOfLines(start) {
+  /** Where the whole records end that begin here and fit into a piece; the first one may be longer. */
+  async endOfRecords(start) {
+    const { blob } = this.records;
     for (let size = PIECE; size <= LONGEST; size *= 2) {
       const end = start + size;
-      if (end >= this.file.size) return this.file.size;
-      for (const from of [end - TAIL, start]) {
-        this.abort.signal.throwIfAborted();
-        const last = (await this.bytes(from, end)).lastIndexOf(NEWLINE);
-        if (last >= 0) return from + last + 1;
-      }
+      if (end >= blob.size) return blob.size;
+      this.abort.signal.throwIfAborted();
+      const length = this.records.cut((await bytesOf(blob, start, end)).raw, start);
+      if (length > 0) return start + length;
     }
     throw new Problem({ title: "A line of the file is too long" });
   }
 
-  async ask(piece) {
-    const told = await cover(this.model, this.service, this.file.slice(piece.start, piece.end), this.abort.signal);
-    Object.assign(piece, { lines: told.lines, answers: told.answers });
-    for (const [pointer, counts] of Object.entries(told.tables)) this.add(pointer, counts);
-    this.done += piece.end - piece.start;
-    this.onprogress(this.done / this.file.size);
+  /** The requests of a piece as lines of JSON, with the lines of the file on which they begin; null where they are those of the file. */
+  async requestsOf(piece) {
+    const { blob } = this.records;
+    return this.records.requests({ ...await bytesOf(blob, piece.start, piece.end), start: piece.start, isLast: piece.end === blob.size });
   }
 
-  /** Numbers the lines of the whole file. Those of a piece that was not answered to are counted here. */
+  async ask(piece) {
+    const made = await this.requestsOf(piece);
+    const lines = made?.text ?? this.records.blob.slice(piece.start, piece.end);
+    const told = made?.text === "" ? { answers: [], tables: {} } : await cover(this.model, this.service, lines, this.abort.signal);
+    piece.answers = told.answers;
+    if (made) {
+      for (const answer of piece.answers) answer.line = made.starts[answer.line - 1] + 1;
+      for (const it of made.refused) piece.answers.push({ ...it, line: it.line + 1 });
+      piece.answers.sort((one, other) => one.line - other.line);
+    }
+    piece.lines = made?.lines ?? told.lines;
+    for (const [pointer, counts] of Object.entries(told.tables)) this.add(pointer, counts);
+    this.done += piece.end - piece.start;
+    this.onprogress(this.done / this.records.blob.size);
+  }
+
+  /** Numbers the lines of the whole file. Those of a piece that the service did not count are counted here. */
   async number() {
-    let line = 1;
+    let { line } = this.records;
     for (const piece of this.pieces) {
       piece.line = line;
       for (const answer of piece.answers) answer.line += line - 1;
-      line += piece.lines ?? newlines(await this.bytes(piece.start, piece.end));
+      line += piece.lines ?? newlines((await bytesOf(this.records.blob, piece.start, piece.end)).bytes);
     }
   }
 
@@ -119,10 +129,13 @@ export class Coverage {
     }
   }
 
-  /** The service and the inputs of a line. */
+  /** The service and the inputs of a line, as a JSON text. */
   async request(line) {
     const piece = this.pieces.findLast((it) => it.line <= line);
-    return (await this.file.slice(piece.start, piece.end).text()).split("\n")[line - piece.line];
+    const made = await this.requestsOf(piece);
+    const at = made ? made.starts.indexOf(line - piece.line) : line - piece.line;
+    const lines = made?.text ?? await this.records.blob.slice(piece.start, piece.end).text();
+    return at < 0 ? "null" : lines.split("\n")[at];
   }
 
   rulesCSV() {

@@ -26,23 +26,55 @@ export const unseen = (text) => el("span", { class: "unseen" }, text);
 
 export const button = (text, onclick, attributes) => el("button", { type: "button", onclick, ...attributes }, text);
 
-// Numbers go to 2^63, beyond what JavaScript's keep. Where a text has such a long number, it is read into a BigInt by way
-// of a text that begins with MARK; texts that begin with it anyway get one more.
+// Numbers go to 2^63 and have up to 34 digits, beyond what JavaScript's keep. Where a text has such a long number, it is read into
+// a BigInt or a Decimal by way of a text that begins with MARK; texts that begin with it anyway get one more.
 const MARK = "\uE000";
+const LONG = /(?:\d\.?){16}/;
 
-/** Reads a JSON text; whole numbers that would lose digits become BigInts. */
+/** A number of which JavaScript's would lose digits: `text` is as JSON has it. */
+export class Decimal {
+  constructor(text) {
+    this.text = text;
+    // JSON.stringify takes no BigInt, so that none goes out as an object.
+    this.digits = 0n;
+  }
+}
+
+/** Whether a value is an object of JSON. */
+export const isObject = (value) => value !== null && typeof value === "object" && !Array.isArray(value) && !(value instanceof Decimal);
+
+/** A deep copy of a value of JSON. */
+export function copied(value) {
+  if (Array.isArray(value)) return value.map(copied);
+  return isObject(value) ? Object.fromEntries(Object.entries(value).map(([key, part]) => [key, copied(part)])) : value;
+}
+
+/** Reads a JSON text; numbers that would lose digits become BigInts, or Decimals where they have a point. */
 export function readJSON(text) {
-  if (!/\d{16}/.test(text)) return JSON.parse(text);
+  if (!LONG.test(text)) return JSON.parse(text);
   const marked = text.replace(/"(?:[^"\\]|\\.)*"|-?\d[\d.eE+-]*/gs, (token) => {
     if (token.startsWith('"')) return token.startsWith('"' + MARK) ? '"' + MARK + token.slice(1) : token;
-    return /^-?\d{16,}$/.test(token) ? `"${MARK}n${token}"` : token;
+    return LONG.test(token) && Number.isFinite(JSON.parse(token)) ? `"${MARK}n${token}"` : token;
   });
   return JSON.parse(marked, (_, value) => {
     if (typeof value !== "string" || !value.startsWith(MARK)) return value;
-    if (!/^n-?\d+$/.test(value.slice(1))) return value.slice(1);
-    const number = BigInt(value.slice(2));
-    return Number.isSafeInteger(Number(number)) ? Number(number) : number;
+    return value[1] === "n" ? longNumber(value.slice(2)) : value.slice(1);
   });
+}
+
+/** A whole number of a unit with so many decimals, as a number. */
+export function pointed(number, decimals) {
+  const [, sign, digits] = /^(-?)(\d+)$/.exec(String(number)) ?? [];
+  if (decimals === 0 || digits === undefined) return number;
+  const padded = digits.padStart(decimals + 1, "0");
+  const fraction = padded.slice(-decimals).replace(/0+$/, "");
+  return longNumber(sign + padded.slice(0, -decimals) + (fraction ? `.${fraction}` : ""));
+}
+
+function longNumber(text) {
+  const number = Number(text);
+  if (String(number) === text) return number;
+  return /^-?\d+$/.test(text) ? BigInt(text) : new Decimal(text);
 }
 
 /** Writes a value as JSON; `space` parts it as in JSON.stringify. */
@@ -50,9 +82,12 @@ export function writeJSON(value, space) {
   try {
     return JSON.stringify(value, null, space);
   } catch {
-    // JSON.stringify takes no BigInt.
-    const marked = JSON.stringify(value, (_, part) => (typeof part === "bigint" ? MARK + "n" + part : part), space);
-    return marked.replace(new RegExp(`"${MARK}n(-?\\d+)"`, "g"), "$1");
+    const marked = JSON.stringify(value, (_, part) => {
+      if (typeof part === "bigint") return `${MARK}n${part}`;
+      if (part instanceof Decimal) return `${MARK}n${part.text}`;
+      return typeof part === "string" && part.startsWith(MARK) ? MARK + part : part;
+    }, space);
+    return marked.replace(new RegExp(`"${MARK}(?:n(-?[\\d.]+(?:[eE][+-]?\\d+)?)"|(?=${MARK}))`, "g"), (_, number) => number ?? '"');
   }
 }
 

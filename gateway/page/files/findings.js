@@ -36,11 +36,12 @@ export function verdict(told, table) {
   return { text: (key ? COMPLETE[key] : open) + unique, isFine: key !== undefined && (told.unique || !isSingle) };
 }
 
-function numbersOf({ from = LEAST, to = MOST }) {
+function numbersOf({ from = LEAST, to = MOST }, unit) {
   const [isOpen, hasNoEnd] = [BigInt(from) <= LEAST, BigInt(to) >= MOST];
-  if (isOpen) return hasNoEnd ? "any number" : `<= ${to}`;
-  if (hasNoEnd) return `>= ${from}`;
-  return from === to ? `${from}` : `[${from}..${to}]`;
+  const [low, high] = [show(unit(from)), show(unit(to))];
+  if (isOpen) return hasNoEnd ? "any number" : `<= ${high}`;
+  if (hasNoEnd) return `>= ${low}`;
+  return from === to ? low : `[${low}..${high}]`;
 }
 
 function textsOf({ from = "", below }) {
@@ -53,19 +54,20 @@ function textsOf({ from = "", below }) {
 /** Values in a row, the first of many. */
 const shown = (values) => first(values.map((value) => show(value)));
 
-function piece(it) {
-  if (Object.hasOwn(it, "value")) return show(it.value);
+function piece(it, unit) {
+  if (Object.hasOwn(it, "value")) return show(unit(it.value));
   if (Object.hasOwn(it, "text")) return show(it.text);
   if (it.texts_but) return it.texts_but.length > 0 ? `any text but ${shown(it.texts_but)}` : "any text";
   if (it.else) return listOf(it.else.kinds).map((kind) => `a ${kind}`).join(" or ");
-  return typeof it.from === "string" || it.below !== undefined ? textsOf(it) : numbersOf(it);
+  return typeof it.from === "string" || it.below !== undefined ? textsOf(it) : numbersOf(it, unit);
 }
 
 const EVERY = ["any number", "any text", "true", "false", "null", "a list or a context"];
 
 /** The values of a column in words, as `<= -1 or null`. */
-function cell(pieces) {
-  const words = pieces.map(piece);
+function cell(pieces, unit) {
+  if (unit === null) return "some quotient";
+  const words = pieces.map((it) => piece(it, unit));
   if (EVERY.every((word) => words.includes(word))) return "any";
   const more = words.length > MOST_PIECES ? ` or ${words.length - MOST_PIECES} more` : "";
   return words.slice(0, MOST_PIECES).join(" or ") + more;
@@ -73,7 +75,7 @@ function cell(pieces) {
 
 /** The values of a finding's columns in words, as `claims <= -1, age >= 25`. */
 const box = (view, finding) =>
-  view.inputs.map((_, at) => `${view.column(at)} ${cell(listOf(finding.cells?.[at]))}`).join(", ");
+  view.inputs.map((_, at) => `${view.column(at)} ${cell(listOf(finding.cells?.[at]), view.unit(at))}`).join(", ");
 
 const named = (rules) => `${rules.length === 1 ? "rule" : "rules"} ${first(rules)}`;
 
@@ -85,7 +87,7 @@ export function said(view, finding) {
     case "overlap": return `rules ${rule} and ${others[0]} both hit, which gives null: ${box(view, finding)}${unsure}`;
     case "gap": return `no rule hits: ${box(view, finding)}${unsure}`;
     case "never": return `rule ${rule} never hits`;
-    case "masked": return `rule ${rule} never decides: ${named(others)} ${others.length === 1 ? "goes" : "go"} before it`;
+    case "masked": return `rule ${rule} never decides: ${named(listOf(finding.before))} ${listOf(finding.before).length === 1 ? "goes" : "go"} before it`;
     default: return show(finding);
   }
 }
@@ -98,7 +100,7 @@ function item(view, finding, fill) {
   if (finding.more !== undefined) return el("li", {}, `and ${counted(finding.more, `more ${finding.finding}`)}`);
   const ways = rowsOf(finding).flatMap((at) =>
     [" ", button(`to rule ${at + 1}`, () => view.moveTo(at), { class: "link" })]);
-  const values = shown(listOf(finding.witness));
+  const values = shown(view.witness(finding));
   const witness = finding.witness ? [" ", button(`Try ${values}`, () => fill(view, finding),
     { "aria-label": `Try ${values}: fill the form with these values` })] : [];
   return el("li", {}, said(view, finding), ways, witness);

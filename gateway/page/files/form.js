@@ -1,5 +1,5 @@
 // The form of a service's inputs, made from their types, or from how the model uses them where it has none.
-import { el, readJSON, writeJSON } from "./dom.js";
+import { copied, el, isObject, readJSON, writeJSON } from "./dom.js";
 import { listOf, tablesOf } from "./model.js";
 
 let count = 0;
@@ -8,14 +8,14 @@ let count = 0;
 const put = (object, key, value) =>
   Object.defineProperty(object, key, { value, enumerable: true, configurable: true, writable: true });
 const member = (object, key) => (isObject(object) ? Object.getOwnPropertyDescriptor(object, key)?.value : undefined);
-const isObject = (value) => value !== null && typeof value === "object" && !Array.isArray(value);
 
 export class Form {
   constructor(model, service) {
     this.model = model;
     this.fields = [];
     this.base = {};
-    this.element = el("div", {}, model.parameters(service).map((word) => this.part(shapeOf(model, word), [word])));
+    const words = model.parameters(service).filter((word) => !isFromClock(model, word));
+    this.element = el("div", {}, words.map((word) => this.part(shapeOf(model, word), [word])));
   }
 
   part(shape, path) {
@@ -28,7 +28,9 @@ export class Form {
     const error = el("span", { id: `${id}-error`, class: "error" });
     const suggested = shape.suggested?.map((value) => el("option", { value }));
     const list = suggested ? el("datalist", { id: `${id}-list` }, suggested) : null;
-    const input = shape.choices ? choice(shape.choices, id) : el("input", { id, type: "text", autocomplete: "off",
+    const isDate = shape.format === "date";
+    const input = shape.choices ? choice(shape.choices, id) : el("input", { id, type: isDate ? "date" : "text", autocomplete: "off",
+      min: isDate ? "0001-01-01" : null, max: isDate ? "9999-12-31" : null, placeholder: isDate ? null : shape.example,
       inputmode: shape.kind === "number" ? "numeric" : null, spellcheck: "false", list: list?.id });
     input.setAttribute("aria-describedby", error.id);
     this.fields.push({ path, shape, input, error });
@@ -37,7 +39,7 @@ export class Form {
 
   /** The inputs as they stand in the form, or null where a field has no value of its type. */
   value() {
-    const inputs = structuredClone(this.base);
+    const inputs = copied(this.base);
     let isFine = true;
     for (const field of this.fields) {
       const read = readField(field);
@@ -50,7 +52,7 @@ export class Form {
 
   /** Fills the form; members that it has no field for are kept. */
   fill(inputs) {
-    this.base = structuredClone(inputs);
+    this.base = copied(inputs);
     for (const field of this.fields) {
       mark(field, "");
       writeField(field, field.path.reduce(member, inputs));
@@ -104,8 +106,7 @@ function readField({ shape, input }) {
   }
   if (shape.kind === "decimal") {
     if (!/^-?\d+(\.\d+)?$/.test(text)) return { fault: "a number is due, as 12.50" };
-    if (text.replace(/\D/g, "").length > 15) return { fault: "a number of at most 15 digits is due here" };
-    return { value: Number(text) };
+    return { value: readJSON(text.replace(/^(-?)0+(?=\d)/, "$1")) };
   }
   if (shape.kind === "text") return { value: text === '""' ? "" : input.value };
   try {
@@ -152,8 +153,18 @@ function shapeOfType(type) {
     return { members: Object.entries(type.properties).map(([word, inner]) => [word, shapeOfType(inner)]) };
   }
   const kind = { integer: "number", number: "decimal", string: "text" }[kinds.length === 1 ? kinds[0] : ""];
-  return { kind: kind ?? "any" };
+  return { kind: kind ?? "any", format: kind === "text" ? type.format : undefined, example: exampleOf(type) };
 }
+
+/** An example of a date, a time or a duration, which a field shows while it is empty. */
+function exampleOf({ format, unit, offset }) {
+  const zone = offset ? "+02:00" : "";
+  return { date: "2026-01-31", time: `12:30:00${zone}`, "date-time": `2026-01-31T12:30:00${zone}`,
+    duration: unit === "month" ? "P1Y6M" : "P1DT2H" }[format];
+}
+
+/** Whether a clock gives the input: callers may not. */
+const isFromClock = (model, word) => Object.hasOwn(model.types, word) && model.types[word].clock !== undefined;
 
 /** The shape of an input without a type, from the paths that the model has into it and the columns that test it. */
 function shapeOfUse(model, word) {

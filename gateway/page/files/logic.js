@@ -4,7 +4,8 @@ import { listOf, sentence } from "./model.js";
 import { TableView } from "./table.js";
 
 export class LogicView {
-  constructor(model, expr, pointer, name, options) {
+  constructor(model, whole, from, name, options) {
+    const { expr, pointer, isText } = model.written(whole, from);
     this.tables = [];
     this.parts = [];
     this.value = el("span", { class: "value" });
@@ -23,17 +24,18 @@ export class LogicView {
       const members = this.parts.map((view) => el("li", {}, view.element));
       this.element = el("div", {}, found, el("ol", { class: "list" }, members));
     } else if (Array.isArray(expr?.context)) {
-      this.parts = expr.context.map((entry, at) =>
+      const entries = expr.context.map((entry, at) => ({ entry, at })).filter(({ entry }) => model.isOfFile(entry ?? undefined));
+      this.parts = entries.map(({ entry, at }) =>
         part(entry?.expr, `/context/${at}/expr`, `${model.name(entry?.name)} of ${name}`));
       const rows = this.parts.map((view, at) => el("div", { class: "entry" },
-        el("dt", {}, model.name(listOf(expr.context)[at]?.name)), el("dd", {}, view.element)));
+        el("dt", {}, model.name(entries[at].entry?.name)), el("dd", {}, view.element)));
       if (expr.result !== undefined) {
         this.result = part(expr.result, "/result", name);
         rows.push(el("div", { class: "entry" }, el("dt", {}, "result"), el("dd", {}, this.result.element)));
       }
       this.element = el("div", {}, found, el("dl", { class: "context" }, rows));
     } else {
-      this.element = el("div", { class: "text" }, el("code", {}, model.text(expr)), " ", this.value, found);
+      this.element = el("div", { class: "text" }, el("code", {}, isText ? expr : model.text(expr)), " ", this.value, found);
     }
   }
 

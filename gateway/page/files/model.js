@@ -1,4 +1,5 @@
 // A model as the page knows it: its parts under the names of the file, and what was found at each place.
+import { isObject, pointed } from "./dom.js";
 
 const POLICIES = {
   U: ["Unique", "one rule alone may hit; where several do, the result is null"],
@@ -22,6 +23,7 @@ export class Model {
   /** Of what `GET /v1/model?whole=true` and `POST /v1/check` give. */
   constructor(whole) {
     this.sha256 = whole.sha256;
+    this.release = whole.release;
     this.isLawful = whole.lawful;
     this.fault = whole.fault;
     const written = whole.model ?? {};
@@ -30,6 +32,10 @@ export class Model {
     this.words = new Map([...this.names].map(([word, name]) => [name, word]));
     this.types = whole.types ?? {};
     this.places = whole.places ?? {};
+    const texts = Object.keys(this.places).filter((pointer) => this.places[pointer].text);
+    this.tablesWithTexts = new Set(texts.filter((it) => it.includes("/rules/")).map((it) => it.split("/rules/")[0]));
+    // The model counts in units, and has parts that the file doesn't have.
+    this.isTranslated = texts.length > 0 || Object.values(this.types).some(isCounted);
     this.diagram = whole.diagram;
     this.findings = whole.findings;
     // What is found of the tables is asked for later, where it does not stand there.
@@ -50,8 +56,10 @@ export class Model {
     return this.words.get(name) ?? name;
   }
 
-  /** A text of the model with the names of the file. */
-  text(text) {
+  /** A text of the model with the names of the file, or what the file has at its place. */
+  text(text, pointer) {
+    const written = pointer && this.places[pointer]?.text;
+    if (written) return written;
     if (typeof text !== "string") return JSON.stringify(text) ?? "";
     if (this.names.size === 0) return text;
     return text.replace(/"(?:[^"\\]|\\.)*"|[A-Za-z_][A-Za-z0-9_]*/g,
@@ -60,7 +68,52 @@ export class Model {
 
   /** What a column of the table at a pointer is called: by its label in the file, or by its expression. */
   column(pointer, table, at) {
-    return this.places[`${pointer}/inputs/${at}`]?.name || this.text(listOf(table?.inputs)[at]);
+    const place = `${pointer}/inputs/${at}`;
+    return this.places[place]?.name || this.text(listOf(table?.inputs)[at], place);
+  }
+
+  /** How a value of an input column is read of the model, which counts in units; null where it is a part of a quotient. */
+  unitOf(pointer, at) {
+    const place = this.places[`${pointer}/inputs/${at}`];
+    return place?.over ? null : (value) => inFile(value, place?.type);
+  }
+
+  /** Values of inputs that the model has, as requests have them. */
+  inputsInFile(inputs) {
+    return Object.fromEntries(Object.entries(inputs).map(([word, value]) => [word, inFile(value, this.types[word])]));
+  }
+
+  /** Whether the file has an entry of a context: what only the translation has is not shown. */
+  isOfFile({ name } = {}) {
+    return !this.isTranslated || this.names.has(name) || this.locals.has(name);
+  }
+
+  /** The input columns of a table that the file has: the last may be one of conditions that the translation added. */
+  inputsOf(pointer, table) {
+    const inputs = listOf(table.inputs);
+    const last = inputs.length - 1;
+    const isOwn = !this.isTranslated || inputs[last] !== "true" || this.places[`${pointer}/inputs/${last}`] ||
+      listOf(table.rules).some((_, at) => this.places[`${pointer}/rules/${at}/when/${last}`]);
+    return isOwn ? inputs : inputs.slice(0, last);
+  }
+
+  /** An expression as the file has it: its text, or the part that the translation put entries in front of; with its pointer. */
+  written(expr, pointer) {
+    const entries = listOf(expr?.context);
+    if (this.places[pointer]?.text) return { expr: this.places[pointer].text, pointer, isText: true };
+    if (entries.length === 0 || expr.result === undefined || entries.some((it) => this.isOfFile(it))) return { expr, pointer };
+    const hidden = entries.findLastIndex((it, at) => this.isFromFile(it?.expr, `${pointer}/context/${at}/expr`));
+    if (hidden >= 0 && typeof expr.result === "string" && !this.places[`${pointer}/result`]?.text) {
+      return this.written(entries[hidden].expr, `${pointer}/context/${hidden}/expr`);
+    }
+    return this.written(expr.result, `${pointer}/result`);
+  }
+
+  /** Whether the file has an expression that the translation gave a name. */
+  isFromFile(expr, pointer) {
+    if (this.places[pointer]?.text) return true;
+    if (expr?.context) return expr.result !== undefined && this.isFromFile(expr.result, `${pointer}/result`);
+    return Boolean(expr?.table) && (this.places[pointer] !== undefined || this.tablesWithTexts.has(`${pointer}/table`));
   }
 
   service(word) {
@@ -88,9 +141,23 @@ export class Model {
   /** Values with the words of the model as their keys. */
   worded(value) {
     if (Array.isArray(value)) return value.map((part) => this.worded(part));
-    if (value === null || typeof value !== "object") return value;
+    if (!isObject(value)) return value;
     return Object.fromEntries(Object.entries(value).map(([name, part]) => [this.word(name), this.worded(part)]));
   }
+}
+
+/** Whether numbers of a type are counted in a unit. */
+function isCounted(type) {
+  return type !== undefined && ((type.multipleOf ?? 1) !== 1 || type.per !== undefined || isCounted(type.items) ||
+    Object.values(type.properties ?? {}).some(isCounted));
+}
+
+/** A value of the model, whose numbers count a unit of its type, as the file has it. */
+function inFile(value, type) {
+  if (Array.isArray(value)) return value.map((part) => inFile(part, type?.items ?? type));
+  if (isObject(value)) return Object.fromEntries(Object.entries(value).map(([key, part]) => [key, inFile(part, type?.properties?.[key])]));
+  const isNumber = typeof value === "number" || typeof value === "bigint";
+  return isNumber && type?.multipleOf ? pointed(value, Math.max(0, -Math.round(Math.log10(type.multipleOf)))) : value;
 }
 
 export const listOf = (value) => (Array.isArray(value) ? value : []);

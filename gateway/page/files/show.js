@@ -12,7 +12,8 @@ import { model, state, tried } from "./state.js";
 export function showModel() {
   const it = model();
   const parts = `${counted(it.decisions.length, "decision")}, ${counted(it.services.length, "service")}. `;
-  byID("model").replaceChildren(parts, el("span", { class: "quiet" }, `SHA-256 ${it.sha256.slice(0, 12)}..`));
+  const release = it.release ? `${it.release.name ?? ""} ${it.release.version ?? ""}, `.trimStart() : "";
+  byID("model").replaceChildren(parts, el("span", { class: "quiet" }, `${release}SHA-256 ${it.sha256.slice(0, 12)}..`));
   state.graph = new GraphView(it, (word) => goTo(word));
   byID("graph").replaceChildren(framed("The graph", state.graph.element));
   const options = it.services.map((service) => el("option", { value: service.name }, it.name(service.name)));

@@ -15,7 +15,7 @@ export class TableView {
   constructor(model, table, pointer, name, { askMisses, tryWitness, differing }) {
     Object.assign(this, { model, table, pointer, name, askMisses, tryWitness, differing });
     this.rules = listOf(table.rules);
-    this.inputs = listOf(table.inputs);
+    this.inputs = model.inputsOf(pointer, table);
     this.outputs = listOf(table.outputs);
     this.isVirtual = this.rules.length > ALL_AT_ONCE;
     this.found = this.findingsByRule();
@@ -43,6 +43,19 @@ export class TableView {
     return this.model.column(this.pointer, this.table, at);
   }
 
+  unit(at) {
+    return this.model.unitOf(this.pointer, at);
+  }
+
+  /** The values of a finding that are to be tried, as the file has them. */
+  witness(finding) {
+    const inFile = (value, at) => {
+      const unit = this.unit(at);
+      return unit ? unit(value) : "some quotient";
+    };
+    return listOf(finding.witness).slice(0, this.inputs.length).map(inFile);
+  }
+
   policy() {
     const [name, said] = policyOf(this.table);
     return el("p", { class: "policy" }, el("strong", {}, `${this.table.hit} `), `${name}: ${said}`,
@@ -54,8 +67,8 @@ export class TableView {
     if (!this.isVirtual) return [];
     const longest = (head, texts) =>
       Math.min(36, texts.reduce((most, text) => Math.max(most, String(text).length), String(head).length)) + 4;
-    const widths = [9, ...this.inputs.map((head, at) => longest(head, this.rules.map((rule) => rule.when?.[at]))),
-      ...this.outputs.map((output, at) => longest(output.name, this.rules.map((rule) => rule.then?.[at]))),
+    const widths = [9, ...this.inputs.map((head, at) => longest(head, this.rules.map((_, rule) => this.cell(rule, "when", at)))),
+      ...this.outputs.map((output, at) => longest(output.name, this.rules.map((_, rule) => this.cell(rule, "then", at)))),
       ...(this.counts ? [9, 11] : [])];
     this.grid.style.width = `${widths.reduce((sum, width) => sum + width)}ch`;
     return [el("colgroup", {}, widths.map((characters) => {
@@ -108,7 +121,7 @@ export class TableView {
     const value = (at) =>
       (values && at < values.length ? el("span", { class: "value" }, unseen("is "), show(values[at])) : null);
     const asked = (at) => {
-      const [name, text] = [this.column(at), el("code", {}, this.model.text(this.inputs[at]))];
+      const [name, text] = [this.column(at), el("code", {}, this.model.text(this.inputs[at], `${this.pointer}/inputs/${at}`))];
       return name === text.textContent ? text : [name, el("span", { class: "label" }, text)];
     };
     const listed = (output) => (listOf(output.values).length ?
@@ -126,7 +139,7 @@ export class TableView {
     return [el("tr", { role: "row", class: this.defaults ? "decided" : "" },
       el("th", { role: "rowheader", scope: "row", colspan: this.inputs.length + 1 },
         this.defaults ? "▶ no rule hit: " : "", "otherwise"),
-      this.outputs.map((output) => cell(el("code", {}, this.model.text(output.default ?? "null")))),
+      this.outputs.map((output, at) => cell(el("code", {}, this.model.text(output.default ?? "null", `${this.pointer}/outputs/${at}/default`)))),
       this.counts ? [cell(""), cell(String(this.counts.defaults), "count")] : null)];
   }
 
@@ -136,11 +149,12 @@ export class TableView {
     const isAt = (it, kind, column) => it.kind === kind && (column === undefined || it.column === column);
     const marks = (kind, column) => this.marks(found.filter((it) => isAt(it, kind, column)).map((it) => it.finding));
     const miss = this.misses?.get(at + 1);
-    const cells = (texts, kind) => listOf(texts).map((text, column) => {
-      const missed = kind === "when" && miss === column + 1;
-      const title = this.isVirtual ? this.model.text(text) : null;
+    const cells = (texts, kind) => texts.map((_, column) => {
+      const missed = kind === "when" && this.hasMissed(at, column, miss);
+      const text = this.cell(at, kind, column);
+      const title = this.isVirtual ? text : null;
       return el("td", { role: "cell", class: missed ? `${kind} missed` : kind, title },
-        el("code", {}, this.model.text(text)), missed ? unseen(" is not met") : null, marks(kind, column));
+        el("code", {}, text), missed ? unseen(" is not met") : null, marks(kind, column));
     });
     const [state, sign, said] = this.stateOf(at + 1);
     const hits = this.counts?.hits[at] ?? 0;
@@ -153,8 +167,19 @@ export class TableView {
     const count = (text) => el("td", { role: "cell", class: "count" }, String(text));
     return el("tr", { role: "row", "aria-rowindex": at + 2, class: [state, differs, never].filter(Boolean).join(" ") },
       el("th", { role: "rowheader", scope: "row" }, number, marks(undefined)),
-      cells(rule.when, "when"), cells(rule.then, "then"),
+      cells(listOf(rule.when).slice(0, this.inputs.length), "when"), cells(listOf(rule.then), "then"),
       this.counts ? [count(hits), count(decided === null ? "" : decided || "never")] : null);
+  }
+
+  /** A cell of a rule as the file has it. */
+  cell(at, kind, column) {
+    return this.model.text(this.rules[at][kind]?.[column], `${this.pointer}/rules/${at}/${kind}/${column}`);
+  }
+
+  /** Whether a rule missed at a column. A test that the translation moved into a column of its own missed there. */
+  hasMissed(at, column, miss) {
+    const isMoved = this.rules[at].when?.[column] === "-" && this.cell(at, "when", column) !== "-";
+    return miss === column + 1 || (isMoved && miss > this.inputs.length);
   }
 
   stateOf(number) {
@@ -194,9 +219,10 @@ export class TableView {
       this.say("Being asked ..");
       await this.askMisses();
     }
-    const column = this.misses?.get(number);
+    const miss = this.misses?.get(number);
+    const column = 1 + this.inputs.findIndex((_, it) => this.hasMissed(at, it, miss));
     if (!column) return this.say(`Rule ${number} missed. Which of its tests was not met is not told.`);
-    const test = this.model.text(this.rules[at].when?.[column - 1]);
+    const test = this.cell(at, "when", column - 1);
     this.rows.at(at)?.focus();
     const code = (text) => el("code", {}, text);
     return this.say(`Rule ${number} missed: its test `, code(test), " on ", code(this.column(column - 1)),
@@ -205,7 +231,8 @@ export class TableView {
 
   hitSaid(number) {
     const [, said] = policyOf(this.table);
-    const parts = [`Rule ${number} hit and gives `, el("code", {}, show(this.hits.get(number)))];
+    const value = this.hits.get(number);
+    const parts = value === undefined ? [`Rule ${number} hit`] : [`Rule ${number} hit and gives `, el("code", {}, show(value))];
     if (!this.decided) parts.push(".");
     else if (this.decided.has(number)) parts.push(". It decided.");
     else parts.push(`. It did not decide: ${said}.`);

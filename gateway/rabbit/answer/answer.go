@@ -19,6 +19,7 @@ const (
 	Deadline Reason = "deadline" // its evaluation took longer than it may
 	Died     Reason = "died"     // the engine died at it, twice
 	TooLong  Reason = "answer"   // its answer is longer than it may be
+	Lost     Reason = "lost"     // the broker has lost the model of its batch
 )
 
 // An Answer is one line of the engine, taken apart. Text is the line but for its number, which stands between Head and
@@ -116,15 +117,47 @@ func Append(body []byte, place ledger.Place, key, id, text []byte) []byte {
 	return append(body, '}', '\n')
 }
 
+// AppendLost appends a line of the answers' stream that stands for requests that are lost, with its line end.
+func AppendLost(body []byte, gap ledger.Gap) []byte {
+	body = strconv.AppendInt(append(body, lostKey...), gap.From, 10)
+	body = strconv.AppendInt(append(body, lostUpto...), gap.To, 10)
+	return append(body, lostEnd+"\n"...)
+}
+
+// Unreceived is the line that stands for answers that were cut before they were received: those after one place and up to
+// another.
+func Unreceived(after, upto ledger.Place) []byte {
+	from := after.Offset
+	if after.Offset < upto.Offset {
+		from++
+	}
+	return []byte(fmt.Sprintf(`%s%d%s%d,"answers":true%s`, lostKey, from, lostUpto, upto.Offset, lostEnd))
+}
+
+// LostMember is the member by which a line is known that stands for what is lost.
+const LostMember = "lost"
+
+// The texts of such a line.
+const (
+	lostKey  = `{"lost":{"from":`
+	lostUpto = `,"to":`
+	lostEnd  = `}}`
+)
+
 // A Record is what a line of the answers' stream says of its place and of the lines behind it.
 type Record struct {
 	Place   ledger.Place
+	Client  int // or line.NoClient
 	Outcome ledger.Outcome
+	Lost    bool // whether it stands for requests that are lost
 }
 
 // ReadRecord reads a line of the answers' stream, without its line end.
 func ReadRecord(text []byte) (Record, error) {
 	var r Record
+	if bytes.HasPrefix(text, []byte(lostKey)) {
+		return readLost(text)
+	}
 	rest, err := numberBehind(text, `{"offset":`, &r.Place.Offset)
 	if err == nil {
 		rest, err = numberBehind(rest, `,"place":`, &r.Place.Index)
@@ -132,6 +165,7 @@ func ReadRecord(text []byte) (Record, error) {
 	if err != nil {
 		return r, err
 	}
+	r.Client = clientOf(rest)
 	r.Outcome.InForce = bytes.HasPrefix(rest, []byte(`,"answer":{"line":`)) && bytes.HasSuffix(rest, []byte(`,"model":true}}`))
 	at := bytes.LastIndex(rest, []byte(ticketKey))
 	if at < 0 || !bytes.HasSuffix(rest, []byte("}}")) || !isTicket(rest[at+len(ticketKey):len(rest)-1]) {
@@ -140,6 +174,39 @@ func ReadRecord(text []byte) (Record, error) {
 	r.Outcome.HasTicket = true
 	_, err = numberBehind(rest[at:], ticketKey, &r.Outcome.Ticket)
 	return r, err
+}
+
+// clientOf finds the client in what follows a record's place: the key, the id and the answer.
+func clientOf(rest []byte) int {
+	const key, id, client = `,"key":`, `,"id":`, `,"answer":{"client":"`
+	at := 0
+	for _, name := range []string{key, id} {
+		if !bytes.HasPrefix(rest[at:], []byte(name)) {
+			return line.NoClient
+		}
+		at = line.ValueEnd(rest, at+len(name))
+	}
+	begin := at + len(client)
+	if !bytes.HasPrefix(rest[at:], []byte(client)) || begin+line.ClientNameBytes > len(rest) {
+		return line.NoClient
+	}
+	number, known := line.ClientNumber(rest[begin : begin+line.ClientNameBytes])
+	if !known {
+		return line.NoClient
+	}
+	return number
+}
+
+func readLost(text []byte) (Record, error) {
+	var gap ledger.Gap
+	rest, err := numberBehind(text, lostKey, &gap.From)
+	if err == nil {
+		rest, err = numberBehind(rest, lostUpto, &gap.To)
+	}
+	if err == nil && string(rest) != lostEnd {
+		err = errRecord
+	}
+	return Record{Place: gap.Place(), Lost: true}, err
 }
 
 var errRecord = errors.New("no line of an answers' stream")

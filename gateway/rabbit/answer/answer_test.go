@@ -60,13 +60,21 @@ func TestRecords(t *testing.T) {
 			t.Errorf("%s is written, and not %s", body, want)
 		}
 		r, err := ReadRecord(body[:len(body)-1])
-		if err != nil || r.Place != place || r.Outcome != c.outcome {
+		if err != nil || r.Place != place || r.Outcome != c.outcome || r.Client != 5 {
 			t.Errorf("%s is read as %+v, %v", body, r, err)
 		}
 	}
 	model := Append(nil, place, nil, nil, []byte(`{"line":1,"model":true}`))
-	if r, err := ReadRecord(model[:len(model)-1]); err != nil || !r.Outcome.InForce {
+	if r, err := ReadRecord(model[:len(model)-1]); err != nil || !r.Outcome.InForce || r.Client != line.NoClient {
 		t.Errorf("%s is read as %+v, %v", model, r, err)
+	}
+	gap := ledger.Gap{From: 3, To: 12}
+	lost := AppendLost(nil, gap)
+	if r, err := ReadRecord(lost[:len(lost)-1]); err != nil || !r.Lost || r.Place != gap.Place() || string(lost) != `{"lost":{"from":3,"to":12}}`+"\n" {
+		t.Errorf("%s is read as %+v, %v", lost, r, err)
+	}
+	if _, err := ReadRecord([]byte(`{"lost":{"from":3,"to":12},"x":1}`)); err == nil {
+		t.Error("more than a gap is read")
 	}
 	if _, err := ReadRecord([]byte(`{"place":1}`)); err == nil {
 		t.Error("what has no offset is read")

@@ -99,7 +99,7 @@ func writeAlone(link *Link, settings Settings, messages int, body []byte) error 
 		return err
 	}
 	for number := 0; number < messages*settings.Partitions; number++ {
-		if err := publisher.Publish(settings.Queue(aloneKind, number%settings.Partitions), nil, body); err != nil {
+		if err := publisher.Publish(Route{Key: settings.Queue(aloneKind, number%settings.Partitions)}, nil, body); err != nil {
 			return err
 		}
 		if publisher.Open() < aloneOpen*settings.Partitions {
@@ -119,7 +119,7 @@ func readAlone(link *Link, queue string, messages int) error {
 		return err
 	}
 	for ; messages > 0; messages-- {
-		if _, _, err := stream.Next(); err != nil {
+		if _, err := stream.Next(); err != nil {
 			return err
 		}
 	}

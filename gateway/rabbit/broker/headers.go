@@ -3,10 +3,7 @@ package broker
 import (
 	"errors"
 	"fmt"
-	"time"
 	"unicode/utf8"
-
-	amqp "github.com/rabbitmq/amqp091-go"
 
 	"gateway/rabbit/ledger"
 )
@@ -28,6 +25,7 @@ const (
 	epochHeader  = "epoch"
 	batchHeader  = "batch"
 	numberHeader = "number"
+	modelsHeader = "models"
 )
 
 // The headers of a message of answers or of a snapshot.
@@ -37,17 +35,19 @@ const (
 	afterIndexHeader  = "after-index"
 	offsetHeader      = "offset"
 	indexHeader       = "index"
+	snapshotAtHeader  = "snapshot-at"
+	moreHeader        = "more"
 	kindAnswers       = "answers"
 	kindSnapshot      = "snapshot"
 )
 
-// ErrForeign tells that a message's headers are not those that the programs write.
+// ErrForeign tells that a message's topic or headers are not those that the programs write.
 var ErrForeign = errors.New("not from desk send")
 
 // OriginHeaders are the headers of a message of a log.
-func OriginHeaders(from ledger.Origin) amqp.Table {
-	return amqp.Table{kindHeader: string(from.Kind), senderHeader: from.Sender, namedHeader: from.Named,
-		epochHeader: from.Epoch, batchHeader: from.Batch, numberHeader: from.Number}
+func OriginHeaders(from ledger.Origin) Headers {
+	return Headers{kindHeader: string(from.Kind), senderHeader: from.Sender, namedHeader: from.Named,
+		epochHeader: from.Epoch, batchHeader: from.Batch, numberHeader: from.Number, modelsHeader: from.Models}
 }
 
 // IsSender says whether a sender may have this name: UTF-8 of 1 to MaximumSenderBytes bytes, as a snapshot can hold it.
@@ -58,9 +58,13 @@ func IsSender(name string) bool {
 // IsBatch says whether a batch may have this id: UTF-8 of at most MaximumBatchBytes bytes.
 func IsBatch(id string) bool { return len(id) <= MaximumBatchBytes && utf8.ValidString(id) }
 
-// ReadOrigin reads the headers of a message of a log, which was sent at this time.
-func ReadOrigin(headers amqp.Table, sent time.Time) (ledger.Origin, error) {
-	from := ledger.Origin{Sent: sent}
+// ReadOrigin reads the headers of a message of a log or of the registry.
+func ReadOrigin(message Message) (ledger.Origin, error) {
+	topic, headers := message.Topic(RequestsExchange), message.Headers
+	from := ledger.Origin{Sent: message.Sent, MayHaveModels: topic == TopicModels}
+	if topic != TopicLines && topic != TopicModels && topic != TopicSenders {
+		return from, ErrForeign
+	}
 	var is [6]bool
 	var kind string
 	kind, is[0] = headers[kindHeader].(string)
@@ -70,6 +74,10 @@ func ReadOrigin(headers amqp.Table, sent time.Time) (ledger.Origin, error) {
 	from.Batch, is[4] = headers[batchHeader].(string)
 	from.Number, is[5] = number(headers[numberHeader])
 	from.Kind = ledger.Kind(kind)
+	models, isCounted := number(headers[modelsHeader])
+	if from.Models = models; !isCounted {
+		from.Models = -1
+	}
 	isKind := from.Kind == ledger.Lines || from.Kind == ledger.Claim || from.Kind == ledger.End
 	if is != [6]bool{true, true, true, true, true, true} || !isKind || !IsSender(from.Sender) || !IsBatch(from.Batch) ||
 		from.Number < 0 || from.Epoch < 0 {
@@ -98,11 +106,15 @@ type Part struct {
 	Snapshot bool
 	After    ledger.Place // answers: they begin behind this place; the headers don't tell the start
 	Upto     ledger.Place // answers: the place of the last; snapshot: all up to here is answered
+	More     bool         // answers: whether the message of the last has further lines
+	// SnapshotAt is an offset of the stream: the last snapshot before the message is there, or soon after. -1 says nothing.
+	SnapshotAt int64
 }
 
 // PartHeaders are the headers of a message of answers, or of a snapshot.
-func PartHeaders(part Part) amqp.Table {
-	headers := amqp.Table{kindHeader: kindAnswers, offsetHeader: part.Upto.Offset, indexHeader: part.Upto.Index}
+func PartHeaders(part Part) Headers {
+	headers := Headers{kindHeader: kindAnswers, offsetHeader: part.Upto.Offset, indexHeader: part.Upto.Index,
+		snapshotAtHeader: part.SnapshotAt, moreHeader: part.More}
 	if part.Snapshot {
 		headers[kindHeader] = kindSnapshot
 		return headers
@@ -113,13 +125,30 @@ func PartHeaders(part Part) amqp.Table {
 	return headers
 }
 
-// ReadPart reads the headers of a message of the answers' stream. A mark is no part, and is told by is.
-func ReadPart(headers amqp.Table) (part Part, is bool, err error) {
+// PointerHeaders are the headers of a mark that says where the last snapshot is.
+func PointerHeaders(snapshotAt int64) Headers {
+	return Headers{MarkHeader: "taken over", snapshotAtHeader: snapshotAt}
+}
+
+// SnapshotAt is what a message of the answers' stream says of where the last snapshot is, or -1.
+func SnapshotAt(message Message) int64 {
+	if at, is := number(message.Headers[snapshotAtHeader]); is {
+		return at
+	}
+	return -1
+}
+
+// ReadPart reads the headers of a message of the answers' stream. A mark is no part, and is told by is, as is what was published
+// under another topic.
+func ReadPart(message Message) (part Part, is bool, err error) {
+	headers := message.Headers
 	kind, _ := headers[kindHeader].(string)
-	if kind != kindAnswers && kind != kindSnapshot {
+	if message.Topic(AnswersExchange) != TopicAnswers || kind != kindAnswers && kind != kindSnapshot {
 		return part, false, nil
 	}
 	part.Snapshot = kind == kindSnapshot
+	part.More, _ = headers[moreHeader].(bool)
+	part.SnapshotAt = SnapshotAt(message)
 	names, places := []string{offsetHeader, indexHeader}, []*int64{&part.Upto.Offset, &part.Upto.Index}
 	part.After = ledger.Start
 	if _, has := headers[afterOffsetHeader]; has {

@@ -36,6 +36,15 @@ type Link struct {
 // ErrAway tells that no broker can be reached.
 var ErrAway = errors.New("no broker can be reached")
 
+// An away error is ErrAway, with the reason of one of the brokers.
+type away struct{ reason error }
+
+func (a *away) Error() string { return fmt.Sprintf("%v: %v", ErrAway, a.reason) }
+
+func (a *away) Is(target error) bool { return target == ErrAway }
+
+func (a *away) Unwrap() error { return a.reason }
+
 type dialed struct {
 	link *Link
 	err  error
@@ -66,10 +75,12 @@ func Connect(ctx context.Context, settings Settings, name string) (*Link, error)
 				go result.link.watch(ctx)
 				return result.link, nil
 			}
-			last = result.err
+			if is, _ := refused(last); !is {
+				last = result.err
+			}
 		}
 	}
-	return nil, fmt.Errorf("%w: %v", ErrAway, last)
+	return nil, &away{last}
 }
 
 // closeOthers closes the connections that came too late.
@@ -177,6 +188,15 @@ func (l *Link) Channel() (*amqp.Channel, error) {
 	return channel, nil
 }
 
+// Loose opens a channel whose failure isn't that of the link.
+func (l *Link) Loose() (*amqp.Channel, error) {
+	channel, err := l.connection.Channel()
+	if err != nil {
+		return nil, l.Because(fmt.Errorf("opening a channel: %w", err))
+	}
+	return channel, nil
+}
+
 // Because is the reason why the link failed, if it has, and otherwise the error.
 func (l *Link) Because(err error) error {
 	select {
@@ -185,33 +205,6 @@ func (l *Link) Because(err error) error {
 	case <-time.After(reasonPause):
 		return err
 	}
-}
-
-// SegmentBytes is how long a file of a stream gets. A broker that becomes the leader of a stream reads the newest file
-// message by message before it does anything else, which takes long with the 500 MB that are RabbitMQ's own.
-const SegmentBytes = 8 << 20
-
-// DeclareStreams makes the streams of a partition and the registry that aren't there, with files so long, or as long as RabbitMQ makes them
-// where that is 0. The broker isn't asked for how many messages they have: it would ask the node of a stream's leader, and
-// wait for it without end. The streams are there once the channel has ended.
-func (l *Link) DeclareStreams(settings Settings, partition int, segment int64) error {
-	channel, err := l.Channel()
-	if err != nil {
-		return err
-	}
-	stream := amqp.Table{"x-queue-type": "stream", "x-queue-leader-locator": "least-leaders"}
-	if segment > 0 {
-		stream["x-stream-max-segment-size-bytes"] = segment
-	}
-	for _, queue := range []string{settings.Queue(Lines, partition), settings.Queue(Answers, partition), Registry} {
-		if _, err := channel.QueueDeclare(queue, true, false, false, true, stream); err != nil {
-			return l.Because(fmt.Errorf("queue %s: %w", queue, err))
-		}
-	}
-	if err := l.end(channel); err != nil {
-		return fmt.Errorf("the streams of partition %d: %w", partition, err)
-	}
-	return nil
 }
 
 // end closes a channel once the broker has done all that was asked on it. The client library loses the broker's reason

@@ -46,7 +46,7 @@ func TestStreamsThatAreNotCounted(t *testing.T) {
 	}
 	defer link.Close()
 	done := make(chan error, 1)
-	go func() { done <- link.DeclareStreams(settings, 0, SegmentBytes) }()
+	go func() { done <- link.declare(settings, 0, SegmentBytes) }()
 	select {
 	case err := <-done:
 		if err != nil {

@@ -39,11 +39,11 @@ func (l *Link) Publisher() (*Publisher, error) {
 func (p *Publisher) Open() int { return len(p.open) }
 
 // Publish publishes a message.
-func (p *Publisher) Publish(queue string, headers amqp.Table, body []byte) error {
+func (p *Publisher) Publish(to Route, headers Headers, body []byte) error {
 	now := time.Now()
-	message := amqp.Publishing{Headers: headers, Body: body, Timestamp: now, DeliveryMode: amqp.Persistent}
-	if err := p.channel.PublishWithContext(context.Background(), "", queue, true, false, message); err != nil {
-		return p.link.Because(fmt.Errorf("publishing to %s: %w", queue, err))
+	message := amqp.Publishing{Headers: amqp.Table(headers), Body: body, Timestamp: now, DeliveryMode: amqp.Persistent}
+	if err := p.channel.PublishWithContext(context.Background(), to.Exchange, to.Key, true, false, message); err != nil {
+		return p.link.Because(fmt.Errorf("publishing to %s: %w", to.Key, err))
 	}
 	p.open = append(p.open, now)
 	return nil
@@ -65,8 +65,7 @@ func (p *Publisher) Take(confirmation amqp.Confirmation, open bool) error {
 		if !open {
 			return p.link.Because(errors.New("the channel ended"))
 		}
-		return fmt.Errorf("no queue %s (%s): does a partition run, and with the same %s?", message.RoutingKey,
-			message.ReplyText, PartitionsVariable)
+		return fmt.Errorf("no queue for %s (%s): %w", message.RoutingKey, message.ReplyText, ErrMissing)
 	default:
 	}
 	p.open = p.open[1:]

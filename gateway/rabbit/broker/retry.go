@@ -21,6 +21,13 @@ const (
 // each is how many failures in a row there are from one that is told to the next.
 const each = 100
 
+// A Final error is not tried again: what it says has to be done first.
+type Final struct{ Reason error }
+
+func (f *Final) Error() string { return f.Reason.Error() }
+
+func (f *Final) Unwrap() error { return f.Reason }
+
 // A pace says how long to wait after a failure: twice as long each time. A pause that has grown while no broker was
 // reached says nothing of what fails at a broker, nor the other way round.
 type pace struct {
@@ -44,16 +51,25 @@ func (p *pace) pause(failure error, lasted time.Duration) time.Duration {
 	return pause
 }
 
-// Again does the work until it ends without an error or the context ends. After a failure it waits, at most twice as
+// Again does the work until it ends without an error or with a final one, the context ends, or a broker says that the user has
+// no right to it. After a failure it waits, at most twice as
 // long each time: up to 10 s where no broker is reached, and up to 2 s where one is. The first failure and each
 // hundredth in a row are told.
 func Again(ctx context.Context, log io.Writer, work func(ctx context.Context) error) error {
 	var pace pace
+	var rights rights
 	for failures := 1; ; failures++ {
 		begun := time.Now()
 		err := work(ctx)
 		if err == nil || ctx.Err() != nil {
 			return ctx.Err()
+		}
+		var final *Final
+		if errors.As(err, &final) {
+			return err
+		}
+		if err := rights.final(err); err != nil {
+			return err
 		}
 		lasted := time.Since(begun)
 		if lasted > steady {

@@ -1,5 +1,6 @@
-// Package broker is what the programs of the partitions share of RabbitMQ: where the brokers are, the names in them, a
-// connection that ends whole, publishing with confirms, reading a stream, and trying again.
+// Package broker is what the programs of the partitions share of RabbitMQ, and the only one that knows the client library:
+// where the brokers are, the names in them, a connection that ends whole, publishing with confirms, reading a stream, the lease of
+// a partition, how far its log is answered, and trying again.
 package broker
 
 import (
@@ -74,6 +75,15 @@ func ReadSettings() (Settings, error) {
 		settings.Partitions = number
 	}
 	return settings, nil
+}
+
+// All are the numbers of the partitions.
+func (s Settings) All() []int {
+	all := make([]int, s.Partitions)
+	for partition := range all {
+		all[partition] = partition
+	}
+	return all
 }
 
 // order is the addresses in random order, but for the last.

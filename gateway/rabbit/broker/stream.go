@@ -30,11 +30,11 @@ const OffsetHeader = "x-stream-offset"
 
 // A Stream is being read.
 type Stream struct {
-	link       *Link
-	channel    *amqp.Channel
-	Deliveries <-chan amqp.Delivery
-	together   int // so many messages are acknowledged together
-	taken      int // since the last of them
+	link    *Link
+	channel *amqp.Channel
+	Arrivals
+	together int // so many messages are acknowledged together
+	taken    int // since the last of them
 }
 
 // Together lets so many messages be acknowledged together, which is less work for the broker. It is for a stream that is
@@ -52,7 +52,7 @@ const (
 	FromNext  = "next"
 )
 
-// Read reads a stream from a place on, with so many messages on their way. Each delivery is to be handed to Take.
+// Read reads a stream from a place on, with so many messages on their way. What arrives is to be handed to Take.
 func (l *Link) Read(queue string, from interface{}, open int) (*Stream, error) {
 	channel, err := l.Channel()
 	if err != nil {
@@ -65,41 +65,73 @@ func (l *Link) Read(queue string, from interface{}, open int) (*Stream, error) {
 	if err != nil {
 		return nil, l.Because(fmt.Errorf("reading %s: %w", queue, err))
 	}
-	return &Stream{link: l, channel: channel, Deliveries: deliveries, together: 1}, nil
+	return &Stream{link: l, channel: channel, Arrivals: deliveries, together: 1}, nil
 }
 
-// Take lets the broker send the next message, and tells the offset of this one.
-func (s *Stream) Take(delivery amqp.Delivery, open bool) (int64, error) {
+// Take lets the broker send the next message, and gives the one that has arrived.
+func (s *Stream) Take(delivery amqp.Delivery, open bool) (Message, error) {
 	if !open {
-		return 0, s.link.Because(errors.New("the stream's reader ended"))
+		return Message{}, s.link.Because(errors.New("the stream's reader ended"))
 	}
 	if s.taken++; s.taken >= s.together {
 		if err := delivery.Ack(s.taken > 1); err != nil {
-			return 0, s.link.Because(fmt.Errorf("reading a stream: %w", err))
+			return Message{}, s.link.Because(fmt.Errorf("reading a stream: %w", err))
 		}
 		s.taken = 0
 	}
-	offset, is := delivery.Headers[OffsetHeader].(int64)
-	if !is {
-		return 0, errors.New("reading a stream: a message without an offset")
-	}
-	return offset, nil
+	return messageOf(delivery)
 }
 
 // Next waits for the next message, and takes it.
-func (s *Stream) Next() (amqp.Delivery, int64, error) {
+func (s *Stream) Next() (Message, error) {
 	late := time.NewTimer(Patience)
 	defer late.Stop()
 	select {
-	case delivery, open := <-s.Deliveries:
-		offset, err := s.Take(delivery, open)
-		return delivery, offset, err
+	case delivery, open := <-s.Arrivals:
+		return s.Take(delivery, open)
 	case <-s.link.Done():
-		return amqp.Delivery{}, 0, s.link.Err()
+		return Message{}, s.link.Err()
 	case <-late.C:
-		return amqp.Delivery{}, 0, fmt.Errorf("no message for %v", Patience)
+		return Message{}, fmt.Errorf("no message for %v", Patience)
 	}
 }
 
 // Close ends the reading.
 func (s *Stream) Close() error { return s.link.end(s.channel) }
+
+// A Counter asks how many messages a stream has.
+type Counter struct {
+	queue   string
+	channel *amqp.Channel
+}
+
+// Counter opens a channel for asking. The broker may ask the stream's leader, and wait for it without end.
+func (l *Link) Counter(queue string) (*Counter, error) {
+	channel, err := l.Loose()
+	if err != nil {
+		return nil, err
+	}
+	return &Counter{queue: queue, channel: channel}, nil
+}
+
+// Count is how many offsets there are from the first message to the last, some seconds ago; 0 if that isn't known.
+func (c *Counter) Count() (int64, error) {
+	state, err := c.channel.QueueDeclarePassive(c.queue, true, false, false, false, nil)
+	if err != nil {
+		return 0, fmt.Errorf("counting the messages of %s: %w", c.queue, err)
+	}
+	return int64(state.Messages), nil
+}
+
+// First is the offset of the first message of a stream that has some.
+func (l *Link) First(queue string) (int64, error) {
+	stream, err := l.Read(queue, FromFirst, 1)
+	if err != nil {
+		return 0, err
+	}
+	first, err := stream.Next()
+	if err != nil {
+		return 0, err
+	}
+	return first.Offset, stream.Close()
+}

@@ -28,14 +28,18 @@ type Broker struct {
 	// Ends tells of a queue whether its consumers are ended, as where it is deleted.
 	Ends func(queue string) bool
 
+	// Missing tells of a queue whether it isn't there.
+	Missing func(queue string) bool
+
 	mutex     sync.Mutex
+	consumed  []string
 	cancelled []string
 }
 
 // Start starts a broker that ends with the test.
 func Start(t *testing.T) *Broker {
 	always, never := func(string) bool { return true }, func(string) bool { return false }
-	b := &Broker{Confirms: always, Counts: always, Full: never, Refuses: never, Ends: never, Other: never}
+	b := &Broker{Confirms: always, Counts: always, Full: never, Refuses: never, Ends: never, Other: never, Missing: never}
 	b.Address = "amqp://" + listen(t, b.serve)
 	return b
 }
@@ -72,6 +76,13 @@ func (b *Broker) Cancelled() []string {
 	b.mutex.Lock()
 	defer b.mutex.Unlock()
 	return append([]string(nil), b.cancelled...)
+}
+
+// Consumed are the tags of the consumers that there were.
+func (b *Broker) Consumed() []string {
+	b.mutex.Lock()
+	defer b.mutex.Unlock()
+	return append([]string(nil), b.consumed...)
 }
 
 // A method is a class and a number in it.
@@ -145,9 +156,19 @@ func (s *session) take(channel uint16, m method, rest []byte) {
 	case method{60, 40}: // a message
 		exchange := text(rest[2:])
 		s.queue = text(rest[3+len(exchange):])
+		if exchange != "" { // the routing key is the queue's name without its prefix
+			s.queue = prefix + s.queue
+		}
 	case method{60, 20}: // a consumer
 		queue := text(rest[2:])
 		tag := text(rest[3+len(queue):])
+		if s.broker.Missing(queue) {
+			s.send(channel, method{20, 40}, []byte{404 >> 8, 404 & 255}, short("NOT_FOUND - no queue"), []byte{0, 60, 0, 20})
+			return
+		}
+		s.broker.mutex.Lock()
+		s.broker.consumed = append(s.broker.consumed, tag)
+		s.broker.mutex.Unlock()
 		if s.broker.Refuses(queue) {
 			s.send(channel, method{20, 40}, []byte{406 >> 8, 406 & 255}, short("no copy is here"), []byte{0, 60, 0, 20})
 			return
@@ -201,7 +222,10 @@ func number(value uint64) []byte {
 	return bytes
 }
 
+// prefix begins the name of each queue.
+const prefix = "desk.2."
+
 // Is tells of the queue of a partition whether it is that of this kind and number.
 func Is(queue, kind, partition string) bool {
-	return strings.HasPrefix(queue, "desk.2."+kind+"."+partition+".of.")
+	return strings.HasPrefix(queue, prefix+kind+"."+partition+".of.")
 }

@@ -30,11 +30,34 @@ type Batch struct {
 	Marks []Digest
 	Last  Digest // the digest of all
 	Ended bool   // whether no further line is taken
-	Sent  time.Time
+	// Missing is how many lines before the last one never came: the broker has lost them.
+	Missing int64
+	Models  int64 // how many of the lines are models
+	// Adrift says that a model of the batch is among those that are missing: the model of its next lines isn't known.
+	Adrift bool
+	Sent   time.Time
+}
+
+// skip takes in that the next line has this number, and that so many models come before it; -1 where that isn't known. It
+// says how many lines are missing.
+func (b *Batch) skip(number, models int64) (missing int64) {
+	missing = number - b.Count
+	if missing <= 0 {
+		return 0
+	}
+	b.Count, b.Missing = number, b.Missing+missing
+	b.Adrift = b.Adrift || models != b.Models
+	if models >= 0 {
+		b.Models = models
+	}
+	return missing
 }
 
 // add takes one line more in.
-func (b *Batch) add(line []byte) {
+func (b *Batch) add(line []byte, isModel bool) {
+	if isModel {
+		b.Models, b.Adrift = b.Models+1, false
+	}
 	b.Count++
 	b.Last = b.Last.With(line)
 	if b.Count&(b.Count-1) == 0 {

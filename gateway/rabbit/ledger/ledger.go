@@ -9,6 +9,7 @@ import (
 // A Ledger is the state of a partition up to one place of its log.
 type Ledger struct {
 	Place   Place // up to which all lines are answered
+	Part    bool  // whether the message at that place has further lines
 	Lines   int64 // how many lines were given to the engine, or refused in its stead
 	Models  *Models
 	Tickets [line.Clients]int64 // the next ticket of each client
@@ -35,6 +36,17 @@ type Outcome struct {
 
 // Skip takes in that a line or a message has no answer.
 func (l *Ledger) Skip(place Place) { l.Place = place }
+
+// SettleLost takes in the outcome of the answer to a line that is lost, of a client or of none.
+func (l *Ledger) SettleLost(client int, outcome Outcome) {
+	l.Lines++
+	if outcome.InForce {
+		l.Models.Lose()
+	}
+	if outcome.HasTicket && client != line.NoClient {
+		l.Tickets[client] = outcome.Ticket + 1
+	}
+}
 
 // Settle takes in that a line of a batch is answered.
 func (l *Ledger) Settle(place Place, batch BatchKey, read line.Line, outcome Outcome) {

@@ -53,13 +53,14 @@ func newSenderLog(keep time.Duration) *senderLog {
 // take takes a line of a named sender.
 func (s *senderLog) take(sender string, epoch int64, batch string, number int64) Verdict {
 	s.now = s.now.Add(time.Second)
-	verdict, _, _ := s.Take(Origin{Kind: Lines, Sender: sender, Named: true, Epoch: epoch, Batch: batch, Sent: s.now}, number, []byte{byte(number)})
-	return verdict
+	from := Origin{Kind: Lines, Sender: sender, Named: true, Epoch: epoch, Batch: batch, Sent: s.now}
+	return s.Take(from, number, []byte{byte(number)}, false).Verdict
 }
 
 func (s *senderLog) control(kind Kind, sender string, epoch int64, batch string) bool {
 	s.now = s.now.Add(time.Second)
-	return s.Control(Origin{Kind: kind, Sender: sender, Named: true, Epoch: epoch, Batch: batch, Sent: s.now})
+	counts, _ := s.Control(Origin{Kind: kind, Sender: sender, Named: true, Epoch: epoch, Batch: batch, Sent: s.now})
+	return counts
 }
 
 // Each line of a batch is taken once, and one with the same number in another batch is another line.
@@ -74,9 +75,9 @@ func TestSendersTakeEachLineOnce(t *testing.T) {
 			t.Errorf("step %d", step)
 		}
 	}
-	_, first, missing := s.Take(Origin{Sender: "a", Named: true, Epoch: 1, Batch: "x"}, 5, nil)
-	if first || missing != 2 {
-		t.Errorf("%v, %d are missing", first, missing)
+	taking := s.Take(Origin{Sender: "a", Named: true, Epoch: 1, Batch: "x"}, 5, nil, false)
+	if taking.First || taking.Missing != 2 || taking.Adrift {
+		t.Errorf("%+v", taking)
 	}
 }
 
@@ -107,7 +108,7 @@ func TestNamelessSendersPushOutTheirOwnAlone(t *testing.T) {
 			s.Control(from)
 			return
 		}
-		s.Take(from, 0, nil)
+		s.Take(from, 0, nil, false)
 	}
 	for number := 0; number <= MaximumNameless; number++ {
 		nameless(fmt.Sprint(number), Lines)
@@ -190,7 +191,7 @@ func TestSnapshotsComeBack(t *testing.T) {
 	}
 	model := line.Line{Client: line.NoClient, Engine: []byte(`{"model":{"inputs":["a < b & é"]}}`)}
 	for _, origin := range []Origin{from("b", ""), from(`a "name"`, "x"), from(`a "name"`, "y")} {
-		l.Senders.Take(origin, 0, []byte("x"))
+		l.Senders.Take(origin, 0, []byte("x"), false)
 		l.Models.Begin(origin.Key())
 	}
 	l.Settle(Place{0, 0}, from(`a "name"`, "x").Key(), model, Outcome{InForce: true})
@@ -200,7 +201,7 @@ func TestSnapshotsComeBack(t *testing.T) {
 	end := from(`a "name"`, "y")
 	end.Kind = End
 	l.Senders.Control(end)
-	body, err := l.Snapshot()
+	body, err := l.Snapshot("0.1.2")
 	if err != nil {
 		t.Fatal(err)
 	}
@@ -208,7 +209,7 @@ func TestSnapshotsComeBack(t *testing.T) {
 	if err != nil {
 		t.Fatal(err)
 	}
-	again, err := back.Snapshot()
+	again, err := back.Snapshot("0.1.2")
 	if err != nil || !bytes.Equal(again, body) {
 		t.Errorf("%s is not %s, %v", again, body, err)
 	}

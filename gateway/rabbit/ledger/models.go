@@ -5,9 +5,18 @@ import "bytes"
 // Models knows the model in force for each batch that is open. A model of a batch is in force for the batch's further
 // lines. A batch without one has the model that was in force in the log where its first line is.
 type Models struct {
-	log     []byte // the last model that was put in force, by whichever batch; nil where there is none
+	log     []byte // the last model that was put in force, by any batch; nil if there is none, or unknown
 	batches map[BatchKey][]byte
 }
+
+// unknown stands for a model that was put in force, and is lost.
+var unknown = []byte{}
+
+// IsUnknown says whether a model was put in force, and is lost.
+func IsUnknown(model []byte) bool { return model != nil && len(model) == 0 }
+
+// Lose takes in that a model was put in force, and is lost.
+func (m *Models) Lose() { m.log = unknown }
 
 // NewModels knows no model.
 func NewModels() *Models { return &Models{batches: make(map[BatchKey][]byte)} }

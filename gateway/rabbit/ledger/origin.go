@@ -20,7 +20,10 @@ type Origin struct {
 	Epoch  int64  // the number of the process among those of the name: the greatest counts. 0 without a name of its own
 	Batch  string // the batch's id; a claim has none
 	Number int64  // of the message's first line among those of the batch in this partition, or how many there are at the end
+	Models int64  // how many of the batch's lines before the message's first are models, or -1 where that isn't known
 	Sent   time.Time
+	// MayHaveModels says whether the message was published under the topic of models.
+	MayHaveModels bool
 }
 
 // A BatchKey names one batch of one sender.

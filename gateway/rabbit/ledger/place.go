@@ -19,6 +19,18 @@ func (p Place) Before(other Place) bool {
 	return p.Offset < other.Offset || p.Offset == other.Offset && p.Index < other.Index
 }
 
+// A Gap are the offsets of messages of a log that are lost, the first and the last.
+type Gap struct{ From, To int64 }
+
+// Place is the gap's place among those of the lines: after every line of its messages, and before every line after them.
+func (g Gap) Place() Place { return Place{Offset: g.To, Index: afterAll} }
+
+// afterAll is greater than the number of any line in its message.
+const afterAll = 1 << 32
+
+// Messages is how many messages are lost at most: the broker takes some offsets for itself.
+func (g Gap) Messages() int64 { return g.To - g.From + 1 }
+
 func (p Place) String() string { return fmt.Sprintf("%d.%d", p.Offset, p.Index) }
 
 // A Chain is how far a reader of a stream of answers has come. Messages link to each other: each tells the place

@@ -103,49 +103,58 @@ const (
 	Fenced           // a newer process sends under its name
 )
 
-// Take takes a line with this number of its batch in, unless it was taken before or a newer process has the name. It
-// says whether the line is the first of its batch, and how many lines are missing before it: a sender waits for the
-// confirm of a message before it sends the next one to the same partition, so if some are, the broker has lost them.
-func (s *Senders) Take(from Origin, number int64, line []byte) (verdict Verdict, first bool, missing int64) {
+// A Taking is what Take says of a line. A sender waits for the confirm of a message before it sends the next one to the
+// same partition, so if lines are missing, the broker has lost them.
+type Taking struct {
+	Verdict Verdict
+	First   bool  // whether it is the first line of its batch that came
+	Missing int64 // how many lines of its batch are missing before it; each is reported once
+	Adrift  bool  // whether the model of the line isn't known, since that is missing
+}
+
+// Take takes a line with this number of its batch in, unless it was taken before or a newer process has the name.
+func (s *Senders) Take(from Origin, number int64, line []byte, isModel bool) Taking {
 	sender := s.seen(from)
 	if from.Epoch < sender.Epoch {
-		return Fenced, false, 0
+		return Taking{Verdict: Fenced}
 	}
 	sender.Epoch = from.Epoch
-	batch := sender.Batch(from.Batch)
+	batch, first := sender.Batch(from.Batch), false
 	if batch == nil {
 		batch, first = s.begin(sender, from.Batch), true
 	}
-	if missing = number - batch.Count; missing < 0 || batch.Ended {
-		return Repeated, false, 0
+	if number < batch.Count || batch.Ended {
+		return Taking{Verdict: Repeated}
 	}
-	batch.Count = number // what is missing is reported once
-	batch.add(line)
+	missing := batch.skip(number, from.Models)
+	batch.add(line, isModel)
 	batch.Sent = from.Sent
-	return Taken, first, missing
+	return Taking{Verdict: Taken, First: first, Missing: missing, Adrift: batch.Adrift}
 }
 
-// Control takes in a claim or the end of a batch. It says whether it counts.
-func (s *Senders) Control(from Origin) bool {
+// Control takes in a claim or the end of a batch. It says whether it counts, and how many lines of the batch never came.
+func (s *Senders) Control(from Origin) (counts bool, missing int64) {
 	sender := s.seen(from)
 	if from.Epoch < sender.Epoch {
-		return false
+		return false, 0
 	}
 	sender.Epoch = from.Epoch
 	if from.Kind != End {
-		return true
-	}
-	if !sender.Named {
-		s.remove(s.byName[sender.Name])
-		return true
+		return true, 0
 	}
 	batch := sender.Batch(from.Batch)
 	if batch == nil {
 		batch = s.begin(sender, from.Batch)
 	}
+	if !batch.Ended {
+		missing = batch.skip(from.Number, from.Models)
+	}
 	batch.Ended, batch.Marks, batch.Sent = true, nil, from.Sent
 	s.forget(from.Key())
-	return true
+	if !sender.Named {
+		s.remove(s.byName[sender.Name])
+	}
+	return true, missing
 }
 
 // begin begins a batch, and forgets those of the sender that are too old or too many.

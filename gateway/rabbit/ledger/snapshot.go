@@ -12,10 +12,13 @@ import (
 // SnapshotVersion is the version of the form of snapshots that this program writes and reads.
 const SnapshotVersion = 2
 
-// snapshot is a ledger in JSON. Each model stands in it once, and is named by its number; -1 says that there is none.
+// snapshot is a ledger in JSON. Each model is in it once, and is named by its number; -1 says that there is none, and -2 that it
+// is lost.
 type snapshot struct {
 	Version int               `json:"version"`
+	Program string            `json:"program"` // the version of the program that wrote it
 	Place   Place             `json:"place"`
+	Part    bool              `json:"part,omitempty"`
 	Lines   int64             `json:"lines"`
 	Models  []json.RawMessage `json:"models"`
 	Model   int               `json:"model"`
@@ -33,19 +36,22 @@ type senderRecord struct {
 }
 
 type batchRecord struct {
-	ID    string   `json:"id"`
-	Count int64    `json:"count"`
-	Marks [][]byte `json:"marks,omitempty"`
-	Last  []byte   `json:"last,omitempty"`
-	Ended bool     `json:"ended,omitempty"`
-	Sent  int64    `json:"sent"`
-	Model int      `json:"model"` // of an open batch
+	ID      string   `json:"id"`
+	Count   int64    `json:"count"`
+	Marks   [][]byte `json:"marks,omitempty"`
+	Last    []byte   `json:"last,omitempty"`
+	Ended   bool     `json:"ended,omitempty"`
+	Missing int64    `json:"missing,omitempty"`
+	Models  int64    `json:"models,omitempty"`
+	Adrift  bool     `json:"adrift,omitempty"`
+	Sent    int64    `json:"sent"`
+	Model   int      `json:"model"` // of an open batch
 }
 
-// Snapshot is the ledger as the body of a message.
-func (l *Ledger) Snapshot() ([]byte, error) {
+// Snapshot is the ledger as the body of a message, written by this version of the program.
+func (l *Ledger) Snapshot(program string) ([]byte, error) {
 	w := &snapshotWriter{numbers: make(map[string]int)}
-	s := snapshot{Version: SnapshotVersion, Place: l.Place, Lines: l.Lines, Model: w.number(l.Models.log),
+	s := snapshot{Version: SnapshotVersion, Program: program, Place: l.Place, Part: l.Part, Lines: l.Lines, Model: w.number(l.Models.log),
 		Tickets: map[string]int64{}, Sent: l.Senders.now.UnixMilli(), Senders: []senderRecord{}}
 	for client, ticket := range l.Tickets {
 		if ticket > 0 {
@@ -69,6 +75,12 @@ func (l *Ledger) Snapshot() ([]byte, error) {
 	return body.Bytes(), nil
 }
 
+// Numbers that name no model of the list.
+const (
+	noModel   = -1
+	lostModel = -2
+)
+
 // A snapshotWriter gives each model a number.
 type snapshotWriter struct {
 	models  []json.RawMessage
@@ -76,8 +88,11 @@ type snapshotWriter struct {
 }
 
 func (w *snapshotWriter) number(model []byte) int {
-	if model == nil {
-		return -1
+	switch {
+	case model == nil:
+		return noModel
+	case IsUnknown(model):
+		return lostModel
 	}
 	number, known := w.numbers[string(model)]
 	if !known {
@@ -90,7 +105,7 @@ func (w *snapshotWriter) number(model []byte) int {
 
 func (w *snapshotWriter) batch(batch *Batch, model []byte) batchRecord {
 	record := batchRecord{ID: batch.ID, Count: batch.Count, Last: append([]byte(nil), batch.Last[:]...), Ended: batch.Ended,
-		Sent: batch.Sent.UnixMilli(), Model: -1}
+		Missing: batch.Missing, Models: batch.Models, Adrift: batch.Adrift, Sent: batch.Sent.UnixMilli(), Model: noModel}
 	for _, mark := range batch.Marks {
 		record.Marks = append(record.Marks, append([]byte(nil), mark[:]...))
 	}
@@ -107,9 +122,10 @@ func Read(body []byte, keep time.Duration) (*Ledger, error) {
 		return nil, fmt.Errorf("reading a snapshot: %w", err)
 	}
 	if s.Version != SnapshotVersion {
-		return nil, fmt.Errorf("reading a snapshot: its form has version %d, and this program reads %d", s.Version, SnapshotVersion)
+		return nil, fmt.Errorf("reading a snapshot of the program's version %q: its form has version %d, and this program reads %d",
+			s.Program, s.Version, SnapshotVersion)
 	}
-	l := &Ledger{Place: s.Place, Lines: s.Lines, Models: NewModels()}
+	l := &Ledger{Place: s.Place, Part: s.Part, Lines: s.Lines, Models: NewModels()}
 	for name, ticket := range s.Tickets {
 		client, known := line.ClientNumber([]byte(name))
 		if !known {
@@ -129,34 +145,42 @@ func Read(body []byte, keep time.Duration) (*Ledger, error) {
 
 // readModels reads which models are in force.
 func (l *Ledger) readModels(s snapshot) error {
-	if s.Model >= len(s.Models) {
-		return fmt.Errorf("reading a snapshot: there is no model %d", s.Model)
-	}
-	if s.Model >= 0 {
-		l.Models.log = s.Models[s.Model]
+	var err error
+	if l.Models.log, err = s.model(s.Model); err != nil {
+		return err
 	}
 	for _, sender := range s.Senders {
 		for _, batch := range sender.Batches {
-			if batch.Model >= len(s.Models) {
-				return fmt.Errorf("reading a snapshot: there is no model %d", batch.Model)
+			text, err := s.model(batch.Model)
+			if err != nil {
+				return err
 			}
-			if batch.Ended {
-				continue
+			if !batch.Ended {
+				l.Models.batches[BatchKey{sender.Name, batch.ID}] = text
 			}
-			var text []byte
-			if batch.Model >= 0 {
-				text = s.Models[batch.Model]
-			}
-			l.Models.batches[BatchKey{sender.Name, batch.ID}] = text
 		}
 	}
 	return nil
 }
 
+// model is the model of this number.
+func (s snapshot) model(number int) ([]byte, error) {
+	switch {
+	case number == noModel:
+		return nil, nil
+	case number == lostModel:
+		return unknown, nil
+	case number < 0 || number >= len(s.Models):
+		return nil, fmt.Errorf("reading a snapshot: there is no model %d", number)
+	}
+	return s.Models[number], nil
+}
+
 func (r senderRecord) sender() Sender {
 	sender := Sender{Name: r.Name, Named: r.Named, Epoch: r.Epoch, Sent: time.UnixMilli(r.Sent)}
 	for _, record := range r.Batches {
-		batch := &Batch{ID: record.ID, Count: record.Count, Ended: record.Ended, Sent: time.UnixMilli(record.Sent)}
+		batch := &Batch{ID: record.ID, Count: record.Count, Ended: record.Ended, Missing: record.Missing,
+			Models: record.Models, Adrift: record.Adrift, Sent: time.UnixMilli(record.Sent)}
 		copy(batch.Last[:], record.Last)
 		for _, digest := range record.Marks {
 			var mark Digest

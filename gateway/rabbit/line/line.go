@@ -139,6 +139,12 @@ func skipSpace(text []byte, at int) int {
 	return at
 }
 
+// ValueEnd is where the JSON value ends that begins here.
+func ValueEnd(text []byte, at int) int {
+	end, _ := value(text, at)
+	return end
+}
+
 // value finds where the value that begins here ends, and how deep it is nested.
 func value(text []byte, at int) (end, deepest int) {
 	depth := 0

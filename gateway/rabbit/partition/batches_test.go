@@ -15,10 +15,11 @@ import (
 // A batchLog is a log of lines of several batches, with what is due to each.
 type batchLog struct {
 	log
-	next map[string]int64
-	in   map[string]int // the addend of the model in force for each batch, or 0
-	last int
-	due  map[ledger.Place]string
+	next   map[string]int64
+	models map[string]int64 // of sendCounted
+	in     map[string]int   // the addend of the model in force for each batch, or 0
+	last   int
+	due    map[ledger.Place]string
 }
 
 func newBatchLog() *batchLog {
@@ -62,9 +63,12 @@ func (l *batchLog) answered(t *testing.T) int {
 	chain.Reach(ledger.Start)
 	found := map[ledger.Place]bool{}
 	for _, message := range l.answers {
-		part, _, err := broker.ReadPart(message.Headers)
+		part, _, err := broker.ReadPart(message)
 		if err != nil {
 			t.Fatal(err)
+		}
+		if part.Snapshot {
+			chain.Reach(part.Upto)
 		}
 		if part.Snapshot || !chain.Fits(part.After, part.Upto) {
 			continue

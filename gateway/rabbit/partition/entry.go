@@ -13,6 +13,7 @@ type entry struct {
 	sequence int64  // its number among the batch's lines
 	first    bool   // whether it is the first of its batch
 	ends     bool   // whether it ends its batch
+	part     bool   // whether its message has further lines
 	raw      []byte // as it was sent
 	line     line.Line
 	number   int64 // its number among the lines of the log that are answered, from 1
@@ -26,6 +27,23 @@ type entry struct {
 	reason   answer.Reason // why it is refused in the engine's stead, or empty
 	text     []byte
 	outcome  ledger.Outcome
+	lost     *lost // it is no line, but stands for messages that are lost
+}
+
+// A lost is a gap in the log, with what the answers say of its first lines.
+type lost struct {
+	gap     ledger.Gap
+	records []answer.Record
+}
+
+// hasModel says whether a model in force is among what is lost.
+func (l *lost) hasModel() bool {
+	for _, record := range l.records {
+		if record.Outcome.InForce {
+			return true
+		}
+	}
+	return false
 }
 
 // overhead is about what an entry takes beside its texts, in bytes.
@@ -36,6 +54,12 @@ func (e *entry) bytes() int { return len(e.raw) + len(e.line.Engine) + overhead 
 
 // settled tells whether nothing more is to be found out about the entry.
 func (e *entry) settled() bool { return e.skipped || e.known || e.answered }
+
+// refuse answers the entry in the engine's stead.
+func (e *entry) refuse(reason answer.Reason) {
+	e.answered, e.refused, e.reason = true, true, reason
+	e.text = answer.Refusal(e.line.Client, e.number, reason, nil)
+}
 
 // forget takes an answer of the engine back, so that the line can be given again.
 func (e *entry) forget() {

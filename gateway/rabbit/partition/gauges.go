@@ -2,12 +2,16 @@ package partition
 
 import (
 	"fmt"
+	"sort"
+	"strings"
 	"sync"
 	"time"
 
 	"github.com/prometheus/client_golang/prometheus"
 
 	"gateway/rabbit/answer"
+	"gateway/rabbit/broker"
+	"gateway/rabbit/ledger"
 )
 
 // Gauges are what a process tells of itself: counts since it was started, and how far behind its partition is.
@@ -22,13 +26,29 @@ type Gauges struct {
 	refusals  map[answer.Reason]int64
 	takeovers int64
 	restarts  int64
-	unreads   int64     // snapshots that could not be read
-	moved     time.Time // when a line was answered last, or nothing waited
+	unreads   int64 // snapshots that could not be read
+	lost      losses
+	waits     map[int]waiting // of partitions that wait for something to be done, what for
+	missing   []int           // the partitions that have no queues
+	moved     time.Time       // when a line was answered last, or nothing waited
+}
+
+// A waiting is why a partition can't be owned. Another process may own it after a while, once somebody has acted.
+type waiting struct {
+	reason error
+	until  time.Time // it counts for so long, or for ever if it is zero
+}
+
+// losses counts what the brokers have lost.
+type losses struct {
+	gaps     int64 // of messages in logs
+	messages int64 // in these, at most
+	lines    int64 // of batches of which other lines came
 }
 
 // NewGauges are those of a process that owns nothing.
 func NewGauges() *Gauges {
-	return &Gauges{partition: -1, refusals: make(map[answer.Reason]int64), moved: time.Now()}
+	return &Gauges{partition: -1, refusals: make(map[answer.Reason]int64), waits: make(map[int]waiting), moved: time.Now()}
 }
 
 func (g *Gauges) with(change func()) {
@@ -40,11 +60,33 @@ func (g *Gauges) with(change func()) {
 func (g *Gauges) setConnected(connected bool) { g.with(func() { g.connected = connected }) }
 
 func (g *Gauges) takeover(partition int) {
-	g.with(func() { g.partition, g.takeovers, g.moved = partition, g.takeovers+1, time.Now() })
+	g.with(func() {
+		g.partition, g.takeovers, g.moved = partition, g.takeovers+1, time.Now()
+		delete(g.waits, partition)
+	})
 }
 
 func (g *Gauges) left() { g.with(func() { g.partition, g.waiting, g.unread, g.seconds = -1, 0, 0, 0 }) }
 
+// waitsFor takes in that a partition can't be owned before something is done.
+func (g *Gauges) waitsFor(partition int, reason error, until time.Time) {
+	g.with(func() { g.waits[partition] = waiting{reason, until} })
+}
+
+// setMissing takes in which partitions have no queues, and says whether that is new.
+func (g *Gauges) setMissing(partitions []int) (isNew bool) {
+	sort.Ints(partitions)
+	g.with(func() {
+		isNew = fmt.Sprint(partitions) != fmt.Sprint(g.missing)
+		g.missing = partitions
+	})
+	return isNew
+}
+
+func (g *Gauges) lostLines(lines int64) { g.with(func() { g.lost.lines += lines }) }
+func (g *Gauges) lostMessages(gap ledger.Gap) {
+	g.with(func() { g.lost.gaps, g.lost.messages = g.lost.gaps+1, g.lost.messages+gap.Messages() })
+}
 func (g *Gauges) unreadSnapshot() { g.with(func() { g.unreads++ }) }
 
 func (g *Gauges) restart() { g.with(func() { g.restarts++ }) }
@@ -83,10 +125,35 @@ func (g *Gauges) Ready() (bool, string) {
 		return false, "no broker is reached"
 	case g.partition >= 0 && time.Since(g.moved) > stuck:
 		return false, fmt.Sprintf("partition %d: no line was answered for %v", g.partition, stuck)
+	case g.partition < 0 && g.whatFor() != "":
+		return false, g.whatFor()
 	case g.partition < 0:
-		return true, "waits for a partition that is free"
+		return true, "waits for a partition that is free" + g.lost.String()
 	}
-	return true, fmt.Sprintf("owns partition %d", g.partition)
+	return true, fmt.Sprintf("owns partition %d%s", g.partition, g.lost)
+}
+
+// whatFor says what partitions wait for.
+func (g *Gauges) whatFor() string {
+	var said []string
+	for partition, w := range g.waits {
+		if w.until.IsZero() || time.Now().Before(w.until) {
+			said = append(said, fmt.Sprintf("partition %d waits: %v", partition, w.reason))
+		}
+	}
+	sort.Strings(said)
+	if len(g.missing) > 0 {
+		said = append(said, fmt.Sprintf("partitions %v have no queues: %v", g.missing, broker.ErrMissing))
+	}
+	return strings.Join(said, "; ")
+}
+
+// String says what was lost, if anything was.
+func (l losses) String() string {
+	if l == (losses{}) {
+		return ""
+	}
+	return fmt.Sprintf("; lost: %d lines, and at most %d messages in %d gaps", l.lines, l.messages, l.gaps)
 }
 
 // Collectors are the gauges as Prometheus reads them.
@@ -112,12 +179,23 @@ func (g *Gauges) Collectors() []prometheus.Collector {
 	}
 	all = append(all, g.counter("snapshots_unread_total", "Snapshots that could not be read; the one before counted.", nil,
 		func() float64 { return float64(g.unreads) }))
-	for _, reason := range []answer.Reason{answer.Deadline, answer.Died, answer.TooLong} {
+	all = append(all, g.lossCollectors()...)
+	for _, reason := range []answer.Reason{answer.Deadline, answer.Died, answer.TooLong, answer.Lost} {
 		reason := reason
 		all = append(all, g.counter("refusals_total", "Lines that were refused in the engine's stead.",
 			prometheus.Labels{"reason": string(reason)}, func() float64 { return float64(g.refusals[reason]) }))
 	}
 	return all
+}
+
+func (g *Gauges) lossCollectors() []prometheus.Collector {
+	return []prometheus.Collector{
+		g.counter("lost_gaps_total", "Gaps in the log: messages that the brokers have lost, or that retention has cut.", nil,
+			func() float64 { return float64(g.lost.gaps) }),
+		g.counter("lost_messages_total", "Messages in these gaps, at most.", nil, func() float64 { return float64(g.lost.messages) }),
+		g.counter("lost_lines_total", "Lines that are lost of batches of which other lines came.", nil,
+			func() float64 { return float64(g.lost.lines) }),
+	}
 }
 
 // namespace begins the name of every metric.

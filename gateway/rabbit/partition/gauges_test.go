@@ -6,16 +6,16 @@ import (
 	"net/http"
 	"strings"
 	"testing"
+	"time"
 
 	"gateway/rabbit/answer"
-	"gateway/rabbit/metrics"
 )
 
 func TestMetricsAreShown(t *testing.T) {
 	g := NewGauges()
 	ctx, stop := context.WithCancel(context.Background())
 	defer stop()
-	address, err := metrics.Serve(ctx, "127.0.0.1:0", g)
+	address, err := ServeMetrics(ctx, "127.0.0.1:0", g)
 	if err != nil {
 		t.Fatal(err)
 	}
@@ -35,6 +35,21 @@ func TestMetricsAreShown(t *testing.T) {
 		t.Errorf("%d %s", status, said)
 	}
 	g.setConnected(true)
+	if !g.setMissing([]int{4, 2}) || g.setMissing([]int{2, 4}) {
+		t.Error("what is missing is new twice, or never")
+	}
+	if status, said := get("/readyz"); status != 503 || !strings.Contains(said, "partitions [2 4] have no queues") {
+		t.Errorf("%d %s", status, said)
+	}
+	g.setMissing(nil)
+	g.waitsFor(1, errOtherLog, time.Now().Add(-time.Second))
+	if is, said := g.Ready(); !is {
+		t.Error(said)
+	}
+	g.waitsFor(1, errOtherLog, time.Now().Add(time.Hour))
+	if is, said := g.Ready(); is || !strings.HasPrefix(said, "partition 1 waits: the log is not the one") {
+		t.Error(said)
+	}
 	g.takeover(3)
 	g.settled(&entry{answered: true, reason: answer.Deadline})
 	g.settled(&entry{skipped: true})

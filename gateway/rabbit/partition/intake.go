@@ -6,11 +6,8 @@ import (
 	"fmt"
 	"io"
 
-	amqp "github.com/rabbitmq/amqp091-go"
-
 	"gateway/rabbit/answer"
 	"gateway/rabbit/broker"
-	"gateway/rabbit/history"
 	"gateway/rabbit/ledger"
 	"gateway/rabbit/line"
 )
@@ -18,13 +15,18 @@ import (
 // An intake makes entries of the messages of the log, of each line of each sender once.
 type intake struct {
 	log     io.Writer // of what is dropped
+	gauges  *Gauges
+	first   func() (int64, error) // the offset of the log's first message
 	queue   *queue
 	senders *ledger.Senders
 	begin   ledger.Place    // the snapshot's place: what lies before it is taken in
+	part    bool            // whether the message at the snapshot's place has further lines
 	upto    ledger.Place    // what lies before it is answered
+	more    bool            // whether the message of that place has further lines
 	records []answer.Record // the answers behind the snapshot, up to there
 	offset  int64           // of the last message that was read
 	lines   int64           // how many lines were given numbers
+	cut     bool            // whether messages of the log were lost
 	mark    string          // of this takeover, published once the log is read
 	fault   error           // why the log can't be gone on with
 }
@@ -33,32 +35,40 @@ type intake struct {
 var errOtherLog = errors.New("the log is not the one that the answers are for: its stream was made anew. " +
 	"Delete both streams of the partition, so that it begins anew")
 
-func newIntake(log io.Writer, queue *queue, h *history.History) *intake {
-	return &intake{log: log, queue: queue, senders: h.Ledger.Senders.Clone(), begin: h.Ledger.Place,
-		upto: h.Upto(), records: h.Records, offset: -1, lines: h.Ledger.Lines}
+// errOvertaken says that retention has cut messages that this owner was about to read. Another owner may have answered them, so
+// the partition is taken over anew, with what the answers say now.
+var errOvertaken = errors.New("retention has cut the log while it was read")
+
+// errModel says that a model came under the topic of requests, under which everybody may send who may send at all.
+var errModel = errors.New("a model without the right to send models")
+
+func newIntake(log io.Writer, gauges *Gauges, queue *queue, h *broker.History, first func() (int64, error)) *intake {
+	return &intake{log: log, gauges: gauges, first: first, queue: queue, senders: h.Ledger.Senders.Clone(), begin: h.Ledger.Place, part: h.Ledger.Part,
+		upto: h.Upto(), more: h.More, records: h.Records, offset: -1, lines: h.Ledger.Lines}
 }
 
-// first is where the log is to be read from.
-func (in *intake) first() interface{} {
+// from is where the log is to be read from.
+func (in *intake) from() interface{} {
 	if in.begin.Offset < 0 {
 		return broker.FromFirst
 	}
 	return in.begin.Offset
 }
 
-// take takes in a message with its offset.
-func (in *intake) take(delivery amqp.Delivery, offset int64) {
-	if in.offset < 0 && offset > in.begin.Offset+1 {
-		fmt.Fprintf(in.log, "the retention may have cut lines: those behind %v and before offset %d\n", in.begin, offset)
+// take takes in a message.
+func (in *intake) take(message broker.Message) {
+	offset := message.Offset
+	if in.lookForGap(offset); in.fault != nil {
+		return
 	}
 	in.offset = offset
-	if mark, isMark := delivery.Headers[broker.MarkHeader]; isMark {
-		if mark == in.mark && offset <= in.upto.Offset {
+	if message.Topic(broker.RequestsExchange) == broker.TopicMarks {
+		if message.Headers[broker.MarkHeader] == in.mark && offset <= in.upto.Offset {
 			in.fault = errOtherLog
 		}
 		return
 	}
-	from, err := broker.ReadOrigin(delivery.Headers, delivery.Timestamp)
+	from, err := broker.ReadOrigin(message)
 	if err != nil {
 		in.drop(ledger.Place{Offset: offset}, err)
 		return
@@ -68,21 +78,92 @@ func (in *intake) take(delivery amqp.Delivery, offset int64) {
 		return
 	}
 	counts := map[ledger.Verdict]int64{}
-	var missing int64
-	for index, raw := range bytes.Split(delivery.Body, []byte("\n")) {
+	lines := bytes.Split(message.Body, []byte("\n"))
+	for index, raw := range lines {
 		place := ledger.Place{Offset: offset, Index: int64(index)}
 		if !in.begin.Before(place) {
 			continue
 		}
-		e := &entry{place: place, from: from, sequence: from.Number + int64(index), raw: raw}
-		verdict, first, lost := in.senders.Take(from, e.sequence, raw)
-		counts[verdict]++
-		missing += lost
-		if e.first = first; verdict == ledger.Taken {
-			in.takeLine(e)
-		}
+		e := &entry{place: place, from: from, sequence: from.Number + int64(index), raw: raw, part: index < len(lines)-1}
+		counts[in.takeLine(e)]++
 	}
-	in.tell(offset, from, counts, missing)
+	in.tell(offset, from, counts)
+}
+
+// lookForGap finds out whether messages before this one are lost, and lets a line of the answers say so.
+func (in *intake) lookForGap(offset int64) {
+	gap, isLost := in.gapBefore(offset)
+	if !isLost || in.fault != nil {
+		return
+	}
+	if in.offset >= 0 {
+		in.fault = errOvertaken
+		return
+	}
+	in.cut = true
+	records := in.recordsUpto(gap.Place())
+	in.lines += int64(len(records))
+	if first := in.unanswered(); gap.From < first {
+		gap.From = first
+	}
+	if gap.Messages() <= 0 || !in.upto.Before(gap.Place()) {
+		fmt.Fprintf(in.log, "messages up to offset %d are lost, but answered\n", gap.To)
+		in.queue.add(&entry{place: gap.Place(), lost: &lost{gap, records}, skipped: true, known: true})
+		return
+	}
+	fmt.Fprintf(in.log, "the messages from offset %d to %d are lost: retention has cut them, or the broker\n", gap.From, gap.To)
+	in.gauges.lostMessages(gap)
+	in.queue.add(&entry{place: gap.Place(), lost: &lost{gap, records}, skipped: true})
+}
+
+// gapBefore is what is missing between a message and the one before, and says whether it is lost. The stream was read from the
+// last message of the snapshot on, or from the last one that was read. The broker takes some offsets for itself: nothing is
+// lost if the log begins before them, or if it is one offset alone, which a log may begin with.
+func (in *intake) gapBefore(offset int64) (gap ledger.Gap, isLost bool) {
+	gap, isMessage := ledger.Gap{From: in.begin.Offset + 1, To: offset - 1}, false
+	switch {
+	case in.offset >= 0:
+		gap.From = in.offset + 1
+	case in.part && offset > in.begin.Offset:
+		gap.From, isMessage = in.begin.Offset, true
+	}
+	if gap.Messages() <= 0 || gap.Messages() == 1 && gap.From > 0 && !isMessage {
+		return gap, false
+	}
+	first, err := in.first()
+	if err != nil {
+		in.fault = err
+	}
+	return gap, first > gap.From
+}
+
+// unanswered is the offset of the first message that has lines without an answer.
+func (in *intake) unanswered() int64 {
+	if in.more {
+		return in.upto.Offset
+	}
+	return in.upto.Offset + 1
+}
+
+// recordsUpto takes the records of lines up to a place out.
+func (in *intake) recordsUpto(place ledger.Place) []answer.Record {
+	count := 0
+	for count < len(in.records) && !place.Before(in.records[count].Place) {
+		count++
+	}
+	taken := in.records[:count]
+	in.records = in.records[count:]
+	return taken
+}
+
+// lookForLines takes in how many lines of a batch are missing before this place. A batch that isn't known may be forgotten, and
+// not lost.
+func (in *intake) lookForLines(from ledger.Origin, place ledger.Place, missing int64, isKnown bool) {
+	if missing == 0 || !isKnown && !in.cut || !in.upto.Before(place) {
+		return
+	}
+	in.gauges.lostLines(missing)
+	fmt.Fprintf(in.log, "line %v: %d lines of sender %q are lost before it\n", place, missing, from.Sender)
 }
 
 // takeControl takes in a claim, or the end of a batch.
@@ -90,25 +171,41 @@ func (in *intake) takeControl(from ledger.Origin, place ledger.Place) {
 	if !in.begin.Before(place) {
 		return
 	}
-	counts := in.senders.Control(from)
+	isKnown := in.senders.Find(from.Sender).Batch(from.Batch) != nil
+	counts, missing := in.senders.Control(from)
+	in.lookForLines(from, place, missing, isKnown)
 	in.queue.add(&entry{place: place, from: from, ends: counts && from.Kind == ledger.End, skipped: true})
 }
 
-func (in *intake) takeLine(e *entry) {
-	var err error
-	if e.line, err = line.Read(e.raw); err != nil {
+// takeLine takes a line in, and says what becomes of it.
+func (in *intake) takeLine(e *entry) ledger.Verdict {
+	var fault error
+	if e.line, fault = line.Read(e.raw); fault == nil && e.line.IsModel() && !e.from.MayHaveModels {
+		e.line, fault = line.Line{}, errModel
+	}
+	taking := in.senders.Take(e.from, e.sequence, e.raw, e.line.IsModel())
+	if taking.Verdict != ledger.Taken {
+		return taking.Verdict
+	}
+	e.first = taking.First
+	in.lookForLines(e.from, e.place, taking.Missing, !taking.First)
+	if fault != nil {
 		e.skipped = true
-		in.drop(e.place, err)
+		in.drop(e.place, fault)
 		in.queue.add(e)
-		return
+		return ledger.Taken
 	}
 	in.lines++
 	e.number = in.lines
 	if !in.upto.Before(e.place) {
 		e.known = true
 		e.outcome = in.recorded(e.place)
+	} else if taking.Adrift {
+		e.refuse(answer.Lost)
+		in.queue.ready += len(e.text)
 	}
 	in.queue.add(e)
+	return ledger.Taken
 }
 
 // recorded is what the answer in the stream says that stands there for this place.
@@ -132,7 +229,7 @@ func (in *intake) drop(place ledger.Place, reason error) {
 	}
 }
 
-func (in *intake) tell(offset int64, from ledger.Origin, counts map[ledger.Verdict]int64, missing int64) {
+func (in *intake) tell(offset int64, from ledger.Origin, counts map[ledger.Verdict]int64) {
 	if !in.upto.Before(ledger.Place{Offset: offset}) {
 		return
 	}
@@ -142,8 +239,5 @@ func (in *intake) tell(offset int64, from ledger.Origin, counts map[ledger.Verdi
 	if count := counts[ledger.Fenced]; count > 0 {
 		fmt.Fprintf(in.log, "message %d: %d lines of sender %q are dropped: a newer process sends under its name\n", offset,
 			count, from.Sender)
-	}
-	if missing > 0 {
-		fmt.Fprintf(in.log, "message %d: %d lines of sender %q are missing before it\n", offset, missing, from.Sender)
 	}
 }

@@ -4,8 +4,6 @@ import (
 	"fmt"
 	"time"
 
-	amqp "github.com/rabbitmq/amqp091-go"
-
 	"gateway/rabbit/answer"
 	"gateway/rabbit/broker"
 	"gateway/rabbit/ledger"
@@ -13,7 +11,8 @@ import (
 
 // A snapshot is due after so much of lines and answers, or four times its own size if that is more; after so many
 // messages, fewer where it is small, since who takes over reads them; and an hour after the one before, or a minute after a
-// takeover. So where streams are cut by age, one is left.
+// takeover. So where streams are cut by age, one is left. After a model it is due soon: if the model is cut before a snapshot has
+// it, it is lost.
 const (
 	snapshotBytes    = 4 << 20
 	snapshotFactor   = 4
@@ -22,29 +21,38 @@ const (
 	smallSnapshot    = 128 << 10
 	snapshotPause    = time.Hour
 	firstPause       = time.Minute
+	modelPause       = 10 * time.Second // from one snapshot to the next one after a model
 )
 
 // A publisher publishes messages, and knows how many of them are without a confirm.
 type publisher interface {
 	Open() int
-	Publish(queue string, headers amqp.Table, body []byte) error
+	Publish(to broker.Route, headers broker.Headers, body []byte) error
 }
 
 // An output publishes the answers in the order of their lines, and snapshots between them.
 type output struct {
 	publisher publisher
-	name      string // of the stream
+	route     broker.Route // of the answers
 	ledger    *ledger.Ledger
+	program   string       // the version of this one
 	last      ledger.Place // the place of the last answer that was published
 	upto      ledger.Place // the place of the last answer in the body
-	body      []byte
-	lines     int // in the body
+	// published is an offset of the stream of answers: the last message that was published is there, or after it, since others
+	// publish marks. snapshotAt is that of the last snapshot.
+	published, snapshotAt int64
+	body                  []byte
+	more                  bool // whether the message of that place has further lines
+	lines                 int  // in the body
 
 	sinceBytes    int // of lines and answers since the last snapshot
 	sinceMessages int
 	size          int       // of the last snapshot
 	next          time.Time // when one is due whatever was answered, if it isn't zero
 	aged          bool      // whether that time has come
+	modelled      bool      // whether a model was put in force since the last snapshot
+	written       time.Time // when the last snapshot was
+	fresh         bool      // whether that is less than modelPause ago
 }
 
 // room tells whether the next answer may be settled.
@@ -61,20 +69,28 @@ func (out *output) snapshotDue() bool {
 	if out.size <= smallSnapshot {
 		messages = smallMessages
 	}
-	return out.ledger.Place != ledger.Start && (out.sinceBytes >= due || out.sinceMessages >= messages || out.aged)
+	return out.ledger.Place != ledger.Start && (out.sinceBytes >= due || out.sinceMessages >= messages || out.aged || out.modelled && !out.fresh)
 }
 
 // tick looks at the time.
-func (out *output) tick(now time.Time) { out.aged = !out.next.IsZero() && now.After(out.next) }
+func (out *output) tick(now time.Time) {
+	out.aged = !out.next.IsZero() && now.After(out.next)
+	out.fresh = now.Sub(out.written) < modelPause
+}
 
 // settle takes in that an entry is settled, and adds its answer to the body if it is a new one.
 func (out *output) settle(e *entry) {
+	out.ledger.Part = e.part
+	if e.lost != nil {
+		out.settleLost(e)
+		return
+	}
 	if e.from.Kind != ledger.Lines {
 		out.ledger.Senders.Control(e.from)
 		out.ledger.Skip(e.place)
 		return
 	}
-	out.ledger.Senders.Take(e.from, e.sequence, e.raw)
+	out.ledger.Senders.Take(e.from, e.sequence, e.raw, e.line.IsModel())
 	if e.first {
 		out.ledger.Models.Begin(e.from.Key())
 	}
@@ -83,11 +99,28 @@ func (out *output) settle(e *entry) {
 		return
 	}
 	out.sinceBytes += len(e.raw) + len(e.text)
+	out.modelled = out.modelled || e.outcome.InForce
 	out.ledger.Settle(e.place, e.from.Key(), e.line, e.outcome)
 	if e.known {
 		return
 	}
+	out.more = e.part
 	out.body = answer.Append(out.body, e.place, e.line.Key, e.line.ID, e.text)
+	out.upto = e.place
+	out.lines++
+}
+
+// settleLost takes in that messages are lost, and adds a line that says so if there is none.
+func (out *output) settleLost(e *entry) {
+	out.ledger.Skip(e.place)
+	for _, record := range e.lost.records {
+		out.ledger.SettleLost(record.Client, record.Outcome)
+	}
+	if e.known {
+		return
+	}
+	out.more = false
+	out.body = answer.AppendLost(out.body, e.lost.gap)
 	out.upto = e.place
 	out.lines++
 }
@@ -107,10 +140,11 @@ func (out *output) publish() (bool, error) {
 }
 
 func (out *output) publishAnswers() error {
-	part := broker.Part{After: out.last, Upto: out.upto}
-	if err := out.publisher.Publish(out.name, broker.PartHeaders(part), out.body); err != nil {
+	part := broker.Part{After: out.last, Upto: out.upto, More: out.more, SnapshotAt: out.snapshotAt}
+	if err := out.publisher.Publish(out.route, broker.PartHeaders(part), out.body); err != nil {
 		return fmt.Errorf("publishing answers: %w", err)
 	}
+	out.published++
 	out.last = out.upto
 	out.body, out.lines = nil, 0
 	out.sinceMessages++
@@ -118,15 +152,18 @@ func (out *output) publishAnswers() error {
 }
 
 func (out *output) publishSnapshot() error {
-	body, err := out.ledger.Snapshot()
+	body, err := out.ledger.Snapshot(out.program)
 	if err != nil {
 		return err
 	}
-	part := broker.Part{Snapshot: true, Upto: out.ledger.Place}
-	if err := out.publisher.Publish(out.name, broker.PartHeaders(part), body); err != nil {
+	part := broker.Part{Snapshot: true, Upto: out.ledger.Place, SnapshotAt: out.snapshotAt}
+	if err := out.publisher.Publish(out.route, broker.PartHeaders(part), body); err != nil {
 		return fmt.Errorf("publishing a snapshot: %w", err)
 	}
+	out.published++
+	out.snapshotAt = out.published
 	out.sinceBytes, out.sinceMessages, out.size = 0, 0, len(body)
-	out.next, out.aged = time.Now().Add(snapshotPause), false
+	out.written, out.fresh = time.Now(), true
+	out.next, out.aged, out.modelled = out.written.Add(snapshotPause), false, false
 	return nil
 }

@@ -10,11 +10,7 @@ import (
 	"os"
 	"time"
 
-	amqp "github.com/rabbitmq/amqp091-go"
-
 	"gateway/rabbit/broker"
-	"gateway/rabbit/history"
-	"gateway/rabbit/lease"
 	"gateway/rabbit/process"
 )
 
@@ -29,11 +25,12 @@ type Options struct {
 	Keep     time.Duration // how long a named sender is known after its last message; 0 says for ever
 	Log      io.Writer
 	Gauges   *Gauges
+	Program  string // the version of this one
 }
 
 // Run owns partitions until the context ends.
 func Run(ctx context.Context, options Options) error {
-	t := &taker{options: options, patience: firstPatience, segment: broker.SegmentBytes}
+	t := &taker{options: options, patience: firstPatience, refused: make(map[int]error), rests: make(map[int]time.Time)}
 	return broker.Again(ctx, options.Log, t.own)
 }
 
@@ -41,7 +38,60 @@ func Run(ctx context.Context, options Options) error {
 type taker struct {
 	options  Options
 	patience time.Duration // of the next takeover
-	segment  int64         // how long the files of the streams are, or 0 where an earlier program has made these
+	refused  map[int]error // of partitions whose model this program's engine refuses: another program has to own them
+	// rests says until when other partitions come first than one that can't be owned before something is done.
+	rests map[int]time.Time
+}
+
+// rest is how long a partition is left alone that can't be owned before something is done.
+const rest = 30 * time.Second
+
+// partitions are those that may be owned now: those that rest too, if all others are refused.
+func (t *taker) partitions() []int {
+	var may, resting []int
+	for _, partition := range t.options.Settings.All() {
+		switch {
+		case t.refused[partition] != nil:
+		case time.Now().Before(t.rests[partition]):
+			resting = append(resting, partition)
+		default:
+			may = append(may, partition)
+		}
+	}
+	if len(may) == 0 {
+		return resting
+	}
+	return may
+}
+
+// missing takes in which partitions have no queues, and reports it if that has changed.
+func (t *taker) missing(partitions []int) {
+	if t.options.Gauges.setMissing(partitions) && len(partitions) > 0 {
+		fmt.Fprintf(t.options.Log, "partitions %v have no queues: %v\n", partitions, broker.ErrMissing)
+	}
+}
+
+// failed takes in why a partition can't be owned. Where none is left that this program can own, the error is final.
+func (t *taker) failed(partition int, reason error) error {
+	if broker.IsMissing(reason) {
+		reason = fmt.Errorf("%w: %v", broker.ErrMissing, reason)
+	}
+	err := fmt.Errorf("partition %d: %w", partition, reason)
+	for _, lasting := range []error{errOtherLog, broker.ErrNoSnapshot, broker.ErrMissing} {
+		if errors.Is(reason, lasting) {
+			t.rests[partition] = time.Now().Add(rest)
+			t.options.Gauges.waitsFor(partition, reason, time.Now().Add(2*rest))
+		}
+	}
+	if !errors.Is(reason, errRefusedModel) {
+		return err
+	}
+	t.options.Gauges.waitsFor(partition, reason, time.Time{})
+	fmt.Fprintf(t.options.Log, "%v\n", err)
+	if t.refused[partition] = reason; len(t.partitions()) == 0 {
+		return &broker.Final{Reason: err}
+	}
+	return err
 }
 
 // own waits for a partition that is free, and owns it until the connection is lost.
@@ -54,22 +104,40 @@ func (t *taker) own(ctx context.Context) error {
 	defer link.Close()
 	options.Gauges.setConnected(true)
 	defer options.Gauges.setConnected(false)
-	held, err := lease.Wait(ctx, link, options.Settings)
+	held, err := t.wait(ctx, link)
 	if err != nil {
 		return err
 	}
 	fmt.Fprintf(options.Log, "partition %d: owned by process %d\n", held.Partition, os.Getpid())
 	o, err := t.take(link, held.Partition)
 	if err != nil {
-		return fmt.Errorf("partition %d: %w", held.Partition, err)
+		return t.failed(held.Partition, err)
 	}
 	defer o.work.end()
 	options.Gauges.takeover(held.Partition)
 	defer options.Gauges.left()
 	if err := o.run(); err != nil {
-		return fmt.Errorf("partition %d: %w", held.Partition, err)
+		return t.failed(held.Partition, err)
 	}
 	return nil
+}
+
+// errRested says that partitions that could not be owned may be, now.
+var errRested = errors.New("partitions that could not be owned are looked at again")
+
+// wait waits for the lease of a partition, but while some rest no longer than that.
+func (t *taker) wait(ctx context.Context, link *broker.Link) (*broker.Held, error) {
+	may := t.partitions()
+	if len(may)+len(t.refused) == t.options.Settings.Partitions {
+		return broker.WaitForLease(ctx, link, t.options.Settings, may, t.missing)
+	}
+	until, cancel := context.WithTimeout(ctx, rest)
+	defer cancel()
+	held, err := broker.WaitForLease(until, link, t.options.Settings, may, t.missing)
+	if errors.Is(err, context.DeadlineExceeded) {
+		return nil, errRested
+	}
+	return held, err
 }
 
 // take takes a partition over. Where a broker does nothing for a while it fails, and next time has twice as much patience.
@@ -84,9 +152,6 @@ func (t *taker) take(link *broker.Link, partition int) (*owner, error) {
 		fmt.Fprintf(log, "not taken over, after %v: %v\n", s, err)
 		if errors.Is(err, late) {
 			t.patience = longer(t.patience)
-		}
-		if broker.IsOther(err) {
-			t.segment = broker.SegmentBytes - t.segment
 		}
 		t.options.Settings.Last = link.Address
 		return nil, err
@@ -115,16 +180,13 @@ type owner struct {
 // begin takes up a partition where its last answer stands.
 func (t *taker) begin(link *broker.Link, partition int, log io.Writer, s *steps) (*owner, error) {
 	options := t.options
-	if err := link.DeclareStreams(options.Settings, partition, t.segment); err != nil {
-		return nil, err
-	}
 	publisher, err := link.Publisher()
 	if err != nil {
 		return nil, err
 	}
-	s.Passed("the streams are there")
-	answers, lines := options.Settings.Queue(broker.Answers, partition), options.Settings.Queue(broker.Lines, partition)
-	h, err := history.Read(link, publisher, answers, broker.MostOpen, options.Keep, s)
+	lines := options.Settings.Queue(broker.Lines, partition)
+	h, err := broker.ReadHistory(broker.HistoryOptions{Link: link, Settings: options.Settings, Partition: partition, Open: broker.MostOpen,
+		Keep: options.Keep, Progress: s}, publisher)
 	if err != nil {
 		return nil, err
 	}
@@ -133,29 +195,40 @@ func (t *taker) begin(link *broker.Link, partition int, log io.Writer, s *steps)
 		options.Gauges.unreadSnapshot()
 	}
 	s.Passed("the mark is confirmed")
-	q := &queue{}
+	q, route := &queue{}, options.Settings.Route(broker.AnswersExchange, broker.TopicAnswers, partition)
+	first := func() (int64, error) { return link.First(lines) }
 	o := &owner{log: log, gauges: options.Gauges, link: link, publisher: publisher, queue: q,
-		intake: newIntake(log, q, h),
+		intake: newIntake(log, options.Gauges, q, h, first),
 		work: &work{log: log, options: options.Engine, deadline: int(options.Deadline / tick), queue: q, ledger: h.Ledger,
-			models: h.Ledger.Models.Clone(), restarts: options.Gauges.restart, taken: time.Now()},
-		output: &output{publisher: publisher, name: answers, ledger: h.Ledger, last: h.Upto(), sinceMessages: h.Messages,
-			next: time.Now().Add(firstPause)}}
-	o.stream, err = link.Read(lines, o.intake.first(), broker.MostOpen)
+			models: h.Ledger.Models.Clone(), begin: beginProcess, restarts: options.Gauges.restart, taken: time.Now()},
+		output: &output{publisher: publisher, route: route, program: options.Program, ledger: h.Ledger, last: h.Upto(),
+			published: h.End, snapshotAt: h.At, sinceMessages: h.Messages, next: time.Now().Add(firstPause)}}
+	o.stream, err = link.Read(lines, o.intake.from(), broker.MostOpen)
 	if err != nil {
 		return nil, err
 	}
 	s.Passed("the log is begun")
-	if o.intake.mark, err = history.Mark(); err != nil {
+	if o.intake.mark, err = broker.NewMark(); err != nil {
 		return nil, err
 	}
-	if err := publisher.Publish(lines, amqp.Table{broker.MarkHeader: o.intake.mark}, nil); err != nil {
-		return nil, err
-	}
-	if err := publisher.Settle(); err != nil {
+	if err := o.publishMarks(options.Settings, partition, h.At); err != nil {
 		return nil, err
 	}
 	o.tail = watchTail(link, lines)
 	return o, nil
+}
+
+// publishMarks marks the log, and lets the answers say at their end where the last snapshot is.
+func (o *owner) publishMarks(settings broker.Settings, partition int, snapshotAt int64) error {
+	marks := settings.Route(broker.RequestsExchange, broker.TopicMarks, partition)
+	if err := o.publisher.Publish(marks, broker.Headers{broker.MarkHeader: o.intake.mark}, nil); err != nil {
+		return err
+	}
+	marks = settings.Route(broker.AnswersExchange, broker.TopicMarks, partition)
+	if err := o.publisher.Publish(marks, broker.PointerHeaders(snapshotAt), nil); err != nil {
+		return err
+	}
+	return o.publisher.Settle()
 }
 
 // run works until the link fails.
@@ -174,21 +247,21 @@ func (o *owner) run() error {
 
 // wait waits for something to happen, and takes it in.
 func (o *owner) wait(ticker *time.Ticker) error {
-	var deliveries <-chan amqp.Delivery
+	var arrivals broker.Arrivals
 	if o.room() {
-		deliveries = o.stream.Deliveries
+		arrivals = o.stream.Arrivals
 	}
 	var answers <-chan []process.Answer
 	if o.work.process != nil {
 		answers = o.work.process.Answers()
 	}
 	select {
-	case delivery, open := <-deliveries:
-		offset, err := o.stream.Take(delivery, open)
+	case arrival, open := <-arrivals:
+		message, err := o.stream.Take(arrival, open)
 		if err != nil {
 			return err
 		}
-		o.intake.take(delivery, offset)
+		o.intake.take(message)
 		o.idle.since = time.Now()
 	case batch, open := <-answers:
 		if open {

@@ -13,26 +13,28 @@ import (
 	"testing"
 	"time"
 
-	amqp "github.com/rabbitmq/amqp091-go"
-
 	"gateway/engine"
 	"gateway/rabbit/broker"
-	"gateway/rabbit/history"
 	"gateway/rabbit/ledger"
 	"gateway/rabbit/line"
 	"gateway/rabbit/process"
 )
 
+var settings = broker.Settings{Partitions: 1}
+
 // A log is a partition's two streams, in memory.
 type log struct {
-	lines   []amqp.Delivery
-	answers []amqp.Publishing
+	lines   []broker.Message
+	cut     int // so many of the first lines' messages are cut
+	answers []broker.Message
 }
 
 func (l *log) Open() int { return 0 }
 
-func (l *log) Publish(_ string, headers amqp.Table, body []byte) error {
-	l.answers = append(l.answers, amqp.Publishing{Headers: headers, Body: body})
+func (l *log) firstKept() (int64, error) { return int64(l.cut), nil }
+
+func (l *log) Publish(to broker.Route, headers broker.Headers, body []byte) error {
+	l.answers = append(l.answers, broker.Message{At: to, Headers: headers, Body: body})
 	return nil
 }
 
@@ -43,7 +45,9 @@ func (l *log) send(number int64, lines ...string) {
 
 // put appends a message.
 func (l *log) put(from ledger.Origin, lines ...string) {
-	l.lines = append(l.lines, amqp.Delivery{Headers: broker.OriginHeaders(from), Body: []byte(strings.Join(lines, "\n"))})
+	route := settings.Route(broker.RequestsExchange, broker.TopicModels, 0)
+	l.lines = append(l.lines, broker.Message{Offset: int64(len(l.lines)), At: route, Headers: broker.OriginHeaders(from),
+		Body: []byte(strings.Join(lines, "\n"))})
 }
 
 // A holder owns the partition, until it is dropped.
@@ -56,16 +60,17 @@ type holder struct {
 // take takes the partition over, with what is answered from this message of the answers' stream on.
 func take(t *testing.T, l *log, from int, options process.Options, deadline int) *holder {
 	t.Helper()
-	h := history.New(from == 0, 0)
+	h := broker.NewHistory(from == 0, 0)
 	for _, message := range l.answers[from:] {
-		if err := h.Take(message.Headers, message.Body); err != nil {
+		if err := h.Take(message); err != nil {
 			t.Fatal(err)
 		}
 	}
 	q := &queue{}
-	o := &owner{log: io.Discard, gauges: NewGauges(), queue: q, intake: newIntake(io.Discard, q, h),
-		work:   &work{log: io.Discard, options: options, deadline: deadline, queue: q, ledger: h.Ledger, models: h.Ledger.Models.Clone(), restarts: func() {}},
-		output: &output{publisher: l, name: "answers", ledger: h.Ledger, last: h.Upto()}}
+	gauges := NewGauges()
+	o := &owner{log: io.Discard, gauges: gauges, queue: q, intake: newIntake(io.Discard, gauges, q, h, l.firstKept),
+		work:   &work{log: io.Discard, options: options, deadline: deadline, queue: q, ledger: h.Ledger, models: h.Ledger.Models.Clone(), begin: beginProcess, restarts: func() {}},
+		output: &output{publisher: l, route: settings.Route(broker.AnswersExchange, broker.TopicAnswers, 0), ledger: h.Ledger, last: h.Upto()}}
 	next := int(h.Ledger.Place.Offset)
 	if next < 0 {
 		next = 0
@@ -77,7 +82,7 @@ func take(t *testing.T, l *log, from int, options process.Options, deadline int)
 func (h *holder) read(t *testing.T, messages int) {
 	t.Helper()
 	for ; messages > 0 && h.next < len(h.log.lines); messages-- {
-		h.intake.take(h.log.lines[h.next], int64(h.next))
+		h.intake.take(h.log.lines[h.next])
 		h.next++
 	}
 	ticker := time.NewTicker(10 * time.Millisecond)
@@ -192,7 +197,7 @@ func given(t *testing.T, l *log) map[string][]string {
 	chain.Reach(ledger.Start)
 	var lines [][]byte
 	for _, message := range l.answers {
-		part, _, err := broker.ReadPart(message.Headers)
+		part, _, err := broker.ReadPart(message)
 		if err != nil {
 			t.Fatal(err)
 		}
@@ -281,7 +286,7 @@ func TestASnapshotComesWithTime(t *testing.T) {
 	if len(l.answers) != answered+1 {
 		t.Fatalf("%d messages more", len(l.answers)-answered)
 	}
-	if part, is, err := broker.ReadPart(l.answers[answered].Headers); err != nil || !is || !part.Snapshot {
+	if part, is, err := broker.ReadPart(l.answers[answered]); err != nil || !is || !part.Snapshot {
 		t.Errorf("%+v, %v, %v", part, is, err)
 	}
 }
@@ -310,6 +315,9 @@ func TestASecondOwnerThatGoesOn(t *testing.T) {
 // it names.
 const brokenVariable = "DESK_TEST_BROKEN"
 
+// olderVariable makes that an engine that knows no model.
+const olderVariable = "DESK_TEST_OLDER"
+
 func TestMain(m *testing.M) {
 	if path := os.Getenv(brokenVariable); path != "" {
 		runBroken(path)
@@ -328,6 +336,10 @@ func runBroken(path string) {
 		os.Exit(2)
 	}
 	for lines := bufio.NewScanner(os.Stdin); lines.Scan(); {
+		if os.Getenv(olderVariable) != "" && strings.HasPrefix(lines.Text(), `{"model":`) {
+			fmt.Fprintln(input, `{"model":{}}`)
+			continue
+		}
 		if strings.Contains(lines.Text(), "poison dies") {
 			os.Exit(1)
 		}
@@ -391,9 +403,11 @@ func TestALongAnswer(t *testing.T) {
 	h := take(t, l, 0, process.Options{Path: path, Workers: 1, Longest: 1024}, 1000)
 	h.read(t, 1)
 	h.work.end()
-	body := string(l.answers[0].Body)
-	for _, message := range l.answers[1:] {
-		body += string(message.Body)
+	body := ""
+	for _, message := range l.answers {
+		if part, _, err := broker.ReadPart(message); err == nil && !part.Snapshot {
+			body += string(message.Body)
+		}
 	}
 	lines := strings.Split(strings.TrimSpace(body), "\n")
 	if len(lines) != 4 || !strings.HasSuffix(lines[2], `"line":3,"refused":"answer","ticket":1}}`) ||

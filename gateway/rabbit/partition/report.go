@@ -65,37 +65,39 @@ type tail struct{ last int64 }
 
 func (t *tail) offset() int64 { return atomic.LoadInt64(&t.last) }
 
-// watchTail looks at the end of a stream from time to time.
+// watchTail asks from time to time how many messages a stream has, which costs the broker next to nothing. Where its first
+// message is, is looked up at the begin, and when it has fewer messages than before: a reader costs the broker the more the
+// more files the stream has.
 func watchTail(link *broker.Link, queue string) *tail {
 	t := &tail{last: -1}
 	go func() {
-		for {
-			if offset, is := lastOffset(link, queue); is {
-				atomic.StoreInt64(&t.last, offset)
-			}
-			select {
-			case <-link.Done():
-				return
-			case <-time.After(reportPause):
-			}
+		if counter, err := link.Counter(queue); err == nil {
+			t.watch(link, queue, counter)
 		}
 	}()
 	return t
 }
 
-// lastOffset is the offset of the first of the messages that were written last.
-func lastOffset(link *broker.Link, queue string) (int64, bool) {
-	stream, err := link.Read(queue, broker.FromLast, 1)
-	if err != nil {
-		return 0, false
+// watch ends when the link does, or when the stream can't be read: its owner's reader fails then, too.
+func (t *tail) watch(link *broker.Link, queue string, counter *broker.Counter) {
+	var first, before int64
+	for pause := time.Duration(0); ; pause = reportPause {
+		select {
+		case <-link.Done():
+			return
+		case <-time.After(pause):
+		}
+		count, err := counter.Count()
+		if err != nil {
+			return
+		}
+		if before == 0 || count < before {
+			if first, err = link.First(queue); err != nil {
+				return
+			}
+		}
+		if before = count; count > 0 {
+			atomic.StoreInt64(&t.last, first+count-1)
+		}
 	}
-	defer stream.Close()
-	select {
-	case delivery, open := <-stream.Deliveries:
-		offset, err := stream.Take(delivery, open)
-		return offset, err == nil
-	case <-time.After(time.Second): // nothing is there
-	case <-link.Done():
-	}
-	return 0, false
 }

@@ -2,6 +2,7 @@ package partition
 
 import (
 	"errors"
+	"fmt"
 	"io"
 	"regexp"
 	"testing"
@@ -93,6 +94,36 @@ func TestAReaderThatIsLost(t *testing.T) {
 	}
 	if err := i.late(last.Add(broker.Patience+2*time.Second), true); err == nil {
 		t.Error("nothing is late")
+	}
+}
+
+// A snapshot comes soon after a model, but after many models not one after each.
+func TestSnapshotsAfterModels(t *testing.T) {
+	l := &log{}
+	for number := int64(0); number < 200; number++ {
+		l.send(number, fmt.Sprintf(model, number+1))
+	}
+	h := take(t, l, 0, process.Options{Path: enginePath(t), Workers: 1, Longest: 1 << 20}, 1000)
+	defer h.work.end()
+	h.read(t, 1)
+	snapshots := func() (count int) {
+		for _, message := range l.answers {
+			if part, _, err := broker.ReadPart(message); err == nil && part.Snapshot {
+				count++
+			}
+		}
+		return count
+	}
+	if got := snapshots(); got != 1 {
+		t.Fatalf("%d snapshots after a model", got)
+	}
+	h.read(t, 100)
+	if got := snapshots(); got != 1 {
+		t.Errorf("%d snapshots after 101 models", got)
+	}
+	h.output.tick(time.Now().Add(modelPause))
+	if err := h.step(); err != nil || snapshots() != 2 {
+		t.Errorf("%d snapshots after a while, %v", snapshots(), err)
 	}
 }
 

@@ -25,7 +25,8 @@ type work struct {
 	deadline int // in ticks
 	queue    *queue
 	ledger   *ledger.Ledger // of all that is settled
-	process  *process.Process
+	process  evaluator
+	begin    func(process.Options) (evaluator, error)
 	restarts func() // is called when the engine is begun anew
 
 	next     int                        // the first entry of the queue that isn't given
@@ -47,6 +48,23 @@ type work struct {
 	oldest   *entry                     // the entry that is the first without an answer
 	age      int                        // for so many ticks
 	lonely   bool                       // whether the engine had no other entry all that time
+}
+
+// An evaluator is an engine: it answers the lines that it is given, in the order of each client's.
+type evaluator interface {
+	Give(line []byte)
+	Answers() <-chan []process.Answer
+	End()
+	Err() error
+}
+
+// beginProcess begins an engine that is a process.
+func beginProcess(options process.Options) (evaluator, error) {
+	started, err := process.Start(options)
+	if err != nil {
+		return nil, err
+	}
+	return started, nil
 }
 
 // How long an engine is left alone that has died at no line: twice as long each time.
@@ -71,6 +89,10 @@ func (w *work) give() error {
 			w.passed(e)
 			continue
 		}
+		if w.model == nil && ledger.IsUnknown(w.needed(e)) && !e.line.IsModel() {
+			w.refuse(e, answer.Lost)
+			continue
+		}
 		ready, err := w.ready(e)
 		if err != nil || !ready {
 			return err
@@ -80,14 +102,22 @@ func (w *work) give() error {
 	return nil
 }
 
+// needed is the model that is in force for an entry, the first of the queue that isn't given.
+func (w *work) needed(e *entry) []byte {
+	if e.first {
+		return w.models.Last()
+	}
+	return w.models.At(e.from.Key())
+}
+
 // ready makes the engine ready for an entry, and says whether it is.
 func (w *work) ready(e *entry) (bool, error) {
 	if w.careful > 0 && len(w.byLine) > 0 || w.queue.ready > broker.WindowBytes || w.model != nil || w.greeting > 0 {
 		return false, nil
 	}
-	model := w.models.At(e.from.Key())
-	if e.first {
-		model = w.models.Last()
+	model := w.needed(e)
+	if ledger.IsUnknown(model) { // of a model, which needs none
+		model = w.inForce
 	}
 	if w.process == nil {
 		if w.next > 0 || time.Now().Before(w.pause) {
@@ -117,6 +147,9 @@ func (w *work) passed(e *entry) {
 
 // advance takes in what an entry changes of the models in force.
 func (w *work) advance(e *entry) {
+	if e.lost != nil && e.lost.hasModel() {
+		w.models.Lose()
+	}
 	if e.first {
 		w.models.Begin(e.from.Key())
 	}
@@ -143,7 +176,7 @@ func (w *work) giveOne(e *entry) {
 // start starts an engine, and greets it. It is given lines once it has answered: so an engine that can do nothing is not
 // taken for one that dies at a line.
 func (w *work) start(model []byte) error {
-	started, err := process.Start(w.options)
+	started, err := w.begin(w.options)
 	if err != nil {
 		return err
 	}
@@ -264,8 +297,7 @@ func (w *work) late(head *entry) {
 // refuse answers an entry in the engine's stead.
 func (w *work) refuse(e *entry, reason answer.Reason) {
 	fmt.Fprintf(w.log, "line %v is refused: %s\n", e.place, reason)
-	e.answered, e.refused, e.reason = true, true, reason
-	e.text = answer.Refusal(e.line.Client, e.number, reason, nil)
+	e.refuse(reason)
 	w.queue.ready += len(e.text)
 }
 

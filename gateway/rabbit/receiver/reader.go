@@ -2,11 +2,10 @@ package receiver
 
 import (
 	"context"
+	"errors"
 	"fmt"
 	"io"
 	"sync"
-
-	amqp "github.com/rabbitmq/amqp091-go"
 
 	"gateway/rabbit/broker"
 )
@@ -14,9 +13,7 @@ import (
 // A message of one partition.
 type message struct {
 	partition int
-	offset    int64
-	headers   amqp.Table
-	body      []byte
+	broker.Message
 }
 
 // A reader reads the answers of one partition, over a connection of its own: where one partition can't be read, the others
@@ -26,24 +23,40 @@ type reader struct {
 	partition int
 	last      int64 // the offset of the last message that was handed on, or -1
 	messages  chan<- message
+	faults    chan<- error // takes an error with which all ends
 	mutex     sync.Mutex
+	tried     bool  // whether the partition was read from, or could not be
 	failure   error // why the partition can't be read now
 }
 
 // work reads until the context ends.
 func (r *reader) work(ctx context.Context) {
 	log := prefixed{r.options.Log, fmt.Sprintf("partition %d: ", r.partition)}
-	broker.Again(ctx, log, func(ctx context.Context) error {
+	err := broker.Again(ctx, log, func(ctx context.Context) error {
 		err := r.run(ctx)
 		r.failed(err)
 		return err
 	})
+	var final *broker.Final
+	if errors.As(err, &final) {
+		select {
+		case r.faults <- fmt.Errorf("partition %d: %w", r.partition, final.Reason):
+		case <-ctx.Done():
+		}
+	}
 }
 
+// failed takes in why the partition can't be read, or nil once it can.
 func (r *reader) failed(err error) {
 	r.mutex.Lock()
-	r.failure = err
+	r.tried, r.failure = true, err
 	r.mutex.Unlock()
+}
+
+func (r *reader) isTried() bool {
+	r.mutex.Lock()
+	defer r.mutex.Unlock()
+	return r.tried
 }
 
 // fault says why the partition can't be read, or nil where it can.
@@ -68,20 +81,20 @@ func (r *reader) run(ctx context.Context) error {
 	if err != nil {
 		return err
 	}
-	if err := r.pin(link, queue); err != nil {
+	if err := r.pin(link); err != nil {
 		return err
 	}
 	r.failed(nil)
 	for {
 		select {
-		case delivery, open := <-stream.Deliveries:
-			offset, err := stream.Take(delivery, open)
+		case arrival, open := <-stream.Arrivals:
+			next, err := stream.Take(arrival, open)
 			if err != nil {
 				return err
 			}
 			select {
-			case r.messages <- message{r.partition, offset, delivery.Headers, delivery.Body}:
-				r.last = offset
+			case r.messages <- message{r.partition, next}:
+				r.last = next.Offset
 			case <-link.Done():
 				return link.Err()
 			}
@@ -101,7 +114,7 @@ func (r *reader) from() interface{} {
 
 // pin publishes a mark in a stream that is read from its end on, and of which nothing was read yet. So there is a place to
 // go on from, and what is answered while the receiver is away is not missed.
-func (r *reader) pin(link *broker.Link, queue string) error {
+func (r *reader) pin(link *broker.Link) error {
 	if r.options.From != broker.FromNext || r.last >= 0 {
 		return nil
 	}
@@ -109,7 +122,8 @@ func (r *reader) pin(link *broker.Link, queue string) error {
 	if err != nil {
 		return err
 	}
-	if err := publisher.Publish(queue, amqp.Table{broker.MarkHeader: "desk receive"}, nil); err != nil {
+	route := r.options.Settings.Route(broker.AnswersExchange, broker.TopicMarks, r.partition)
+	if err := publisher.Publish(route, broker.Headers{broker.MarkHeader: "desk receive"}, nil); err != nil {
 		return err
 	}
 	if err := publisher.Settle(); err != nil {

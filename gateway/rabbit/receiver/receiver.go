@@ -11,8 +11,6 @@ import (
 	"os"
 	"time"
 
-	amqp "github.com/rabbitmq/amqp091-go"
-
 	"gateway/rabbit/answer"
 	"gateway/rabbit/broker"
 	"gateway/rabbit/ledger"
@@ -39,13 +37,15 @@ type receiver struct {
 	sum     string // of its end, as the place has it
 	streams []int64
 	chains  []ledger.Chain
-	holes   []bool    // whether offsets are missing since the last answers or snapshot
+	holes   []bool // whether offsets are missing since the last answers or snapshot
+	readers []*reader
+	gaps    int       // of requests or answers that are lost, for each of which a line is written
 	dirty   bool      // whether something is written, and the place isn't
 	moved   time.Time // when the last answer came
 }
 
 // Receive writes answers until the context ends, or none came for a while. The error says which partitions could not be
-// read at the end.
+// read at the end, or that some requests or answers are lost.
 func Receive(ctx context.Context, options Options) error {
 	r, err := newReceiver(options)
 	if err != nil {
@@ -53,32 +53,36 @@ func Receive(ctx context.Context, options Options) error {
 	}
 	reading, cancel := context.WithCancel(ctx)
 	defer cancel()
-	messages := make(chan message)
-	readers := make([]*reader, len(r.streams))
-	for partition := range readers {
-		readers[partition] = &reader{options: options, partition: partition, last: r.streams[partition], messages: messages}
-		go readers[partition].work(reading)
+	messages, faults := make(chan message), make(chan error)
+	r.readers = make([]*reader, len(r.streams))
+	for partition := range r.readers {
+		r.readers[partition] = &reader{options: options, partition: partition, last: r.streams[partition], messages: messages, faults: faults}
+		go r.readers[partition].work(reading)
 	}
-	fault := r.write(ctx, messages)
+	fault := r.write(ctx, messages, faults)
 	if saved := r.save(); fault == nil {
 		fault = saved
 	}
-	for _, reader := range readers {
+	for _, reader := range r.readers {
 		if fault == nil && ctx.Err() == nil {
 			fault = reader.fault()
 		}
 	}
+	if fault == nil && r.gaps > 0 {
+		fault = fmt.Errorf("requests or answers are lost in %d gaps: a line %q is written for each", r.gaps, answer.LostMember)
+	}
 	return fault
 }
 
-// write writes what comes until the context ends, or nothing came for a while. What is at hand is written together.
-func (r *receiver) write(ctx context.Context, messages <-chan message) error {
+// write writes what comes until the context ends, a partition fails for good, or nothing came for a while. What is at hand is
+// written together.
+func (r *receiver) write(ctx context.Context, messages <-chan message, faults <-chan error) error {
 	ticker := time.NewTicker(savePause)
 	defer ticker.Stop()
 	for {
 		select {
 		case m := <-messages:
-			if err := r.add(m.partition, m.offset, m.headers, m.body); err != nil {
+			if err := r.add(m.partition, m.Message); err != nil {
 				return err
 			}
 			continue
@@ -89,7 +93,7 @@ func (r *receiver) write(ctx context.Context, messages <-chan message) error {
 		}
 		select {
 		case m := <-messages:
-			if err := r.add(m.partition, m.offset, m.headers, m.body); err != nil {
+			if err := r.add(m.partition, m.Message); err != nil {
 				return err
 			}
 		case <-ticker.C:
@@ -99,13 +103,27 @@ func (r *receiver) write(ctx context.Context, messages <-chan message) error {
 			if r.idled() {
 				return nil
 			}
+		case fault := <-faults:
+			return fault
 		case <-ctx.Done():
 			return nil
 		}
 	}
 }
 
-func (r *receiver) idled() bool { return r.options.Idle > 0 && time.Since(r.moved) > r.options.Idle }
+// idled says whether nothing came for a while. That begins once each partition was reached, or could not be.
+func (r *receiver) idled() bool {
+	if r.options.Idle == 0 {
+		return false
+	}
+	for _, reader := range r.readers {
+		if !reader.isTried() {
+			r.moved = time.Now()
+			return false
+		}
+	}
+	return time.Since(r.moved) > r.options.Idle
+}
 
 // newReceiver is a receiver that stands at the place in its file.
 func newReceiver(options Options) (*receiver, error) {
@@ -183,21 +201,24 @@ func (r *receiver) cutOutput(known bool) error {
 }
 
 // add takes the next message of a partition's stream in, and writes the answers that it adds.
-func (r *receiver) add(partition int, offset int64, headers amqp.Table, body []byte) error {
+func (r *receiver) add(partition int, message broker.Message) error {
+	offset := message.Offset
 	chain, before := &r.chains[partition], r.streams[partition]
 	if offset == 0 {
 		chain.Reach(ledger.Start)
 	}
 	r.holes[partition] = r.holes[partition] || before >= 0 && offset > before+1
 	r.streams[partition], r.dirty = offset, true
-	part, is, err := broker.ReadPart(headers)
+	part, is, err := broker.ReadPart(message)
 	if err != nil {
 		return fmt.Errorf("partition %d, offset %d: %w", partition, offset, err)
 	}
 	if !is {
 		return nil
 	}
-	r.lookForCut(partition, part)
+	if err := r.lookForCut(partition, part); err != nil {
+		return err
+	}
 	switch {
 	case part.Snapshot:
 		chain.Reach(part.Upto)
@@ -205,26 +226,43 @@ func (r *receiver) add(partition int, offset int64, headers amqp.Table, body []b
 	case !chain.Fits(part.After, part.Upto):
 		return nil
 	}
-	return r.writeAnswers(partition, body, chain, part)
+	return r.writeAnswers(partition, message.Body, chain, part)
 }
 
-// lookForCut tells of answers that were cut before they were received, and goes on behind them: where offsets are missing
-// and the next message is not the one that is due. Missing offsets alone say nothing: the broker takes some for itself.
-func (r *receiver) lookForCut(partition int, part broker.Part) {
+// lookForCut finds answers that were cut before they were received: where offsets are missing and the next message is not the
+// one that is due. Missing offsets alone say nothing: the broker takes some for itself. It writes a line that says so, and goes
+// on after them.
+func (r *receiver) lookForCut(partition int, part broker.Part) error {
 	chain, begin := &r.chains[partition], part.After
 	if part.Snapshot {
 		begin = part.Upto
 	}
-	if r.holes[partition] && chain.Known && chain.Upto.Before(begin) {
-		fmt.Fprintf(r.options.Log, "desk receive: partition %d: the retention has cut the answers behind line %v and up to "+
-			"line %v before they were received\n", partition, chain.Upto, begin)
-		chain.Reach(begin)
-	}
+	isCut := r.holes[partition] && chain.Known && chain.Upto.Before(begin)
 	r.holes[partition] = false
+	if !isCut {
+		return nil
+	}
+	fmt.Fprintf(r.options.Log, "desk receive: partition %d: retention has cut the answers after line %v and up to line %v before "+
+		"they were received\n", partition, chain.Upto, begin)
+	text := answer.Unreceived(chain.Upto, begin)
+	chain.Reach(begin)
+	r.gaps++
+	return r.writeLine(partition, text)
+}
+
+// writeLine writes a line of a partition's answers.
+func (r *receiver) writeLine(partition int, text []byte) error {
+	prefix := fmt.Sprintf(`{"partition":%d,`, partition)
+	r.output.WriteString(prefix)
+	r.output.Write(text[1:])
+	if err := r.output.WriteByte('\n'); err != nil {
+		return fmt.Errorf("writing answers: %w", err)
+	}
+	r.written += int64(len(prefix) + len(text))
+	return nil
 }
 
 func (r *receiver) writeAnswers(partition int, body []byte, chain *ledger.Chain, part broker.Part) error {
-	prefix := fmt.Sprintf(`{"partition":%d,`, partition)
 	for _, text := range bytes.Split(bytes.TrimSuffix(body, []byte("\n")), []byte("\n")) {
 		record, err := answer.ReadRecord(text)
 		if err != nil {
@@ -233,12 +271,12 @@ func (r *receiver) writeAnswers(partition int, body []byte, chain *ledger.Chain,
 		if !chain.Upto.Before(record.Place) {
 			continue
 		}
-		r.output.WriteString(prefix)
-		r.output.Write(text[1:])
-		if err := r.output.WriteByte('\n'); err != nil {
-			return fmt.Errorf("writing answers: %w", err)
+		if record.Lost {
+			r.gaps++
 		}
-		r.written += int64(len(prefix) + len(text))
+		if err := r.writeLine(partition, text); err != nil {
+			return err
+		}
 	}
 	chain.Reach(part.Upto)
 	r.moved = time.Now()

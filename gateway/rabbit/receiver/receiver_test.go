@@ -8,6 +8,7 @@ import (
 	"path/filepath"
 	"strings"
 	"testing"
+	"time"
 
 	"gateway/rabbit/answer"
 	"gateway/rabbit/broker"
@@ -39,6 +40,12 @@ func opened(t *testing.T, folder string) file {
 	return file{receiver: r, path: path, told: told}
 }
 
+// messageOf is a message of the answers' stream.
+func messageOf(offset int64, part broker.Part, body []byte) broker.Message {
+	return broker.Message{Offset: offset, At: broker.Route{Exchange: broker.AnswersExchange, Key: "answers.0.of.1"},
+		Headers: broker.PartHeaders(part), Body: body}
+}
+
 // answers gives the receiver a message of the answers of so many lines behind this one, each a message of its own.
 func (f file) answers(t *testing.T, stream, behind, count int64) {
 	t.Helper()
@@ -50,7 +57,7 @@ func (f file) answers(t *testing.T, stream, behind, count int64) {
 	for line := behind + 1; line <= behind+count; line++ {
 		body = answer.Append(body, ledger.Place{Offset: line}, []byte(`"k"`), []byte(fmt.Sprint(line)), []byte(`{"ticket":0}`))
 	}
-	if err := f.add(0, stream, broker.PartHeaders(part), body); err != nil {
+	if err := f.add(0, messageOf(stream, part, body)); err != nil {
 		t.Fatal(err)
 	}
 }
@@ -64,8 +71,10 @@ func (f file) written(t *testing.T) string {
 	}
 	var numbers []string
 	for _, line := range strings.Split(strings.TrimSpace(string(text)), "\n") {
-		before, _, _ := strings.Cut(strings.TrimPrefix(line, `{"partition":0,"offset":`), ",")
-		numbers = append(numbers, before)
+		if number := strings.TrimPrefix(line, `{"partition":0,"offset":`); number != line {
+			line, _, _ = strings.Cut(number, ",")
+		}
+		numbers = append(numbers, line)
 	}
 	return strings.Join(numbers, " ")
 }
@@ -80,11 +89,11 @@ func (f file) saved(t *testing.T) {
 // Answers that are published twice, with a gap before them or over again by a second owner are written once.
 func TestEachAnswerIsWrittenOnce(t *testing.T) {
 	f := opened(t, t.TempDir())
-	f.answers(t, 0, -1, 3)                        // 0 to 2
-	f.answers(t, 1, -1, 3)                        // the same again
-	f.answers(t, 2, 5, 1)                         // behind a gap
-	f.answers(t, 3, 0, 4)                         // 1 to 4
-	if err := f.add(0, 4, nil, nil); err != nil { // a mark
+	f.answers(t, 0, -1, 3)                                      // 0 to 2
+	f.answers(t, 1, -1, 3)                                      // the same again
+	f.answers(t, 2, 5, 1)                                       // behind a gap
+	f.answers(t, 3, 0, 4)                                       // 1 to 4
+	if err := f.add(0, broker.Message{Offset: 4}); err != nil { // a mark
 		t.Fatal(err)
 	}
 	f.answers(t, 5, 4, 2) // 5 and 6
@@ -170,8 +179,30 @@ func TestACutIsTold(t *testing.T) {
 	f.answers(t, 0, -1, 3)
 	f.answers(t, 9, 20, 1)
 	f.saved(t)
-	if got := f.written(t); got != "0 1 2 21" || !strings.Contains(f.told.String(), "behind line 2.0 and up to line 20.0") {
+	lost := `{"partition":0,"lost":{"from":3,"to":20,"answers":true}}`
+	if got := f.written(t); got != "0 1 2 "+lost+" 21" || !strings.Contains(f.told.String(), "after line 2.0 and up to line 20.0") {
 		t.Errorf("%s; %s", got, f.told)
+	}
+	if f.gaps != 1 {
+		t.Errorf("%d gaps", f.gaps)
+	}
+}
+
+// Requests that are lost are a line of the answers' stream, which is written once.
+func TestLostRequestsAreWritten(t *testing.T) {
+	f := opened(t, t.TempDir())
+	f.answers(t, 0, -1, 3)
+	gap := ledger.Gap{From: 3, To: 8}
+	part := broker.Part{After: ledger.Place{Offset: 2}, Upto: gap.Place()}
+	for stream := int64(1); stream <= 2; stream++ {
+		if err := f.add(0, messageOf(stream, part, answer.AppendLost(nil, gap))); err != nil {
+			t.Fatal(err)
+		}
+	}
+	f.answers(t, 3, 8, 1)
+	f.saved(t)
+	if got := f.written(t); got != `0 1 2 {"partition":0,"lost":{"from":3,"to":8}} 9` || f.gaps != 1 {
+		t.Errorf("%s, %d gaps", got, f.gaps)
 	}
 }
 
@@ -180,14 +211,14 @@ func TestACutBeforeAMarkIsTold(t *testing.T) {
 	folder := t.TempDir()
 	f := opened(t, folder)
 	f.answers(t, 0, -1, 3)
-	if err := f.add(0, 9, nil, nil); err != nil {
+	if err := f.add(0, broker.Message{Offset: 9}); err != nil {
 		t.Fatal(err)
 	}
 	f.saved(t)
 	again := opened(t, folder)
 	again.answers(t, 10, 20, 1)
 	again.saved(t)
-	if got := again.written(t); got != "0 1 2 21" || again.told.Len() == 0 {
+	if got := again.written(t); !strings.HasPrefix(got, "0 1 2 ") || !strings.HasSuffix(got, " 21") || again.gaps != 1 {
 		t.Errorf("%s; %s", got, again.told)
 	}
 }
@@ -215,5 +246,22 @@ func TestAPlaceOfOtherPartitions(t *testing.T) {
 	}
 	if _, err := readPlaces(path, 2); err == nil {
 		t.Error("the place of another number of partitions is read")
+	}
+}
+
+// Time without an answer counts once each partition was reached, or could not be.
+func TestIdleTimeBeginsWithThePartitions(t *testing.T) {
+	f := opened(t, t.TempDir())
+	f.options.Idle = time.Nanosecond
+	f.readers = []*reader{{}, {}}
+	f.readers[0].failed(nil)
+	f.moved = time.Time{}
+	if f.idled() {
+		t.Error("it has ended before a partition was reached")
+	}
+	f.readers[1].failed(errors.New("it can't be reached"))
+	f.moved = time.Time{}
+	if !f.idled() || f.readers[0].fault() != nil || f.readers[1].fault() == nil {
+		t.Error("it goes on")
 	}
 }

@@ -2,6 +2,7 @@ package sender
 
 import (
 	"errors"
+	"fmt"
 
 	"gateway/rabbit/ledger"
 )
@@ -17,10 +18,18 @@ type known struct {
 // errOther says that an id was given to another input.
 var errOther = errors.New("it was sent with other lines: each batch needs an id of its own")
 
+// errLost says that lines of an earlier run were confirmed, and are lost all the same.
+func errLost(lines int64) error {
+	return fmt.Errorf("the broker has lost %d of its lines: send it again as another batch", lines)
+}
+
 // take takes the partition's next line of the input in, and says whether it was taken before.
 func (k *known) take(text []byte) (repeated bool, err error) {
 	if k.batch == nil {
 		return false, nil
+	}
+	if k.batch.Missing > 0 {
+		return false, errLost(k.batch.Missing)
 	}
 	if k.count == k.batch.Count {
 		if k.batch.Ended {

@@ -2,6 +2,7 @@ package sender
 
 import (
 	"fmt"
+	"strings"
 	"testing"
 
 	"gateway/rabbit/ledger"
@@ -12,7 +13,7 @@ func batchOf(ended bool, lines ...string) *ledger.Batch {
 	senders := ledger.New(0).Senders
 	from := ledger.Origin{Kind: ledger.Lines, Sender: "a", Named: true, Batch: "x"}
 	for number, text := range lines {
-		senders.Take(from, int64(number), []byte(text))
+		senders.Take(from, int64(number), []byte(text), false)
 	}
 	if ended {
 		from.Kind = ledger.End
@@ -69,6 +70,16 @@ func TestANewBatch(t *testing.T) {
 		}
 	}
 	if err := k.end(); err != nil {
+		t.Error(err)
+	}
+}
+
+// A batch of which the broker has lost lines can't be sent again under its id: which of them are lost isn't known.
+func TestABatchWithLostLines(t *testing.T) {
+	batch := batchOf(false, "m", "a")
+	batch.Missing = 3
+	k := known{batch: batch}
+	if _, err := k.take([]byte("m")); err == nil || !strings.Contains(err.Error(), "lost 3 of its lines") {
 		t.Error(err)
 	}
 }

@@ -6,12 +6,8 @@ import (
 	"fmt"
 	"sync"
 
-	amqp "github.com/rabbitmq/amqp091-go"
-
 	"gateway/rabbit/broker"
-	"gateway/rabbit/history"
 	"gateway/rabbit/ledger"
-	"gateway/rabbit/line"
 )
 
 // A fencedCount counts the lines of this process that partitions took before a newer one claimed its name. A model, which
@@ -40,7 +36,7 @@ func (s *sender) takenBefore(ctx context.Context) (int64, error) {
 	defer link.Close()
 	var count fencedCount
 	err = eachPartition(len(s.lanes), func(partition int) error {
-		if !s.lanes[partition].claimed {
+		if l := s.lanes[partition]; !l.claimed || l.fenced {
 			return nil
 		}
 		requests, models, err := s.takenIn(link, s.lanes[partition])
@@ -55,18 +51,8 @@ func (s *sender) takenBefore(ctx context.Context) (int64, error) {
 
 // takenIn reads a partition's log from this process's claim on, up to the claim of a newer one or the end.
 func (s *sender) takenIn(link *broker.Link, l *lane) (requests, models int64, err error) {
-	publisher, err := link.Publisher()
+	token, err := s.claimAgain(link, l)
 	if err != nil {
-		return 0, 0, err
-	}
-	mark, err := history.Mark()
-	if err != nil {
-		return 0, 0, err
-	}
-	if err := publisher.Publish(l.queue, amqp.Table{broker.MarkHeader: mark}, nil); err != nil {
-		return 0, 0, err
-	}
-	if err := publisher.Settle(); err != nil {
 		return 0, 0, err
 	}
 	stream, err := link.Read(l.queue, l.claim, open)
@@ -75,28 +61,57 @@ func (s *sender) takenIn(link *broker.Link, l *lane) (requests, models int64, er
 	}
 	next := l.before
 	for {
-		delivery, _, err := stream.Next()
+		message, err := stream.Next()
 		if err != nil {
 			return requests, models, err
 		}
-		from, foreign := broker.ReadOrigin(delivery.Headers, delivery.Timestamp)
+		from, foreign := broker.ReadOrigin(message)
 		isNewer := foreign == nil && from.Sender == s.options.Name && from.Epoch > s.epoch
-		if isNewer || delivery.Headers[broker.MarkHeader] == mark {
+		if isNewer || message.Headers[tokenHeader] == token {
 			return requests, models, stream.Close()
 		}
 		if foreign != nil || from.Kind != ledger.Lines || from.Key() != s.origin().Key() || from.Epoch != s.epoch {
 			continue
 		}
-		for index, raw := range bytes.Split(delivery.Body, []byte("\n")) {
-			if from.Number+int64(index) != next {
-				continue
-			}
-			next++
-			if read, err := line.Read(raw); err == nil && read.IsModel() {
+		lines := takenOf(message, from, next)
+		next += int64(len(lines))
+		for _, raw := range lines {
+			if isModel(raw) {
 				models++
 			} else {
 				requests++
 			}
 		}
 	}
+}
+
+// claimAgain claims the name once more in a partition's log, which changes nothing and marks the log's end. It gives the token
+// of that message.
+func (s *sender) claimAgain(link *broker.Link, l *lane) (string, error) {
+	publisher, err := link.Publisher()
+	if err != nil {
+		return "", err
+	}
+	token, err := broker.NewMark()
+	if err != nil {
+		return "", err
+	}
+	again := s.origin()
+	again.Kind = ledger.Claim
+	headers := broker.OriginHeaders(again)
+	headers[tokenHeader] = token
+	if err := publisher.Publish(linesRoute(s.options.Settings, l.partition), headers, nil); err != nil {
+		return "", err
+	}
+	return token, publisher.Settle()
+}
+
+// takenOf are the lines of a message that the partition takes, if it waits for the line with this number.
+func takenOf(message broker.Message, from ledger.Origin, next int64) [][]byte {
+	lines := bytes.Split(message.Body, []byte("\n"))
+	skipped := next - from.Number
+	if skipped < 0 || skipped >= int64(len(lines)) {
+		return nil
+	}
+	return lines[skipped:]
 }

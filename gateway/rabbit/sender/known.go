@@ -1,15 +1,12 @@
 package sender
 
 import (
-	"bytes"
 	"fmt"
 	"sync"
 
-	amqp "github.com/rabbitmq/amqp091-go"
-
 	"gateway/rabbit/broker"
-	"gateway/rabbit/history"
 	"gateway/rabbit/ledger"
+	"gateway/rabbit/line"
 )
 
 // atOnce is how many partitions are asked at a time.
@@ -22,6 +19,7 @@ var open = broker.OpenOf(atOnce)
 type claimed struct {
 	offset int64         // of the claim
 	batch  *ledger.Batch // what the partition has of the batch, nil where it has none
+	fenced bool          // whether a newer process had claimed the name here before
 }
 
 // eachPartition does the work for every partition, a few of them at a time.
@@ -54,30 +52,35 @@ func claimPartition(link *broker.Link, settings broker.Settings, partition int, 
 	if err != nil {
 		return claimed{}, err
 	}
-	h, err := history.Read(link, publisher, settings.Queue(broker.Answers, partition), open, 0, nil)
+	h, err := broker.LookAtHistory(broker.HistoryOptions{Link: link, Settings: settings, Partition: partition, Open: open})
 	if err != nil {
 		return claimed{}, err
 	}
-	token, err := history.Mark()
+	token, err := broker.NewMark()
 	if err != nil {
 		return claimed{}, err
 	}
 	as.Kind, as.Number = ledger.Claim, 0
 	headers := broker.OriginHeaders(as)
 	headers[tokenHeader] = token
-	lines := settings.Queue(broker.Lines, partition)
-	if err := publisher.Publish(lines, headers, nil); err != nil {
+	if err := publisher.Publish(linesRoute(settings, partition), headers, nil); err != nil {
 		return claimed{}, err
 	}
 	if err := publisher.Settle(); err != nil {
 		return claimed{}, err
 	}
 	found := claimed{}
-	if found.offset, err = readOn(link, lines, token, h.Ledger); err != nil {
+	if found.offset, err = readOn(link, settings.Queue(broker.Lines, partition), token, h.Ledger); err != nil {
 		return claimed{}, err
 	}
-	found.batch = h.Ledger.Senders.Find(as.Sender).Batch(as.Batch)
+	sender := h.Ledger.Senders.Find(as.Sender)
+	found.batch, found.fenced = sender.Batch(as.Batch), sender != nil && sender.Epoch > as.Epoch
 	return found, publisher.Close()
+}
+
+// linesRoute is where requests, claims and ends of batches are published.
+func linesRoute(settings broker.Settings, partition int) broker.Route {
+	return settings.Route(broker.RequestsExchange, broker.TopicLines, partition)
 }
 
 // readOn takes the lines after the ledger's place in, up to the claim with the token, and gives the claim's offset.
@@ -91,32 +94,19 @@ func readOn(link *broker.Link, lines, token string, l *ledger.Ledger) (int64, er
 		return 0, err
 	}
 	for {
-		delivery, offset, err := stream.Next()
+		message, err := stream.Next()
 		if err != nil {
 			return 0, err
 		}
-		takeMessage(delivery, offset, l)
-		if delivery.Headers[tokenHeader] == token {
-			return offset, stream.Close()
+		broker.TakeMessage(message, l)
+		if message.Headers[tokenHeader] == token {
+			return message.Offset, stream.Close()
 		}
 	}
 }
 
-// takeMessage takes a message of the log in, as the partition does.
-func takeMessage(delivery amqp.Delivery, offset int64, l *ledger.Ledger) {
-	from, err := broker.ReadOrigin(delivery.Headers, delivery.Timestamp)
-	if err != nil {
-		return
-	}
-	if from.Kind != ledger.Lines {
-		if l.Place.Before(ledger.Place{Offset: offset}) {
-			l.Senders.Control(from)
-		}
-		return
-	}
-	for index, raw := range bytes.Split(delivery.Body, []byte("\n")) {
-		if l.Place.Before(ledger.Place{Offset: offset, Index: int64(index)}) {
-			l.Senders.Take(from, from.Number+int64(index), raw)
-		}
-	}
+// isModel says whether a line is a model.
+func isModel(raw []byte) bool {
+	read, err := line.Read(raw)
+	return err == nil && read.IsModel()
 }

@@ -25,9 +25,11 @@ type lane struct {
 	// What the lane's own goroutine knows.
 	claimed bool
 	claim   int64 // the offset of this process's claim in the log
+	fenced  bool  // whether a newer process had claimed the name before: no line counts
 	before  int64 // how many lines of the batch were taken before
 	known   known
 	next    int64 // the number of the next message's first line
+	models  int64 // how many lines of the batch so far are models
 	message *message
 
 	mutex    sync.Mutex
@@ -45,6 +47,7 @@ type lane struct {
 
 type message struct {
 	number int64
+	models int64 // of the batch, before this message
 	lines  []pending
 	body   []byte
 }
@@ -152,18 +155,14 @@ func (l *lane) reached() {
 // work sends until all is sent, or the context ends.
 func (l *lane) work(ctx context.Context) {
 	log := prefixed{l.sender.options.Log, fmt.Sprintf("partition %d: ", l.partition)}
-	broker.Again(ctx, log, func(ctx context.Context) error {
+	err := broker.Again(ctx, log, func(ctx context.Context) error {
 		err := l.run(ctx)
-		var last *final
-		if errors.As(err, &last) {
-			l.sender.fail(last.reason)
-			return nil
-		}
 		if err != nil {
 			l.failed(err)
 		}
 		return err
 	})
+	l.sender.failFinally(err)
 }
 
 // run sends with one connection.
@@ -235,7 +234,7 @@ func (l *lane) claimBatch(link *broker.Link) error {
 	if err != nil {
 		return err
 	}
-	l.claim, l.claimed = found.offset, true
+	l.claim, l.fenced, l.claimed = found.offset, found.fenced, true
 	if found.batch != nil {
 		l.known, l.before, l.next = known{batch: found.batch}, found.batch.Count, found.batch.Count
 	}
@@ -247,32 +246,47 @@ func (l *lane) step(publisher *broker.Publisher) (more bool, err error) {
 	if l.message != nil {
 		return true, nil
 	}
-	lines, closed, err := l.take()
+	next, closed, err := l.nextMessage()
 	if err != nil {
 		return false, err
 	}
-	if len(lines) == 0 {
+	if next == nil {
 		return !closed, nil
 	}
-	texts := make([][]byte, len(lines))
-	for at := range lines {
-		texts[at] = lines[at].text
-	}
 	l.mutex.Lock()
-	l.message = &message{number: l.next, lines: lines, body: bytes.Join(texts, []byte("\n"))}
+	l.message = next
 	l.mutex.Unlock()
-	l.next += int64(len(lines))
 	return true, l.publish(publisher)
 }
 
-// take takes the lines of the next message, and says whether no more come. Those that the partition has are left out.
+// nextMessage makes the next message, or nil if there is nothing to send, and says whether no more lines come.
+func (l *lane) nextMessage() (next *message, closed bool, err error) {
+	lines, closed, err := l.take()
+	if err != nil || len(lines) == 0 {
+		return nil, closed, err
+	}
+	next = &message{number: l.next, models: l.models, lines: lines}
+	texts := make([][]byte, len(lines))
+	for at, one := range lines {
+		texts[at] = one.text
+		if one.isModel() {
+			l.models++
+		}
+	}
+	next.body = bytes.Join(texts, []byte("\n"))
+	l.next += int64(len(lines))
+	return next, closed, nil
+}
+
+// take takes the lines of the next message, and says whether no more come. Those that the partition has are left out. Models
+// and requests have messages of their own, since other rights are needed to send models.
 func (l *lane) take() (lines []pending, closed bool, err error) {
 	l.mutex.Lock()
 	defer l.mutex.Unlock()
 	size := 0
 	for len(l.pending) > 0 && len(lines) < broker.MessageLines {
 		next := l.pending[0]
-		if len(lines) > 0 && size+len(next.text) >= broker.MessageBytes {
+		if len(lines) > 0 && (size+len(next.text) >= broker.MessageBytes || next.isModel() != lines[0].isModel()) {
 			break
 		}
 		repeated, err := l.known.take(next.text)
@@ -282,6 +296,9 @@ func (l *lane) take() (lines []pending, closed bool, err error) {
 		l.pending = l.pending[1:]
 		if repeated {
 			l.bytes -= len(next.text)
+			if next.isModel() {
+				l.models++
+			}
 			if next.counts() {
 				l.repeated++
 			}
@@ -302,13 +319,17 @@ func (l *lane) take() (lines []pending, closed bool, err error) {
 
 // other is the error of a batch that was sent before with other lines.
 func (l *lane) other(err error) error {
-	return &final{fmt.Errorf("batch %q, partition %d: %w", l.sender.options.Batch, l.partition, err)}
+	return &broker.Final{Reason: fmt.Errorf("batch %q, partition %d: %w", l.sender.options.Batch, l.partition, err)}
 }
 
 func (l *lane) publish(publisher *broker.Publisher) error {
 	from := l.sender.origin()
-	from.Number = l.message.number
-	return publisher.Publish(l.queue, broker.OriginHeaders(from), l.message.body)
+	from.Number, from.Models = l.message.number, l.message.models
+	route := linesRoute(l.sender.options.Settings, l.partition)
+	if l.message.lines[0].isModel() {
+		route = l.sender.options.Settings.Route(broker.RequestsExchange, broker.TopicModels, l.partition)
+	}
+	return publisher.Publish(route, broker.OriginHeaders(from), l.message.body)
 }
 
 // wait waits for something to happen, and takes it in.
@@ -353,8 +374,9 @@ func (l *lane) end(publisher *broker.Publisher) error {
 	l.mutex.Unlock()
 	if whole {
 		end := l.sender.origin()
-		end.Kind, end.Number = ledger.End, l.next
-		if err := publisher.Publish(l.queue, broker.OriginHeaders(end), nil); err != nil {
+		end.Kind, end.Number, end.Models = ledger.End, l.next, l.models
+		route := linesRoute(l.sender.options.Settings, l.partition)
+		if err := publisher.Publish(route, broker.OriginHeaders(end), nil); err != nil {
 			return err
 		}
 		if err := publisher.Settle(); err != nil {

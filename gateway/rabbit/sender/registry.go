@@ -6,10 +6,7 @@ import (
 	"fmt"
 	"time"
 
-	amqp "github.com/rabbitmq/amqp091-go"
-
 	"gateway/rabbit/broker"
-	"gateway/rabbit/history"
 	"gateway/rabbit/ledger"
 )
 
@@ -27,7 +24,7 @@ type registry struct {
 	epoch     int64
 }
 
-// tokenHeader is the header by which a process finds its own claim.
+// tokenHeader is the header by which a process finds its own message.
 const tokenHeader = "token"
 
 // A superseded error says that a newer process has claimed the name.
@@ -53,11 +50,21 @@ func (s *sender) claimName(ctx context.Context) error {
 	if err != nil {
 		return err
 	}
-	go s.withRegistry(ctx, func(names *registry) error {
+	go s.watchName(ctx)
+	return nil
+}
+
+// watchName looks whether a newer process claims the name, until the context ends.
+func (s *sender) watchName(ctx context.Context) {
+	err := s.withRegistry(ctx, func(names *registry) error {
 		for {
 			select {
-			case delivery, open := <-names.stream.Deliveries:
-				if err := names.take(delivery, open); err != nil {
+			case arrival, open := <-names.stream.Arrivals:
+				message, err := names.stream.Take(arrival, open)
+				if err == nil {
+					err = names.look(message)
+				}
+				if err != nil {
 					return err
 				}
 			case <-names.link.Done():
@@ -65,7 +72,15 @@ func (s *sender) claimName(ctx context.Context) error {
 			}
 		}
 	})
-	return nil
+	s.failFinally(err)
+}
+
+// failFinally ends all if the error is final.
+func (s *sender) failFinally(err error) {
+	var final *broker.Final
+	if errors.As(err, &final) {
+		s.fail(final.Reason)
+	}
 }
 
 // checkName looks whether a newer process had claimed the name before the last line was confirmed.
@@ -129,9 +144,12 @@ func openRegistry(link *broker.Link, name string, epoch int64) (*registry, error
 // offsetOf is the place of the claim of an epoch; 0 is no epoch.
 func offsetOf(epoch int64) int64 { return epoch - 1 }
 
+// epochOf is the epoch of a claim.
+func epochOf(claim broker.Message) int64 { return claim.Offset + 1 }
+
 // claim claims the name, and waits for its place.
 func (r *registry) claim() error {
-	token, err := history.Mark()
+	token, err := broker.NewMark()
 	if err != nil {
 		return err
 	}
@@ -141,59 +159,51 @@ func (r *registry) claim() error {
 		return fmt.Errorf("claiming the name %q: %w", r.name, err)
 	}
 	for {
-		delivery, offset, err := r.stream.Next()
+		message, err := r.stream.Next()
 		if err != nil {
 			return fmt.Errorf("claiming the name %q: %w", r.name, err)
 		}
-		if delivery.Headers[tokenHeader] == token {
-			r.epoch = offset + 1
+		if message.Headers[tokenHeader] == token {
+			r.epoch = epochOf(message)
 			return nil
 		}
 	}
 }
 
-func (r *registry) append(headers amqp.Table) error {
-	if err := r.publisher.Publish(broker.Registry, headers, nil); err != nil {
+func (r *registry) append(headers broker.Headers) error {
+	if err := r.publisher.Publish(broker.RegistryRoute, headers, nil); err != nil {
 		return err
 	}
 	return r.publisher.Settle()
 }
 
-// take takes in the next message of the registry. The error is *superseded where it is a newer claim of the name.
-func (r *registry) take(delivery amqp.Delivery, open bool) error {
-	offset, err := r.stream.Take(delivery, open)
-	if err != nil {
-		return err
-	}
-	return r.look(delivery, offset)
-}
-
-func (r *registry) look(delivery amqp.Delivery, offset int64) error {
-	from, err := broker.ReadOrigin(delivery.Headers, delivery.Timestamp)
-	if err == nil && from.Kind == ledger.Claim && from.Sender == r.name && offset+1 > r.epoch {
-		return &superseded{name: r.name, epoch: offset + 1, since: from.Sent}
+// look takes in the next message of the registry. The error is *superseded if it is a newer claim of the name.
+func (r *registry) look(message broker.Message) error {
+	from, err := broker.ReadOrigin(message)
+	if err == nil && from.Kind == ledger.Claim && from.Sender == r.name && epochOf(message) > r.epoch {
+		return &superseded{name: r.name, epoch: epochOf(message), since: from.Sent}
 	}
 	return nil
 }
 
 // check reads the registry up to its end. The error is *superseded where there is a newer claim of the name.
 func (r *registry) check(ctx context.Context) error {
-	mark, err := history.Mark()
+	token, err := broker.NewMark()
 	if err != nil {
 		return err
 	}
-	if err := r.append(amqp.Table{broker.MarkHeader: mark}); err != nil {
+	if err := r.append(broker.Headers{tokenHeader: token}); err != nil {
 		return err
 	}
 	for ctx.Err() == nil {
-		delivery, offset, err := r.stream.Next()
+		message, err := r.stream.Next()
 		if err != nil {
 			return err
 		}
-		if err := r.look(delivery, offset); err != nil {
+		if err := r.look(message); err != nil {
 			return err
 		}
-		if delivery.Headers[broker.MarkHeader] == mark {
+		if message.Headers[tokenHeader] == token {
 			return nil
 		}
 	}

@@ -55,6 +55,8 @@ type pending struct {
 	model *modelTally // of a model, which goes to several partitions
 }
 
+func (p pending) isModel() bool { return p.model != nil }
+
 // counts says whether a line is to be counted: a model is with the first of its partitions.
 func (p pending) counts() (first bool) {
 	if p.model == nil {
@@ -63,11 +65,6 @@ func (p pending) counts() (first bool) {
 	p.model.counted.Do(func() { first = true })
 	return first
 }
-
-// A final error is not tried again.
-type final struct{ reason error }
-
-func (f *final) Error() string { return f.reason.Error() }
 
 // Send sends the lines of the input, and ends when the broker has confirmed all.
 func Send(ctx context.Context, options Options) (Tally, error) {

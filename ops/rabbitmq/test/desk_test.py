@@ -129,6 +129,10 @@ class Cluster:
         subprocess.run([str(HERE / "cluster"), *words], check=True, timeout=600, env=self.environment,
                        stdout=subprocess.DEVNULL)
 
+    def declare(self) -> None:
+        """Makes the exchanges and queues."""
+        subprocess.run(program("partition", "--declare"), check=True, timeout=600, stderr=self.log, env=self.environment)
+
     def start(self) -> "subprocess.Popen[bytes]":
         used = {self.ports[process.pid] for process in [*self.processes, *([self.stopped] if self.stopped else [])]}
         port = next(port for port in range(self.port + 20, self.port + 80) if port not in used)
@@ -167,6 +171,18 @@ class Cluster:
         process.kill()
         process.wait()
         self.start()
+
+    def kill_all(self) -> None:
+        """Kills all processes of partitions."""
+        for process in self.processes:
+            process.kill()
+            process.wait()
+        self.stopped_count, self.processes = len(self.processes), []
+
+    def start_all(self) -> None:
+        """Starts as many as there were."""
+        for _ in range(self.stopped_count):
+            self.start()
 
     def kill_owner(self, partition: int) -> None:
         """Kills the process of a partition, and starts another one."""
@@ -215,10 +231,9 @@ class Cluster:
     def come_back(self) -> None:
         self.run("brokers")
 
-    def keep(self, policy: dict[str, int]) -> None:
+    def keep(self, policy: dict[str, int], kinds: str = "lines|answers") -> None:
         """Sets what the brokers keep of the streams."""
-        self.run("ctl", "1", "set_policy", "desk", r"^desk\.2\.(lines|answers)\.", json.dumps(policy), "--apply-to",
-                 "queues")
+        self.run("ctl", "1", "set_policy", "desk", rf"^desk\.2\.({kinds})\.", json.dumps(policy), "--apply-to", "queues")
 
     def end(self, passed: bool) -> None:
         for process in [*self.processes, *([self.stopped] if self.stopped else [])]:
@@ -239,6 +254,9 @@ class Cluster:
     def queue(self, kind: str, partition: int) -> str:
         return f"desk.2.{kind}.{partition}.of.{self.partitions}"
 
+    def route(self, exchange: str, topic: str, partition: int) -> tuple[str, str]:
+        return f"desk.2.{exchange}", f"{topic}.{partition}.of.{self.partitions}"
+
     def publish(self, partition: int, messages: list[tuple[dict[str, Any], bytes]]) -> None:
         """Publishes messages of lines, once the partition is there."""
         import pika
@@ -247,8 +265,8 @@ class Cluster:
             try:
                 channel.confirm_delivery()
                 for headers, body in messages:
-                    channel.basic_publish("", self.queue("lines", partition), body, pika.BasicProperties(headers=headers),
-                                          mandatory=True)
+                    channel.basic_publish(*self.route("requests", "lines", partition), body,
+                                          pika.BasicProperties(headers=headers), mandatory=True)
                 return
             except (pika.exceptions.AMQPError, pika.exceptions.UnroutableError):
                 time.sleep(1)  # the first of them are dropped where it is done again
@@ -261,7 +279,9 @@ class Cluster:
         import pika
         channel, queue, mark, found = self.channel(), self.queue(kind, partition), str(uuid.uuid4()), []
         channel.confirm_delivery()
-        channel.basic_publish("", queue, b"", pika.BasicProperties(headers={"mark": mark}), mandatory=True)
+        exchange = "requests" if kind == "lines" else "answers"
+        channel.basic_publish(*self.route(exchange, "marks", partition), b"", pika.BasicProperties(headers={"mark": mark}),
+                              mandatory=True)
         channel.basic_qos(prefetch_count=100)
         for method, properties, body in channel.consume(queue, arguments={"x-stream-offset": "first"}):
             channel.basic_ack(method.delivery_tag)

@@ -1,14 +1,14 @@
 //! Calls while the heap refuses every request.
 use super::{
-    Ask, HISTORIES, Said, Successor, admits, admitted, events, is_said, mailbox_of, reports,
-    resizes, work,
+    AFTER_OWN, Ask, BEFORE_OWN, HISTORIES, Said, Successor, admits, admitted, events, follows,
+    is_said, mailbox_of, reports, resizes, work,
 };
 use box_core::{AddRefusal, Answered, Broker, Done, Event, Job, Mailbox, Refusal, Report};
-use full_heap::FullHeap;
 use std::alloc::{AllocError, Global};
 use std::process::Abort;
 use std::sync::Arc;
 use std::test::Fail;
+use test_devices::FullHeap;
 
 fn done_of(
     alloc: Global,
@@ -397,5 +397,23 @@ fn gets_a_place_later(
 fn a_resize_without_memory_changes_nothing(rt: HostRuntime) -> Result<(), Fail> {
     let mut mailbox = mailbox_of(rt.alloc(), 1)?;
     gets_a_place_later(&rt, rt.alloc(), &mut mailbox)?;
+    Ok(())
+}
+
+// Whether the work under the first ticket finds no memory for its run.
+fn finds_no_memory(alloc: Global, broker: &mut Broker<Successor>) -> Result<bool, AllocError> {
+    let full = FullHeap::but(alloc, 0)?;
+    let answered = broker.answer_own(0, 0);
+    drop(full);
+    Ok(answered.is_err())
+}
+
+#[test]
+fn a_work_without_memory_answers_later(rt: HostRuntime) -> Result<(), Fail> {
+    let mut broker = Broker::new(rt.alloc());
+    follows(&rt, rt.alloc(), &mut broker, 0, BEFORE_OWN)?;
+    assert!(rt; finds_no_memory(rt.alloc(), &mut broker)?);
+    assert_eq!(rt; broker.answer_own(0, 0)?, Some(Answered::Kept));
+    follows(&rt, rt.alloc(), &mut broker, 1, AFTER_OWN)?;
     Ok(())
 }

@@ -8,13 +8,13 @@ ghost use Rattle.lanes.specs.Workers.{worker_links};
 use super::refused::{are_handed, fill};
 use super::{HELD_CALLS, HELD_DUE, Task, all_hand_out, are_seen, ends_of, fault_of, seen_by};
 use box_core::Refusal;
-use full_heap::FullHeap;
 use lanes::{Client, LaneFault, Settled, Worker, settle};
 use std::alloc::{AllocError, Global};
 use std::process::Abort;
 use std::sync::Arc;
 use std::sync::atomic::AtomicU64;
 use std::test::Fail;
+use test_devices::FullHeap;
 
 #[test]
 fn a_full_heap_gives_no_lanes(rt: HostRuntime) -> Result<(), Fail> {

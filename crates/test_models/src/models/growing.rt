@@ -5,12 +5,12 @@ use super::{SHARED, outcome_of, shared, shown, task};
 use box_core::{Answered, Done, Mailbox, Work};
 use dmn_plan::{ModelFault, Plan, Task, TaskFault};
 use feel_value::Outcome;
-use full_heap::FullHeap;
 use serde_json::Value;
 use std::alloc::{AllocError, Global};
 use std::process::Abort;
 use std::sync::Arc;
 use std::test::Fail;
+use test_devices::FullHeap;
 
 /// The first room, in bytes. It grows by an eighth from run to run.
 const FIRST: usize = 64;

@@ -6,11 +6,11 @@ use super::{SHARED, outcome_of, shared, shown, task};
 use box_core::Work;
 use dmn_plan::{ModelFault, Plan, Task, TaskFault};
 use feel_value::Outcome;
-use full_heap::FullHeap;
 use serde_json::Value;
 use std::alloc::{AllocError, Global};
 use std::sync::Arc;
 use std::test::Fail;
+use test_devices::FullHeap;
 
 /// Both outputs of the first service, for the input 1.
 pub(super) const RESULT: &str = r#"{"A":4611686018427387906,"B":4611686018427387904}"#;

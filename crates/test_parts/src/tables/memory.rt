@@ -5,11 +5,11 @@ use dmn_logic::Logic;
 use dmn_table::{Output, Table, decide};
 use feel_lang::{Env, read_expr, read_literal};
 use feel_value::{Feel, Outcome};
-use full_heap::FullHeap;
 use std::alloc::{AllocError, Global};
 use std::process::Abort;
 use std::sync::ArcStr;
 use std::test::Fail;
+use test_devices::FullHeap;
 
 /// The one value of an output column.
 fn values(alloc: Global) -> Result<Vec<Feel>, Fail> {

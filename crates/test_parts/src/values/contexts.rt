@@ -1,10 +1,10 @@
 //! Contexts whose entries come in other orders, few of them and more: which are equal, also where a name stands twice.
 use feel_value::{Feel, Truth, Value, equal};
-use full_heap::FullHeap;
 use std::alloc::{AllocError, Global};
 use std::process::Abort;
 use std::sync::ArcStr;
 use std::test::Fail;
+use test_devices::FullHeap;
 
 const THREE: &[&[&str]] = &[
     &["a", "b", "c"],

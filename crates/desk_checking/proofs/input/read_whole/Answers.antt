@@ -36,7 +36,7 @@ returns-then-n-eq0-clause-whole g c =
 
 pub returns-then-n-len-clause-long : goal.returns-then-n-len-clause-long
 returns-then-n-len-clause-long g c = λ _. record {
-  text = c.loop-text.text.items ++ take c.in_ok-n.n c.read_piece.new.buffer;
+  input = c.loop-text.text.items ++ take c.in_ok-n.n c.read_piece.new.buffer;
   read = Consumes-then _ _ _ _ _ c.loop-text.invariant.taken c.in_ok-n.ensures.bytes;
   too_long = omega (arith, length-append c.loop-text.text.items (take c.in_ok-n.n c.read_piece.new.buffer), length-take {A = ℕ}, c.if-n-len.true, c.len.ensures, c.in_ok-n.ensures.bound, c.loop-text.invariant.within, c.loop-text.text.ok.0);
 }

@@ -1,44 +1,29 @@
-use Rattle.std.proofs.Common.{◌≡◌, Some, IsUtf8, ap, subst, ◌∙◌}
-use Rattle.std.specs.Prelude.{string_bytes}
-use Rattle.serde_json.specs.Data.{Data}
-use Rattle.serde_json.specs.Read.{read}
-use Rattle.desk_checking.specs.FirstFault.{IsFirstFault, subject}
+use Rattle.std.proofs.Common.{◌∙◌, ap, false, subst, Err}
+use Rattle.std.proofs.lemmas.Result.{err_from_is_err_and}
+use Rattle.desk_checking.specs.FirstFault.{IsFirstFault}
 use Rattle.desk_checking.specs.Input.{model_text, request_lines}
-use Rattle.desk_checking.specs.Placed.{TellsPlaces}
-use Rattle.desk_checking.specs.Requests.{Refuses}
+use Rattle.desk_checking.proofs.Telling.{cut_short, told_same}
 use Rattle.desk_checking.proofs.model_check.check.Goals as goal
 
-pub returns : goal.returns
-returns g c = record {
-  finds = record {
-    text = c.in_ok-text.text.items;
-    read = c.in_ok-text.ensures.whole.0;
-    at_end = c.in_ok-text.ensures.whole.1;
-    first = subst (λ t. IsFirstFault t c.in_ok-verdict.verdict.fault) (c.model_and_requests.ensures.model ∙ ap (model_text c.args.options) c.deref.ensures.value) c.in_ok-verdict.ensures.first;
-  };
-  tells = c.in_ok-write_told.ensures.tells;
-  places = λ json. record {
-    text = c.in_ok-text.text.items;
-    read = c.in_ok-text.ensures.whole.0;
-    rest = string_bytes c.in_ok-verdict.verdict.rest;
-    written = c.in_ok-write_told.ensures.all;
-    places = subst (λ t. (d : Data) → IsUtf8 t → read t ≡ Some d → TellsPlaces (subject d) c.in_ok-verdict.verdict.fault (string_bytes c.in_ok-verdict.verdict.rest)) (c.model_and_requests.ensures.model ∙ ap (model_text c.args.options) c.deref.ensures.value) (c.in_ok-verdict.ensures.places json);
-  };
-  refused = record {
-    text = c.in_ok-text.text.items;
-    read = c.in_ok-text.ensures.whole.0;
-    refuses = λ d e.
-        let model = c.model_and_requests.ensures.model ∙ ap (model_text c.args.options) c.deref.ensures.value in
-        let lines = c.model_and_requests.ensures.requests ∙ ap (request_lines c.args.options) c.deref.ensures.value in
-        subst (λ ls. Refuses c.in_ok-verdict.verdict.fault (subject d) ls c.in_ok-verdict.verdict.refused.items) lines (c.in_ok-verdict.ensures.refused d (ap read model ∙ e));
-  };
-  strict = c.is_strict_failure-is_strict_failure.ensures;
-  long = λ e. let wrong : ⊥ = cc in absurd wrong;
-  read_only_at_fault = λ e. let wrong : ⊥ = cc in absurd wrong;
-  write_only_at_fault = λ e. let wrong : ⊥ = cc in absurd wrong;
-  cut = λ e. let wrong : ⊥ = cc in absurd wrong;
-  unwritten = tt;
-  ok_without_fault = (c.in_ok-text.ensures.counts (λ e. cc), c.in_ok-write_told.ensures.counts (λ e. cc));
-  write_told = λ _. c.in_ok-write_told.ensures.counts (λ e. cc);
-  read_told = λ _. c.in_ok-text.ensures.counts (λ e. cc);
-}
+pub returns-in_err-write_all : goal.returns-in_err-write_all
+returns-in_err-write_all g c =
+    let input = c.in_ok-text.text.items in
+    let options = c.args.options in
+    let verdict = c.in_ok-verdict.verdict in
+    let cut = rw c.deref-2.ensures.value at c.in_err-write_all.ensures in
+    let p = err_from_is_err_and c.from_residual-in_err-write_all.result c.from_residual-in_err-write_all.ensures.1 in
+    let model = c.model_and_requests.ensures.model ∙ ap (model_text options) c.deref.ensures.value in
+    let lines = c.model_and_requests.ensures.requests ∙ ap (request_lines options) c.deref.ensures.value in
+    cut_short options _ _ _ _ _ (p.1 ∙ ap Err (p.2 ∙ cut.0)) (record {
+      findings = record { fault = verdict.fault; is_strict_failure = false; refused = verdict.refused };
+      told = cut.2.told;
+      untold = cut.2.untold;
+      finds = record {
+        input = input;
+        read = c.in_ok-text.ensures.whole.0;
+        at_end = c.in_ok-text.ensures.whole.1;
+        first = subst (λ t. IsFirstFault t verdict.fault) model c.in_ok-verdict.ensures.first;
+        tells = told_same _ _ _ _ _ _ _ _ model lines cut.2.begins c.in_ok-verdict.ensures.tells;
+      };
+      written = cut.2.written;
+    }) cut.1 (c.in_ok-text.ensures.counts (λ e. cc))

@@ -8,4 +8,5 @@ use Rattle.desk_checking.proofs.requests.pass_lines.Given as goal
 
 abbrev pub invariant-loop-index : goal.invariant-loop-index
 invariant-loop-index l =
-    (length l.rest + l.index ≤ length l.text) × ((model : Data) → IsOpenAfter l.initial.gate (Says (Model model) ∷ []) → Passed model l.text l.index l.rest l.gate l.refused.items)
+    (length l.rest + l.index ≤ length l.text) × (l.count ≤ l.index)
+    × ((model : Data) → IsOpenAfter l.initial.gate (Says (Model model) ∷ []) → Passed model l.text l.index l.rest l.gate l.refused.items l.count)

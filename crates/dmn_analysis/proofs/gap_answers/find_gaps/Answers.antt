@@ -5,6 +5,7 @@ use Rattle.std.proofs.lemmas.List.Elements.{All-weaker}
 use Rattle.feel_value.specs.Datum.{Datum}
 use Rattle.feel_value.specs.Limits.{is_value}
 use Rattle.dmn_table.specs.Parts.{rule_view}
+use Rattle.dmn_table.specs.Table.{Rule}
 use Rattle.dmn_analysis.specs.Cells.{AreIn}
 use Rattle.dmn_analysis.specs.Claims.{AreKnown, IsInGap}
 use Rattle.dmn_analysis.specs.Constant.{AreConstant}
@@ -33,16 +34,17 @@ returns-clause-tells c =
     let s : Scene = record { words = words.items; rules = t.rules; chosen = length t.rules; first = first; whole = cells } in
     let long = rw c.in-Some.is at c.in_ok-cells.ensures.long in
     let whole = rw c.in-Some.is at c.in_ok-cells.ensures.all in
+    let in_rows = λ (rs : List Rule) (same : rs ≡ c.in_ok-rows.rows.items). sym rules ∙ sym c.in_ok-rows.ensures ∙ sym same in
     let same_count : length t.rules ≡ length c.rules-rules.result.now = ap length (sym rules) ∙ length-map c.rules-rules.result.now rule_view in
-    let knows = c.in_ok-search.ensures.known s (sym c.deref-2.ensures.value) (sym rules) same_count refl refl in
-    let bare = c.in_ok-all.ensures.bare s (sym c.deref-3.ensures.value) (sym rules) long knows.bare in
-    let told = c.in_ok-told.ensures.each s (sym rules) (subst (All (IsBare s)) (sym c.deref-5.ensures.value) bare) in
+    let knows = c.in_ok-search.ensures.known s (sym c.deref-2.ensures.value) (in_rows c.deref-3.result.now c.deref-3.ensures.value) same_count refl refl in
+    let bare = c.in_ok-all.ensures.bare s (sym c.deref-4.ensures.value) (in_rows c.deref-5.result.now c.deref-5.ensures.value) long knows.bare in
+    let told = c.in_ok-told.ensures.each s (sym rules) (subst (All (IsBare s)) (sym c.deref-7.ensures.value) bare) in
     tells_gaps t asked cells first search gaps (long ∙ ap length inputs) c.in_ok-words.ensures.order (subst (λ ws. AreWhole ws asked cells) c.deref.ensures.value whole)
     (λ r less. c.in_ok-left.ensures.each r (omega (arith, less, same_count))) knows (subst (λ is. All (IsToldGap s (length is)) gaps.found.items) inputs told)
     (λ sure zero. All-weaker (λ (b : Bare). AreCovered b.cells.items all) (λ (b : Bare). (values : List Datum) → length values ≡ length cells → All (λ v. is_value v ≡ true) values → AreIn words.items b.cells.items values → IsInGap words.items gaps.found.items values) (λ b covered.
     in_told s words.items gaps.found.items all b.cells.items covered bare
-    (subst (λ ws. All (λ (b : Bare). IsDealtWith ws gaps.found.items b.cells.items) all) c.deref-4.ensures.value (subst (All (λ (b : Bare). IsDealtWith c.deref-4.result.now gaps.found.items b.cells.items)) c.deref-5.ensures.value (c.in_ok-told.ensures.all (c.are_all-is_all.ensures.told sure) zero)))) search.bare.items c.in_ok-all.ensures.covered)
-    (λ sure. let done = c.are_all-is_all.ensures.done sure in (sym c.deref-6.ensures.value ∙ done.0, sym c.deref-7.ensures.value ∙ done.1))
+    (subst (λ ws. All (λ (b : Bare). IsDealtWith ws gaps.found.items b.cells.items) all) c.deref-6.ensures.value (subst (All (λ (b : Bare). IsDealtWith c.deref-6.result.now gaps.found.items b.cells.items)) c.deref-7.ensures.value (c.in_ok-told.ensures.all (c.are_all-is_all.ensures.told sure) zero)))) search.bare.items c.in_ok-all.ensures.covered)
+    (λ sure. let done = c.are_all-is_all.ensures.done sure in (sym c.deref-8.ensures.value ∙ done.0, sym c.deref-9.ensures.value ∙ done.1))
 
 pub returns-clause-decides : goal.returns-clause-decides
 returns-clause-decides c = λ constant known positive less.
@@ -55,15 +57,16 @@ returns-clause-decides c = λ constant known positive less.
     let all = c.in_ok-all.all.items in
     let s : Scene = record { words = words; rules = t.rules; chosen = length t.rules; first = first; whole = cells } in
     let long = rw c.in-Some.is at c.in_ok-cells.ensures.long in
+    let in_rows = λ (rs : List Rule) (same : rs ≡ c.in_ok-rows.rows.items). sym rules ∙ sym c.in_ok-rows.ensures ∙ sym same in
     let same_count : length t.rules ≡ length c.rules-rules.result.now = ap length (sym rules) ∙ length-map c.rules-rules.result.now rule_view in
-    let knows = c.in_ok-search.ensures.known s (sym c.deref-2.ensures.value) (sym rules) same_count refl refl in
-    let bare = c.in_ok-all.ensures.bare s (sym c.deref-3.ensures.value) (sym rules) long knows.bare in
+    let knows = c.in_ok-search.ensures.known s (sym c.deref-2.ensures.value) (in_rows c.deref-3.result.now c.deref-3.ensures.value) same_count refl refl in
+    let bare = c.in_ok-all.ensures.bare s (sym c.deref-4.ensures.value) (in_rows c.deref-5.result.now c.deref-5.ensures.value) long knows.bare in
     let constants = subst AreConstant (sym rules) constant in
     let missed = missed_from_bare s count all long (λ r less. c.in_ok-left.ensures.each r (omega (arith, less, same_count))) bare in
-    let missed_here = subst (λ ws. All (AreMissed ws (map rule_view c.rules-rules.result.now) count) c.deref-5.result.now) (sym c.deref-4.ensures.value)
-    (subst (λ bs. All (AreMissed words (map rule_view c.rules-rules.result.now) count) bs) (sym c.deref-5.ensures.value) (subst (λ rs. All (AreMissed words rs count) all) (sym rules) missed)) in
+    let missed_here = subst (λ ws. All (AreMissed ws (map rule_view c.rules-rules.result.now) count) c.deref-7.result.now) (sym c.deref-6.ensures.value)
+    (subst (λ bs. All (AreMissed words (map rule_view c.rules-rules.result.now) count) bs) (sym c.deref-7.ensures.value) (subst (λ rs. All (AreMissed words rs count) all) (sym rules) missed)) in
     record {
-      all = c.are_all-is_all.ensures.all (c.in_ok-told.ensures.decided constants missed_here) (c.deref-6.ensures.value ∙ c.in_ok-search.ensures.ended refl (steps_left c.args.steps c.go_through.new.steps (subst (λ n. n < c.args.steps) c.saturating_sub.ensures less))) (c.deref-7.ensures.value ∙ c.in_ok-search.ensures.decided constants);
+      all = c.are_all-is_all.ensures.all (c.in_ok-told.ensures.decided constants missed_here) (c.deref-8.ensures.value ∙ c.in_ok-search.ensures.ended refl (steps_left c.args.steps c.go_through.new.steps (subst (λ n. n < c.args.steps) c.saturating_sub.ensures less))) (c.deref-9.ensures.value ∙ c.in_ok-search.ensures.decided (subst AreConstant (in_rows c.deref-3.result.now c.deref-3.ensures.value) constant));
       one = c.in_ok-told.ensures.one positive;
     }
 

@@ -1,7 +1,6 @@
 use Rattle.std.proofs.Common.{◌∙◌, sym, ap, subst, map}
 use Rattle.std.specs.List.{slice_get, All}
 use Rattle.std.proofs.lemmas.List.Elements.{All-weaker}
-use Rattle.dmn_table.specs.Parts.{rule_view}
 use Rattle.dmn_analysis.specs.Joining.{AreCovered, AreMissed}
 use Rattle.dmn_analysis.specs.Searching.{CannotHit, IsBare}
 use Rattle.dmn_analysis.specs.declared.gaps.Bare.{Bare}
@@ -21,7 +20,7 @@ returns-then-not-are_covered-clause-covered c = own c.args.bare.items
 pub returns-clause-bare : goal.returns-clause-bare
 returns-clause-bare c = λ s words rules long bare.
     let all = c.in-Some.all.items in
-    let views = map rule_view c.args.rules.now in
+    let views = c.args.rows.now in
     let missed = subst (All (AreMissed c.args.words.now views c.args.count)) c.deref-2.ensures.value (c.are_all_missed.ensures c.if-not-are_all_missed.false) in
     All-weaker (AreMissed c.args.words.now views c.args.count) (IsBare s) (λ b m. record {
       long = m.long ∙ sym long;

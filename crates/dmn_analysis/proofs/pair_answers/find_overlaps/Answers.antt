@@ -28,7 +28,8 @@ returns-clause-tells c =
     let long = rw c.in-Some.is at c.in_ok-cells.ensures.long in
     let whole = rw c.in-Some.is at c.in_ok-cells.ensures.all in
     let same_count : length t.rules ≡ length c.rules-rules.result.now = ap length (sym rules) ∙ length-map c.rules-rules.result.now rule_view in
-    let knows = c.in_ok-search.ensures.known s (sym c.deref-2.ensures.value) (sym rules) refl refl c.in_ok-left.ensures.rising in
+    let in_rows : t.rules ≡ c.deref-3.result.now = sym rules ∙ sym c.in_ok-rows.ensures ∙ sym c.deref-3.ensures.value in
+    let knows = c.in_ok-search.ensures.known s (sym c.deref-2.ensures.value) in_rows refl refl c.in_ok-left.ensures.rising in
     let found = c.in_ok-found.ensures.each in
     record {
       each = subst (λ is. All (λ (o : Overlap). AreOverlappingIn (length is) t.rules o.first o.second o.values.items) c.in_ok-found.found.items) inputs
@@ -36,7 +37,7 @@ returns-clause-tells c =
       unique = λ sure nothing.
           let done = c.are_all-is_all.ensures.done sure in
           never_two t words asked cells first search (long ∙ ap length inputs) (subst (λ ws. AreWhole ws asked cells) c.deref.ensures.value whole)
-          (λ r less. c.in_ok-left.ensures.each r (omega (arith, less, same_count))) knows done.0 done.1 (c.are_all-is_all.ensures.none sure (c.deref-7.ensures.value ∙ nothing));
+          (λ r less. c.in_ok-left.ensures.each r (omega (arith, less, same_count))) knows done.0 done.1 (c.are_all-is_all.ensures.none sure (c.deref-8.ensures.value ∙ nothing));
     }
 
 pub returns-clause-decides : goal.returns-clause-decides
@@ -50,19 +51,19 @@ returns-clause-decides c = λ constant known positive less nothing.
     let count = length c.inputs-count.result.now in
     let s : Scene = record { words = words; rules = t.rules; chosen = length t.rules; first = first; whole = cells } in
     let long = rw c.in-Some.is at c.in_ok-cells.ensures.long in
-    let knows = c.in_ok-search.ensures.known s (sym c.deref-2.ensures.value) (sym rules) refl refl c.in_ok-left.ensures.rising in
-    let constants = subst AreConstant (sym rules) constant in
+    let in_rows : t.rules ≡ c.deref-3.result.now = sym rules ∙ sym c.in_ok-rows.ensures ∙ sym c.deref-3.ensures.value in
+    let knows = c.in_ok-search.ensures.known s (sym c.deref-2.ensures.value) in_rows refl refl c.in_ok-left.ensures.rising in
     let seen = map rule_view c.rules-rules.result.now in
     let all = search.shared.items in
     let shared : All (IsShared words seen count) all = subst (λ n. All (IsShared words seen n) all) long (subst (λ rs. All (IsShared words rs (length cells)) all) (sym rules) knows.shared) in
-    let told = c.deref-5.result.now in
-    let shared_there = subst (λ ws. All (IsShared ws seen count) told) (sym c.deref-4.ensures.value) (subst (All (IsShared words seen count)) (sym c.deref-5.ensures.value) shared) in
-    let pairs_there = subst (All (IsPairOf told)) (sym c.deref-6.ensures.value) (subst (λ ss. All (IsPairOf ss) c.in_ok-pairs.pairs.items) (c.deref-3.ensures.value ∙ sym c.deref-5.ensures.value) c.in_ok-pairs.ensures.each) in
-    let no_pairs = sym c.deref-6.ensures.value ∙ c.in_ok-found.ensures.some positive shared_there pairs_there nothing in
-    let few = subst (All (λ (x : Shared). length x.rules.items < 2)) c.deref-3.ensures.value (c.in_ok-pairs.ensures.some no_pairs) in
+    let told = c.deref-6.result.now in
+    let shared_there = subst (λ ws. All (IsShared ws seen count) told) (sym c.deref-5.ensures.value) (subst (All (IsShared words seen count)) (sym c.deref-6.ensures.value) shared) in
+    let pairs_there = subst (All (IsPairOf told)) (sym c.deref-7.ensures.value) (subst (λ ss. All (IsPairOf ss) c.in_ok-pairs.pairs.items) (c.deref-4.ensures.value ∙ sym c.deref-6.ensures.value) c.in_ok-pairs.ensures.each) in
+    let no_pairs = sym c.deref-7.ensures.value ∙ c.in_ok-found.ensures.some positive shared_there pairs_there nothing in
+    let few = subst (All (λ (x : Shared). length x.rules.items < 2)) c.deref-4.ensures.value (c.in_ok-pairs.ensures.some no_pairs) in
     let unshared = none_shared words seen count all shared few in
     let left = steps_left c.args.steps c.find_shared.new.steps (subst (λ n. n < c.args.steps) c.saturating_sub-2.ensures less) in
-    c.are_all-is_all.ensures.all (omega (arith, c.len.ensures, ap length no_pairs)) unshared (c.in_ok-search.ensures.ended (omega arith) left unshared) (c.in_ok-search.ensures.decided constants)
+    c.are_all-is_all.ensures.all (omega (arith, c.len.ensures, ap length no_pairs)) unshared (c.in_ok-search.ensures.ended (omega arith) left unshared) (c.in_ok-search.ensures.decided (subst AreConstant in_rows constant))
 
 pub returns-in_default-clause-decides : goal.returns-in_default-clause-decides
 returns-in_default-clause-decides c = λ constant known positive less nothing.

@@ -1,5 +1,4 @@
 use Rattle.std.proofs.Common.{◌∙◌, refl, sym, subst, map}
-use Rattle.dmn_table.specs.Parts.{rule_view}
 use Rattle.dmn_analysis.specs.Searching.{Scene}
 use Rattle.dmn_analysis.specs.Telling.{IsBehind}
 use Rattle.dmn_analysis.proofs.Answering.{behind_from}
@@ -8,7 +7,7 @@ use Rattle.dmn_analysis.proofs.single_answers.behind.Goals as goal
 pub returns : goal.returns
 returns c =
     let words = c.args.words.now in
-    let rules = map rule_view c.args.rules.now in
+    let rules = c.args.rows.now in
     let s : Scene = record { words = words; rules = rules; chosen = c.args.rule; first = c.args.others.items; whole = c.in_ok-copy.copy.items } in
     let knows = c.in_ok-search.ensures.known s refl refl refl refl refl in
     let done = c.is_done.ensures.done c.if-not-is_done.false in

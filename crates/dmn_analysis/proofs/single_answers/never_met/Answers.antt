@@ -1,7 +1,6 @@
-use Rattle.std.proofs.Common.{[], subst, length, map}
+use Rattle.std.proofs.Common.{◌≡◌, ◌∙◌, [], subst, length}
 use Rattle.std.specs.List.{All}
 use Rattle.std.proofs.lemmas.List.Elements.{All-weaker}
-use Rattle.dmn_table.specs.Parts.{rule_view}
 use Rattle.dmn_analysis.specs.Claims.{NeverHits}
 use Rattle.dmn_analysis.specs.Telling.{IsBehind}
 use Rattle.dmn_analysis.specs.Whole.{AreWhole}
@@ -14,13 +13,14 @@ returns c =
     let asked = c.args.asked.now in
     let words = c.in_ok-words.words.items in
     let cells = c.in-Some.cells.items in
-    let rules = c.rules-rules.ensures.rules in
+    let rows = c.deref-3.result.now in
+    let rules : rows ≡ t.rules = c.deref-3.ensures.value ∙ c.in_ok-rows.ensures ∙ c.rules-rules.ensures.rules in
     let long = rw c.in-Some.is at c.in_ok-cells.ensures.long in
     let whole = subst (λ ws. AreWhole ws asked cells) c.deref.ensures.value (rw c.in-Some.is at c.in_ok-cells.ensures.all) in
     let out = c.in_ok-out.out.items in
     let behind = c.in_ok-out.ensures in
     subst (λ is. All (NeverHits (length is) t.rules asked) out) c.inputs-count.ensures
     (subst (λ rs. All (NeverHits (length c.inputs-count.result.now) rs asked) out) rules
-    (All-weaker (λ i. IsBehind c.deref-2.result.now (map rule_view c.rules-rules.result.now) c.deref-3.result.now i []) (NeverHits (length c.inputs-count.result.now) (map rule_view c.rules-rules.result.now) asked) (λ i b.
-    never_hits words (map rule_view c.rules-rules.result.now) asked cells (length c.inputs-count.result.now) i long whole
-    (subst (λ ws. IsBehind ws (map rule_view c.rules-rules.result.now) cells i []) c.deref-2.ensures.value (subst (λ cs. IsBehind c.deref-2.result.now (map rule_view c.rules-rules.result.now) cs i []) c.deref-3.ensures.value b))) out behind))
+    (All-weaker (λ i. IsBehind c.deref-2.result.now rows c.deref-4.result.now i []) (NeverHits (length c.inputs-count.result.now) rows asked) (λ i b.
+    never_hits words rows asked cells (length c.inputs-count.result.now) i long whole
+    (subst (λ ws. IsBehind ws rows cells i []) c.deref-2.ensures.value (subst (λ cs. IsBehind c.deref-2.result.now rows cs i []) c.deref-4.ensures.value b))) out behind))

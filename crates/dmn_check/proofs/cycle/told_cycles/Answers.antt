@@ -1,7 +1,7 @@
 use Rattle.std.proofs.Common.{ap, ◌∙◌}
 use Rattle.dmn_form.specs.ModelView.{model_view}
-use Rattle.dmn_places.specs.declared.place.Step.TheVariants as step
-use Rattle.dmn_places.specs.declared.place.Key.TheVariants as key
+use Rattle.dmn_check.specs.declared.place.Step.TheVariants as step
+use Rattle.dmn_check.specs.declared.place.Key.TheVariants as key
 use Rattle.dmn_check.specs.Cycles.{cycle, cycles}
 use Rattle.dmn_check.specs.Findings.{each_of}
 use Rattle.dmn_check.specs.Notes.{empty, into}

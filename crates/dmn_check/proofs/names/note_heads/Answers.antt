@@ -4,8 +4,8 @@ use Rattle.dmn_form.specs.ModelView.{model_view}
 use Rattle.dmn_form.specs.declared.written.WrittenService.{WrittenService}
 use Rattle.dmn_names.specs.Parts.{value_names, service_names, decision_names}
 use Rattle.dmn_names.proofs.Walks.{service_names_view}
-use Rattle.dmn_places.specs.declared.place.Step.TheVariants as step
-use Rattle.dmn_places.specs.declared.place.Key.TheVariants as key
+use Rattle.dmn_check.specs.declared.place.Step.TheVariants as step
+use Rattle.dmn_check.specs.declared.place.Key.TheVariants as key
 use Rattle.dmn_check.specs.Findings.{behind}
 use Rattle.dmn_check.specs.NameFaults.{marks, in_named, of_values}
 use Rattle.dmn_check.specs.Notes.{with_all}

@@ -3,8 +3,8 @@ use Rattle.dmn_form.specs.FormView.{column_view, table_view}
 use Rattle.dmn_form.specs.declared.written.WrittenColumn.{WrittenColumn}
 use Rattle.dmn_names.specs.Parts.{output_names}
 use Rattle.dmn_names.proofs.Walks.{map_twice}
-use Rattle.dmn_places.specs.declared.place.Step.TheVariants as step
-use Rattle.dmn_places.specs.declared.place.Key.TheVariants as key
+use Rattle.dmn_check.specs.declared.place.Step.TheVariants as step
+use Rattle.dmn_check.specs.declared.place.Key.TheVariants as key
 use Rattle.dmn_check.specs.NameFaults.{marks, in_named}
 use Rattle.dmn_check.specs.NotesView.{notes_view}
 use Rattle.dmn_check.proofs.Walking.{through, alike}

@@ -1,7 +1,7 @@
 use Rattle.std.proofs.Common.{map}
 use Rattle.dmn_form.specs.ModelView.{decision_view, service_view}
-use Rattle.dmn_places.specs.declared.place.Step.TheVariants as step
-use Rattle.dmn_places.specs.declared.place.Key.TheVariants as key
+use Rattle.dmn_check.specs.declared.place.Step.TheVariants as step
+use Rattle.dmn_check.specs.declared.place.Key.TheVariants as key
 use Rattle.dmn_check.specs.Findings.{behind, each_of}
 use Rattle.dmn_check.specs.NameFaults.{within_decision, within_service}
 use Rattle.dmn_check.specs.NotesView.{notes_view}

@@ -1,5 +1,5 @@
 use Rattle.std.proofs.Common.{map, string_bytes, ◌++◌}
-use Rattle.dmn_places.specs.declared.place.Key.TheVariants as key
+use Rattle.dmn_check.specs.declared.place.Key.TheVariants as key
 use Rattle.dmn_check.specs.NameFaults.{under}
 use Rattle.dmn_check.specs.NotesView.{notes_view}
 use Rattle.dmn_check.proofs.Walking.{then, along}

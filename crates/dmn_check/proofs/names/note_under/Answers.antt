@@ -1,5 +1,5 @@
 use Rattle.std.proofs.Common.{map, string_bytes, sym, ◌∙◌}
-use Rattle.dmn_places.specs.declared.place.Step.TheVariants as step
+use Rattle.dmn_check.specs.declared.place.Step.TheVariants as step
 use Rattle.dmn_check.specs.NameFaults.{marks, in_texts}
 use Rattle.dmn_check.specs.NotesView.{notes_view}
 use Rattle.dmn_check.proofs.Walking.{through, alike}

@@ -1,6 +1,6 @@
 use Rattle.std.proofs.Common.{take, drop, sym}
-use Rattle.dmn_places.specs.declared.place.Step.TheVariants as step
-use Rattle.dmn_places.specs.declared.place.Key.TheVariants as key
+use Rattle.dmn_check.specs.declared.place.Step.TheVariants as step
+use Rattle.dmn_check.specs.declared.place.Key.TheVariants as key
 use Rattle.dmn_check.specs.Findings.{behind}
 use Rattle.dmn_check.specs.NameFaults.{in_texts, in_named}
 use Rattle.dmn_check.specs.NotesView.{notes_view}

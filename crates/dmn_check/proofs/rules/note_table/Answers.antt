@@ -1,8 +1,8 @@
 use Rattle.std.proofs.Common.{map, length, string_bytes, ap₂, ◌∙◌, arith}
 use Rattle.std.proofs.lemmas.List.{length-map}
 use Rattle.dmn_form.specs.FormView.{column_view, rule_view}
-use Rattle.dmn_places.specs.declared.place.Step.TheVariants as step
-use Rattle.dmn_places.specs.declared.place.Key.TheVariants as key
+use Rattle.dmn_check.specs.declared.place.Step.TheVariants as step
+use Rattle.dmn_check.specs.declared.place.Key.TheVariants as key
 use Rattle.dmn_check.specs.Findings.{each_of}
 use Rattle.dmn_check.specs.Notes.{with_all}
 use Rattle.dmn_check.specs.NotesView.{notes_view}

@@ -1,8 +1,8 @@
 use Rattle.std.proofs.Common.{map, sym, ap, ◌∙◌}
 use Rattle.dmn_form.specs.ModelView.{service_view, model_view}
 use Rattle.dmn_names.specs.PlacedModel.{placed_model}
-use Rattle.dmn_places.specs.declared.place.Step.TheVariants as step
-use Rattle.dmn_places.specs.declared.place.Key.TheVariants as key
+use Rattle.dmn_check.specs.declared.place.Step.TheVariants as step
+use Rattle.dmn_check.specs.declared.place.Key.TheVariants as key
 use Rattle.dmn_check.specs.Findings.{each_of}
 use Rattle.dmn_check.specs.Notes.{empty, into, with_all}
 use Rattle.dmn_check.specs.NotesView.{notes_view}

@@ -1,7 +1,7 @@
 use Rattle.std.proofs.Common.{map, string_bytes}
 use Rattle.dmn_names.specs.PlacedModel.{placed_model}
-use Rattle.dmn_places.specs.declared.place.Step.TheVariants as step
-use Rattle.dmn_places.specs.declared.place.Key.TheVariants as key
+use Rattle.dmn_check.specs.declared.place.Step.TheVariants as step
+use Rattle.dmn_check.specs.declared.place.Key.TheVariants as key
 use Rattle.dmn_check.specs.Findings.{each_of}
 use Rattle.dmn_check.specs.Unknown.{unknown_name}
 use Rattle.dmn_check.specs.NotesView.{notes_view}

@@ -1,6 +1,6 @@
 use Rattle.std.proofs.Common.{map, string_bytes, option_map}
-use Rattle.dmn_places.specs.declared.place.Step.TheVariants as step
-use Rattle.dmn_places.specs.declared.place.Key.TheVariants as key
+use Rattle.dmn_check.specs.declared.place.Step.TheVariants as step
+use Rattle.dmn_check.specs.declared.place.Key.TheVariants as key
 use Rattle.dmn_check.specs.declared.finding.TextKind.TheVariants.{Literal}
 use Rattle.dmn_check.specs.Findings.{behind, each_of}
 use Rattle.dmn_check.specs.NotesView.{notes_view}

@@ -1,7 +1,7 @@
 use Rattle.std.proofs.Common.{map, string_bytes, ◌++◌}
 use Rattle.dmn_form.specs.FormView.{column_view, rule_view}
-use Rattle.dmn_places.specs.declared.place.Step.TheVariants as step
-use Rattle.dmn_places.specs.declared.place.Key.TheVariants as key
+use Rattle.dmn_check.specs.declared.place.Step.TheVariants as step
+use Rattle.dmn_check.specs.declared.place.Key.TheVariants as key
 use Rattle.dmn_check.specs.declared.finding.TextKind.TheVariants.{Expression}
 use Rattle.dmn_check.specs.Findings.{behind, each_of}
 use Rattle.dmn_check.specs.NotesView.{notes_view}

@@ -1,5 +1,5 @@
 use Rattle.std.proofs.Common.{map, string_bytes}
-use Rattle.dmn_places.specs.declared.place.Step.TheVariants as step
+use Rattle.dmn_check.specs.declared.place.Step.TheVariants as step
 use Rattle.dmn_check.specs.Findings.{each_of}
 use Rattle.dmn_check.specs.NotesView.{notes_view}
 use Rattle.dmn_check.specs.Unread.{unread}

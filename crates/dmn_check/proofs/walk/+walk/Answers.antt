@@ -1,7 +1,7 @@
 use Rattle.std.proofs.Common.{map, refl, ◌++◌, string_bytes}
 use Rattle.dmn_form.specs.LogicView.{logic_view}
-use Rattle.dmn_places.specs.declared.place.Step.TheVariants as step
-use Rattle.dmn_places.specs.declared.place.Key.TheVariants as key
+use Rattle.dmn_check.specs.declared.place.Step.TheVariants as step
+use Rattle.dmn_check.specs.declared.place.Key.TheVariants as key
 use Rattle.dmn_check.specs.Findings.{behind}
 use Rattle.dmn_check.specs.Look.{logic_findings}
 use Rattle.dmn_check.specs.LookView.{members_findings_view, entries_findings_view}

@@ -1,6 +1,6 @@
 use Rattle.dmn_form.specs.LogicView.{logic_view}
-use Rattle.dmn_places.specs.declared.place.Step.TheVariants as step
-use Rattle.dmn_places.specs.declared.place.Key.TheVariants as key
+use Rattle.dmn_check.specs.declared.place.Step.TheVariants as step
+use Rattle.dmn_check.specs.declared.place.Key.TheVariants as key
 use Rattle.dmn_check.specs.Look.{logic_findings}
 use Rattle.dmn_check.specs.NotesView.{notes_view}
 use Rattle.dmn_check.proofs.Walking.{through}

@@ -1,5 +1,4 @@
 use Rattle.std.proofs.Common.{◌∙◌, refl, sym, subst, map}
-use Rattle.dmn_table.specs.Parts.{rule_view}
 use Rattle.dmn_analysis.specs.Cells.{AllInOrder}
 use Rattle.dmn_analysis.specs.Searching.{AreLeft, KnowsBut, TellsOutlook}
 use Rattle.dmn_analysis.specs.Telling.{IsVoid}
@@ -22,7 +21,7 @@ returns-in_ok-push-in-Nothing-clause-known c = λ s words rules knows left.
     let kept = left_moved s c.deref-2.result.now cells c.in_ok-left.left.items c.in_ok-left.left.items (sym c.deref-2.ensures.value) refl
     (c.in_ok-left.ensures.left s words rules (left_moved s cells c.deref-2.result.now c.args.next.left.items c.deref-3.result.now c.deref-2.ensures.value c.deref-3.ensures.value left)) in
     let bare : Bare = record { cells = c.args.next.cells } in
-    let told = subst (TellsOutlook c.args.words.now (map rule_view c.args.rules.now) c.deref-4.result.now c.deref-5.result.now) c.in-Nothing.is c.outlook_for.ensures in
+    let told = subst (TellsOutlook c.args.words.now c.args.rows.now c.deref-4.result.now c.deref-5.result.now) c.in-Nothing.is c.outlook_for.ensures in
     known_bare s cells old new bare refl c.in_ok-push-in-Nothing.ensures.items refl refl (subst (AreLeft s cells) (sym c.deref-5.ensures.value ∙ told) kept) knows
 
 pub returns-in_ok-push-in-Sure-clause-known : goal.returns-in_ok-push-in-Sure-clause-known
@@ -32,7 +31,7 @@ returns-in_ok-push-in-Sure-clause-known c = λ s words rules knows left.
     let new : Search = record { pending = old.pending; bare = old.bare; «open» = old.open; sure = c.push-in-Sure.new.self } in
     let kept = left_moved s c.deref-2.result.now cells c.in_ok-left.left.items c.in_ok-left.left.items (sym c.deref-2.ensures.value) refl
     (c.in_ok-left.ensures.left s words rules (left_moved s cells c.deref-2.result.now c.args.next.left.items c.deref-3.result.now c.deref-2.ensures.value c.deref-3.ensures.value left)) in
-    let told = subst (TellsOutlook c.args.words.now (map rule_view c.args.rules.now) c.deref-4.result.now c.deref-5.result.now) c.in-Sure.is c.outlook_for.ensures in
+    let told = subst (TellsOutlook c.args.words.now c.args.rows.now c.deref-4.result.now c.deref-5.result.now) c.in-Sure.is c.outlook_for.ensures in
     let sure = sure_moved c.args.words.now s.words _ s.rules c.deref-4.result.now cells c.deref-5.result.now c.in_ok-left.left.items c.in-Sure.rule words rules (sym c.deref-4.ensures.value) (sym c.deref-5.ensures.value) told in
     known_hit s cells c.in_ok-left.left.items c.in-Sure.rule old new refl refl refl (subst AllInOrder (sym words) c.requires) sure kept knows
 

@@ -1,6 +1,5 @@
 use Rattle.std.proofs.Common.{◌<◌, refl, sym, subst, length, map}
 use Rattle.std.specs.List.{All}
-use Rattle.dmn_table.specs.Parts.{rule_view}
 use Rattle.dmn_analysis.specs.Cells.{AllInOrder}
 use Rattle.dmn_analysis.specs.Cutting.{AreHalves}
 use Rattle.dmn_analysis.specs.Sharing.{IsMustHit, IsRising}
@@ -28,7 +27,7 @@ pub returns-in_default-clause-known : goal.returns-in_default-clause-known
 returns-in_default-clause-known c = λ s words rules knows left rising.
     let cells = c.args.next.cells.items in
     let found = c.in_ok-left.left.items in
-    let seen = map rule_view c.args.rules.now in
+    let seen = c.args.rows.now in
     let must : All (IsMustHit c.args.words.now seen cells) found =
     subst (λ cs. All (IsMustHit c.args.words.now seen cs) found) c.deref-4.ensures.value (subst (All (IsMustHit c.args.words.now seen c.deref-4.result.now)) c.deref-5.ensures.value (c.first_unsure.ensures.must c.in_default.is)) in
     c.in_ok-share.ensures.known s words knows (subst (λ ws. All (IsMustHit ws s.rules cells) found) (sym words) (subst (λ rs. All (IsMustHit c.args.words.now rs cells) found) (sym rules) must))

@@ -1,0 +1,190 @@
+-- What is told of a value is what is due.
+use Rattle.std.proofs.Common.{◌≡◌, ◌≢◌, ◌<◌, ◌≤◌, ◌∙◌, ℕ, Bool, true, false, List, [], ◌∷◌, ◌++◌, append-nil, length, Option, None, Some, option_map, IfSome, Result, Ok, Err, is_ok, if◌then◌else◌, sym, ap, subst, refl}
+use Rattle.std.specs.List.{flat_map}
+use Rattle.serde_json.specs.Data.{Data}
+use Rattle.serde_json.specs.Read.{read}
+use Rattle.feel_text.specs.Expr.{Expr}
+use Rattle.dmn_table.specs.Table.{Table}
+use Rattle.dmn_form.specs.Model.{Model}
+use Rattle.dmn_form.specs.Draft.{Draft, draft_of}
+use Rattle.dmn_plan.specs.declared.fault.ModelFault.{ModelFault}
+use Rattle.dmn_plan.specs.declared.fault.ModelFault.TheVariants as fault
+use Rattle.dmn_plan.specs.Due.{IsDue}
+use Rattle.dmn_plan.specs.ReadModel.{checked, faults, first_among, first_fault, found_or, read_draft, read_model, unless}
+use Rattle.desk_lines.specs.Lines.{ended, max_line}
+use Rattle.desk_requests.specs.declared.refused.RefusedLine.{RefusedLine}
+use Rattle.desk_lines.specs.Device.{Reader, Writer}
+use Rattle.desk_lines.specs.declared.fault.FrontFault.{FrontFault}
+use Rattle.desk_lines.specs.declared.fault.FrontFault.TheVariants.{Write}
+use Rattle.desk_checking.specs.Checked.{Breaks, Checked}
+use Rattle.desk_checking.specs.FirstFault.{IsTakenBy, fault_in, model_fault, model_line, subject}
+use Rattle.desk_checking.specs.Output.{TellsModel, TellsText, value_in}
+use Rattle.desk_checking.specs.Told.{fault_line, faulty_lines, lines_behind, long_line, place_lines}
+use Rattle.desk_checking.specs.Verdicts.{IsDueTo, TellsValue}
+use Rattle.desk_checking.specs.declared.findings.CheckFault.{CheckFault}
+use Rattle.desk_checking.specs.declared.findings.CheckFault.TheVariants as found
+use Rattle.desk_checking.specs.declared.findings.CheckFindings.{CheckFindings}
+use Rattle.desk_checking.specs.declared.model_check.Verdict.{Verdict}
+use Rattle.desk_checking.specs.declared.options.CheckOptions.{CheckOptions}
+
+-- ---- which fault it is
+
+pub due_of : {Y : Type 0} (r : Result Y ModelFault) (f : ModelFault) → IsDue r f → f ≢ fault.Memory → r ≡ Err f
+due_of r fault.Syntax h other = h
+due_of r fault.Shape h other = h
+due_of r fault.Name h other = h
+due_of r fault.Twice h other = h
+due_of r fault.Expression h other = h
+due_of r fault.Table h other = h
+due_of r fault.Unknown h other = h
+due_of r fault.Cycle h other = h
+due_of r fault.Service h other = h
+due_of r fault.Large h other = h
+due_of r fault.Memory h other = absurd (other refl)
+
+abbrev NoSyntax : ModelFault → Type 0
+NoSyntax f = f ≢ fault.Syntax
+
+at_front : (b : Bool) (f : ModelFault) (rest : Option ModelFault) → NoSyntax f → IfSome rest NoSyntax → IfSome (if b then Some f else rest) NoSyntax
+at_front true f rest h k = h
+at_front false f rest h k = k
+
+abbrev NoneSyntax : List (ModelFault × (Draft → Bool)) → Type 0
+NoneSyntax [] = Unit {0}
+NoneSyntax (f ∷ fs) = NoSyntax f.0 × NoneSyntax fs
+
+among : (fs : List (ModelFault × (Draft → Bool))) (m : Draft) → NoneSyntax fs → IfSome (first_among fs m) NoSyntax
+among [] m h = tt
+among (f ∷ fs) m h = at_front (f.1 m) f.0 (first_among fs m) h.0 (among fs m h.1)
+
+name : NoSyntax fault.Name
+name e = cc
+
+twice : NoSyntax fault.Twice
+twice e = cc
+
+expression : NoSyntax fault.Expression
+expression e = cc
+
+refused_table : NoSyntax fault.Table
+refused_table e = cc
+
+unknown : NoSyntax fault.Unknown
+unknown e = cc
+
+cycle : NoSyntax fault.Cycle
+cycle e = cc
+
+service : NoSyntax fault.Service
+service e = cc
+
+large : NoSyntax fault.Large
+large e = cc
+
+found_not : (o : Option (Model Expr Table)) → found_or fault.Expression o ≡ Err fault.Syntax → ⊥
+found_not None e = cc
+found_not (Some m) e = cc
+
+unless_not : (o : Option ModelFault) (m : Draft) → IfSome o NoSyntax → unless o m ≡ Err fault.Syntax → ⊥
+unless_not None m h e = found_not (read_draft m) e
+unless_not (Some f) m h e = let same : f ≡ fault.Syntax = cc in h same
+
+checked_not : (o : Option Draft) → checked o ≡ Err fault.Syntax → ⊥
+checked_not None e = cc
+checked_not (Some m) e =
+    unless_not (first_fault m) m (among faults m (name, (twice, (expression, (refused_table, (unknown, (cycle, (service, (large, tt))))))))) e
+
+-- a JSON value is read
+pub no_syntax : (d : Data) → read_model d ≡ Err fault.Syntax → ⊥
+unfolding read_model
+no_syntax d e = checked_not (draft_of d) e
+
+-- ---- the lines of a fault
+
+behind_of : (d : Data) (f : ModelFault) → f ≢ fault.Syntax → lines_behind (Some d) (found.Model f) ≡ place_lines (draft_of d)
+behind_of d fault.Syntax h = absurd (h refl)
+behind_of d fault.Shape h = refl
+behind_of d fault.Name h = refl
+behind_of d fault.Twice h = refl
+behind_of d fault.Expression h = refl
+behind_of d fault.Table h = refl
+behind_of d fault.Unknown h = refl
+behind_of d fault.Cycle h = refl
+behind_of d fault.Service h = refl
+behind_of d fault.Large h = refl
+behind_of d fault.Memory h = refl
+
+pub told_with : (d : Data) (f : ModelFault) (o : Option Draft) (text : List ℕ) → draft_of d ≡ o → text ≡ ended (fault_line (found.Model f)) ++ flat_map ended (place_lines o) → f ≢ fault.Syntax
+    → text ≡ flat_map ended (faulty_lines (Some d) (found.Model f))
+told_with d f o text form is h =
+    is ∙ ap (λ ls. ended (fault_line (found.Model f)) ++ flat_map ended ls) (ap place_lines (sym form) ∙ sym (behind_of d f h))
+
+pub told_alone : (d : Data) (f : ModelFault) (text : List ℕ) → draft_of d ≡ None → text ≡ ended (fault_line (found.Model f)) → f ≢ fault.Syntax
+    → text ≡ flat_map ended (faulty_lines (Some d) (found.Model f))
+told_alone d f text form is h = told_with d f None text form (is ∙ sym (append-nil (ended (fault_line (found.Model f))))) h
+
+-- ---- verdicts
+
+pub faulty_due : (d : Data) (requests : List (List ℕ)) (f : ModelFault) (v : Verdict) → read_model d ≡ Err f → v.fault ≡ Some (found.Model f) → v.refused.items ≡ []
+    → v.text.items ≡ flat_map ended (faulty_lines (Some d) (found.Model f)) → IsDueTo d requests v
+faulty_due d requests f v r is none text = record {
+  fault = ap model_fault is ∙ sym (ap fault_in r);
+  taken = subst (λ o. IsTakenBy o d) (sym is) tt;
+  tells = subst (λ o. TellsValue d requests o v.refused.items v.text.items) (sym is) (none, text);
+}
+
+lawful_fault : (r : Result (Model Expr Table) ModelFault) → is_ok r ≡ true → fault_in r ≡ None
+lawful_fault (Ok m) h = refl
+lawful_fault (Err f) h = cc
+
+pub long_due : (d : Data) (requests : List (List ℕ)) (v : Verdict) → is_ok (read_model d) ≡ true → max_line < length (model_line d) → v.fault ≡ Some found.Long → v.refused.items ≡ []
+    → v.text.items ≡ ended (fault_line found.Long) ++ ended (long_line (length (model_line d))) → IsDueTo d requests v
+long_due d requests v lawful long is none text = record {
+  fault = ap model_fault is ∙ sym (lawful_fault (read_model d) lawful);
+  taken = subst (λ o. IsTakenBy o d) (sym is) long;
+  tells = subst (λ o. TellsValue d requests o v.refused.items v.text.items) (sym is)
+      (none, text ∙ ap (λ s. ended (fault_line found.Long) ++ s) (sym (append-nil (ended (long_line (length (model_line d)))))));
+}
+
+pub lawful_due : (d : Data) (requests : List (List ℕ)) (v : Verdict) → is_ok (read_model d) ≡ true → length (model_line d) ≤ max_line → v.fault ≡ None
+    → TellsModel d requests v.refused.items v.text.items → IsDueTo d requests v
+lawful_due d requests v lawful short is tells = record {
+  fault = ap model_fault is ∙ sym (lawful_fault (read_model d) lawful);
+  taken = subst (λ o. IsTakenBy o d) (sym is) short;
+  tells = subst (λ o. TellsValue d requests o v.refused.items v.text.items) (sym is) tells;
+}
+
+-- ---- texts
+
+same_value : (a b : Data) → Some a ≡ Some b → a ≡ b
+same_value a b e = cc
+
+pub text_told : (s : List ℕ) (d e : Data) (requests : List (List ℕ)) (f : Option CheckFault) (refused : List RefusedLine) (text : List ℕ) → read s ≡ Some d → e ≡ subject d
+    → TellsValue e requests f refused text → TellsText s requests f refused text
+text_told s d e requests None refused text r is h = λ x y.
+    subst (λ (v : Data). TellsModel v requests refused text) (is ∙ ap subject (same_value d x (sym r ∙ y))) h
+text_told s d e requests (Some f) refused text r is h =
+    (h.0, h.1 ∙ ap (λ (o : Option Data). flat_map ended (faulty_lines o f)) (ap (λ (v : Data). Some v) is ∙ sym (ap (option_map subject) r)))
+
+-- the same texts
+pub told_same : (s s' : List ℕ) (requests requests' : List (List ℕ)) (f : Option CheckFault) (refused : List RefusedLine) (text text' : List ℕ) → s ≡ s' → requests ≡ requests' → text ≡ text'
+    → TellsText s requests f refused text → TellsText s' requests' f refused text'
+told_same s s' requests requests' f refused text text' a b c h =
+    subst (λ t. TellsText s' requests' f refused t) c (subst (λ ls. TellsText s' ls f refused text) b (subst (λ x. TellsText x requests f refused text) a h))
+
+-- ---- runs
+
+pub cut_short : (options : CheckOptions) (reader reader' : Reader) (writer writer' : Writer) (r : Result CheckFindings FrontFault) → r ≡ Err Write
+    → Breaks options reader reader' writer writer' → writer.faults < writer'.faults → reader'.faults ≡ reader.faults → Checked options reader reader' writer writer' r
+cut_short options reader reader' writer writer' r is breaks more same = subst (λ x. Checked options reader reader' writer writer' x) (sym is) (record {
+  tells = tt;
+  strict = tt;
+  long = λ e. let wrong : ⊥ = cc in absurd wrong;
+  cut = λ _. breaks;
+  unwritten = λ other. absurd (other refl);
+  read_only_at_fault = λ e. let wrong : ⊥ = cc in absurd wrong;
+  write_only_at_fault = λ _. more;
+  ok_without_fault = tt;
+  write_told = λ other. absurd (other refl);
+  read_told = λ _. same;
+})

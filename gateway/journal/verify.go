@@ -1,0 +1,190 @@
+package journal
+
+import (
+	"bytes"
+	"crypto/sha256"
+	"encoding/json"
+	"errors"
+	"fmt"
+	"io"
+	"os"
+	"path/filepath"
+	"syscall"
+)
+
+// A Report says what was found of a journal.
+type Report struct {
+	// Files and Entries are how many were read, Lines those of files that earlier versions wrote, which have no chain.
+	Files, Entries, Lines uint64
+	// First and Last are the numbers of the first and the last entry, Pruned that of the last entry that was removed on purpose.
+	First, Last, Pruned uint64
+	// Head is the chain at the last entry.
+	Head string
+	// IsOpen says that a process writes the journal: what is written in part is no fault then.
+	IsOpen bool
+	// At is the number of the entry with the sum that was asked for, or 0.
+	At uint64
+	// Faults are what is wrong.
+	Faults []Fault
+}
+
+// A Fault is one thing that is wrong. Line is 0 where it is of a whole file or of what is not there.
+type Fault struct {
+	Path string
+	Line int
+	Text string
+}
+
+func (f Fault) String() string {
+	switch {
+	case f.Path == "":
+		return f.Text
+	case f.Line == 0:
+		return f.Path + ": " + f.Text
+	}
+	return fmt.Sprintf("%s:%d: %s", f.Path, f.Line, f.Text)
+}
+
+// mostFaults is how many faults are listed.
+const mostFaults = 100
+
+// A verifier goes over the entries of a folder.
+type verifier struct {
+	chain  *chainer
+	report Report
+	head   [sha256.Size]byte
+	// path is that of the entry before, paths are all that were seen.
+	path  string
+	paths map[string]bool
+}
+
+// Verify reads a whole journal, and says what in it is not as it was recorded. With a head it says which entry has that sum.
+func Verify(folder, head string) (*Report, error) {
+	v := &verifier{chain: newChainer(link{}), paths: map[string]bool{}}
+	if head != "" {
+		is := false
+		if v.head, is = sumOf(head); !is {
+			return nil, fmt.Errorf("%q is no SHA-256 of 64 hexadecimal digits", head)
+		}
+	}
+	r, err := NewReader(folder)
+	if err != nil {
+		return nil, err
+	}
+	defer r.Close()
+	v.report.IsOpen = isOpen(folder)
+	for {
+		it, err := r.Next()
+		if errors.Is(err, io.EOF) {
+			break
+		}
+		if err != nil {
+			return nil, err
+		}
+		v.take(it)
+	}
+	v.end(r.Cut, head)
+	return &v.report, nil
+}
+
+// isOpen says whether a process has the journal open.
+func isOpen(folder string) bool {
+	lock, err := os.Open(filepath.Join(folder, lockName))
+	if err != nil {
+		return false
+	}
+	defer lock.Close()
+	return syscall.Flock(int(lock.Fd()), syscall.LOCK_SH|syscall.LOCK_NB) != nil
+}
+
+func (v *verifier) fault(path string, line int, form string, words ...any) {
+	if len(v.report.Faults) < mostFaults {
+		v.report.Faults = append(v.report.Faults, Fault{path, line, fmt.Sprintf(form, words...)})
+	}
+}
+
+var (
+	beginsKey = []byte(`,"begins":true,`)
+	prunedKey = []byte(`,"pruned":[`)
+)
+
+// take holds an entry against the chain.
+func (v *verifier) take(it *Read) {
+	if it.Path != v.path {
+		v.path, v.paths[it.Path] = it.Path, true
+		v.report.Files = uint64(len(v.paths))
+	}
+	if it.N == 0 {
+		v.report.Lines++
+		return
+	}
+	v.report.Entries++
+	isKnown := v.follow(it)
+	if next := v.chain.next(it.text); isKnown && next.sum != it.at.sum {
+		v.fault(it.Path, it.Line, "entry %d is not what was recorded, or the one before it is not", it.N)
+	}
+	v.chain.at = it.at
+	if it.at.sum == v.head {
+		v.report.At = it.N
+	}
+	if bytes.HasPrefix(it.About[bytes.IndexByte(it.About, ','):], prunedKey) {
+		var about struct{ Last uint64 }
+		if json.Unmarshal(it.About, &about) == nil && about.Last > v.report.Pruned {
+			v.report.Pruned = about.Last
+		}
+	}
+}
+
+// follow says whether the chain before an entry is known, and notes entries that are missing before it.
+func (v *verifier) follow(it *Read) bool {
+	due := v.chain.at.n + 1
+	switch {
+	case v.report.First == 0:
+		v.report.First = it.N
+		if it.N == 1 {
+			return true
+		}
+	case it.N == due:
+		return true
+	case it.N < due:
+		v.fault(it.Path, it.Line, "entry %d is there twice, or not in its place", it.N)
+		return false
+	default:
+		v.fault(it.Path, it.Line, "entries %d to %d are missing", due, it.N-1)
+	}
+	before, is := beforeOf(it)
+	v.chain.at = link{it.N - 1, before}
+	return is
+}
+
+// beforeOf is the chain before an entry that begins a file.
+func beforeOf(it *Read) (sum [sha256.Size]byte, is bool) {
+	if !bytes.HasPrefix(it.About[bytes.IndexByte(it.About, ','):], beginsKey) {
+		return sum, false
+	}
+	var about struct{ Before string }
+	if json.Unmarshal(it.About, &about) != nil {
+		return sum, false
+	}
+	return sumOf(about.Before)
+}
+
+// end says what is missing at the beginning and the end.
+func (v *verifier) end(cut []string, head string) {
+	r := &v.report
+	for _, path := range cut {
+		if r.IsOpen {
+			continue
+		}
+		v.fault(path, 0, "the file ends within an entry: it was cut")
+	}
+	if r.First > 1 && r.Pruned < r.First-1 {
+		v.fault("", 0, "entries %d to %d are missing, and no entry says that they were removed", r.Pruned+1, r.First-1)
+	}
+	if r.Last = v.chain.at.n; r.Last > 0 {
+		r.Head = v.chain.at.String()
+	}
+	if head != "" && r.At == 0 {
+		v.fault("", 0, "no entry has the sum %s: the chain is not the one of which it was the head, or that entry was removed", head)
+	}
+}

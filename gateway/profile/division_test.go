@@ -1,0 +1,100 @@
+package profile_test
+
+import (
+	"fmt"
+	"math/big"
+	"math/rand"
+	"strings"
+	"testing"
+
+	"gateway/dmn"
+	"gateway/profile"
+)
+
+// divisors are constants of each sort: powers of two, of three, of ten, primes, and those by which quotients are found.
+var divisors = []int64{2, 3, 4, 5, 6, 7, 8, 9, 11, 12, 13, 16, 24, 27, 30, 52, 60, 64, 81, 97, 100, 128, 365, 1000, 1200, 3600, 12345, 65536, 999983,
+	1000003, 1000000000, 2147483629, 2147483646, 2147483647}
+
+// numerators are numbers over the whole range: both ends, where products would pass it, multiples of a divisor and their neighbours.
+func numerators(random *rand.Rand, divisor int64) (all []int64) {
+	const most = 1<<63 - 1
+	add := func(n int64) {
+		for _, it := range []int64{n - 1, n, n + 1} {
+			if it != -most-1 {
+				all = append(all, it)
+			}
+		}
+	}
+	for _, n := range []int64{0, divisor, divisor / 2, 1 << 31, 1 << 32, 1 << 61, 1 << 62, most - 1, most - 1 - most%divisor, (most - 1) / 2} {
+		add(n)
+		add(-n)
+	}
+	for i := 0; i < 12; i++ {
+		add(random.Int63n(most-1) - random.Int63n(most-1))
+		add(random.Int63n(most/divisor-1) * divisor)
+	}
+	return all
+}
+
+// rounded is n / d, by a rounding.
+func rounded(rounding string, n, d int64) *big.Int {
+	floor, rest := new(big.Int).DivMod(big.NewInt(n), big.NewInt(d), new(big.Int))
+	twice := rest.Cmp(new(big.Int).Sub(big.NewInt(d), rest))
+	isUp := rounding == "ceiling" && rest.Sign() > 0 || rounding == "decimal" && (twice > 0 || twice == 0 && floor.Bit(0) == 1)
+	if isUp {
+		floor.Add(floor, big.NewInt(1))
+	}
+	return floor
+}
+
+// times is how often a prime divides a number.
+func times(n, prime int64) (count int64) {
+	for ; n%prime == 0; n /= prime {
+		count++
+	}
+	return count
+}
+
+// mayBeLimit says whether a number is past the range with the decimals that a division by the twos and fives of a divisor adds.
+func mayBeLimit(n, divisor int64) bool {
+	decimals := times(divisor, 2)
+	if fives := times(divisor, 5); fives > decimals {
+		decimals = fives
+	}
+	scaled := new(big.Int).Mul(big.NewInt(n), new(big.Int).Exp(big.NewInt(10), big.NewInt(decimals), nil))
+	return decimals > 0 && (!scaled.IsInt64() || scaled.Int64() == -1<<63)
+}
+
+// TestDivisionOverTheWholeRange divides by constants, and holds each quotient against math/big. By a divisor with twos or fives it may
+// be a limit where the decimals of the quotient pass the range, of which the import has a note; never another number.
+func TestDivisionOverTheWholeRange(t *testing.T) {
+	parts := []string{input("x", "number")}
+	for _, divisor := range divisors {
+		for rounding, form := range map[string]string{"floor": "floor(x / %d)", "ceiling": "ceiling(x / %d)", "decimal": "decimal(x / %d, 0)"} {
+			parts = append(parts, decision(fmt.Sprintf("%s_%d", rounding, divisor), "number", literal(fmt.Sprintf(form, divisor)), "x"))
+		}
+	}
+	read, err := dmn.Read("test.dmn", strings.NewReader(definitions(parts...)))
+	if err != nil {
+		t.Fatal(err)
+	}
+	said := profile.NoDecimals()
+	said.All = 0
+	result, refusals := profile.Import([]*dmn.File{read}, profile.Options{Decimals: &said})
+	if result == nil {
+		t.Fatal(refusals)
+	}
+	d := startDesk(t)
+	d.model(result)
+	random := rand.New(rand.NewSource(11))
+	for _, divisor := range divisors {
+		for _, n := range numerators(random, divisor) {
+			for _, rounding := range []string{"floor", "ceiling", "decimal"} {
+				came := countedAsk(d, result, fmt.Sprintf("%s_%d", rounding, divisor), fmt.Sprintf(`{"x":%d}`, n))
+				if due := rounded(rounding, n, divisor).String(); came != due && !(came == "limit" && mayBeLimit(n, divisor)) {
+					t.Errorf("%s of %d / %d: %s came, and %s is due", rounding, n, divisor, came, due)
+				}
+			}
+		}
+	}
+}

@@ -1,0 +1,64 @@
+package profile
+
+import (
+	"fmt"
+	"sort"
+	"strings"
+
+	"gateway/feel"
+)
+
+// requiredInputs are the words of the inputs with a declared type whose allowed values don't list null, but for those that are
+// nullable by name.
+func requiredInputs(g *graph, nullable []string) (words []string) {
+	may := map[string]bool{}
+	for _, name := range nullable {
+		may[name] = true
+	}
+	for _, n := range g.inputs {
+		if n.of != nil && !n.of.open && !n.free && n.of.kind != anyKind && !n.of.allowed.listsNull() && !may[n.name] && !may[n.word] {
+			words = append(words, n.word)
+		}
+	}
+	sort.Strings(words)
+	return words
+}
+
+// listsNull tells whether null is written among the values.
+func (v *valueList) listsNull() bool {
+	for _, n := range v.all {
+		if _, is := n.(*feel.Null); is {
+			return true
+		}
+	}
+	return false
+}
+
+// UnknownNullable says which names of the options no input of the result has; nil where there are none.
+func (r *Result) UnknownNullable(nullable []string) error {
+	known := map[string]bool{}
+	for _, word := range r.Model.Inputs {
+		known[word], known[r.nameOf(word)] = true, true
+	}
+	for _, name := range nullable {
+		if !known[name] {
+			return fmt.Errorf("--nullable %s: there is no such input; there are %s", name, strings.Join(r.inputNames(), ", "))
+		}
+	}
+	return nil
+}
+
+func (r *Result) nameOf(word string) string {
+	if name, is := r.Names[word]; is {
+		return name
+	}
+	return word
+}
+
+func (r *Result) inputNames() []string {
+	names := make([]string, len(r.Model.Inputs))
+	for at, word := range r.Model.Inputs {
+		names[at] = r.nameOf(word)
+	}
+	return names
+}

@@ -1,0 +1,193 @@
+package profile
+
+import (
+	"fmt"
+	"strings"
+
+	"gateway/calendar"
+	"gateway/feel"
+)
+
+// Dates and durations are whole numbers in the model, as package calendar counts them: nothing there tells a date from a
+// number. So a value of such a kind meets its own kind alone, and is never of the type Any.
+
+var (
+	dateType          = &valueType{kind: dateKind}
+	dayDurationType   = &valueType{kind: dayDurationKind}
+	monthDurationType = &valueType{kind: monthDurationKind}
+
+	timeType     = &valueType{kind: timeKind}
+	dateTimeType = &valueType{kind: dateTimeKind}
+	instantType  = &valueType{kind: offsetDateTimeKind}
+)
+
+// temporalNames are the kinds in the words of DMN.
+var temporalNames = map[kindOfType]string{dateKind: "date", dayDurationKind: "days and time duration",
+	monthDurationKind: "years and months duration", timeKind: "time", dateTimeKind: "date and time", offsetTimeKind: "time with an offset",
+	offsetDateTimeKind: "date and time with an offset"}
+
+// withOffset are the kinds with an offset of those without.
+var withOffset = map[kindOfType]kindOfType{timeKind: offsetTimeKind, dateTimeKind: offsetDateTimeKind}
+
+// isTemporal tells whether values are dates or durations.
+func (t *valueType) isTemporal() bool { return temporalNames[t.kind] != "" }
+
+// hasTemporal tells whether values of a type are dates or durations, or have such in them.
+func (t *valueType) hasTemporal() bool {
+	if t.kind == listKind || t.kind == contextKind {
+		return t.some((*valueType).isTemporal)
+	}
+	return t.isTemporal()
+}
+
+// isNothing tells whether there is no value of a type that another one could be told from.
+func (t *valueType) isNothing() bool {
+	return t.kind == nullKind || t.kind == refusedKind || t.kind == anyKind && t.unasked
+}
+
+// mixed are the first parts of two types by which their values must not meet, for one is a date or a duration and the other of
+// another kind; nil where they may.
+func mixed(a, b *valueType) (one, other *valueType) {
+	switch {
+	case a == b || a.isNothing() || b.isNothing() || a.told || b.told:
+		return nil, nil
+	case a.kind == listKind && b.kind == listKind:
+		return mixed(a.element, b.element)
+	case a.kind == contextKind && b.kind == contextKind:
+		return mixedContexts(a, b)
+	case withOffset[a.kind] == b.kind && b.isTemporal():
+		a.sort.want()
+		return a, b
+	case withOffset[b.kind] == a.kind && a.isTemporal():
+		b.sort.want()
+		return b, a
+	case a.kind != b.kind && (a.hasTemporal() || b.hasTemporal()):
+		return a, b
+	}
+	return nil, nil
+}
+
+// mixedContexts are those of two contexts. Nothing is known of the entries of what may be either of two with other names.
+func mixedContexts(a, b *valueType) (one, other *valueType) {
+	isOther := len(a.order) != len(b.order) || len(a.order) > mostJoined || len(a.more)+len(b.more) > 0
+	for _, name := range a.order {
+		part := b.fields[name]
+		if part == nil {
+			isOther = true
+			continue
+		}
+		if one, other = mixed(a.fields[name], part); one != nil {
+			return one, other
+		}
+	}
+	if isOther && (a.hasTemporal() || b.hasTemporal()) {
+		return a, b
+	}
+	return nil, nil
+}
+
+// whyMixed tells why values of two types must not meet, and what to write; empty where they may.
+func whyMixed(a, b *valueType) (why, instead string) {
+	one, other := mixed(a, b)
+	if one == nil {
+		return "", ""
+	}
+	if !one.isTemporal() {
+		one, other = other, one
+	}
+	return fmt.Sprintf("a value of the type %s meets one of the type %s", one, other), insteadOfMixed(one, other)
+}
+
+// insteadOfMixed tells what to write where a date or a duration meets another kind.
+func insteadOfMixed(one, other *valueType) string {
+	switch {
+	case withOffset[one.kind] == other.kind && other.isTemporal():
+		return "both with an offset, an input by --offset NAME, or both without one"
+	case other.kind == anyKind:
+		return fmt.Sprintf("the type %s for the other one, declared", one)
+	case !one.isTemporal():
+		return "contexts with the same entries"
+	case other.kind == textKind:
+		return literalOf[one.kind]
+	case one.kind == dateKind && other.kind == numberKind:
+		return literalOf[one.kind] + "; of a date its parts: d.year, d.month, d.day"
+	case other.kind == numberKind:
+		return literalOf[one.kind] + "; of it its parts: " + partsOf[one.kind]
+	case one.kind == dateKind && other.kind == dateTimeKind || one.kind == dateTimeKind && other.kind == dateKind:
+		return "date(x) of the date and time, date and time(d, time(\"00:00:00\")) of the date, or one type for both"
+	}
+	return fmt.Sprintf("a value of the type %s", one)
+}
+
+// literalOf has a literal of each kind.
+var literalOf = map[kindOfType]string{dateKind: `date("2026-01-31") for a date`, dayDurationKind: `duration("P30D") for a duration`,
+	monthDurationKind: `duration("P1Y6M") for a duration`, timeKind: `time("12:30:00") for a time`,
+	dateTimeKind: `date and time("2026-01-31T12:30:00")`, offsetTimeKind: `time("12:30:00+02:00")`,
+	offsetDateTimeKind: `date and time("2026-01-31T12:30:00+02:00")`}
+
+// refuseMixed refuses where two values must not meet, and tells whether they do.
+func refuseMixed(a, b *valueType, refuse func(why, instead string)) bool {
+	why, instead := whyMixed(a, b)
+	if why == "" {
+		return false
+	}
+	refuse(why, instead)
+	return true
+}
+
+// withoutTemporals tells why a function can't have its arguments, since one is a date or a duration; empty where it may.
+func withoutTemporals(name string, arguments []phrase) (why, instead string) {
+	switch name {
+	case "min", "max", "count":
+		return "", ""
+	}
+	for _, a := range arguments {
+		if a.of.hasTemporal() {
+			return fmt.Sprintf("%s of a value of the type %s", name, a.of), "a number: of a date its parts, as d.year; of a duration its parts, as d.days"
+		}
+	}
+	return "", ""
+}
+
+// describeTemporal says in a schema how a date or a duration is written, and what it is counted in.
+func (t *valueType) describeTemporal(made map[string]interface{}, tick calendar.Tick) {
+	if t.isTimed() && tick.Decimals > 0 {
+		made["decimals"] = tick.Decimals
+	}
+	switch t.kind {
+	case dateKind:
+		made["format"] = "date"
+		if t.clock != "" {
+			made["clock"] = t.clock
+		}
+	case dayDurationKind:
+		made["format"], made["unit"] = "duration", "second"
+	case timeKind, offsetTimeKind:
+		made["format"], made["offset"] = "time", t.kind == offsetTimeKind
+	case dateTimeKind, offsetDateTimeKind:
+		made["format"], made["offset"] = "date-time", t.kind == offsetDateTimeKind
+		if t.clock != "" {
+			made["clock"] = t.clock
+		}
+	case monthDurationKind:
+		made["format"], made["unit"] = "duration", "month"
+	}
+}
+
+// instanceOfTemporal translates "x instance of date" and its kin, of what is a date or a duration by its type.
+func (t *translator) instanceOfTemporal(n *feel.InstanceOf, s *scope) (phrase, bool) {
+	due := builtinTypes[strings.ToLower(feel.Canonical(n.Type))]
+	if due == nil || !due.isTemporal() || t.types.items[feel.Canonical(n.Type)] != nil {
+		return phrase{}, false
+	}
+	x := t.operand(n.Operand, s)
+	switch {
+	case x.of.kind == refusedKind:
+		return refused, true
+	case !x.of.isTemporal():
+		return phrase{}, false
+	case x.of.kind != due.kind:
+		return constant("false", booleanType), true
+	}
+	return infix(x, "!=", constant("null", nullType), rankComparison, booleanType), true
+}

@@ -1,0 +1,244 @@
+package broker
+
+import (
+	"context"
+	"errors"
+	"fmt"
+	"math/rand"
+	"strconv"
+	"time"
+
+	amqp "github.com/rabbitmq/amqp091-go"
+)
+
+// The lease of a partition is a message in a quorum queue with a single active consumer: who is handed it owns the partition,
+// until the connection ends.
+
+// renewal is how often the message is replaced by a new one: the broker ends a delivery that nobody acknowledges, by
+// its setting consumer_timeout, of half an hour where it isn't set, and of a minute at least.
+const renewal = 15 * time.Second
+
+// A Held is the lease of one partition, once it is this process's.
+type Held struct {
+	Partition  int
+	route      Route
+	link       *Link
+	channel    *amqp.Channel
+	deliveries <-chan amqp.Delivery
+	held       amqp.Delivery
+}
+
+// WaitForLease waits until one of these partitions is free, and takes its lease. It is kept until the link fails, or the link fails
+// since it can't be kept. Missing is told, again and again, which of the partitions have no queues.
+func WaitForLease(ctx context.Context, link *Link, settings Settings, partitions []int, missing func([]int)) (*Held, error) {
+	publisher, err := link.Publisher()
+	if err != nil {
+		return nil, err
+	}
+	w := &waiting{link: link, publisher: publisher, settings: settings, missing: missing, partitions: partitions,
+		won: make(chan *Held, len(partitions)), enough: make(chan struct{}), asked: make(chan struct{}), faults: make(chan error, 1)}
+	go w.ask()
+	return w.wait(ctx)
+}
+
+// A waiting waits for the lease of any partition, of each on a channel of its own. It takes the first at once: a queue that does
+// not confirm, as one without a leader, does not hold up the lease of another, and nor does one that isn't there.
+type waiting struct {
+	link       *Link
+	publisher  *Publisher
+	settings   Settings
+	missing    func([]int) // is told which partitions have no queues
+	partitions []int
+	leases     []*Held // that were asked for; to be read once asked is closed
+	won        chan *Held
+	enough     chan struct{} // is closed once a lease is won
+	asked      chan struct{} // is closed once no more are asked for
+	faults     chan error    // has a value where asking has failed
+}
+
+func (w *waiting) wait(ctx context.Context) (*Held, error) {
+	select {
+	case lease := <-w.won:
+		close(w.enough)
+		go w.giveUp(lease)
+		go lease.keep()
+		return lease, nil
+	case err := <-w.faults:
+		return nil, err
+	case <-w.link.Done():
+		return nil, w.link.Err()
+	case <-ctx.Done():
+		return nil, ctx.Err()
+	}
+}
+
+// missingPause is how long a lease whose queue isn't there is left alone.
+const missingPause = 10 * time.Second
+
+// ask asks for the leases, until one is won: again and again for those whose queues aren't there. It waits for the confirms of
+// the others.
+func (w *waiting) ask() {
+	defer close(w.asked)
+	missing, err := w.askAll(w.partitions)
+	if err == nil && !w.isEnough() {
+		err = w.publisher.Settle()
+	}
+	for err == nil && !w.isEnough() {
+		if w.missing(missing); len(missing) == 0 || !w.pause() {
+			break
+		}
+		if missing, err = w.askAll(missing); err == nil {
+			err = w.publisher.Settle()
+		}
+	}
+	if err != nil {
+		w.faults <- err
+	}
+}
+
+// pause waits for a while, and says whether no lease was won meanwhile.
+func (w *waiting) pause() bool {
+	while := time.NewTimer(missingPause)
+	defer while.Stop()
+	select {
+	case <-while.C:
+		return true
+	case <-w.enough:
+	case <-w.link.Done():
+	}
+	return false
+}
+
+// askAll asks for the leases of these partitions, and gives those whose queues aren't there.
+func (w *waiting) askAll(partitions []int) (missing []int, err error) {
+	for _, at := range rand.Perm(len(partitions)) {
+		if w.isEnough() {
+			return nil, nil
+		}
+		route := w.settings.Route(AnswersExchange, TopicLease, partitions[at])
+		lease := &Held{Partition: partitions[at], route: route, link: w.link}
+		err := w.askFor(lease)
+		if IsMissing(err) {
+			missing = append(missing, lease.Partition)
+			continue
+		}
+		if err != nil {
+			return nil, fmt.Errorf("the lease of partition %d: %w", lease.Partition, err)
+		}
+		w.leases = append(w.leases, lease)
+	}
+	return missing, nil
+}
+
+// askFor asks for a lease; it is handed over through won once it is this process's.
+func (w *waiting) askFor(l *Held) error {
+	channel, err := w.link.Loose()
+	if err != nil {
+		return err
+	}
+	if err := channel.Qos(1, 0, false); err != nil {
+		return w.link.Because(err)
+	}
+	queue := w.settings.Queue(Lease, l.Partition)
+	if l.deliveries, err = channel.Consume(queue, strconv.Itoa(l.Partition), false, false, false, false, nil); err != nil {
+		if IsMissing(err) {
+			return err
+		}
+		return w.link.Because(err)
+	}
+	l.channel = channel
+	if err := w.publisher.Publish(l.route, nil, nil); err != nil { // a second message is dropped
+		return err
+	}
+	go w.watch(l)
+	return nil
+}
+
+// watch waits until the lease is this process's. Where the broker ends the waiting, as for a queue that is deleted, all
+// is begun anew: otherwise the partition would be left to the others.
+func (w *waiting) watch(l *Held) {
+	delivery, open := <-l.deliveries
+	if open {
+		l.held = delivery
+		w.won <- l
+		return
+	}
+	err := w.link.Because(fmt.Errorf("the lease of partition %d: the broker ended the waiting for it", l.Partition))
+	if !w.isEnough() {
+		w.link.Fail(err)
+	}
+}
+
+func (w *waiting) isEnough() bool {
+	select {
+	case <-w.enough:
+		return true
+	default:
+		return false
+	}
+}
+
+// giveUp gives up the other partitions, once no more are asked for. What was won of them goes back with its channel.
+func (w *waiting) giveUp(held *Held) {
+	select {
+	case <-w.asked:
+	case <-w.link.Done():
+		return
+	}
+	for _, other := range w.leases {
+		if other == held {
+			continue
+		}
+		err := other.channel.Cancel(strconv.Itoa(other.Partition), false)
+		if err == nil {
+			err = other.channel.Close()
+		}
+		if err != nil {
+			w.link.Fail(fmt.Errorf("giving up the lease of partition %d: %w", other.Partition, err))
+			return
+		}
+	}
+}
+
+// keep renews the lease until the link fails, or fails the link.
+func (l *Held) keep() {
+	publisher, err := l.link.Publisher()
+	for err == nil {
+		err = l.renew(publisher)
+	}
+	l.link.Fail(fmt.Errorf("the lease of partition %d: %w", l.Partition, err))
+}
+
+// renew replaces the message by a new one, after a while.
+func (l *Held) renew(publisher *Publisher) error {
+	while := time.NewTimer(renewal)
+	defer while.Stop()
+	select {
+	case <-while.C:
+	case <-l.link.Done():
+		return l.link.Err()
+	}
+	if err := publisher.Publish(l.route, nil, nil); err != nil {
+		return err
+	}
+	if err := publisher.Settle(); err != nil {
+		return err
+	}
+	if err := l.held.Ack(false); err != nil {
+		return err
+	}
+	late := time.NewTimer(Patience)
+	defer late.Stop()
+	select {
+	case delivery, open := <-l.deliveries:
+		if !open {
+			return errors.New("it was taken away")
+		}
+		l.held = delivery
+		return nil
+	case <-l.link.Done():
+		return l.link.Err()
+	case <-late.C:
+		return errors.New("it was not handed back")
+	}
+}

@@ -1,0 +1,64 @@
+package partition
+
+import (
+	"fmt"
+	"strings"
+	"testing"
+
+	"gateway/rabbit/broker"
+	"gateway/rabbit/ledger"
+	"gateway/rabbit/process"
+)
+
+// publishedAs says under which exchange and topic the last message was published.
+func (l *log) publishedAs(exchange string, topic broker.Topic) {
+	l.lines[len(l.lines)-1].At = settings.Route(exchange, topic, 0)
+}
+
+// A model under the topic of requests is dropped, and so is a message that came past the exchange of requests. The requests
+// around them are answered by the model that was sent with the right to.
+func TestModelsNeedTheirTopic(t *testing.T) {
+	options := process.Options{Path: enginePath(t), Workers: 1, Longest: 1 << 20}
+	l := newBatchLog()
+	l.send("right", 1000, 2)
+	l.send("wrong", 2000, 2)
+	l.publishedAs(broker.RequestsExchange, broker.TopicLines)
+	for place := range l.due {
+		if place.Offset == 1 { // they are answered by the model in force at the batch's first line
+			l.due[place] = fmt.Sprintf(`"result":%d,`, (100+place.Index)*3+1000)
+		}
+	}
+	l.put(ledger.Origin{Kind: ledger.Lines, Sender: "test", Batch: "past"}, fmt.Sprintf(model, 3000), request(1))
+	l.publishedAs("", broker.TopicModels)
+	l.send("right", 0, 2)
+	h := take(t, &l.log, 0, options, 1000)
+	h.read(t, 100)
+	h.work.end()
+	if got := l.answered(t); got != len(l.due) {
+		t.Errorf("%d of %d lines are answered", got, len(l.due))
+	}
+	var all strings.Builder
+	for _, message := range l.answers {
+		all.Write(message.Body)
+	}
+	if got := strings.Count(all.String(), `"model":true`); got != 1 {
+		t.Errorf("%d models are in force", got)
+	}
+	if got := strings.Count(all.String(), `"key":`); got != 6 {
+		t.Errorf("%d requests are answered", got)
+	}
+}
+
+// A mark under the topic of requests is none: a sender can publish it.
+func TestMarksNeedTheirTopic(t *testing.T) {
+	l := newBatchLog()
+	in := take(t, &l.log, 0, process.Options{}, 1000).intake
+	in.mark, in.upto.Offset = "mine", 5
+	for _, topic := range []broker.Topic{broker.TopicLines, broker.TopicMarks} {
+		route := settings.Route(broker.RequestsExchange, topic, 0)
+		in.take(broker.Message{Offset: 3, At: route, Headers: broker.Headers{broker.MarkHeader: "mine"}})
+		if got := in.fault != nil; got != (topic == broker.TopicMarks) {
+			t.Errorf("%s: %v", topic, in.fault)
+		}
+	}
+}

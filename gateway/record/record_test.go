@@ -1,0 +1,222 @@
+package record
+
+import (
+	"context"
+	"fmt"
+	"os"
+	"path/filepath"
+	"strings"
+	"testing"
+
+	"gateway/engine"
+	"gateway/engine/enginetest"
+	"gateway/journal"
+	"gateway/service"
+)
+
+func TestMain(m *testing.M) { enginetest.Main(m) }
+
+// modelOf is what desk import writes of a table: from 5 on the price is its second argument.
+func modelOf(price int) string {
+	return fmt.Sprintf(`{"inputs":["a_b"],"decisions":[{"name":"d_e","needs":["a_b"],"expr":{"table":{"hit":"U","inputs":["a_b"],`+
+		`"outputs":[{"name":"p"}],"rules":[{"when":["< 500"],"then":["1"]},{"when":[">= 500"],"then":["%d"]}]}}}],`+
+		`"services":[{"name":"s_t","outputs":["d_e"],"encapsulated":[],"inputDecisions":[],"inputData":["a_b"]}]}`, price)
+}
+
+const names = `"names":{"a_b":"a b","d_e":"d e","s_t":"s t"},"types":{"a_b":{"type":["number","null"],"multipleOf":0.01}},` +
+	`"places":{"/decisions/0/expr/table/rules/1":{"id":"_two","name":"","annotations":["from five on"]}}`
+
+// A written is a model as the journal writes it.
+type written struct{ text, about string }
+
+func (w *written) AppendLine(to []byte) []byte {
+	return append(append(append(to, `{"model":`...), w.text...), "}\n"...)
+}
+func (w *written) AppendAbout(to []byte) []byte { return append(to, w.about...) }
+
+// recorded is a journal with entries as desk http writes them, after a file of an earlier version.
+func recorded(t *testing.T) string {
+	t.Helper()
+	folder := t.TempDir()
+	old := "{\"model\":" + modelOf(2) + "}\n{\"client\":\"2025-01-01T10:00:00Z\",\"close\":true}\n" +
+		"{\"client\":\"old#0\",\"inputs\":{\"a_b\":600},\"service\":\"s_t\"}\n"
+	if err := os.WriteFile(filepath.Join(folder, "2025-01-01T100000.000000Z.jsonl"), []byte(old), 0o640); err != nil {
+		t.Fatal(err)
+	}
+	j, _, err := journal.Open(folder, journal.Options{Size: 1 << 20})
+	if err != nil {
+		t.Fatal(err)
+	}
+	of := &written{modelOf(2), `"release":{"sha256":"abc","name":"price","version":"2","who":"deploy"},` + names}
+	for _, it := range []journal.Entry{
+		{Asked: []byte(`{"client":"x1","inputs":{"a_b":712},"service":"s_t"}` + "\n"), About: []byte(`"id":"o1","request":"x1","time":"2026-11-29T07:00:00.001Z",` +
+			`"token":"shop","client":"ann","release":"abc","result":2,"rules":[{"decision":"d e","rule":2,"id":"_two"}]`)},
+		{Asked: []byte(`{"client":"x1","inputs":{"a_b":3},"service":"s_t"}` + "\n"), About: []byte(`"id":"o2","request":"x1","time":"2026-11-29T08:00:00.001Z",` +
+			`"release":"abc","result":7,"rules":[{"decision":"d e","rule":1}]`)},
+		{About: []byte(`"id":"o3#1","time":"2026-11-29T09:00:00.001Z","release":"abc","service":"s_t","inputs":{"a b":"hmac-sha256:00"},"redacted":["a b"],"result":1`)},
+		{About: []byte(`"id":"o4","time":"2026-11-29T09:00:01.001Z","release":"abc","service":"s_t","inputs":{"a b":"x"},"problem":{"type":"value","status":422,"pointer":"/a b"}`)},
+	} {
+		if err := j.Record(of, []journal.Entry{it}); err != nil {
+			t.Fatal(err)
+		}
+	}
+	if err := j.Close(); err != nil {
+		t.Fatal(err)
+	}
+	return folder
+}
+
+func TestFind(t *testing.T) {
+	folder := recorded(t)
+	for _, it := range []struct {
+		filter Filter
+		due    string
+	}{
+		{Filter{}, "old#0 o1 o2 o3#1 o4"},
+		{Filter{ID: "x1"}, "o1 o2"},
+		{Filter{ID: "o2"}, "o2"},
+		{Filter{ID: "o"}, ""},
+		{Filter{ID: "old"}, "old#0"},
+		{Filter{ID: "o3"}, "o3#1"},
+		{Filter{ID: "#3"}, "o2"},
+		{Filter{Client: "ann"}, "o1"},
+		{Filter{Client: "shop"}, "o1"},
+		{Filter{From: "2026-11-29T08", To: "2026-11-29T09:00:01"}, "o2 o3#1"},
+		{Filter{To: "2026"}, "old#0"},
+		{Filter{Rule: "d e"}, "o1 o2"},
+		{Filter{Rule: "d e:1"}, "o2"},
+		{Filter{Rule: "_two"}, "o1"},
+		{Filter{Rule: "d e:_two"}, "o1"},
+		{Filter{Service: "s t", Release: "price 2"}, "o1 o2 o3#1 o4"},
+		{Filter{Service: "s"}, ""},
+		{Filter{Release: "ab"}, "o1 o2 o3#1 o4"},
+	} {
+		var found []string
+		err := Each(folder, it.filter, func(c *Case) error {
+			found = append(found, c.ID)
+			return nil
+		})
+		if got := strings.Join(found, " "); err != nil || got != it.due {
+			t.Errorf("%+v finds %q (%v), and %q is due", it.filter, got, err, it.due)
+		}
+	}
+	if got, err := InputNames(folder, "s t"); err != nil || strings.Join(got, " ") != "a_b a b" && strings.Join(got, " ") != "a b" {
+		t.Errorf("the inputs are %q (%v)", got, err)
+	}
+}
+
+// Cases are decided again under the model of then and under another, with the names and decimals of the file.
+func TestDecide(t *testing.T) {
+	folder := recorded(t)
+	path, err := engine.Path()
+	if err != nil {
+		t.Fatal(err)
+	}
+	asker := &Asker{Path: path}
+	other, err := service.ReadSource([]byte(`{"model":` + modelOf(3) + `,` + names + `}`))
+	if err != nil {
+		t.Fatal(err)
+	}
+	due := map[string]struct {
+		inputs     string
+		then       string
+		same, also bool
+	}{
+		"old#0": {`{"a_b":600}`, "2", true, true},
+		"o1":    {`{"a b":7.12}`, "2", true, false},
+		"o2":    {`{"a b":0.03}`, "1", false, false},
+	}
+	err = Each(folder, Filter{}, func(c *Case) error {
+		it, is := due[c.ID]
+		if c.CanDecide() != is {
+			t.Errorf("%s: that it can be decided is %v", c.ID, c.CanDecide())
+		}
+		if !is {
+			return nil
+		}
+		inputs, err := asker.Inputs(context.Background(), c)
+		if err != nil || string(inputs) != it.inputs {
+			t.Errorf("%s: the inputs are %s (%v)", c.ID, inputs, err)
+		}
+		then, err := asker.Decide(context.Background(), c, c.Head.Source)
+		if err != nil || then.String() != it.then || then.Same(c) != it.same {
+			t.Errorf("%s: %v (%v)", c.ID, then, err)
+		}
+		if c.ID == "old#0" {
+			return nil
+		}
+		now, err := asker.Decide(context.Background(), c, other)
+		if err != nil || now.Same(c) != it.also {
+			t.Errorf("%s: now %v (%v)", c.ID, now, err)
+		}
+		if c.ID == "o1" && string(now.Rules) != `[{"decision":"d e","rule":2,"id":"_two","annotations":["from five on"]}]` {
+			t.Errorf("the rules are %s", now.Rules)
+		}
+		return nil
+	})
+	if err != nil {
+		t.Fatal(err)
+	}
+}
+
+// A trial asks both models for each case that can be, and says by which rules they differ.
+func TestTrial(t *testing.T) {
+	path, err := engine.Path()
+	if err != nil {
+		t.Fatal(err)
+	}
+	folder := recorded(t)
+	source := func(price int) *service.Source {
+		it, err := service.ReadSource([]byte(`{"model":` + modelOf(price) + `,` + names + `}`))
+		if err != nil {
+			t.Fatal(err)
+		}
+		return it
+	}
+	lower, err := service.ReadSource([]byte(`{"model":` + strings.ReplaceAll(modelOf(2), "500", "800") + `,` + names + `}`))
+	if err != nil {
+		t.Fatal(err)
+	}
+	for _, it := range []struct {
+		new   *service.Source
+		due   string
+		where string
+	}{
+		{source(2), "", ""},
+		{source(3), "old#0 2 3 o1 2 3", "d e: rule 2, as before"},
+		{lower, "old#0 2 1 o1 2 1", "d e: rule 2 -> rule 1"},
+	} {
+		var found []string
+		counted := 0
+		trial := &Trial{Asker: &Asker{Path: path}, Old: source(2), New: it.new, Asked: func(count int) { counted = count }}
+		tried, err := trial.Run(context.Background(), folder, Filter{}, func(d *Difference) error {
+			found = append(found, d.Case.ID, d.Old.String(), d.New.String())
+			return nil
+		})
+		if err != nil {
+			t.Fatal(err)
+		}
+		if got := strings.Join(found, " "); got != it.due || tried.Asked != 3 || tried.Left != 2 || counted != 3 || tried.Differing*3 != len(found) {
+			t.Errorf("%s and %+v, and %s is due", got, tried, it.due)
+		}
+		if it.where != "" && (len(tried.By) != 1 || tried.By[it.where] != 2) {
+			t.Errorf("by %v, and %s is due", tried.By, it.where)
+		}
+	}
+}
+
+// Whoever takes no more ends a trial.
+func TestTrialEnds(t *testing.T) {
+	path, err := engine.Path()
+	if err != nil {
+		t.Fatal(err)
+	}
+	folder := recorded(t)
+	source, _ := service.ReadSource([]byte(`{"model":` + modelOf(2) + `,` + names + `}`))
+	other, _ := service.ReadSource([]byte(`{"model":` + modelOf(3) + `,` + names + `}`))
+	full := fmt.Errorf("the disk is full")
+	trial := &Trial{Asker: &Asker{Path: path}, Old: source, New: other}
+	if _, err := trial.Run(context.Background(), folder, Filter{}, func(*Difference) error { return full }); err != full {
+		t.Errorf("it ends with %v", err)
+	}
+}

@@ -1,0 +1,229 @@
+package service
+
+import (
+	"bytes"
+	"context"
+	"errors"
+	"fmt"
+	"os"
+	"path/filepath"
+	"time"
+
+	"gateway/lines"
+	"gateway/release"
+)
+
+const (
+	// followPause is how often the folder of releases is looked at.
+	followPause = 500 * time.Millisecond
+	// againPause is how long a release that could not be put in force is not tried again.
+	againPause = 5 * time.Second
+	// originRelease is the origin of a model from the folder of releases.
+	originRelease = "release"
+)
+
+// A following is what was last seen of the folder of releases.
+type following struct {
+	// seen is the text that names the release in force, failed when it could not be put in force, and said what was logged then.
+	seen   []byte
+	failed time.Time
+	said   string
+}
+
+// follow puts the release in force that the folder names, whenever it names another, until the context ends.
+func (s *Service) follow(ctx context.Context) {
+	ticker := time.NewTicker(followPause)
+	defer ticker.Stop()
+	for {
+		select {
+		case <-ctx.Done():
+			return
+		case <-ticker.C:
+			s.followOnce(ctx, false)
+		}
+	}
+}
+
+// followOnce looks at the folder once. With anew the release is read again though the folder names no other.
+func (s *Service) followOnce(ctx context.Context, anew bool) {
+	s.putting.Lock()
+	defer s.putting.Unlock()
+	active, text, err := release.ReadActive(s.options.Releases)
+	it := &s.following
+	if err == nil && bytes.Equal(text, it.seen) && !anew && (it.failed.IsZero() || time.Since(it.failed) < againPause) {
+		return
+	}
+	if err == nil {
+		it.seen = text
+		err = s.switchTo(ctx, active)
+	}
+	if err == nil {
+		it.failed, it.said = time.Time{}, ""
+		return
+	}
+	if ctx.Err() != nil {
+		return
+	}
+	it.failed = time.Now()
+	s.metrics.releaseFaults.Inc()
+	if said := err.Error(); said != it.said {
+		it.said = said
+		s.options.Log("the release in force stays as it is: %v", err)
+	}
+}
+
+// switchTo puts a release in force, unless it is.
+func (s *Service) switchTo(ctx context.Context, active *release.Active) error {
+	source, err := s.readRelease(active)
+	if err != nil {
+		return err
+	}
+	before := s.model.Load()
+	if before.wholeSum == source.Sum() && before.origin == originRelease && *before.release().namedBy() == *source.namedBy() {
+		return nil
+	}
+	ctx, stop := context.WithTimeout(ctx, putPatience)
+	defer stop()
+	model, err := s.read(ctx, source, originRelease)
+	if err != nil {
+		return fmt.Errorf("%s: %w", active.File, err)
+	}
+	s.inForce(ctx, model, func() {
+		s.logModel(fmt.Sprintf("the release %s is in force, put there by %s", model.called(), orNobody(active.Who)), before, model)
+		s.toldRelease(active.Who, before, model)
+	})
+	return nil
+}
+
+func orNobody(who string) string {
+	if who == "" {
+		return "nobody who said a name"
+	}
+	return who
+}
+
+// namedBy is what a release is called; never nil.
+func (s *Source) namedBy() *Release {
+	if s.Release == nil {
+		return &Release{}
+	}
+	return s.Release
+}
+
+func (r releasePage) namedBy() *Release { return &r.Release }
+
+// called is a model's release by name and version, or by its file.
+func (m *served) called() string {
+	it := m.source.namedBy()
+	switch {
+	case it.Name != "" && it.Version != "":
+		return it.Name + " " + it.Version
+	case it.Name != "":
+		return it.Name
+	}
+	return m.wholeSum
+}
+
+// readRelease reads the file of a release.
+func (s *Service) readRelease(active *release.Active) (*Source, error) {
+	path := filepath.Join(s.options.Releases, active.File)
+	text, err := os.ReadFile(path)
+	if err != nil {
+		return nil, fmt.Errorf("reading a release: %w", err)
+	}
+	source, err := ReadSource(text)
+	if err != nil {
+		return nil, fmt.Errorf("reading a release: %s: %w", path, err)
+	}
+	if sum := source.Sum(); active.Sum != "" && active.Sum != sum {
+		return nil, fmt.Errorf("reading a release: %s has the SHA-256 %s, and %s was put in force", path, sum, active.Sum)
+	}
+	return source, nil
+}
+
+// firstRelease is the release in force at the start, or the model of the command line where the folder names none.
+func (s *Service) firstRelease(ctx context.Context) (*served, error) {
+	active, text, err := release.ReadActive(s.options.Releases)
+	if errors.Is(err, release.ErrNone) && s.options.Model != nil {
+		s.options.Log("no release is in force in %s, so %s is served", s.options.Releases, s.options.Named)
+		return s.read(ctx, s.options.Model, originFiles)
+	}
+	if err != nil {
+		return nil, err
+	}
+	source, err := s.readRelease(active)
+	if err != nil {
+		return nil, err
+	}
+	s.following.seen = text
+	model, err := s.read(ctx, source, originRelease)
+	if err != nil {
+		return nil, fmt.Errorf("%s: %w", filepath.Join(s.options.Releases, active.File), err)
+	}
+	return model, nil
+}
+
+// keepRelease writes a model that was put as a release, and names it as the one in force.
+func (s *Service) keepRelease(model *served) error {
+	text, err := model.source.text()
+	if err != nil {
+		return err
+	}
+	it := model.source.Release
+	file := release.FileName(it.Name, it.Version)
+	if err := release.Put(s.options.Releases, file, text); err != nil {
+		return err
+	}
+	next := release.Active{File: file, Sum: model.wholeSum, Who: it.Who, When: it.When, Why: it.Why}
+	if err := release.Activate(s.options.Releases, next); err != nil {
+		return err
+	}
+	_, s.following.seen, err = release.ReadActive(s.options.Releases)
+	return err
+}
+
+// versionForm is the form of a version that is made of a time.
+const versionForm = "20060102T150405.000Z"
+
+// released says which release a model is that is put now: what the query or the body says, and else the name of the one
+// before with the time as version.
+func (s *Service) released(source *Source, before *served, who caller, query func(string) string) *Release {
+	now := time.Now().UTC()
+	it := *source.namedBy()
+	it.Who, it.When = who.token, now.Format(time.RFC3339)
+	if it.Who == "" {
+		it.Who = "this machine, without a token"
+	}
+	for _, part := range []struct {
+		word string
+		to   *string
+	}{{"name", &it.Name}, {"version", &it.Version}, {"why", &it.Why}} {
+		if said := query(part.word); said != "" {
+			*part.to = said
+		}
+	}
+	if it.Name == "" {
+		if it.Name = before.source.namedBy().Name; it.Name == "" {
+			it.Name = "model"
+		}
+	}
+	if it.Version == "" || source.Release == nil && query("version") == "" {
+		it.Version = now.Format(versionForm)
+	}
+	return &it
+}
+
+// maxCalled is how many bytes a name or a version has at most, maxWhy how many the reason has.
+const (
+	maxCalled = 100
+	maxWhy    = 1000
+)
+
+// problem says what is wrong with what a release is called.
+func (r *Release) problem() *problem {
+	if !lines.IsText(r.Name, maxCalled) || !lines.IsText(r.Version, maxCalled) || r.Why != "" && !lines.IsText(r.Why, maxWhy) {
+		return problemHeader.with(fmt.Sprintf("a release's name and version are texts of 1 to %d bytes in UTF-8, and why is one of %d at most",
+			maxCalled, maxWhy))
+	}
+	return nil
+}

@@ -1,0 +1,193 @@
+package service
+
+import (
+	"encoding/json"
+	"fmt"
+	"os"
+	"path/filepath"
+	"strings"
+	"testing"
+	"time"
+
+	"gateway/release"
+)
+
+// putRelease keeps a model as a release in a folder.
+func putRelease(t *testing.T, folder, name, version, model string) string {
+	t.Helper()
+	source, err := ReadSource([]byte(model))
+	if err != nil {
+		t.Fatal(err)
+	}
+	source.Release = &Release{Name: name, Version: version, Who: "ann", When: "2026-11-29T07:00:00Z", Why: "a new price"}
+	text, err := source.text()
+	if err != nil {
+		t.Fatal(err)
+	}
+	file := release.FileName(name, version)
+	if err := release.Put(folder, file, text); err != nil {
+		t.Fatal(err)
+	}
+	return file
+}
+
+func activate(t *testing.T, folder, file string) {
+	t.Helper()
+	if err := release.Activate(folder, release.Active{File: file, Who: "ann"}); err != nil {
+		t.Fatal(err)
+	}
+}
+
+// waitFor asks until the answer is the one that is due.
+func (r *running) waitFor(t *testing.T, due string) time.Duration {
+	t.Helper()
+	begin := time.Now()
+	for {
+		_, text, _ := send(t, "POST", r.url+"/v1/services/s", `{"a":1}`)
+		if text == due {
+			return time.Since(begin)
+		}
+		if time.Since(begin) > time.Minute {
+			t.Fatalf("it is %s, and %s is due: %q", text, due, r.said())
+		}
+		time.Sleep(10 * time.Millisecond)
+	}
+}
+
+func (r *running) said() string {
+	r.mu.Lock()
+	defer r.mu.Unlock()
+	return strings.Join(r.log, "\n")
+}
+
+// A release is put in force by a rename, and everything that tells the model in force tells it.
+func TestFollowsReleases(t *testing.T) {
+	folder := t.TempDir()
+	one, two := putRelease(t, folder, "adding", "1", adding(1)), putRelease(t, folder, "adding", "2", adding(2))
+	activate(t, folder, one)
+	r := serve(t, adding(100), Options{Releases: folder})
+	r.waitFor(t, `{"result":2}`)
+	activate(t, folder, two)
+	r.waitFor(t, `{"result":3}`)
+	source, _ := ReadSource([]byte(adding(2)))
+	_, text, header := send(t, "GET", r.url+"/v1/model", "")
+	var page struct {
+		SHA256, Origin string
+		Release        Release
+	}
+	if err := json.Unmarshal([]byte(text), &page); err != nil || page.SHA256 != source.Sum() || page.Origin != "release" ||
+		page.Release.Version != "2" || page.Release.Who != "ann" || page.Release.Why != "a new price" || header.Get("Desk-Model") != source.Sum() {
+		t.Errorf("%s", text)
+	}
+	if _, text, _ := send(t, "GET", r.url+"/readyz", ""); !strings.Contains(text, `"name":"adding","version":"2"`) || !strings.Contains(text, source.Sum()) {
+		t.Errorf("%s", text)
+	}
+	due := fmt.Sprintf(`desk_model_info{name="adding",origin="release",sha256="%s",version="2"} 1`, source.Sum())
+	if _, text, _ := send(t, "GET", r.url+"/metrics", ""); !strings.Contains(text, due) {
+		t.Errorf("%s is due", due)
+	}
+	if _, err := release.Back(folder, func(file string) (release.Active, error) { return release.Active{File: file}, nil }); err != nil {
+		t.Fatal(err)
+	}
+	r.waitFor(t, `{"result":2}`)
+	r.stop(t)
+	if said := r.said(); !strings.Contains(said, "the release adding 2 is in force, put there by ann") {
+		t.Errorf("%q", said)
+	}
+}
+
+// A release that has a fault, or is not the one that was put in force, changes nothing; the next one is taken.
+func TestFaultyReleases(t *testing.T) {
+	folder := t.TempDir()
+	activate(t, folder, putRelease(t, folder, "adding", "1", adding(1)))
+	r := serve(t, adding(100), Options{Releases: folder})
+	defer r.stop(t)
+	activate(t, folder, putRelease(t, folder, "adding", "2", strings.Replace(adding(2), "a + 2", "a +", 1)))
+	r.wait(t, "the release in force stays as it is: adding-2.json")
+	other := putRelease(t, folder, "adding", "3", adding(3))
+	if err := release.Activate(folder, release.Active{File: other, Sum: strings.Repeat("0", 64)}); err != nil {
+		t.Fatal(err)
+	}
+	r.wait(t, "was put in force")
+	r.waitFor(t, `{"result":2}`)
+	if r.metric(t, "desk_http_release_faults_total") < 2 {
+		t.Error("the faults are not counted")
+	}
+	activate(t, folder, other)
+	r.waitFor(t, `{"result":4}`)
+}
+
+func (r *running) wait(t *testing.T, due string) {
+	t.Helper()
+	for until := time.Now().Add(time.Minute); !strings.Contains(r.said(), due); time.Sleep(10 * time.Millisecond) {
+		if time.Now().After(until) {
+			t.Fatalf("%q, and %s is due", r.said(), due)
+		}
+	}
+}
+
+// PUT makes a release, which a service that is started again serves, whatever the command line says.
+func TestPutMakesARelease(t *testing.T) {
+	folder := filepath.Join(t.TempDir(), "releases")
+	if err := os.Mkdir(folder, 0o700); err != nil {
+		t.Fatal(err)
+	}
+	r := serve(t, adding(1), Options{Releases: folder})
+	status, text, _ := send(t, "PUT", r.url+"/v1/model?name=adding&version=7&why=for%20tests", adding(7))
+	if status != 200 || !strings.Contains(text, `"name":"adding","version":"7","who":"this machine, without a token"`) {
+		t.Errorf("%d %s", status, text)
+	}
+	r.waitFor(t, `{"result":8}`)
+	if status, text, _ := send(t, "PUT", r.url+"/v1/model?name=adding&version=7", adding(8)); status != 409 || !strings.Contains(text, "/problems/version") {
+		t.Errorf("%d %s", status, text)
+	}
+	if status, _, _ := send(t, "PUT", r.url+"/v1/model?name=%ff", adding(8)); status != 400 {
+		t.Errorf("%d", status)
+	}
+	if status, text, _ := send(t, "PUT", r.url+"/v1/model", adding(9)); status != 200 || !strings.Contains(text, `"name":"adding","version":"20`) {
+		t.Errorf("%d %s", status, text)
+	}
+	r.stop(t)
+	files, err := release.Files(folder)
+	if err != nil || len(files) != 2 {
+		t.Errorf("%v %v", files, err)
+	}
+	r = serve(t, adding(1), Options{Releases: folder})
+	r.waitFor(t, `{"result":10}`)
+	r.stop(t)
+}
+
+// SIGHUP reads the file of the release in force again.
+func TestReleasesAreReadAgain(t *testing.T) {
+	folder := t.TempDir()
+	file := putRelease(t, folder, "adding", "1", adding(1))
+	activate(t, folder, file)
+	turn := make(chan struct{})
+	r := serve(t, adding(100), Options{Releases: folder, Turn: turn})
+	defer r.stop(t)
+	if err := os.WriteFile(filepath.Join(folder, file), []byte(adding(5)), 0o600); err != nil {
+		t.Fatal(err)
+	}
+	r.waitFor(t, `{"result":2}`)
+	turn <- struct{}{}
+	r.waitFor(t, `{"result":6}`)
+}
+
+// What was put before is told at the start, with who put it, and by a metric.
+func TestOverriddenModels(t *testing.T) {
+	state := filepath.Join(t.TempDir(), "state.json")
+	r := serve(t, adding(1), Options{State: state})
+	send(t, "PUT", r.url+"/v1/model?why=tests", adding(5))
+	if r.metric(t, "desk_http_model_overridden") != 0 {
+		t.Error("a model that was put now is not one that was put before the start")
+	}
+	r.stop(t)
+	r = serve(t, adding(1), Options{State: state})
+	defer r.stop(t)
+	if said := r.said(); !strings.Contains(said, "serving the model last put") || !strings.Contains(said, "It was put by this machine, without a token, 20") {
+		t.Errorf("%q", said)
+	}
+	if r.metric(t, "desk_http_model_overridden") != 1 {
+		t.Error("the metric does not tell it")
+	}
+}
