@@ -60,6 +60,12 @@ func TestDecimalsMakeARoundTrip(t *testing.T) {
 		`<inputData id="o" name="my offer"><variable name="my offer" typeRef="tOffer"/></inputData>`
 	needs := `<informationRequirement><requiredInput href="#x"/></informationRequirement><informationRequirement><requiredInput href="#y"/>` +
 		`</informationRequirement><informationRequirement><requiredInput href="#o"/></informationRequirement>`
+	knowledge := `<businessKnowledgeModel id="g" name="gross of"><encapsulatedLogic><formalParameter name="n" typeRef="number"/>` +
+		`<literalExpression><text>decimal(n * 1.19, 2)</text></literalExpression></encapsulatedLogic></businessKnowledgeModel>` +
+		`<businessKnowledgeModel id="h" name="twice"><encapsulatedLogic><formalParameter name="p" typeRef="number"/><formalParameter name="n"/>` +
+		`<literalExpression><text>gross of(p) * 2 + n</text></literalExpression></encapsulatedLogic><knowledgeRequirement><requiredKnowledge href="#g"/>` +
+		`</knowledgeRequirement></businessKnowledgeModel>`
+	needs += `<knowledgeRequirement><requiredKnowledge href="#g"/></knowledgeRequirement><knowledgeRequirement><requiredKnowledge href="#h"/></knowledgeRequirement>`
 	table := func(input, output string, cells ...string) string {
 		made := `<decisionTable hitPolicy="FIRST"><input><inputExpression><text>` + input + `</text></inputExpression></input>` + output
 		for at := 0; at < len(cells); at += 2 {
@@ -88,13 +94,17 @@ func TestDecimalsMakeARoundTrip(t *testing.T) {
 		"output values":          {"", strings.ReplaceAll(table("x", `<output name="r"><outputValues><text>2.5, 0.5</text></outputValues></output>`, "1.5", "0.5", "&gt; 1", "2.5"), "FIRST", "PRIORITY"), []string{"2.5, 0.5"}},
 		"a value that is tested": {"tTen", literal("x * 0.5"), []string{"x * 0.5", "[0..10.5]"}},
 		"a table that is tested": {"tTen", table("x", `<output name="r"/>`, "&lt; 1.5", "x * 20.5", "-", "x * 0.5"), []string{"x * 0.5", "&lt; 1.5", "[0..10.5]"}},
+		"a call":                 {"number", literal("gross of(x) + gross of(a y * 0.5)"), []string{"gross of(x) + gross of(a y * 0.5)", `name="gross of"`, "decimal(n * 1.19, 2)"}},
+		"a call in a branch":     {"number", literal("if x &gt; 1.5 then gross of(a y) else 0.5"), []string{"then gross of(a y) else 0.5", `name="gross of"`}},
+		"a call of a call":       {"number", literal("twice(x, gross of(0.5))"), []string{"twice(x, gross of(0.5))", `name="twice"`, "gross of(p) * 2 + n", `name="gross of"`}},
+		"cells that call":        {"", table("x", `<output name="r"/>`, "&lt;= 2.5", "gross of(x)", "-", "0.5"), []string{"&lt;= 2.5", "gross of(x)", `name="gross of"`}},
 		"an integer divided":     {"boolean", literal("x / 3 &gt; 1"), []string{"x / 3 &gt; 1"}},
 	} {
 		of := ""
 		if row.of != "" {
 			of = ` typeRef="` + row.of + `"`
 		}
-		file := header + inputs + `<decision id="d" name="the d"><variable name="the d"` + of + `/>` + needs + row.logic + `</decision></definitions>`
+		file := header + inputs + knowledge + `<decision id="d" name="the d"><variable name="the d"` + of + `/>` + needs + row.logic + `</decision></definitions>`
 		source, err := export.Read(brought(t, "f.dmn", file))
 		if err != nil {
 			t.Fatalf("%s: %v", name, err)
@@ -112,12 +122,13 @@ func TestDecimalsMakeARoundTrip(t *testing.T) {
 	}
 }
 
-// TestWhatCantBeWrittenBackIsReported has a function of the first file, which the model has no more.
+// TestWhatCantBeWrittenBackIsReported has an invocation, whose function the model names no more.
 func TestWhatCantBeWrittenBackIsReported(t *testing.T) {
 	file := header + `<inputData id="x" name="x"><variable name="x" typeRef="number"/></inputData><businessKnowledgeModel id="b" name="gross">` +
 		`<encapsulatedLogic><formalParameter name="net" typeRef="number"/><literalExpression><text>net * 1.19</text></literalExpression></encapsulatedLogic>` +
 		`</businessKnowledgeModel><decision id="d" name="the d"><informationRequirement><requiredInput href="#x"/></informationRequirement>` +
-		`<knowledgeRequirement><requiredKnowledge href="#b"/></knowledgeRequirement><literalExpression><text>gross(x)</text></literalExpression></decision></definitions>`
+		`<knowledgeRequirement><requiredKnowledge href="#b"/></knowledgeRequirement><invocation><literalExpression><text>gross</text></literalExpression>` +
+		`<binding><parameter name="net"/><literalExpression><text>x</text></literalExpression></binding></invocation></decision></definitions>`
 	source, err := export.Read(brought(t, "f.dmn", file))
 	if err != nil {
 		t.Fatal(err)
@@ -125,7 +136,7 @@ func TestWhatCantBeWrittenBackIsReported(t *testing.T) {
 	var told bytes.Buffer
 	exported, refusals := fileOf(source, &told)
 	lines := strings.Split(strings.TrimSpace(told.String()), "\n")
-	if len(refusals) > 0 || len(lines) != 2 || !strings.Contains(lines[0], `can't be written back: exported.dmn`) || !strings.Contains(lines[0], "gross") ||
+	if len(refusals) > 0 || len(lines) != 2 || !strings.Contains(lines[0], `can't be written back: exported.dmn`) || !strings.Contains(lines[0], `"net"`) ||
 		!strings.Contains(lines[1], "whole numbers, which count units of the first file: of the d, x") || !strings.Contains(string(exported), "net_1 * 119") {
 		t.Errorf("%v %s\n%s", refusals, told.String(), exported)
 	}

@@ -29,7 +29,9 @@ import (
 type httpOptions struct {
 	service     service.Options
 	listen      string
+	admin       string
 	open        bool
+	tls         tlsFiles
 	reading     profile.Options
 	deadline    duration
 	memory      size
@@ -63,10 +65,13 @@ call.`,
 	}
 	flags := c.Flags()
 	flags.StringVar(&options.listen, "listen", "",
-		"Listen at this `ADDRESS` (default 127.0.0.1:8080, or the socket that systemd passes)")
-	flags.BoolVar(&options.open, "open", false, "Let anyone call who can reach the address, without a token")
-	flags.IntVar(&options.service.Processes, "processes", runtime.NumCPU(), "Run this `NUMBER` of engines, 1 to 64")
-	flags.Lookup("processes").DefValue = "one per processor"
+		"Listen at this `ADDRESS`, or unix:FILE (default 127.0.0.1:8080, or the socket that systemd passes)")
+	flags.StringVar(&options.admin, "admin", "", "Answer /healthz, /readyz and /metrics at this `ADDRESS` too, and /metrics there alone")
+	flags.BoolVar(&options.open, "open", false, "Let anyone call who can reach the address, by any name, without a token")
+	options.tls.add(flags)
+	flags.IntVar(&options.service.AddressLimit, "address-limit", service.MaxConnections/2, "Allow this `NUMBER` of connections from one address")
+	flags.IntVar(&options.service.Processes, "processes", least(runtime.NumCPU(), maxProcesses), "Run this `NUMBER` of engines, 1 to 64")
+	flags.Lookup("processes").DefValue = "one per processor, at most 64"
 	flags.Var(&options.deadline, "deadline", "Give one request this long, 10ms to 1h")
 	flags.Var(&options.memory, "memory", "Limit the address space of each engine, from 32MiB on; 0 for no limit")
 	flags.StringVar(&options.service.Tokens, "tokens", "", "Ask callers for one of the tokens in this `FILE`")
@@ -125,6 +130,12 @@ func turns() <-chan struct{} {
 	return turn
 }
 
+// maxProcesses is the most engines.
+const maxProcesses = 64
+
+// maxTried is of how many pieces engines are asked at once at a trial.
+const maxTried = 2
+
 func serveHTTP(ctx context.Context, c *cobra.Command, files []string, o httpOptions, options service.Options) error {
 	var err error
 	if options.Engine, err = engine.Path(); err != nil {
@@ -139,11 +150,23 @@ func serveHTTP(ctx context.Context, c *cobra.Command, files []string, o httpOpti
 		}
 	}
 	options.ReadDMN = putDMN(o.reading, options.Log)
+	options.Trier = &trier{path: options.Engine, memory: options.Memory, atOnce: least(options.Processes, maxTried)}
 	options.Named = strings.Join(files, " ")
-	if options.Listener, options.Shared, err = listen(o.listen, o.open || options.Tokens != ""); err != nil {
+	if err = setTLS(&options, o.tls); err != nil {
+		return err
+	}
+	options.IsOpen = o.open
+	isGuarded := o.open || options.Tokens != "" || o.tls.clientCA != ""
+	if options.Listener, options.Shared, err = listen(o.listen, isGuarded); err != nil {
 		return err
 	}
 	defer options.Listener.Close()
+	if o.admin != "" {
+		if options.Admin, err = listenAt("--admin", o.admin); err != nil {
+			return err
+		}
+		defer options.Admin.Close()
+	}
 	return service.Run(ctx, options)
 }
 
@@ -181,7 +204,7 @@ func listen(address string, mayBeOpen bool) (listener net.Listener, shared bool,
 	if shared = address == "" && isPassed(); shared {
 		listener, err = passed()
 	} else {
-		listener, err = listenAt(address)
+		listener, err = listenAt("--listen", address)
 	}
 	if err != nil {
 		return nil, shared, err
@@ -193,12 +216,15 @@ func listen(address string, mayBeOpen bool) (listener net.Listener, shared bool,
 	return listener, shared, nil
 }
 
-func listenAt(address string) (net.Listener, error) {
+func listenAt(option, address string) (net.Listener, error) {
 	if address == "" {
 		address = defaultAddress
 	}
+	if path := strings.TrimPrefix(address, unixStart); path != address {
+		return listenUnix(path)
+	}
 	if _, _, err := net.SplitHostPort(address); err != nil {
-		return nil, wrong("--listen %s: an address has a port, as %s", address, defaultAddress)
+		return nil, wrong("%s %s: an address has a port, as %s, or is unix:FILE", option, address, defaultAddress)
 	}
 	listener, err := net.Listen("tcp", address)
 	if err != nil {

@@ -30,7 +30,7 @@ func journalCommand() *cobra.Command {
 
 // group is a command that only has commands.
 func group(name, short, long string, commands ...*cobra.Command) *cobra.Command {
-	c := &cobra.Command{Use: name + " COMMAND", Short: short, Long: long, RunE: func(c *cobra.Command, words []string) error {
+	c := &cobra.Command{Use: name + groupEnd, Short: short, Long: long, RunE: func(c *cobra.Command, words []string) error {
 		if len(words) == 0 {
 			writeHelp(c.ErrOrStderr(), c)
 			return ended(statusUsage)
@@ -44,6 +44,12 @@ func group(name, short, long string, commands ...*cobra.Command) *cobra.Command 
 	c.AddCommand(commands...)
 	return c
 }
+
+// isGroup says whether a command only has commands.
+func isGroup(c *cobra.Command) bool { return strings.HasSuffix(c.Use, groupEnd) }
+
+// groupEnd ends the usage of a group.
+const groupEnd = " COMMAND"
 
 // folderOf is the one folder that a command takes first, of so many words.
 func folderOf(c *cobra.Command, words []string, count int) (string, error) {

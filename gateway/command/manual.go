@@ -32,7 +32,7 @@ func writeManual(to io.Writer, root *cobra.Command) error {
 	fmt.Fprintf(page, ".\\\" Written by desk manual.\n.TH DESK 1 \"\" \"desk %s\" \"User Commands\"\n", version)
 	fmt.Fprintf(page, ".SH NAME\ndesk \\- %s\n.SH SYNOPSIS\n", roff(lowerFirst(root.Short)))
 	for _, c := range everyCommand(root) {
-		if !c.Hidden && !c.HasSubCommands() {
+		if !c.Hidden && !isGroup(c) {
 			fmt.Fprintf(page, ".B %s\n%s\n.br\n", c.CommandPath(), roffLine(strings.TrimSpace(strings.TrimPrefix(c.Use, c.Name()))))
 		}
 	}

@@ -2,12 +2,14 @@ package command
 
 import (
 	"context"
+	"strconv"
 	"time"
 
 	"github.com/spf13/cobra"
 
 	"gateway/engine"
 	"gateway/rabbit/broker"
+	"gateway/rabbit/bus"
 	"gateway/rabbit/partition"
 	"gateway/rabbit/process"
 )
@@ -41,6 +43,7 @@ func partitionCommand() *cobra.Command {
 		Args:  noFiles,
 		RunE:  func(c *cobra.Command, _ []string) error { return runPartition(c, options) },
 	}
+	c.AddCommand(repairCommand())
 	flags := c.Flags()
 	flags.IntVar(&options.engine.Workers, "workers", 1, "Use this `NUMBER` of workers in the engine, 1 to 8")
 	flags.Var(&options.deadline, "deadline", "Give the evaluation of a line this long, from 1s on")
@@ -52,6 +55,37 @@ func partitionCommand() *cobra.Command {
 	return c
 }
 
+func repairCommand() *cobra.Command {
+	return &cobra.Command{
+		Use:   "repair NUMBER",
+		Short: "Makes the log of a partition anew, where it is lost for good",
+		Long: `What is answered stays answered, and what wasn't is told as lost. Stop the senders of the partition before, and send their
+batches again as new ones. It waits until nobody owns the partition.
+
+` + brokerHelp,
+		Args: cobra.ExactArgs(1),
+		RunE: func(c *cobra.Command, words []string) error { return runRepair(c, words[0]) },
+	}
+}
+
+func runRepair(c *cobra.Command, text string) error {
+	on, settings, err := broker.Read()
+	if err != nil {
+		return wrong("%w", err)
+	}
+	number, err := strconv.Atoi(text)
+	if err != nil || number < 0 || number >= settings.Partitions {
+		return wrong("%q is no partition: they have the numbers 0 to %d", text, settings.Partitions-1)
+	}
+	ctx, stop := untilTold(c)
+	defer stop()
+	if err := on.Repair(ctx, broker.Repair{Settings: settings, Partition: number, Program: version, Log: c.ErrOrStderr()}); err != nil {
+		return err
+	}
+	c.PrintErrf("desk partition: partition %d is repaired\n", number)
+	return nil
+}
+
 // check reports a number that is out of its range.
 func (o *partitionOptions) check() error {
 	switch {
@@ -59,8 +93,8 @@ func (o *partitionOptions) check() error {
 		return wrong("--workers is a number from 1 to 8, not %d", o.engine.Workers)
 	case time.Duration(o.deadline) < time.Second:
 		return wrong("--deadline is at least 1s, not %v", time.Duration(o.deadline))
-	case o.engine.Longest < 1024 || o.engine.Longest > broker.WindowBytes:
-		return wrong("--longest is a number from 1024 to %d, not %d", broker.WindowBytes, o.engine.Longest)
+	case o.engine.Longest < 1024 || o.engine.Longest > bus.WindowBytes:
+		return wrong("--longest is a number from 1024 to %d, not %d", bus.WindowBytes, o.engine.Longest)
 	case o.days < 0:
 		return wrong("--sender-days is a number of days, not %d", o.days)
 	case o.memory != 0 && o.memory < leastMemory:
@@ -74,14 +108,14 @@ func runPartition(c *cobra.Command, o partitionOptions) error {
 		return err
 	}
 	o.engine.Memory = uint64(o.memory)
-	settings, err := broker.ReadSettings()
+	on, settings, err := broker.Read()
 	if err != nil {
 		return wrong("%w", err)
 	}
 	ctx, stop := untilTold(c)
 	defer stop()
 	if o.declare {
-		return declare(ctx, c, settings)
+		return declare(ctx, c, on, settings)
 	}
 	if o.engine.Path, err = engine.Path(); err != nil {
 		return err
@@ -95,7 +129,7 @@ func runPartition(c *cobra.Command, o partitionOptions) error {
 			return err
 		}
 	}
-	options := partition.Options{Settings: settings, Deadline: time.Duration(o.deadline), Log: c.ErrOrStderr(), Gauges: gauges,
+	options := partition.Options{Bus: on, Settings: settings, Deadline: time.Duration(o.deadline), Log: c.ErrOrStderr(), Gauges: gauges,
 		Engine: o.engine, Keep: time.Duration(o.days) * 24 * time.Hour, Program: version}
 	if err := partition.Run(ctx, options); err != nil && ctx.Err() == nil {
 		return err
@@ -104,8 +138,8 @@ func runPartition(c *cobra.Command, o partitionOptions) error {
 }
 
 // declare makes what the partitions need at the brokers.
-func declare(ctx context.Context, c *cobra.Command, settings broker.Settings) error {
-	if err := broker.Declare(ctx, settings, c.ErrOrStderr()); err != nil {
+func declare(ctx context.Context, c *cobra.Command, on broker.Broker, settings bus.Settings) error {
+	if err := on.Declare(ctx, settings, c.ErrOrStderr()); err != nil {
 		return err
 	}
 	c.PrintErrf("desk partition: %d partitions are declared\n", settings.Partitions)

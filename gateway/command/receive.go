@@ -7,6 +7,7 @@ import (
 	"github.com/spf13/cobra"
 
 	"gateway/rabbit/broker"
+	"gateway/rabbit/bus"
 	"gateway/rabbit/receiver"
 )
 
@@ -26,7 +27,7 @@ func receiveCommand() *cobra.Command {
 		RunE:  func(c *cobra.Command, _ []string) error { return runReceive(c, options) },
 	}
 	flags := c.Flags()
-	flags.StringVar(&options.from, "from", broker.FromFirst,
+	flags.StringVar(&options.from, "from", fromFirst,
 		"Begin at `WHERE`: first, next, or a time as 2026-11-27T16:00:00Z; the place that --place keeps comes first")
 	flags.StringVar(&options.place, "place", "", "Keep the place in this `FILE`, and go on there when started again")
 	flags.StringVar(&options.output, "output", "",
@@ -35,19 +36,36 @@ func receiveCommand() *cobra.Command {
 	return c
 }
 
+// Where a receiver begins, beside a time.
+const (
+	fromFirst = "first"
+	fromNext  = "next"
+)
+
+// fromOf reads where a receiver begins.
+func fromOf(text string) (bus.From, error) {
+	switch text {
+	case fromFirst:
+		return bus.From{}, nil
+	case fromNext:
+		return bus.From{Place: bus.Next}, nil
+	}
+	at, err := time.Parse(time.RFC3339, text)
+	if err != nil {
+		return bus.From{}, wrong("--from is first, next, or a time as 2026-11-27T16:00:00Z, not %q", text)
+	}
+	return bus.From{Place: bus.Since, Since: at}, nil
+}
+
 func runReceive(c *cobra.Command, o receiveOptions) error {
-	settings, err := broker.ReadSettings()
+	on, settings, err := broker.Read()
 	if err != nil {
 		return wrong("%w", err)
 	}
-	options := receiver.Options{Settings: settings, From: o.from, Place: o.place, Output: os.Stdout,
+	options := receiver.Options{Bus: on, Settings: settings, Place: o.place, Output: os.Stdout,
 		Idle: time.Duration(o.idle), Log: c.ErrOrStderr()}
-	if o.from != broker.FromFirst && o.from != broker.FromNext {
-		at, err := time.Parse(time.RFC3339, o.from)
-		if err != nil {
-			return wrong("--from is first, next, or a time as 2026-11-27T16:00:00Z, not %q", o.from)
-		}
-		options.From = at
+	if options.From, err = fromOf(o.from); err != nil {
+		return err
 	}
 	if o.output != "" && o.output != dash {
 		file, err := os.OpenFile(o.output, os.O_RDWR|os.O_CREATE, 0o666)

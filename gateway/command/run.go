@@ -66,7 +66,7 @@ func (o *rowsOptions) readModel(c *cobra.Command, path string) (*service.Source,
 // check refuses options that are out of range.
 func (o *rowsOptions) check() error {
 	options := service.Options{Processes: o.processes, Deadline: time.Duration(o.deadline), Memory: uint64(o.memory), ClientLimit: 1, Limit: 1,
-		JournalSize: 256 << 20}
+		AddressLimit: 1, JournalSize: 256 << 20}
 	if err := options.Check(); err != nil {
 		return wrong("%w", err)
 	}

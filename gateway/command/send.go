@@ -12,6 +12,7 @@ import (
 
 	"gateway/engine"
 	"gateway/rabbit/broker"
+	"gateway/rabbit/bus"
 	"gateway/rabbit/sender"
 )
 
@@ -43,14 +44,14 @@ can't be reached, the lines of the others are sent; the status is then 1, and th
 func runSend(c *cobra.Command, o sendOptions) error {
 	options := sender.Options{Name: o.sender, Named: o.sender != "", Batch: o.batch, GiveUp: time.Duration(o.giveUp),
 		Input: c.InOrStdin(), Log: c.ErrOrStderr()}
-	if o.batch != "" && (!options.Named || !broker.IsBatch(o.batch)) {
-		return wrong("--batch is an id in UTF-8 of at most %d bytes, and is for a --sender", broker.MaximumBatchBytes)
+	if o.batch != "" && (!options.Named || !bus.IsBatch(o.batch)) {
+		return wrong("--batch is an id in UTF-8 of at most %d bytes, and is for a --sender", bus.MaximumBatchBytes)
 	}
-	if options.Named && !broker.IsSender(o.sender) {
-		return wrong("--sender is a name in UTF-8 of 1 to %d bytes", broker.MaximumSenderBytes)
+	if options.Named && !bus.IsSender(o.sender) {
+		return wrong("--sender is a name in UTF-8 of 1 to %d bytes", bus.MaximumSenderBytes)
 	}
 	var err error
-	if options.Settings, err = broker.ReadSettings(); err != nil {
+	if options.Bus, options.Settings, err = broker.Read(); err != nil {
 		return wrong("%w", err)
 	}
 	path, err := engine.Path()
@@ -61,12 +62,12 @@ func runSend(c *cobra.Command, o sendOptions) error {
 	defer stop()
 	options.Check = func(model []byte) error { return checkBeforeSending(ctx, path, model) }
 	if !options.Named {
-		if options.Name, err = broker.NewMark(); err != nil {
+		if options.Name, err = bus.NewMark(); err != nil {
 			return err
 		}
 	}
 	if options.Named && options.Batch == "" {
-		if options.Batch, err = broker.NewMark(); err != nil {
+		if options.Batch, err = bus.NewMark(); err != nil {
 			return err
 		}
 		c.PrintErrf("desk send: batch %s\n", options.Batch)

@@ -167,7 +167,10 @@ func (t *trying) ask(ctx context.Context) (*record.Tried, error) {
 		return nil, err
 	}
 	var before, done atomic.Int64
-	trial := &record.Trial{Asker: asker, Old: t.old, New: t.new, Asked: func(count int) { done.Store(before.Load() + int64(count)) }}
+	trial := &record.Trial{Asker: asker, Old: t.old, New: t.new, Asked: func(count int) error {
+		done.Store(before.Load() + int64(count))
+		return nil
+	}}
 	shown := showProgress(t.command.ErrOrStderr(), "trying", unit{"requests", 1}, 0, done.Load)
 	defer shown.stop()
 	all := &record.Tried{By: map[string]int{}}

@@ -39,6 +39,8 @@ const (
 var (
 	errLate  = errors.New("a request took longer than the deadline")
 	errClose = errors.New("it did not end after its input")
+	// errEvicted ends one at a slow request of who has other engines for those.
+	errEvicted = errors.New("it is needed for others than the one whose request is slow")
 )
 
 // A lane is the requests of one name.
@@ -79,6 +81,11 @@ type engine struct {
 	age   time.Duration
 	seen  uint64
 	ended error
+	// evicted is whose requests are asked elsewhere once the process ended for that.
+	evicted string
+	// isStillDue says that an idle process is to be asked whether it is there; still is the line by which it was, or 0.
+	isStillDue bool
+	still      uint64
 	// closing says that no more comes, over that all is answered and the process was told so by the end of its input.
 	closing, over bool
 	// fault is why the last process did not end well though all was over.
@@ -136,6 +143,7 @@ func (e *engine) live() (bool, error) {
 	e.process, e.ended = p, nil
 	e.told, e.taken, e.models = nil, nil, nil
 	e.lines, e.answers, e.seen, e.age = 0, 0, 0, 0
+	e.still, e.isStillDue = 0, false
 	for at := range e.lanes {
 		e.lanes[at].ticket = 0
 	}
@@ -151,12 +159,16 @@ func (e *engine) live() (bool, error) {
 	}
 	// Its output has ended, so it is about to end too.
 	stuck := time.AfterFunc(endPatience, p.kill)
-	answered := e.leave()
+	answered, given := e.leave()
 	<-written
 	err = p.wait()
 	stuck.Stop()
 	e.mu.Lock()
 	defer e.mu.Unlock()
+	if given != nil && (e.ended != nil || !wasKilled(err)) {
+		// A process that is killed from outside says nothing about its request.
+		e.pool.fair.died(given)
+	}
 	switch {
 	case e.ended != nil:
 		err = e.ended
@@ -232,6 +244,14 @@ func (e *engine) fill(text []byte) ([]byte, []*Job) {
 	if e.waiting == 0 && e.again.len() == 0 && e.alone == nil && e.told != e.target {
 		text = e.tell(text, e.target)
 	}
+	if e.isStillDue {
+		e.isStillDue = false
+		if len(text) == 0 && e.sent == 0 {
+			e.lines++
+			e.still, e.moved = e.lines, time.Now()
+			text = append(text, stillLine...)
+		}
+	}
 	return text, dropped
 }
 
@@ -239,6 +259,10 @@ func (e *engine) fill(text []byte) ([]byte, []*Job) {
 // model, lane by lane.
 func (e *engine) pick() *Job {
 	if e.alone != nil || e.sent >= windowJobs || e.sentBytes >= windowBytes {
+		return nil
+	}
+	if e.sent > 0 && time.Since(e.moved) > slowAfter {
+		// What waits here may still be asked elsewhere.
 		return nil
 	}
 	if e.again.len() > 0 {
@@ -389,6 +413,10 @@ func (e *engine) answered(r reply) (*Job, error) {
 
 // answeredLine settles a reply that names no lane: of a model, or of a line that the engine could not read.
 func (e *engine) answeredLine(r reply) (*Job, error) {
+	if e.still > 0 && e.still == r.line {
+		e.still = 0
+		return nil, nil
+	}
 	if len(e.models) > 0 && e.models[0].line == r.line {
 		due := e.models[0]
 		e.models = e.models[1:]
@@ -408,8 +436,9 @@ func (e *engine) answeredLine(r reply) (*Job, error) {
 }
 
 // leave takes the requests that were out off a process that ended, to be asked again. The one that it was at alone is
-// given up, unless the process was still at its model.
-func (e *engine) leave() (answered bool) {
+// given up, unless the process was still at its model: what became of its line is given too.
+func (e *engine) leave() (answered bool, dead *deadEnd) {
+	e.pool.moving.Lock()
 	e.mu.Lock()
 	var out []*Job
 	for at := range e.lanes {
@@ -419,23 +448,30 @@ func (e *engine) leave() (answered bool) {
 	if e.ended == errLate {
 		outcome.Kind = Late
 	}
-	if given != nil && len(e.models) > 0 {
+	if given != nil && (len(e.models) > 0 || e.ended == errEvicted) {
 		given = nil
 	}
 	if given == nil {
 		sort.Slice(out, func(a, b int) bool { return out[a].order < out[b].order })
 		e.again = queue{jobs: append(out, e.again.all()...)}
 	}
+	var moved []*Job
+	if e.ended == errEvicted && !e.pool.isClosing {
+		moved = e.again.of(e.evicted)
+	}
 	e.process, e.told, e.taken, e.models, e.alone = nil, nil, nil, nil, nil
 	e.sent, e.sentBytes = 0, 0
 	answered = e.answers > 1
 	e.wake.Broadcast()
 	e.mu.Unlock()
+	e.pool.elsewhere(e.number, moved)
+	e.pool.moving.Unlock()
 	e.pool.moved()
 	if given != nil {
+		dead = &deadEnd{lineOf(given), outcome.Kind}
 		given.Done(given, outcome)
 	}
-	return answered
+	return answered, dead
 }
 
 // put lets requests wait in a lane; a lane below 0 is the one with the least.
@@ -485,7 +521,7 @@ func (e *engine) state() state {
 	return state{
 		out:   e.waiting + e.sent + e.again.len(),
 		ready: e.process != nil && e.taken != nil,
-		slow:  e.sent > 0 && time.Since(e.moved) > slowAfter,
+		slow:  (e.sent > 0 || e.still > 0) && time.Since(e.moved) > slowAfter,
 	}
 }
 
@@ -507,7 +543,7 @@ func (e *engine) tick(step time.Duration) {
 	if len(e.models) > 0 && limit < modelPatience {
 		limit = modelPatience
 	}
-	if e.process != nil && e.answers == e.seen && e.sent+len(e.models) > 0 {
+	if e.process != nil && e.answers == e.seen && (e.sent+len(e.models) > 0 || e.still > 0) {
 		e.age += step
 	} else {
 		e.age, e.seen = 0, e.answers
@@ -516,11 +552,20 @@ func (e *engine) tick(step time.Duration) {
 		e.ended = errLate
 		e.process.kill()
 	}
+	if e.isIdle() && time.Since(e.moved) > stillPatience {
+		e.isStillDue = true
+		e.wake.Signal()
+	}
 	waited := e.overdue(time.Now().Add(-e.pool.options.Patience))
 	e.mu.Unlock()
 	for _, job := range waited {
 		job.Done(job, Outcome{Kind: Waited})
 	}
+}
+
+// isIdle says whether a process is there with nothing to do.
+func (e *engine) isIdle() bool {
+	return e.process != nil && e.taken != nil && e.sent == 0 && e.waiting == 0 && len(e.models) == 0 && e.still == 0 && !e.closing
 }
 
 // overdue takes out the requests that came before a time and still wait.

@@ -74,6 +74,8 @@ type Job struct {
 	Rest []byte
 	// Place is for the caller's own use.
 	Place int
+	// Owner is who asks, or empty: the slow requests of one keep an engine free for others.
+	Owner string
 	// Done is told what became of it, once, by a goroutine of the pool. It must not wait.
 	Done func(*Job, Outcome)
 

@@ -44,8 +44,12 @@ type Pool struct {
 	// change is closed, and made anew, whenever an engine took a model or ended.
 	changeLock sync.Mutex
 	change     chan struct{}
-	closing    chan struct{}
-	running    sync.WaitGroup
+	fair       fairness
+	// moving is held while requests go from one engine to another, and when the pool begins to close: isClosing ends that.
+	moving    sync.Mutex
+	isClosing bool
+	closing   chan struct{}
+	running   sync.WaitGroup
 }
 
 // Start starts the engines, each with this model.
@@ -89,6 +93,7 @@ func (p *Pool) watch() {
 			for _, e := range p.engines {
 				e.tick(step)
 			}
+			p.police()
 		case <-stopped:
 			return
 		}
@@ -119,7 +124,8 @@ func (p *Pool) changed() <-chan struct{} {
 }
 
 // Put puts requests in, which all have one model. Those of a client go to one lane of one engine, whatever else there is:
-// the same for each call. Without a client they go where least is out. Nothing is put in where another model is in force.
+// the same for each call. Without a client they go where least is out. Nothing is put in where another model is in force. Lines at
+// which engines ended of late have that outcome at once, and who asks slowly leaves one engine to others.
 func (p *Pool) Put(client string, jobs []*Job) error {
 	p.modelLock.RLock()
 	defer p.modelLock.RUnlock()
@@ -129,8 +135,15 @@ func (p *Pool) Put(client string, jobs []*Job) error {
 	if jobs[0].Model != p.model {
 		return ErrSwitched
 	}
+	if jobs = p.fair.alive(jobs); len(jobs) == 0 {
+		return nil
+	}
+	spared := p.spared(jobs[0].Owner)
 	if client != "" {
 		at, lane := p.place(client)
+		if at == spared {
+			at = (at + 1) % len(p.engines)
+		}
 		p.engines[at].put(jobs, lane)
 		return nil
 	}
@@ -139,7 +152,7 @@ func (p *Pool) Put(client string, jobs []*Job) error {
 		if n > pieceJobs {
 			n = pieceJobs
 		}
-		p.least().put(jobs[:n], -1)
+		p.least(spared).put(jobs[:n], -1)
 		jobs = jobs[n:]
 	}
 	return nil
@@ -159,14 +172,21 @@ func (p *Pool) place(client string) (at, lane int) {
 	return int(h % n), int(h / n % Lanes)
 }
 
-// least is the engine at which least is out, among those that are ready and not slow if there is one.
-func (p *Pool) least() *engine {
+// least is the engine at which least is out, among those that are ready and not slow if there is one; never the one that is
+// spared, if that is not -1.
+func (p *Pool) least(spared int) *engine {
 	n := len(p.engines)
 	start := int(p.next.Add(1) % uint32(n))
+	if start == spared {
+		start = (start + 1) % n
+	}
 	best := p.engines[start]
 	least := best.state()
 	for step := 1; step < n && (!least.ready || least.out > 0); step++ {
 		e := p.engines[(start+step)%n]
+		if e.number == spared {
+			continue
+		}
 		if it := e.state(); it.isBefore(least) {
 			best, least = e, it
 		}
@@ -240,9 +260,12 @@ func (p *Pool) settled() bool {
 // Close waits until all that was put in is answered, closes each engine's input and waits for its end, which has to be one
 // with status 0. Nothing may be put in any more. Where the context ends first, the engines are ended.
 func (p *Pool) Close(ctx context.Context) error {
+	p.moving.Lock()
+	p.isClosing = true
 	for _, e := range p.engines {
 		e.close()
 	}
+	p.moving.Unlock()
 	close(p.closing)
 	ended := make(chan struct{})
 	go func() {

@@ -1,6 +1,7 @@
 package engine
 
 import (
+	"errors"
 	"fmt"
 	"io"
 	"os"
@@ -83,6 +84,16 @@ func (p *process) widen() {
 
 func (p *process) kill() {
 	_ = p.command.Process.Kill()
+}
+
+// wasKilled says whether a process ended by SIGKILL.
+func wasKilled(err error) bool {
+	var exit *exec.ExitError
+	if !errors.As(err, &exit) {
+		return false
+	}
+	status, is := exit.Sys().(syscall.WaitStatus)
+	return is && status.Signaled() && status.Signal() == syscall.SIGKILL
 }
 
 // wait waits for its end, and says how it ended where that was not well.

@@ -21,7 +21,7 @@ func (p *page) boxed(pointer string, e model.Expression, s *scope) *element {
 		}
 		return list
 	case model.Context:
-		if inner, at, is := p.File.Inner(e, pointer); is && p.IsWritten {
+		if inner, at, is := p.inner(e, pointer); is {
 			return p.boxed(at, inner, p.around(e, s))
 		}
 		return p.context(pointer, e, s)
@@ -47,6 +47,16 @@ func (p *page) expression(pointer, content string, s *scope) string {
 func (p *page) ofFile(pointer string) (text string, is bool) {
 	text, is = p.File.Texts[pointer]
 	return text, is && p.IsWritten
+}
+
+// inner is what the first file has in place of a context that the translation made, where its texts are written.
+func (p *page) inner(c model.Context, pointer string) (inner model.Expression, at string, is bool) {
+	if !p.IsWritten {
+		return nil, "", false
+	}
+	own := p.File
+	own.Names, own.Locals = p.Names, nil
+	return own.Inner(c, pointer)
 }
 
 // around is a scope in which what only the translation has is bound, whose texts are not written.
@@ -78,7 +88,7 @@ func (p *page) context(pointer string, c model.Context, s *scope) *element {
 	s = s.inner()
 	for i, entry := range c.Entries {
 		value := s.bound.ofBoxed(entry.Expr)
-		if p.IsWritten && !p.File.IsOfFile(entry.Name) {
+		if p.IsWritten && (!p.File.IsOfFile(entry.Name) || p.isCall(entry)) {
 			s.bind(entry.Name, value)
 			continue
 		}

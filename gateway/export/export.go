@@ -120,6 +120,7 @@ type page struct {
 	counts    map[string]int
 
 	requirements []requirement
+	knowledge    []*knowledge
 	types        []*element
 	refusals     []Refusal
 }
@@ -169,6 +170,9 @@ func (p *page) definitions() *element {
 	for i := range p.Model.Decisions {
 		parts = append(parts, p.decision(i))
 	}
+	for _, k := range p.knowledge {
+		parts = append(parts, p.business(k))
+	}
 	if !p.servesByDefault() {
 		for _, service := range p.services {
 			parts = append(parts, p.service(service))
@@ -202,7 +206,8 @@ func (p *page) decision(index int) *element {
 		place.bind(need, p.shape(need))
 		e.add(p.requires(need, d.Name))
 	}
-	return e.add(p.boxed(fmt.Sprintf("/decisions/%d/expr", index), d.Expr, place))
+	pointer := fmt.Sprintf("/decisions/%d/expr", index)
+	return e.add(p.requiresKnowledge(p.calls(pointer, d.Expr), d.Name)...).add(p.boxed(pointer, d.Expr, place))
 }
 
 func (p *page) requires(needed, by string) *element {

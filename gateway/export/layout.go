@@ -117,7 +117,7 @@ func (g graph) box(word string, place float64, most, row int) box {
 	return box{center - width/2, margin + layerHeight*(row+1) + (decisionHeight-height)/2, width, height}
 }
 
-// diagram draws the services in a row, collapsed, and below them the graph.
+// diagram draws the services in a row, collapsed, below them the graph, and at the bottom business knowledge.
 func (p *page) diagram() *element {
 	g := graph{inputs: p.Model.Inputs, needs: map[string][]string{}}
 	for _, d := range p.Model.Decisions {
@@ -132,6 +132,10 @@ func (p *page) diagram() *element {
 	}
 	for i, word := range append(append([]string{}, p.Model.Inputs...), g.decisions...) {
 		diagram.add(drawn("shape_"+strconv.Itoa(i+1), p.ids.node(word), boxes[word]))
+	}
+	for i, k := range p.knowledge {
+		boxes[k.key()] = box{margin + columnWidth*i, margin + layerHeight*(len(g.layers())+1), decisionWidth, decisionHeight}
+		diagram.add(drawn("shape_"+k.id, k.id, boxes[k.key()]))
 	}
 	for i, requirement := range p.requirements {
 		diagram.add(edge("edge_"+strconv.Itoa(i+1), requirement.id, boxes[requirement.needed], boxes[requirement.by]))

@@ -8,7 +8,7 @@ import (
 
 // fixed are the names that stand for operations and schemas of every document.
 var fixed = []string{"Problem", "getModel", "putModel", "getServices", "getHealth", "getReady", "getMetrics", "getOpenAPI", "getProblems", "getProblem",
-	"checkModel", "getTables", "countRules", "getPage"}
+	"checkModel", "getTables", "countRules", "getPage", "tryModel", "getReleases"}
 
 // operations are the names of the services' operations, each unlike the others and those of every document. A name depends
 // on the service's own name alone: where that has other characters than letters, digits and underscores, these become

@@ -8,6 +8,8 @@ func fixedPaths() object {
 		"/v1/check":        object{"post": sent("checkModel", "Checks a model, and keeps it to be tried", modelBody())},
 		"/v1/tables":       object{"get": asked("getTables", "What is found of the tables", []object{ofModel()})},
 		"/v1/coverage":     object{"post": covering()},
+		"/v1/trial":        object{"post": trying()},
+		"/v1/releases":     object{"get": asked("getReleases", "The releases of the folder; active is the one in force", nil)},
 		"/healthz":         object{"get": open("getHealth", "Whether the process is alive", "application/json")},
 		"/readyz":          object{"get": open("getReady", "Whether requests are best sent here; 503 where not", "application/json")},
 		"/metrics":         object{"get": open("getMetrics", "Metrics as Prometheus reads them", "text/plain")},
@@ -100,6 +102,27 @@ func covering() object {
 	lines := object{"required": true, "content": content("application/octet-stream", object{"type": "string", "format": "binary"})}
 	return sent("countRules", "Counts how often each rule hit and decided over lines of requests", lines, ofModel(),
 		object{"name": "service", "in": "query", "schema": object{"type": "string"}, "description": "Of lines that are inputs alone"})
+}
+
+// trying describes how recorded requests are asked of two models.
+func trying() object {
+	made := asked("tryModel", "Asks two models for the recorded requests, and lists those that get another answer", []object{
+		{"name": "model", "in": "query", "required": true, "schema": object{"type": "string"},
+			"description": "The SHA-256 of a release, or of a model that was checked"},
+		word("against", "The same of the other model; the one in force where it is missing"),
+		word("from", "Of answers from this time on, as 2026-11-29 or 2026-11-29T16:00"), word("to", "Of answers before this time"),
+		word("client", "Of this client or token"), word("service", "Of this service"),
+		word("rule", "Of answers that this rule decided: DECISION, DECISION:NUMBER or an id"),
+		word("release", "Of answers of this release: NAME VERSION, or the beginning of its SHA-256"),
+		{"name": "most", "in": "query", "schema": object{"type": "integer", "format": "int64", "minimum": 0},
+			"description": "How many of those that differ are listed; 1,000 where it is missing"},
+		flag("csv", "All that differ as CSV"),
+	})
+	text := object{"type": "string"}
+	made["responses"] = object{"default": refusal(), "200": object{
+		"description": "Lines of JSON as they are found: the models with changes; asked; a difference; at last done, or a problem",
+		"content":     object{"application/x-ndjson": object{"schema": text}, "text/csv": object{"schema": text}}}}
+	return made
 }
 
 // explaining describes how a service is asked how its answers come about.

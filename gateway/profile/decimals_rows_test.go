@@ -175,7 +175,7 @@ var decimalRows = []decimalRow{
 	{"a / b < x / y", `{"a":1,"b":3,"x":2,"y":5}`, "true"}, {"a / b < x / y", `{"a":1,"b":-3,"x":-2,"y":5}`, "false"}, {"x / a < y", `{"x":1,"a":3,"y":0.34}`, "true"},
 	{"decimal(a / b, 2)", `{"a":100,"b":3}`, "33.33"}, {"decimal(a / b, 2)", `{"a":1,"b":0}`, "null"}, {"decimal(a / b, 2)", `{"a":0.01,"b":2}`, "0"}, {"decimal(a / b, 2)", `{"a":0.03,"b":2}`, "0.02"},
 	{"decimal(a / b, 2)", `{"a":-0.03,"b":2}`, "-0.02"}, {"decimal(a / b, 2)", `{"a":0.03,"b":-2}`, "-0.02"}, {"decimal(a / b, 2)", `{"b":2}`, "null"}, {"decimal(a / b, 2)", `{"a":2}`, "null"},
-	{"decimal(a / b, 0)", `{"a":5,"b":21474836.47}`, "0"}, {"decimal(a / b, 0)", `{"a":64424509.41,"b":21474836.47}`, "limit"}, {"decimal(a / b * 100, 1)", `{"a":1,"b":3}`, "33.3"}, {"floor(a / b)", `{"a":-1,"b":3}`, "-1"}, {"round half up(a / b, 1)", `{"a":-1,"b":4}`, "-0.3"},
+	{"decimal(a / b, 0)", `{"a":5,"b":21474836.47}`, "0"}, {"decimal(a / b, 0)", `{"a":64424509.41,"b":21474836.47}`, "3"}, {"decimal(a / b, 0)", `{"a":92233720368547758.07,"b":0.01}`, "9223372036854775807"}, {"decimal(a / b * 100, 1)", `{"a":1,"b":3}`, "33.3"}, {"floor(a / b)", `{"a":-1,"b":3}`, "-1"}, {"round half up(a / b, 1)", `{"a":-1,"b":4}`, "-0.3"},
 	{"decimal(a / b, -1)", `{"a":1000,"b":3}`, "330"}, {"a / b", `{}`, "refused: a quotient may only be"}, {"a / b + 1", `{}`, "refused: a quotient may only be"}, {"if f then a / b else 1", `{}`, "refused: a quotient may only be"},
 	{"decimal(a / u, 2)", `{"a":1,"u":"a"}`, "null"}, {"a / u > 0.5", `{"a":1,"u":"a"}`, "null"}, {"u / a = 0.5", `{"a":1,"u":"a"}`, "false"}, {"a / b in [0.3..0.4]", `{"a":1,"b":3}`, "true"}, {"a / b between 0.3 and 0.4", `{"a":1,"b":2}`, "false"},
 	// What stands in front carries its condition.

@@ -3,6 +3,9 @@ package profile
 import (
 	"fmt"
 	"math/big"
+	"strings"
+
+	"gateway/lines"
 )
 
 // The profile has no division. A quotient of a number of 0 or more that is a multiple of the divisor is found by its
@@ -50,35 +53,32 @@ func inverse(a, prime int64) int64 {
 	return new(big.Int).ModInverse(big.NewInt(a), big.NewInt(prime)).Int64()
 }
 
-// variableQuotient is v / c for a v of 0 or more that is a multiple of c, and a c above 0. A limit is broken where it can't
-// be had: where c is a multiple of one of the primes, or the quotient past their product. It costs some 120 entries.
-func (t *translator) variableQuotient(v string, c phrase) phrase {
-	first, second := divisionPrimes[0], divisionPrimes[1]
-	var rests [2]phrase
-	for i, prime := range []int64{first, second} {
-		base := t.step("rest", fmt.Sprintf("modulo(%s, %d)", c.text, prime), numberType)
-		by := t.inverseOf(base, prime)
-		rests[i] = t.step("rest", fmt.Sprintf("modulo(modulo(%s, %d) * %s, %d)", v, prime, by.text, prime), numberType)
-	}
-	q := t.joinedRests(rests[0], rests[1], first, second)
-	// Of a multiple of a prime the power is 0, and so are the remainder and what is multiplied back.
-	return t.step("quotient", fmt.Sprintf("if %[1]s * %[2]s = (%[3]s) then %[1]s else if (%[3]s) = null then null else %[4]s + 1", q.text, c.text,
-		v, largestNumber), numberType)
-}
+// A quotient by a variable has three digits: lowBase values of the lowest, middleBase of the middle one, and some two million of
+// the highest. Divisors from twoDigits on need two of them, from oneDigit on one, and those below lowBase + 1 are multiplied by it.
+const (
+	lowBase    = 2_000_000
+	middleBase = lowBase - 1
+	twoDigits  = lines.MaxNumber/(lowBase*middleBase) + 1
+	oneDigit   = lines.MaxNumber/lowBase + 1
+)
 
-// inverseOf is a number to the power of prime - 2, by the prime: its inverse, by Fermat; of a multiple of the prime it is 0.
-func (t *translator) inverseOf(base phrase, prime int64) phrase {
-	exponent := prime - 2
-	highest := 62
-	for exponent>>uint(highest)&1 == 0 {
-		highest--
+// variableQuotient is v / c for a v of 0 or more that is a multiple of c, and a c above 0. Where v is null it is null.
+//
+// By c - 1 the number c leaves the rest 1, and so q * c leaves q, where q is below c - 1. The digits of q are small enough: v has
+// them times c, times 1, lowBase and lowBase * middleBase, and they are parted by remainders of these. The product of the lowest one
+// with a small c is multiplied by lowBase + 1 first.
+func (t *translator) variableQuotient(v string, c phrase) phrase {
+	low := t.step("low", fmt.Sprintf("if %[2]s < %[3]d then modulo(%[1]s, %[2]s * %[4]d) else %[1]s", v, c.text, oneDigit, lowBase), numberType)
+	rest := v + " - " + low.text
+	middle := t.step("middle", fmt.Sprintf("if %[2]s < %[3]d then modulo(%[1]s, %[2]s * %[4]d) else %[1]s", rest, c.text, twoDigits,
+		lowBase*middleBase), numberType)
+	rest += " - " + middle.text
+	digits := []string{
+		fmt.Sprintf("(if %[2]s < %[3]d then modulo(%[1]s * %[3]d, %[2]s * %[3]d - 1) else modulo(%[1]s, %[2]s - 1))", low.text, c.text, lowBase+1),
+		fmt.Sprintf("(if %[2]s < %[3]d then modulo(%[1]s, %[2]s * %[4]d - 1) * %[4]d else 0)", middle.text, c.text, oneDigit, lowBase),
+		fmt.Sprintf("(if %[2]s < %[3]d then modulo(%[1]s, %[2]s * %[4]d - 1) * %[4]d else 0)", rest, c.text, twoDigits, lowBase*middleBase),
 	}
-	soFar := base
-	for bit := highest - 1; bit >= 0; bit-- {
-		soFar = t.step("inverse", fmt.Sprintf("modulo(%[1]s * %[1]s, %[2]d)", soFar.text, prime), numberType)
-		if exponent>>uint(bit)&1 == 1 {
-			soFar = t.step("inverse", fmt.Sprintf("modulo(%s * %s, %d)", soFar.text, base.text, prime), numberType)
-		}
-	}
-	return soFar
+	q := t.step("quotient", strings.Join(digits, " + "), numberType)
+	// Multiplied back it is v; another number would be a fault, and is a limit.
+	return t.step("quotient", fmt.Sprintf("if %[1]s * %[2]s = (%[3]s) then %[1]s else %[4]s + 1", q.text, c.text, v, largestNumber), numberType)
 }

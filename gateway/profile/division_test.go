@@ -65,15 +65,8 @@ func mayBeLimit(n, divisor int64) bool {
 	return decimals > 0 && (!scaled.IsInt64() || scaled.Int64() == -1<<63)
 }
 
-// TestDivisionOverTheWholeRange divides by constants, and holds each quotient against math/big. By a divisor with twos or fives it may
-// be a limit where the decimals of the quotient pass the range, of which the import has a note; never another number.
-func TestDivisionOverTheWholeRange(t *testing.T) {
-	parts := []string{input("x", "number")}
-	for _, divisor := range divisors {
-		for rounding, form := range map[string]string{"floor": "floor(x / %d)", "ceiling": "ceiling(x / %d)", "decimal": "decimal(x / %d, 0)"} {
-			parts = append(parts, decision(fmt.Sprintf("%s_%d", rounding, divisor), "number", literal(fmt.Sprintf(form, divisor)), "x"))
-		}
-	}
+// wholeInputs imports parts whose inputs have no decimals, into a desk.
+func wholeInputs(t *testing.T, parts []string) (*desk, *profile.Result) {
 	read, err := dmn.Read("test.dmn", strings.NewReader(definitions(parts...)))
 	if err != nil {
 		t.Fatal(err)
@@ -86,6 +79,19 @@ func TestDivisionOverTheWholeRange(t *testing.T) {
 	}
 	d := startDesk(t)
 	d.model(result)
+	return d, result
+}
+
+// TestDivisionOverTheWholeRange divides by constants, and holds each quotient against math/big. By a divisor with twos or fives it may
+// be a limit where the decimals of the quotient pass the range, of which the import has a note; never another number.
+func TestDivisionOverTheWholeRange(t *testing.T) {
+	parts := []string{input("x", "number")}
+	for _, divisor := range divisors {
+		for rounding, form := range map[string]string{"floor": "floor(x / %d)", "ceiling": "ceiling(x / %d)", "decimal": "decimal(x / %d, 0)"} {
+			parts = append(parts, decision(fmt.Sprintf("%s_%d", rounding, divisor), "number", literal(fmt.Sprintf(form, divisor)), "x"))
+		}
+	}
+	d, result := wholeInputs(t, parts)
 	random := rand.New(rand.NewSource(11))
 	for _, divisor := range divisors {
 		for _, n := range numerators(random, divisor) {
@@ -95,6 +101,66 @@ func TestDivisionOverTheWholeRange(t *testing.T) {
 					t.Errorf("%s of %d / %d: %s came, and %s is due", rounding, n, divisor, came, due)
 				}
 			}
+		}
+	}
+}
+
+// borders are divisors at which quotients by a variable are found in another way, and ends of ranges.
+var borders = []int64{1, 2, 3, 7, 10, 1_999_999, 2_000_000, 2_000_001, 2_305_844, 2_305_845, 1 << 31, 1<<31 - 1, 2_147_483_629, 1 << 32,
+	3_999_998_000_000, 4_611_686_018_427, 4_611_686_018_428, 1 << 61, 1 << 62, 1<<63 - 2, 1<<63 - 1}
+
+// pairs are numerators and divisors: quotients at borders and between them, with rests next to 0 and next to half, of each sign in turn.
+func pairs(random *rand.Rand) (all [][2]int64) {
+	const most = 1<<63 - 1
+	divisors := append([]int64(nil), borders...)
+	for len(divisors) < 40 {
+		divisors = append(divisors, random.Int63()>>uint(random.Intn(62))|1)
+	}
+	for _, divisor := range divisors {
+		top := most / divisor
+		quotients := []int64{0, top, top / 2, random.Int63n(top/2+1) + top/2}
+		for _, border := range borders {
+			if border <= top {
+				quotients = append(quotients, border-1, border)
+			}
+		}
+		for _, quotient := range quotients {
+			n := quotient * divisor
+			for _, rest := range []int64{-1, 0, divisor / 2, divisor - divisor/2} {
+				if n < -rest || n > most-rest {
+					continue
+				}
+				sign, over := int64(1-len(all)%2*2), int64(1-len(all)/2%2*2)
+				all = append(all, [2]int64{sign * (n + rest), over * divisor})
+			}
+		}
+	}
+	return all
+}
+
+// TestQuotientsByAVariableOverTheWholeRange divides by a variable and rounds: each quotient is right, and none is a limit.
+func TestQuotientsByAVariableOverTheWholeRange(t *testing.T) {
+	forms := map[string]string{"floor": "floor(x / y)", "ceiling": "ceiling(x / y)", "decimal": "decimal(x / y, 0)"}
+	parts := []string{input("x", "number"), input("y", "number")}
+	for rounding, form := range forms {
+		parts = append(parts, decision(rounding, "number", literal(form), "x", "y"))
+	}
+	d, result := wholeInputs(t, parts)
+	for _, it := range pairs(rand.New(rand.NewSource(12))) {
+		n, divisor := it[0], it[1]
+		if divisor < 0 {
+			n, divisor = -n, -divisor
+		}
+		for rounding := range forms {
+			came := countedAsk(d, result, rounding, fmt.Sprintf(`{"x":%d,"y":%d}`, it[0], it[1]))
+			if due := rounded(rounding, n, divisor).String(); came != due {
+				t.Errorf("%s of %d / %d: %s came, and %s is due", rounding, it[0], it[1], came, due)
+			}
+		}
+	}
+	for _, inputs := range []string{`{"x":0,"y":0}`, `{"x":5,"y":0}`, `{"x":5,"y":null}`, `{"x":null,"y":5}`, `{"x":null,"y":0}`} {
+		if came := countedAsk(d, result, "floor", inputs); came != "null" {
+			t.Errorf("floor of %s: %s came", inputs, came)
 		}
 	}
 }

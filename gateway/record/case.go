@@ -92,13 +92,11 @@ func readHead(it *journal.Read) *Head {
 	if it.About != nil && json.Unmarshal(it.About, head) != nil {
 		head = &Head{}
 	}
-	text := it.Asked
 	if it.About != nil {
-		// One object of the model and what is said of it is what desk import writes.
-		text = append(append([]byte(nil), it.Asked[:len(it.Asked)-1]...), ',')
-		text = append(text, it.About[1:]...)
+		head.Source, _ = service.RecordedSource(it.Asked, it.About)
+	} else {
+		head.Source, _ = service.ReadSource(it.Asked)
 	}
-	head.Source, _ = service.ReadSource(text)
 	if head.Source != nil && head.Release.Sum == "" {
 		head.Release.Sum = head.Source.Sum()
 	}

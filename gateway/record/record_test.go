@@ -188,7 +188,7 @@ func TestTrial(t *testing.T) {
 	} {
 		var found []string
 		counted := 0
-		trial := &Trial{Asker: &Asker{Path: path}, Old: source(2), New: it.new, Asked: func(count int) { counted = count }}
+		trial := &Trial{Asker: &Asker{Path: path}, Old: source(2), New: it.new, Asked: func(count int) error { counted = count; return nil }}
 		tried, err := trial.Run(context.Background(), folder, Filter{}, func(d *Difference) error {
 			found = append(found, d.Case.ID, d.Old.String(), d.New.String())
 			return nil

@@ -17,8 +17,10 @@ import (
 type Trial struct {
 	Asker    *Asker
 	Old, New *service.Source
-	// Asked is told how many cases were asked by now; it may be nil.
-	Asked func(count int)
+	// Asked is told how many cases were asked by now, and ends the trial with an error; it may be nil.
+	Asked func(count int) error
+	// AtOnce is of how many pieces engines are asked at once, each of two; 0 is one for each processor.
+	AtOnce int
 }
 
 // A Difference is a case that gets another answer.
@@ -75,7 +77,11 @@ func (t *Trial) Run(ctx context.Context, folder string, filter Filter, take func
 			return nil, err
 		}
 	}
-	pieces, tried := make(chan *piece, runtime.NumCPU()), &Tried{By: map[string]int{}}
+	if t.AtOnce == 0 {
+		t.AtOnce = runtime.NumCPU()
+	}
+	// One piece more is waited for.
+	pieces, tried := make(chan *piece, t.AtOnce-1), &Tried{By: map[string]int{}}
 	var failed error
 	go func() {
 		failed = t.read(ctx, folder, filter, tried, models, pieces)
@@ -108,7 +114,7 @@ func (t *Trial) count(it *piece, tried *Tried, take func(*Difference) error) err
 		}
 	}
 	if t.Asked != nil {
-		t.Asked(tried.Asked)
+		return t.Asked(tried.Asked)
 	}
 	return nil
 }

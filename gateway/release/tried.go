@@ -28,8 +28,11 @@ func triedPath(folder, sum, against string) string {
 	return filepath.Join(folder, triedName, fmt.Sprintf("%.16s-%.16s%s", sum, against, suffix))
 }
 
-// KeepTried keeps that a release was tried.
+// KeepTried keeps that a release was tried, unless nothing was asked.
 func KeepTried(folder string, it Tried) error {
+	if it.Asked == 0 {
+		return nil
+	}
 	text, err := json.MarshalIndent(it, "", "  ")
 	if err != nil {
 		return err

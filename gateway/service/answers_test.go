@@ -27,7 +27,7 @@ func TestHalfClosed(t *testing.T) {
 			t.Fatal(err)
 		}
 		body := long(length)
-		fmt.Fprintf(connection, "POST /v1/services/s HTTP/1.1\r\nHost: x\r\nContent-Length: %d\r\n\r\n%s", len(body), body)
+		fmt.Fprintf(connection, "POST /v1/services/s HTTP/1.1\r\nHost: localhost\r\nContent-Length: %d\r\n\r\n%s", len(body), body)
 		if err := connection.(*net.TCPConn).CloseWrite(); err != nil {
 			t.Fatal(err)
 		}
@@ -140,7 +140,7 @@ func TestLongListsKeepTheirTurn(t *testing.T) {
 		if err != nil {
 			t.Fatal(err)
 		}
-		fmt.Fprintf(connection, "POST /v1/services/s HTTP/1.1\r\nHost: x\r\nX-Client: ann\r\nContent-Length: %d\r\n\r\n%s",
+		fmt.Fprintf(connection, "POST /v1/services/s HTTP/1.1\r\nHost: localhost\r\nX-Client: ann\r\nContent-Length: %d\r\n\r\n%s",
 			len(list), list)
 		for until := time.Now().Add(20 * time.Second); r.metric(t, "desk_http_held_bytes") < float64(len(list)); {
 			if time.Now().After(until) {

@@ -179,6 +179,9 @@ func (c *call) put(asked *asking) (*problem, error) {
 	c.client = it
 	c.left.Store(int32(n))
 	c.users.Add(int32(n))
+	for _, job := range c.jobs {
+		job.Owner = asked.who.owner
+	}
 	asked.turn.waitToPut()
 	if err := c.service.pool.Put(name, c.jobs); err != nil {
 		c.users.Add(-int32(n))

@@ -35,6 +35,8 @@ type covering struct {
 	lines []lineAsked
 	jobs  []*engine.Job
 	room  []byte
+	// recorded is what is known of the lines of a journal.
+	recorded recordedLines
 	// mu guards counts, to which each engine's are added in the end.
 	mu     sync.Mutex
 	counts *coverage.Counts
@@ -49,7 +51,8 @@ type counting struct {
 }
 
 // coveragePath answers POST /v1/coverage: how often each rule hit and decided over the lines of the body, and the answer of
-// each. The body has lines as `desk serve` reads them, or inputs alone where the parameter service names a service.
+// each. The body has lines as `desk serve` reads them, those of a journal, or inputs alone where the parameter service names a
+// service.
 func (s *Service) coveragePath(w http.ResponseWriter, r *http.Request) {
 	text, p := s.covered(w, r)
 	if p != nil {
@@ -72,7 +75,7 @@ func (s *Service) covered(w http.ResponseWriter, r *http.Request) ([]byte, *prob
 		return nil, p
 	}
 	c := &covering{model: model, service: model.services[r.URL.Query().Get("service")], counts: coverage.New(),
-		reader: lines.Reader{Within: "inputs", Names: model.words}}
+		reader: lines.Reader{Within: "inputs", Names: model.words}, recorded: s.recordedLines(r.Context(), model)}
 	c.read(body)
 	if p := c.ask(r.Context(), s); p != nil {
 		return nil, p
@@ -92,12 +95,28 @@ const fewBytes = 100
 func (c *covering) read(body []byte) {
 	requests := len(body)/fewBytes + 1
 	c.room, c.lines, c.jobs = make([]byte, 0, len(body)+len(body)/4), make([]lineAsked, 0, requests), make([]*engine.Job, 0, requests)
+	// A line of a journal is known by the one about it, which comes behind it.
+	var held []byte
+	at, isBehind := 0, false
 	for ; len(body) > 0; c.count++ {
 		line, rest, _ := bytes.Cut(body, []byte("\n"))
 		body = rest
-		if len(bytes.TrimSpace(line)) > 0 {
-			c.line(c.count+1, line)
+		switch {
+		case len(bytes.TrimSpace(line)) == 0:
+		case journal.IsAbout(line):
+			c.aboutLine(at, held, line)
+			held, isBehind = nil, true
+		default:
+			isBehind = isBehind && held == nil
+			c.heldLine(at, held)
+			held, at = line, c.count+1
 		}
+	}
+	if isBehind && bytes.HasPrefix(held, recordedStart) {
+		// The line about it is cut off.
+		c.aboutLine(at, held, nil)
+	} else {
+		c.heldLine(at, held)
 	}
 	for at := range c.lines {
 		if job := c.lines[at].job; job != nil {
@@ -109,9 +128,6 @@ func (c *covering) read(body []byte) {
 
 // line reads one line: a request, the inputs of one, or one of the other lines that `desk serve` takes, which is skipped.
 func (c *covering) line(number int, text []byte) {
-	if journal.IsAbout(text) {
-		return
-	}
 	it := lineAsked{number: number}
 	object, other, fault := c.reader.Read(text, lines.MaxNesting)
 	if fault != nil || other {
@@ -150,9 +166,12 @@ func (c *covering) line(number int, text []byte) {
 	c.lines = append(c.lines, it)
 }
 
+// An askedLine has the client, the service and the inputs of a line, as they are written.
+type askedLine struct{ client, service, inputs []byte }
+
 // requestIn gives the parts of a line that has a service and inputs, and nothing else but a client, and says whether it is
-// one. Client, service and inputs are texts as they are written.
-func requestIn(text []byte, members []lines.Member) (it struct{ client, service, inputs []byte }, is bool) {
+// one.
+func requestIn(text []byte, members []lines.Member) (it askedLine, is bool) {
 	for _, member := range members {
 		value := text[member.Value.Start:member.Value.End]
 		switch member.Key {

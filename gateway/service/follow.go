@@ -190,10 +190,7 @@ const versionForm = "20060102T150405.000Z"
 func (s *Service) released(source *Source, before *served, who caller, query func(string) string) *Release {
 	now := time.Now().UTC()
 	it := *source.namedBy()
-	it.Who, it.When = who.token, now.Format(time.RFC3339)
-	if it.Who == "" {
-		it.Who = "this machine, without a token"
-	}
+	it.Who, it.When = who.name(), now.Format(time.RFC3339)
 	for _, part := range []struct {
 		word string
 		to   *string

@@ -44,7 +44,12 @@ func (s *Service) handler() http.Handler {
 		"/v1/check":     s.checkPath,
 		"/v1/coverage":  s.coveragePath,
 		"/v1/tables":    s.tablesPath,
+		"/v1/trial":     s.trialPath,
+		"/v1/releases":  s.releasesPath,
 		"/":             page.Handle,
+	}
+	if s.options.Admin != nil {
+		delete(pages, "/metrics")
 	}
 	below := map[string]http.HandlerFunc{"/problems/": s.problemsPath, explainStart: s.explainPath, page.Files: page.Handle}
 	return http.HandlerFunc(func(w http.ResponseWriter, r *http.Request) {
@@ -57,7 +62,11 @@ func (s *Service) handler() http.Handler {
 			header["Connection"] = []string{"close"}
 		}
 		isCall := strings.HasPrefix(r.URL.Path, servicesPath) && len(r.URL.Path) > len(servicesPath)
-		if p := queryProblem(r); p != nil {
+		p := s.siteProblem(r)
+		if p == nil {
+			p = queryProblem(r)
+		}
+		if p != nil {
 			if isCall {
 				s.metrics.called(p.Status, time.Since(start))
 			}
@@ -85,6 +94,21 @@ func (s *Service) handler() http.Handler {
 		// A model that is put or checked may take long, and so may explanations; all else is at hand.
 		if r.Method != http.MethodPut && r.Method != http.MethodPost {
 			limitWrite(r, longAnswer+1)
+		}
+		path(w, r)
+	})
+}
+
+// adminHandler answers those who look after the service.
+func (s *Service) adminHandler() http.Handler {
+	pages := map[string]http.HandlerFunc{"/healthz": s.healthPath, "/readyz": s.readyPath, "/metrics": s.metrics.handler().ServeHTTP}
+	return http.HandlerFunc(func(w http.ResponseWriter, r *http.Request) {
+		id := requestID(r, time.Now())
+		w.Header()["X-Request-Id"] = []string{id}
+		path := pages[r.URL.Path]
+		if path == nil {
+			problemPath.with(r.URL.Path).write(w, id)
+			return
 		}
 		path(w, r)
 	})

@@ -18,7 +18,9 @@ type metrics struct {
 	seconds  prometheus.Histogram
 	requests *prometheus.CounterVec
 	restarts prometheus.Counter
-	puts     *prometheus.CounterVec
+	// refusedConnections counts those for which their address had no place.
+	refusedConnections prometheus.Counter
+	puts               *prometheus.CounterVec
 	// releaseFaults counts releases that could not be put in force.
 	releaseFaults prometheus.Counter
 	nulls         *prometheus.CounterVec
@@ -53,6 +55,7 @@ func newMetrics(s *Service) *metrics {
 	m.seconds = times("call_seconds", "How long calls took, from the header to the answer.")
 	m.requests = counters("requests_total", "Requests that were asked of engines, by what became of them.", "outcome")
 	m.restarts = counter("engine_restarts_total", "Engines that ended and were begun anew.")
+	m.refusedConnections = counter("refused_connections_total", "Connections that were refused since their address had too many.")
 	m.puts = counters("puts_total", "Models that were put, by the status of the answer.", "status")
 	m.releaseFaults = counter("release_faults_total", "Releases that could not be put in force.")
 	m.nulls = counters("null_results_total", "Results that are null, by the name of the service.", "service")
@@ -97,7 +100,7 @@ func (m *metrics) gauges(s *Service) {
 		return float64(named)
 	})
 	gauge("held_bytes", "Bytes of bodies and results that are held.", func() float64 { return float64(s.bodies.held.Load()) })
-	gauge("connections", "Connections that are open.", func() float64 { return float64(s.connections.Load()) })
+	gauge("connections", "Connections that are open.", func() float64 { return float64(s.places.count()) })
 	gauge("model_since_seconds", "When the model in force was put in force, in seconds since 1970.", func() float64 {
 		return float64(s.model.Load().since.Unix())
 	})

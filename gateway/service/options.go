@@ -1,6 +1,7 @@
 package service
 
 import (
+	"crypto/tls"
 	"fmt"
 	"net"
 	"time"
@@ -15,10 +16,21 @@ type Options struct {
 	Named string
 	// ReadDMN reads .dmn files that are put; nil where none are read.
 	ReadDMN func(text []byte) (*Source, error)
+	// Trier holds models against each other over the journal; nil where none are.
+	Trier Trier
 	// Listener is where connections come in. Shared says that its socket stays open when the service ends, so that what waits
 	// there is taken by another process.
 	Listener net.Listener
 	Shared   bool
+	// Admin is where those look after the service who do; nil where they come in by Listener too.
+	Admin net.Listener
+	// TLS has the certificates of connections; nil where they are in the clear. Reload reads its files again.
+	TLS    *tls.Config
+	Reload func() error
+	// IsOpen says that anyone may call.
+	IsOpen bool
+	// AddressLimit is the most connections of one address at once.
+	AddressLimit int
 	// Lenient takes inputs that a service doesn't know, and leaves them aside, also where the model has the types of its inputs.
 	Lenient bool
 	// Processes is the number of engines, Memory the limit of the address space of each in bytes (0 is none), and
@@ -57,9 +69,11 @@ const (
 	MaxList = 10_000
 	// bodiesLimit is the most bytes of bodies that are read and not yet answered, in all.
 	bodiesLimit = 256 << 20
-	// maxConnections is the most connections at once; more wait until one ends.
-	maxConnections = 8192
-	maxHeader      = 16 << 10
+	// MaxConnections is the most connections at once; more wait until one ends.
+	MaxConnections = 8192
+	// maxAdmin is the most at once of those who look after the service.
+	maxAdmin  = 256
+	maxHeader = 16 << 10
 
 	headerPatience = 5 * time.Second
 	readPatience   = 30 * time.Second
@@ -93,6 +107,8 @@ func (o *Options) Check() error {
 		return fmt.Errorf("--memory is at least 32MiB: an engine takes some of it for itself")
 	case o.ClientLimit < 1 || o.Limit < o.ClientLimit:
 		return fmt.Errorf("--client-limit is at least 1, and --limit at least as much")
+	case o.AddressLimit < 1 || o.AddressLimit > MaxConnections:
+		return fmt.Errorf("--address-limit is a number from 1 to %d, not %d", MaxConnections, o.AddressLimit)
 	case o.JournalSize < 1<<20:
 		return fmt.Errorf("--journal-size is at least 1MiB")
 	case o.JournalLimit != 0 && o.JournalLimit < 2*o.JournalSize:

@@ -30,6 +30,11 @@ var (
 	problemRight = &problemKind{"right", http.StatusForbidden, "The caller may not do this",
 		"A model is put with a token that has the right put. Without tokens it is put from the machine itself alone, " +
 			"and not through a proxy."}
+	problemHost = &problemKind{"host", http.StatusMisdirectedRequest, "The service is not called so",
+		"Without tokens a service that listens on loopback is called by a loopback address or localhost: another name may be one that " +
+			"a page of another site made to lead here. With --open it takes any."}
+	problemSite = &problemKind{"site", http.StatusForbidden, "A page of another site sent this",
+		"A browser sends what a page asks for. Pages of other sites may ask for nothing here but to read what needs no token."}
 	problemPath = &problemKind{"path", http.StatusNotFound, "There is nothing here",
 		"The paths are /v1/services/SERVICE, /v1/model, /openapi.json, /healthz, /readyz and /metrics; / is a page for people."}
 	problemService = &problemKind{"service", http.StatusNotFound, "The model has no such service",
@@ -72,9 +77,9 @@ var (
 	problemWaited = &problemKind{"waited", http.StatusServiceUnavailable, "No engine came to the request",
 		"It waited for half a minute. Try again after as many seconds as Retry-After says."}
 	problemLate = &problemKind{"late", http.StatusGatewayTimeout, "The request takes longer than the deadline",
-		"It was tried twice. It will take as long again."}
+		"It was tried twice. It will take as long again. For a minute it is refused at once."}
 	problemDied = &problemKind{"died", http.StatusInternalServerError, "An engine ended at the request",
-		"It was tried twice. It may need more memory than --memory allows."}
+		"It was tried twice. It may need more memory than --memory allows. For a minute it is refused at once."}
 	problemHuge = &problemKind{"huge", http.StatusInternalServerError, "The result is too long",
 		"A result has at most 16 MiB, and those of a list have 64 MiB in all."}
 	problemInside = &problemKind{"inside", http.StatusInternalServerError, "The service has a fault",
@@ -85,7 +90,7 @@ var (
 var problemKinds = func() map[string]*problemKind {
 	kinds := map[string]*problemKind{}
 	for _, kind := range []*problemKind{
-		problemSyntax, problemHeader, problemTwice, problemUnknown, problemLeft, problemToken, problemRight, problemPath, problemService, problemUnkept, problemMethod,
+		problemSyntax, problemHeader, problemTwice, problemUnknown, problemLeft, problemToken, problemRight, problemHost, problemSite, problemPath, problemService, problemUnkept, problemMethod,
 		problemLong, problemShape, problemValue, problemLimit, problemModel, problemMatch, problemVersion, problemBusy, problemFull,
 		problemStopping, problemJournal, problemState, problemWaited, problemLate, problemDied, problemHuge, problemInside,
 	} {

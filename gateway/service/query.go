@@ -23,6 +23,8 @@ var queryWords = map[string][]string{
 	"/v1/check":            {},
 	"/v1/coverage":         {"model", "service"},
 	"/v1/tables":           {"model"},
+	"/v1/trial":            {"model", "against", "client", "service", "rule", "release", "from", "to", "most", "csv"},
+	"/v1/releases":         {},
 	"/openapi.json":        {},
 }
 

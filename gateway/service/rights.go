@@ -20,15 +20,25 @@ type caller struct {
 	client string
 	// token is the name of its token, named what it said in X-Client; each may be empty.
 	token, named string
-	// mayPut says that a PUT of it is taken.
-	mayPut bool
+	// owner is whose its slow requests are: its token's name, or its address.
+	owner string
+	// mayCall, mayPut and mayRead say that it may ask services, that a PUT of it is taken, and that it may read recorded requests.
+	mayCall, mayPut, mayRead bool
+}
+
+// name is who it is for people.
+func (c *caller) name() string {
+	if c.token == "" {
+		return "this machine, without a token"
+	}
+	return c.token
 }
 
 // A token is one line of the file of tokens.
 type token struct {
 	name string
-	// mayCall and mayPut are rights. spread says that requests without X-Client keep no order.
-	mayCall, mayPut, spread bool
+	// mayCall, mayPut and mayRead are rights. isOrdered says that requests without X-Client keep their order.
+	mayCall, mayPut, mayRead, isOrdered bool
 }
 
 // tokens has each token by the SHA-256 of what is sent.
@@ -77,10 +87,14 @@ func (t tokens) add(text string) error {
 			it.mayCall = true
 		case "put":
 			it.mayPut = true
+		case "read":
+			it.mayRead = true
+		case "ordered":
+			it.isOrdered = true
 		case "spread":
-			it.spread = true
+			// Earlier versions kept the order of a token's requests unless it was there.
 		default:
-			return fmt.Errorf("%q is no right; there are call, put and spread", right)
+			return fmt.Errorf("%q is no right; there are call, put, read and ordered", right)
 		}
 	}
 	sum, err := hex.DecodeString(words[2])
@@ -98,8 +112,26 @@ func (t tokens) add(text string) error {
 // maxClient is the most bytes of a client's name.
 const maxClient = 64
 
-// caller finds who sends a request, and what it may do.
+// caller finds who sends a request, and refuses a POST of who may not call.
 func (s *Service) caller(r *http.Request) (caller, *problem) {
+	who, p := s.known(r)
+	if p == nil && r.Method == http.MethodPost && !who.mayCall {
+		return caller{}, problemRight.with("the token " + who.token + " may not call")
+	}
+	return who, p
+}
+
+// reader finds who asks for recorded requests, and refuses who may not read them.
+func (s *Service) reader(r *http.Request) (caller, *problem) {
+	who, p := s.known(r)
+	if p == nil && !who.mayRead {
+		return who, problemRight.with("recorded requests need a token with the right read")
+	}
+	return who, p
+}
+
+// known finds who sends a request, and what it may do.
+func (s *Service) known(r *http.Request) (caller, *problem) {
 	named := ""
 	if values := r.Header["X-Client"]; len(values) > 0 {
 		named = values[0]
@@ -109,7 +141,8 @@ func (s *Service) caller(r *http.Request) (caller, *problem) {
 	}
 	all := s.tokens.Load()
 	if all == nil {
-		return caller{client: named, named: named, mayPut: r.Method == http.MethodPut && isLocal(r)}, nil
+		isOwn := isLocal(r)
+		return caller{client: named, named: named, owner: hostOf(r.RemoteAddr), mayCall: true, mayPut: isOwn, mayRead: isOwn}, nil
 	}
 	scheme, sent, _ := strings.Cut(r.Header.Get("Authorization"), " ")
 	it, is := (*all)[sha256.Sum256([]byte(strings.TrimSpace(sent)))]
@@ -117,16 +150,22 @@ func (s *Service) caller(r *http.Request) (caller, *problem) {
 		s.refusedToken(r)
 		return caller{}, problemToken.with("")
 	}
-	if r.Method == http.MethodPost && !it.mayCall {
-		return caller{}, problemRight.with("the token " + it.name + " may not call")
-	}
-	who := caller{client: it.name, token: it.name, named: named, mayPut: it.mayPut}
-	if named != "" {
+	who := caller{token: it.name, owner: it.name, named: named, mayCall: it.mayCall, mayPut: it.mayPut, mayRead: it.mayRead}
+	switch {
+	case named != "":
 		who.client = it.name + " " + named
-	} else if it.spread {
-		who.client = ""
+	case it.isOrdered:
+		who.client = it.name
 	}
 	return who, nil
+}
+
+// hostOf is an address without its port.
+func hostOf(address string) string {
+	if at := strings.LastIndexByte(address, ':'); at > 0 {
+		return address[:at]
+	}
+	return address
 }
 
 // isLocal says whether a request comes from this machine, straight and by its address: through a proxy, or under another
@@ -137,10 +176,24 @@ func isLocal(r *http.Request) bool {
 			return false
 		}
 	}
+	if isUnix(r) {
+		return true
+	}
 	from, err := netip.ParseAddrPort(r.RemoteAddr)
 	if err != nil || !from.Addr().Unmap().IsLoopback() {
 		return false
 	}
+	return isLoopbackHost(r)
+}
+
+// isUnix says whether a request comes through a unix socket.
+func isUnix(r *http.Request) bool {
+	address, is := r.Context().Value(http.LocalAddrContextKey).(net.Addr)
+	return is && address.Network() == "unix"
+}
+
+// isLoopbackHost says whether a request calls this machine by its own address, or localhost.
+func isLoopbackHost(r *http.Request) bool {
 	host, _, err := net.SplitHostPort(r.Host)
 	if err != nil {
 		host = r.Host

@@ -2,6 +2,7 @@ package service
 
 import (
 	"context"
+	"crypto/tls"
 	"errors"
 	"fmt"
 	"log"
@@ -15,8 +16,6 @@ import (
 	"sync"
 	"sync/atomic"
 	"time"
-
-	"golang.org/x/net/netutil"
 
 	"gateway/engine"
 	"gateway/journal"
@@ -43,6 +42,8 @@ type Service struct {
 	shelf     shelf
 	// explaining bounds how many explanations are made at once.
 	explaining chan struct{}
+	// trying lets one trial run at a time.
+	trying chan struct{}
 	// putting lets one model be put at a time, following is what was seen of the folder of releases.
 	putting   sync.Mutex
 	following following
@@ -50,7 +51,11 @@ type Service struct {
 	stopping atomic.Bool
 	// isOverridden says that the model of the command line is not served, since another was put before.
 	isOverridden bool
-	connections  atomic.Int64
+	places       *connections
+	// refusedAt is the second at which a refused connection was last logged.
+	refusedAt atomic.Int64
+	// isPrivate says that this machine alone may call, and without a token.
+	isPrivate bool
 }
 
 var errLongModel = errors.New("the model is too long")
@@ -119,9 +124,13 @@ func newService(ctx context.Context, options Options) (*Service, error) {
 	}
 	s := &Service{options: options, version: version, engineHeader: []string{version}, statePath: options.State}
 	s.hasTables = engine.HasTables(ctx, options.Engine)
+	if options.AddressLimit == 0 {
+		s.options.AddressLimit = MaxConnections / 2
+	}
+	s.places, s.isPrivate = newConnections(MaxConnections, s.options.AddressLimit), isPrivate(options.Listener) && !options.IsOpen
 	s.clients, s.turns = newClients(options.ClientLimit, options.Limit), newTurns()
 	s.bodies.limit = bodiesLimit
-	s.explaining = make(chan struct{}, options.Processes)
+	s.explaining, s.trying = make(chan struct{}, options.Processes), make(chan struct{}, 1)
 	s.metrics = newMetrics(s)
 	if s.statePath == "" && options.Journal != "" && options.Releases == "" {
 		s.statePath = filepath.Join(options.Journal, stateName)
@@ -278,7 +287,15 @@ func (s *Service) renew(ctx context.Context) {
 		if s.options.Releases != "" {
 			s.followOnce(ctx, true)
 		}
-		s.options.Log("the journal has new files, and the tokens were read again")
+		said := "the journal has new files, and the tokens were read again"
+		if s.options.Reload != nil {
+			if err := s.options.Reload(); err != nil {
+				s.options.Log("the certificates stay as they were: %v", err)
+			} else {
+				said += ", and so were the certificates"
+			}
+		}
+		s.options.Log("%s", said)
 	}
 }
 
@@ -287,27 +304,23 @@ type connectionKey struct{}
 // serve answers until the context ends, and then ends in order: no new connection, then what was taken, then the engines,
 // then the journal.
 func (s *Service) serve(ctx context.Context) error {
-	server := &http.Server{
-		Handler:           s.handler(),
-		ReadHeaderTimeout: headerPatience,
-		ReadTimeout:       readPatience,
-		WriteTimeout:      s.options.answerPatience(),
-		IdleTimeout:       idlePatience,
-		MaxHeaderBytes:    maxHeader,
-		ErrorLog:          log.New(&logWriter{s.options.Log}, "", 0),
-		ConnState:         s.count,
-		ConnContext: func(ctx context.Context, connection net.Conn) context.Context {
-			return context.WithValue(ctx, connectionKey{}, connection)
-		},
+	server := s.server(s.handler(), s.places)
+	open := s.options.Listener
+	if s.options.TLS != nil {
+		open = tls.NewListener(open, s.options.TLS)
 	}
-	listener := netutil.LimitListener(s.options.Listener, maxConnections)
+	listener := &boundListener{Listener: open, places: s.places, ended: make(chan struct{}), refused: s.refusedConnection}
 	failed := make(chan error, 1)
 	go func() {
 		failed <- server.Serve(listener)
 	}()
+	if s.options.Admin != nil {
+		stop := s.serveAdmin()
+		defer stop()
+	}
 	model := s.model.Load()
-	s.options.Log("serving %s, SHA-256 %s, on http://%s with %d engines of version %s",
-		s.originOf(model), model.wholeSum, s.options.Listener.Addr(), s.options.Processes, s.version)
+	s.options.Log("serving %s, SHA-256 %s, on %s with %d engines of version %s",
+		s.originOf(model), model.wholeSum, s.url(), s.options.Processes, s.version)
 	notify("READY=1")
 	select {
 	case err := <-failed:
@@ -327,13 +340,47 @@ func (s *Service) originOf(model *served) string {
 	return s.options.Named
 }
 
-func (s *Service) count(_ net.Conn, state http.ConnState) {
-	switch state {
-	case http.StateNew:
-		s.connections.Add(1)
-	case http.StateClosed, http.StateHijacked:
-		s.connections.Add(-1)
+// server answers connections, whose places are counted.
+func (s *Service) server(handler http.Handler, places *connections) *http.Server {
+	return &http.Server{
+		Handler:           handler,
+		ReadHeaderTimeout: headerPatience,
+		ReadTimeout:       readPatience,
+		WriteTimeout:      s.options.answerPatience(),
+		IdleTimeout:       idlePatience,
+		MaxHeaderBytes:    maxHeader,
+		ErrorLog:          log.New(&logWriter{s.options.Log}, "", 0),
+		ConnState:         places.see,
+		ConnContext: func(ctx context.Context, connection net.Conn) context.Context {
+			return context.WithValue(ctx, connectionKey{}, connection)
+		},
 	}
+}
+
+// serveAdmin answers those who look after the service, and gives what ends it.
+func (s *Service) serveAdmin() func() {
+	places := newConnections(maxAdmin, maxAdmin)
+	server := s.server(s.adminHandler(), places)
+	listener := &boundListener{Listener: s.options.Admin, places: places, ended: make(chan struct{}), refused: func(net.Addr) {}}
+	go func() {
+		if err := server.Serve(listener); !errors.Is(err, http.ErrServerClosed) {
+			s.options.Log("nobody can look after the service any more: %v", err)
+		}
+	}()
+	s.options.Log("looked after at %s", s.options.Admin.Addr())
+	return func() { _ = server.Close() }
+}
+
+// url is where the service is called.
+func (s *Service) url() string {
+	at := s.options.Listener.Addr()
+	switch {
+	case at.Network() == "unix":
+		return "unix:" + at.String()
+	case s.options.TLS != nil:
+		return "https://" + at.String()
+	}
+	return "http://" + at.String()
 }
 
 // stop ends in order. Ended is sent to once no connection is accepted any more.
@@ -351,7 +398,7 @@ func (s *Service) stop(server *http.Server, listener net.Listener, ended <-chan 
 	_ = listener.Close()
 	<-ended
 	// Whoever keeps a connection open may have sent a request that was not read yet. Each answer says that it is the last.
-	for until := time.Now().Add(drainPatience); s.connections.Load() > 0 && time.Now().Before(until); {
+	for until := time.Now().Add(drainPatience); s.places.count() > 0 && time.Now().Before(until); {
 		time.Sleep(10 * time.Millisecond)
 	}
 	var first error

@@ -95,10 +95,14 @@ func serve(t *testing.T, model string, options Options) *running {
 	if options.JournalSize == 0 {
 		options.JournalSize = 1 << 20
 	}
-	if options.Listener, err = net.Listen("tcp", "127.0.0.1:0"); err != nil {
-		t.Fatal(err)
+	at := options.Listener
+	if at == nil {
+		if at, err = net.Listen("tcp", "127.0.0.1:0"); err != nil {
+			t.Fatal(err)
+		}
+		options.Listener = at
 	}
-	r := &running{url: "http://" + options.Listener.Addr().String(), ended: make(chan error, 1)}
+	r := &running{url: "http://" + at.Addr().String(), ended: make(chan error, 1)}
 	options.Log = func(form string, words ...any) {
 		r.mu.Lock()
 		r.log = append(r.log, fmt.Sprintf(form, words...))
@@ -110,6 +114,9 @@ func serve(t *testing.T, model string, options Options) *running {
 	for until := time.Now().Add(time.Minute); ; time.Sleep(10 * time.Millisecond) {
 		if answer, err := oneCall.Get(r.url + "/readyz"); err == nil {
 			answer.Body.Close()
+			break
+		}
+		if at.Addr().Network() == "unix" && strings.Contains(r.said(), "serving") {
 			break
 		}
 		select {
@@ -346,7 +353,7 @@ func (r *running) begin(t *testing.T, inputs, header string) net.Conn {
 		t.Fatal(err)
 	}
 	t.Cleanup(func() { connection.Close() })
-	fmt.Fprintf(connection, "POST /v1/services/s HTTP/1.1\r\nHost: x\r\n%s\r\nContent-Length: %d\r\n\r\n%s", header, len(inputs), inputs)
+	fmt.Fprintf(connection, "POST /v1/services/s HTTP/1.1\r\nHost: localhost\r\n%s\r\nContent-Length: %d\r\n\r\n%s", header, len(inputs), inputs)
 	return connection
 }
 

@@ -180,6 +180,9 @@ func (d *decisionService) shown(value []byte) []byte {
 	if d.result == nil && (d.toNames == nil || bytes.IndexByte(value, '{') < 0) {
 		return value
 	}
+	if c := lines.Begins(value); d.result != nil && (c == '-' || c >= '0' && c <= '9') {
+		return lines.Compact(make([]byte, 0, len(value)+1), d.result.Decimals(json.Number(value)))
+	}
 	tree, err := lines.Tree(value)
 	if err != nil {
 		return value

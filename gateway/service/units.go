@@ -46,6 +46,9 @@ func unitsOf(of *types.Type, text []byte, span lines.Span) ([]byte, *lines.Value
 	if of == nil || !of.IsCounted() && span.Bad < 0 && of.HoldsPlain(text[span.Start:span.End]) {
 		return text[span.Start:span.End], lines.Value(text, span)
 	}
+	if units, isSeen := of.PlainUnits(text[span.Start:span.End]); isSeen {
+		return units, nil
+	}
 	if fault := lines.Size(text, span); fault != nil {
 		return nil, fault
 	}

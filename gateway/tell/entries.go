@@ -90,34 +90,48 @@ func (u *entryUses) nodes(nodes ...feel.Node) {
 	}
 }
 
-// misspelt are notes on the entries of an input that the model never takes, and that are nearly one that it takes and that is
+// entryNames are entries that texts take of an input.
+type entryNames struct {
+	index *nameIndex
+	has   set
+}
+
+// entryNamesOf are the entries of each input, in the order of their bytes.
+func entryNamesOf(used map[string]set) map[string]*entryNames {
+	of := make(map[string]*entryNames, len(used))
+	for input, entries := range used {
+		names := make([]string, 0, len(entries))
+		for entry := range entries {
+			names = append(names, entry)
+		}
+		sort.Strings(names)
+		of[input] = &entryNames{&nameIndex{names: names}, entries}
+	}
+	return of
+}
+
+// misspelt puts notes on the entries of an input that the model never takes, and that are nearly one that it takes and that is
 // missing.
-func (r *reading) misspelt(doc *lines.Document, name string, value lines.Node) []note {
+func (r *reading) misspelt(doc *lines.Document, name string, value lines.Node) {
 	used := r.used[name]
-	if len(used) == 0 || doc.Kind(value) != '{' {
-		return nil
+	if used == nil || doc.Kind(value) != '{' {
+		return
 	}
 	brought := set{}
 	members := doc.Members(value)
 	for _, member := range members {
 		brought[member.Key] = true
 	}
-	var missing []string
-	for entry := range used {
-		if !brought[entry] {
-			missing = append(missing, entry)
-		}
-	}
-	sort.Strings(missing)
-	var notes []note
 	for _, member := range members {
-		if used[member.Key] {
+		if used.has[member.Key] {
 			continue
 		}
-		if near := nearIn(missing, member.Key); near != "" {
-			said := fmt.Sprintf(`"%s" is an entry of %s that no text takes: %s?`, member.Key, name, near)
-			notes = append(notes, note{noteEntry, member.Key, near, said})
+		entry, near := member.Key, used.index.near(member.Key, brought)
+		if near == "" {
+			continue
 		}
+		r.note(noteEntry, func() note {
+			return note{noteEntry, entry, near, fmt.Sprintf(`"%s" is an entry of %s that no text takes: %s?`, entry, name, near)}
+		})
 	}
-	return notes
 }

@@ -121,25 +121,24 @@ const (
 	noteText  = "text for number"
 )
 
-// texts are notes on a parameter and its entries that are texts, where all tests ask for numbers.
-func (r *reading) texts(doc *lines.Document, name string, value lines.Node) []note {
+// texts puts notes on a parameter and its entries that are texts, where all tests ask for numbers.
+func (r *reading) texts(doc *lines.Document, name string, value lines.Node) {
 	if text, ok := doc.Text(value); ok {
 		if r.numbers[valueName{name, ""}] {
-			return []note{textNote(name, text)}
+			r.note(noteText, func() note { return textNote(name, text) })
 		}
-		return nil
+		return
 	}
 	if doc.Kind(value) != '{' {
-		return nil
+		return
 	}
-	var notes []note
 	for _, member := range doc.Members(value) {
+		key := member.Key
 		text, ok := doc.Text(member.Value)
-		if ok && r.numbers[valueName{name, member.Key}] {
-			notes = append(notes, textNote(name+"."+member.Key, text))
+		if ok && r.numbers[valueName{name, key}] {
+			r.note(noteText, func() note { return textNote(name+"."+key, text) })
 		}
 	}
-	return notes
 }
 
 // textNote is the note on a value that is a text; the number may be meant that the text is.

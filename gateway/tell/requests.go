@@ -30,17 +30,26 @@ type reading struct {
 	// refused are the lines that the engine refuses, by their numbers: the first 1,000, the last of which is this.
 	refused map[int]factNote
 	last    int
-	// services are those of the model in force, names in its order.
-	services map[string][]string
-	names    []string
+	// services are those of the model in force, and names what they are called.
+	services map[string]*parameterNames
+	names    *nameIndex
 	// used are the entries that its texts take of inputs.
-	used map[string]set
+	used map[string]*entryNames
 	// numbers are the values of which all tests ask for numbers.
 	numbers map[valueName]bool
 	// closed are the clients that were closed.
 	closed set
+	// number is that of the line that is read, and isCounted says that the engine's count has its first note of a refusal.
+	number    int
+	isCounted bool
 	// told is how many notes were put, more how many others were not.
 	told, more int
+}
+
+// parameterNames are those of a service.
+type parameterNames struct {
+	index *nameIndex
+	has   set
 }
 
 // notes tells what the engine refuses of the lines of requests, and what is odd in the others.
@@ -57,13 +66,8 @@ func (r *report) notes() {
 	for number := 2; len(rest) > 0; number++ {
 		var line []byte
 		line, rest, _ = bytes.Cut(rest, []byte("\n"))
-		found := reading.of(number, line)
-		if number > reading.last && r.facts.moreNotes > 0 {
-			found = uncounted(found)
-		}
-		for _, it := range found {
-			reading.count(number, it)
-		}
+		reading.number, reading.isCounted = number, number > reading.last && r.facts.moreNotes > 0
+		reading.of(line)
 	}
 	if more := reading.more; more > 0 {
 		r.put(func() string { return fmt.Sprintf("and %d notes more\n", more) },
@@ -72,13 +76,19 @@ func (r *report) notes() {
 	}
 }
 
-// count puts a note, or counts it where enough were put.
-func (r *reading) count(number int, it note) {
-	if r.told < mostNotes {
-		r.put(number, it)
-		return
+// isFull reports whether notes are only counted.
+func (r *reading) isFull() bool { return r.told >= mostNotes }
+
+// note puts a note of this word, or counts it where enough were put.
+func (r *reading) note(word string, say func() note) {
+	switch {
+	case r.isCounted && (word == "service" || word == "value"):
+		r.isCounted = false
+	case r.isFull():
+		r.more++
+	default:
+		r.put(r.number, say())
 	}
-	r.more++
 }
 
 func (r *reading) put(number int, it note) {
@@ -92,38 +102,44 @@ func (r *reading) put(number int, it note) {
 
 // take takes a model for the lines behind it.
 func (r *reading) take(m *model.Model) {
-	r.services, r.names, r.used, r.numbers = map[string][]string{}, nil, usedEntries(m), numbersAsked(m)
+	r.services, r.used, r.numbers = map[string]*parameterNames{}, entryNamesOf(usedEntries(m)), numbersAsked(m)
+	var names []string
 	for at := range m.Services {
-		r.services[m.Services[at].Name] = parameters(&m.Services[at])
-		r.names = append(r.names, m.Services[at].Name)
+		of := parameters(&m.Services[at])
+		r.services[m.Services[at].Name] = &parameterNames{&nameIndex{names: of}, setOf(of)}
+		names = append(names, m.Services[at].Name)
 	}
+	r.names = &nameIndex{names: names}
 }
 
-// of are the notes on a line.
-func (r *reading) of(number int, line []byte) []note {
-	if refused, is := r.refused[number]; is && refused.Note != "service" && refused.Note != "value" {
-		return []note{{word: refused.Note, said: refusal(refused, line)}}
+// of puts the notes on a line.
+func (r *reading) of(line []byte) {
+	if refused, is := r.refused[r.number]; is && refused.Note != "service" && refused.Note != "value" {
+		r.note(refused.Note, func() note { return note{word: refused.Note, said: refusal(refused, line)} })
+		return
 	}
 	doc := lines.NewDocument(line)
-	if doc == nil || r.isRefused(doc) && number > r.last {
-		return nil
+	if doc == nil || r.isRefused(doc) && r.number > r.last {
+		return
 	}
 	if under, ok := doc.Member(doc.Whole, "model"); ok {
 		if m, err := model.Of(doc.Go(under)); err == nil {
 			r.take(m)
 		}
-		return nil
+		return
 	}
 	service, inputs, ok := asked(doc)
 	if !ok {
-		return nil
+		return
 	}
-	names, known := r.services[service]
-	if !known {
-		near := nearIn(r.names, service)
-		return []note{{"service", service, near, orMeant(`"`+service+`" is no service`, near)}}
+	if names, known := r.services[service]; known {
+		r.notesOf(doc, service, names, doc.Members(inputs))
+		return
 	}
-	return r.notesOf(doc, service, names, doc.Members(inputs))
+	r.note("service", func() note {
+		near := r.names.near(service, nil)
+		return note{"service", service, near, orMeant(`"`+service+`" is no service`, near)}
+	})
 }
 
 // isRefused reports whether the engine refuses a request by its form or by its client. It counts such a line, also where it no
@@ -137,16 +153,6 @@ func (r *reading) isRefused(doc *lines.Document) bool {
 	_, _, isAsked := asked(doc)
 	isRequest := hasName && client != "" && len(client) <= mostName && len(doc.Members(doc.Whole)) == 3
 	return isAsked && (!isRequest || r.closed[client])
-}
-
-// uncounted are notes but for one of a refusal that the engine counts.
-func uncounted(notes []note) []note {
-	for at, it := range notes {
-		if it.word == "service" || it.word == "value" {
-			return append(notes[:at:at], notes[at+1:]...)
-		}
-	}
-	return notes
 }
 
 // asked is the service and the inputs of a request; false of another line.
@@ -168,35 +174,50 @@ func orMeant(said, near string) string {
 	return said + ": " + near + "?"
 }
 
-// notesOf are what is odd in the inputs of a request: the names that are no parameters, in the order of their bytes, and then the
-// parameters that are missing or have no value, in their order.
-func (r *reading) notesOf(doc *lines.Document, service string, names []string, inputs []lines.Keyed) []note {
-	var notes []note
-	isParameter := setOf(names)
+// notesOf puts what is odd in the inputs of a request: the names that are no parameters, in the order of their bytes, and then
+// the parameters that are missing or have no value, in their order.
+func (r *reading) notesOf(doc *lines.Document, service string, of *parameterNames, inputs []lines.Keyed) {
 	brought := make(map[string]lines.Node, len(inputs))
 	for _, input := range inputs {
-		brought[input.Key] = input.Value
-		if !isParameter[input.Key] {
-			near := nearIn(names, input.Key)
-			said := fmt.Sprintf(`"%s" is no parameter of %s`, input.Key, service)
-			notes = append(notes, note{"no parameter", input.Key, near, orMeant(said, near)})
+		if of.has[input.Key] {
+			brought[input.Key] = input.Value
+			continue
 		}
+		name := input.Key
+		r.note("no parameter", func() note {
+			near := of.index.near(name, nil)
+			return note{"no parameter", name, near, orMeant(fmt.Sprintf(`"%s" is no parameter of %s`, name, service), near)}
+		})
 	}
-	for _, name := range names {
-		value, ok := brought[name]
-		switch {
-		case !ok:
-			said := fmt.Sprintf("the parameter %s of %s is missing, so it is null", name, service)
-			notes = append(notes, note{"missing", name, "", said})
-		default:
-			if why := noValue(doc.Go(value)); why != "" {
-				notes = append(notes, note{"value", name, "", fmt.Sprintf("what stands under %s is no value: %s", name, why)})
-			}
-			notes = append(notes, r.misspelt(doc, name, value)...)
-			notes = append(notes, r.texts(doc, name, value)...)
+	if r.isFull() {
+		// What is missing isn't looked at one by one: a model may have many more parameters than the line has inputs.
+		r.more += len(of.has) - len(brought)
+		for name, value := range brought {
+			r.notesOfValue(doc, name, value)
 		}
+		return
 	}
-	return notes
+	for _, parameter := range of.index.names {
+		name := parameter
+		if value, ok := brought[name]; ok {
+			r.notesOfValue(doc, name, value)
+			continue
+		}
+		r.note("missing", func() note {
+			return note{"missing", name, "", fmt.Sprintf("the parameter %s of %s is missing, so it is null", name, service)}
+		})
+	}
+}
+
+// notesOfValue puts what is odd in what a request brings for a parameter.
+func (r *reading) notesOfValue(doc *lines.Document, name string, value lines.Node) {
+	if why := noValue(doc.Go(value)); why != "" {
+		r.note("value", func() note {
+			return note{"value", name, "", fmt.Sprintf("what stands under %s is no value: %s", name, why)}
+		})
+	}
+	r.misspelt(doc, name, value)
+	r.texts(doc, name, value)
 }
 
 // noValue says why a JSON value is none of the engine's; empty where it is one.

@@ -1,6 +1,11 @@
 package types
 
-import "bytes"
+import (
+	"bytes"
+	"strconv"
+
+	"gateway/lines"
+)
 
 // HoldsPlain says whether a value is of this type, as far as that is seen without reading its text into a tree: where it is
 // not seen, Check says more. The text is a lawful JSON value with no blanks around it.
@@ -81,7 +86,7 @@ const mostCharacters = 18
 func (t *Type) holdsNumber(text []byte) bool {
 	digits := bytes.TrimPrefix(text, []byte("-"))
 	isNegative := len(digits) < len(text)
-	if len(digits) == 0 || len(text) > mostCharacters || isNegative && digits[0] == '0' {
+	if !t.unit.IsWhole() || len(digits) == 0 || len(text) > mostCharacters || isNegative && digits[0] == '0' {
 		return false
 	}
 	number := int64(0)
@@ -97,7 +102,51 @@ func (t *Type) holdsNumber(text []byte) bool {
 	return t.bounds(number)
 }
 
-// bounds says whether a number is within the bounds, where these are whole.
+// PlainUnits is a number as the engine has it, as far as that is seen without reading its text into a tree: where it is not seen, Units
+// says more. The text is a lawful JSON value with no blanks around it.
+func (t *Type) PlainUnits(text []byte) (units []byte, isSeen bool) {
+	if t.moment != nil || len(t.enum) > 0 || t.unit.Per > 1 || !t.takes("number") || len(text) > mostCharacters {
+		return nil, false
+	}
+	number, decimals, fine := plainDecimal(text)
+	for ; fine && decimals > t.unit.Decimals; decimals-- {
+		fine = number%10 == 0
+		number /= 10
+	}
+	for ; fine && decimals < t.unit.Decimals; decimals++ {
+		fine = number < mostPlain && number > -mostPlain
+		number *= 10
+	}
+	if !fine || !t.bounds(number) {
+		return nil, false
+	}
+	return strconv.AppendInt(make([]byte, 0, mostCharacters+2), number, 10), true
+}
+
+// mostPlain is a number that stays in range times ten.
+const mostPlain = lines.MaxNumber / 10
+
+// plainDecimal is the whole number that the digits of a short number make, and how many of them stand behind its point.
+func plainDecimal(text []byte) (number int64, decimals int, fine bool) {
+	digits := bytes.TrimPrefix(text, []byte("-"))
+	if point := bytes.IndexByte(digits, '.'); point >= 0 {
+		decimals = len(digits) - point - 1
+	}
+	for _, c := range digits {
+		switch {
+		case c >= '0' && c <= '9':
+			number = number*10 + int64(c-'0')
+		case c != '.':
+			return 0, 0, false
+		}
+	}
+	if len(digits) < len(text) {
+		number = -number
+	}
+	return number, decimals, len(digits) > 0
+}
+
+// bounds says whether a number in the type's unit is within the bounds, where these are whole in it.
 func (t *Type) bounds(number int64) bool {
 	for _, end := range t.ends {
 		if !end.isWhole || end.open && number == end.whole || end.below && number < end.whole || !end.below && number > end.whole {

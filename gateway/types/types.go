@@ -11,6 +11,7 @@ import (
 	"encoding/json"
 	"fmt"
 	"math/big"
+	"strconv"
 	"strings"
 	"time"
 
@@ -42,7 +43,7 @@ type bound struct {
 	at          *big.Rat
 	text        string
 	below, open bool
-	// whole is the end itself where isWhole says so.
+	// whole is the end in the type's unit where isWhole says so.
 	whole   int64
 	isWhole bool
 }
@@ -112,9 +113,10 @@ func (t *Type) bound(limit json.Number, below, open bool) {
 	if !is {
 		return
 	}
-	end := bound{at: at, text: limit.String(), below: below, open: open, isWhole: at.IsInt() && at.Num().IsInt64()}
-	if end.isWhole {
-		end.whole = at.Num().Int64()
+	end := bound{at: at, text: limit.String(), below: below, open: open}
+	if units, err := t.unit.Units(limit.String()); err == nil {
+		end.whole, err = strconv.ParseInt(units, 10, 64)
+		end.isWhole = err == nil
 	}
 	t.ends = append(t.ends, end)
 }

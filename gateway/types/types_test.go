@@ -114,3 +114,40 @@ func TestHoldsPlain(t *testing.T) {
 		t.Errorf("only %d are seen to be of their types", seen)
 	}
 }
+
+// TestPlainUnits holds what is seen of a number's text against what is read of it.
+func TestPlainUnits(t *testing.T) {
+	random, seen := rand.New(rand.NewSource(3)), 0
+	for i := 0; i < 20_000; i++ {
+		schema := `{"type":` + pick(random, `"number"`, `["number","null"]`, `"string"`, `"integer"`) + pick(random, "", `,"multipleOf":0.01`, `,"multipleOf":0.001`,
+			`,"multipleOf":0.00000000000001`) + pick(random, "", "", `,"per":12`) + pick(random, "", `,"minimum":0`, `,"exclusiveMaximum":2.5`,
+			`,"maximum":99.95,"minimum":-1`, `,"enum":[1.5,2]`) + "}"
+		of, err := Read(json.RawMessage(schema))
+		if err != nil {
+			t.Fatal(err)
+		}
+		text := pick(random, "", "-") + pick(random, "0", "1", "2", "99", "100", fmt.Sprint(random.Int63()>>uint(random.Intn(63)))) +
+			pick(random, "", ".0", ".5", ".49", ".950", ".001", ".00000000000001", "e2", "E-1", ".5e1")
+		tree, err := lines.Tree([]byte(text))
+		if err != nil {
+			t.Fatal(err)
+		}
+		units, fault := of.Units(tree)
+		came, isSeen := of.PlainUnits([]byte(text))
+		if !isSeen {
+			continue
+		}
+		seen++
+		if fault != nil || string(came) != fmt.Sprint(units) {
+			t.Fatalf("%s of %s: %s is seen, and %v is due, or %v", text, schema, came, units, fault)
+		}
+	}
+	if seen < 1_500 {
+		t.Errorf("only %d numbers are seen", seen)
+	}
+	for _, text := range []string{"null", "true", `"1"`, "", "-"} {
+		if _, isSeen := Any.PlainUnits([]byte(text)); isSeen {
+			t.Errorf("%q is seen as a number", text)
+		}
+	}
+}

@@ -12,6 +12,7 @@ import shutil
 import signal
 import stat
 import subprocess
+import sys
 import urllib.request
 import zipfile
 from collections.abc import Iterator
@@ -242,7 +243,7 @@ def shown(program: str, engine: str, room: Path) -> list[str]:
     return wrong + ([] if progress.endswith("\r\x1b[K") else [f"the progress stays: {progress[-200:]!r}"])
 
 
-# How much more processor time ./desk may take than the engine it becomes.
+# How much more processor time ./desk may take than the engine it becomes; on a slow machine as much as a start of Python there.
 MOST_MORE = 0.015
 
 
@@ -262,7 +263,8 @@ def cost(words: list[str], engine: str) -> float:
 def dear(program: str, engine: str) -> list[str]:
     """What the way to the engine costs, where that is too much."""
     engine_alone = cost([engine, "replay"], engine)
+    most = max(MOST_MORE, cost([sys.executable, "-c", "pass"], engine))
     through = cost([program, "replay"], engine)
     script = cost([str(TOP / "desk"), "replay"], engine)
     return [f"{words} takes {took - engine_alone:.4f} s more than the engine" for words, took in
-            ((program, through), ("./desk", script)) if took - engine_alone > MOST_MORE]
+            ((program, through), ("./desk", script)) if took - engine_alone > most]

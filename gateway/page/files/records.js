@@ -25,7 +25,7 @@ export async function openRecords(file, model, service, isComma) {
   if (/\.csv$/i.test(file.name) || !(/[[{]/.test(first) || /\.(jsonl|ndjson|json)$/i.test(file.name))) {
     return new CSV(blob, bytes.subarray(start), raw.slice(start), start, { model, service, isComma });
   }
-  if (first !== "[") return new Lines(blob, start);
+  if (first !== "[") return new Lines(blob, start, headOf(raw.slice(start)));
   return new List(blob, at + 1, 1 + newlines(raw.slice(0, at)));
 }
 
@@ -84,10 +84,17 @@ function converted(records, { bytes, raw }, make) {
   return { text: made.map((it) => `${it}\n`).join(""), starts, refused, lines: newlines(raw) };
 }
 
+/** How many bytes the first two lines of a file of the journal have, which tell its release; 0 where it is none. */
+function headOf(raw) {
+  const second = raw.indexOf("\n") + 1;
+  const isJournal = /^\{"n":\d+,"begins":true,/.test(raw.slice(second, second + 40));
+  return second > 0 && isJournal ? raw.indexOf("\n", second) + 1 : 0;
+}
+
 /** Lines of JSON. */
 class Lines {
-  constructor(blob, start) {
-    Object.assign(this, { blob, start, line: 1 });
+  constructor(blob, start, head) {
+    Object.assign(this, { blob, start, head, line: 1 });
   }
 
   /** How many bytes of whole records a text begins with, which is not the end of the file. */
@@ -95,9 +102,19 @@ class Lines {
     return raw.lastIndexOf("\n") + 1;
   }
 
+  /** The lines of a piece of a journal as they are, behind the first two. */
+  async recorded({ bytes, raw, start }) {
+    const isFirst = start === this.start;
+    const head = isFirst ? "" : await this.blob.slice(this.start, this.start + this.head).text();
+    const lines = newlines(raw);
+    const starts = [...(isFirst ? [] : [null, null]), ...Array.from({ length: lines + 1 }, (_, at) => at)];
+    return { text: head + new TextDecoder().decode(bytes), starts, refused: [], lines };
+  }
+
   /** The requests of a piece, as `converted` gives them; null where they are those of the file. */
   requests(piece) {
     const { raw } = piece;
+    if (this.head > 0) return this.recorded(piece);
     if (!MARKED.test(raw)) return null;
     const records = [];
     for (let [start, line] = [0, 0]; start < raw.length; line += 1) {

@@ -9,6 +9,8 @@ import (
 	"time"
 
 	amqp "github.com/rabbitmq/amqp091-go"
+
+	"gateway/rabbit/bus"
 )
 
 // aloneVariable says how many messages each partition is sent, and of how many bytes, as 1000,143360.
@@ -18,7 +20,7 @@ const aloneVariable = "DESK_TEST_ALONE"
 const aloneOpen = 16
 
 // aloneKind is the streams that are made for this, and deleted.
-const aloneKind Kind = "alone"
+const aloneKind bus.Kind = "alone"
 
 // TestBrokersAlone measures what the brokers do by themselves: one connection publishes to a stream for each partition,
 // another reads them, and neither does anything else. ops/rabbitmq/test/figures runs it.
@@ -35,13 +37,13 @@ func TestBrokersAlone(t *testing.T) {
 	if err != nil {
 		t.Fatal(err)
 	}
-	settings, err := ReadSettings()
+	b, settings, err := Read()
 	if err != nil {
 		t.Fatal(err)
 	}
 	ctx, stop := context.WithCancel(context.Background())
 	defer stop()
-	writing, reading := connected(t, ctx, settings), connected(t, ctx, settings)
+	writing, reading := connected(t, ctx, b), connected(t, ctx, b)
 	removed := declareAlone(t, writing, settings)
 	defer removed()
 	time.Sleep(5 * time.Second) // the brokers make the copies of a stream once it is declared
@@ -62,9 +64,9 @@ func TestBrokersAlone(t *testing.T) {
 	t.Logf("alone: %.1f messages a second", float64(messages*settings.Partitions)/seconds)
 }
 
-func connected(t *testing.T, ctx context.Context, settings Settings) *Link {
+func connected(t *testing.T, ctx context.Context, b Broker) *Link {
 	t.Helper()
-	link, err := Connect(ctx, settings, "desk test")
+	link, err := b.connect(ctx, "desk test", "")
 	if err != nil {
 		t.Fatal(err)
 	}
@@ -72,9 +74,9 @@ func connected(t *testing.T, ctx context.Context, settings Settings) *Link {
 }
 
 // declareAlone makes the streams, and tells how to delete them.
-func declareAlone(t *testing.T, link *Link, settings Settings) (remove func()) {
+func declareAlone(t *testing.T, link *Link, settings bus.Settings) (remove func()) {
 	t.Helper()
-	channel, err := link.Channel()
+	channel, err := link.channel()
 	if err != nil {
 		t.Fatal(err)
 	}
@@ -93,13 +95,13 @@ func declareAlone(t *testing.T, link *Link, settings Settings) (remove func()) {
 	}
 }
 
-func writeAlone(link *Link, settings Settings, messages int, body []byte) error {
-	publisher, err := link.Publisher()
+func writeAlone(link *Link, settings bus.Settings, messages int, body []byte) error {
+	publisher, err := link.publisher()
 	if err != nil {
 		return err
 	}
 	for number := 0; number < messages*settings.Partitions; number++ {
-		if err := publisher.Publish(Route{Key: settings.Queue(aloneKind, number%settings.Partitions)}, nil, body); err != nil {
+		if err := publisher.Append(bus.Route{Key: settings.Queue(aloneKind, number%settings.Partitions)}, nil, body); err != nil {
 			return err
 		}
 		if publisher.Open() < aloneOpen*settings.Partitions {
@@ -114,7 +116,7 @@ func writeAlone(link *Link, settings Settings, messages int, body []byte) error 
 }
 
 func readAlone(link *Link, queue string, messages int) error {
-	stream, err := link.Read(queue, FromFirst, MostOpen)
+	stream, err := link.Read(bus.Reading{Stream: queue, Window: bus.MostOpen})
 	if err != nil {
 		return err
 	}

@@ -9,6 +9,8 @@ import (
 	"time"
 
 	amqp "github.com/rabbitmq/amqp091-go"
+
+	"gateway/rabbit/bus"
 )
 
 // The lease of a partition is a message in a quorum queue with a single active consumer: who is handed it owns the partition,
@@ -18,27 +20,31 @@ import (
 // its setting consumer_timeout, of half an hour where it isn't set, and of a minute at least.
 const renewal = 15 * time.Second
 
-// A Held is the lease of one partition, once it is this process's.
-type Held struct {
-	Partition  int
-	route      Route
+// A held is the lease of one partition, once it is this process's.
+type held struct {
+	partition  int
+	route      bus.Route
 	link       *Link
 	channel    *amqp.Channel
 	deliveries <-chan amqp.Delivery
-	held       amqp.Delivery
+	message    amqp.Delivery
 }
 
-// WaitForLease waits until one of these partitions is free, and takes its lease. It is kept until the link fails, or the link fails
+// Own waits until one of these partitions is free, and takes its lease. It is kept until the link fails, or the link fails
 // since it can't be kept. Missing is told, again and again, which of the partitions have no queues.
-func WaitForLease(ctx context.Context, link *Link, settings Settings, partitions []int, missing func([]int)) (*Held, error) {
-	publisher, err := link.Publisher()
+func (l *Link) Own(ctx context.Context, settings bus.Settings, partitions []int, missing func([]int)) (int, error) {
+	publisher, err := l.publisher()
 	if err != nil {
-		return nil, err
+		return 0, err
 	}
-	w := &waiting{link: link, publisher: publisher, settings: settings, missing: missing, partitions: partitions,
-		won: make(chan *Held, len(partitions)), enough: make(chan struct{}), asked: make(chan struct{}), faults: make(chan error, 1)}
+	w := &waiting{link: l, publisher: publisher, settings: settings, missing: missing, partitions: partitions,
+		won: make(chan *held, len(partitions)), enough: make(chan struct{}), asked: make(chan struct{}), faults: make(chan error, 1)}
 	go w.ask()
-	return w.wait(ctx)
+	won, err := w.wait(ctx)
+	if err != nil {
+		return 0, err
+	}
+	return won.partition, nil
 }
 
 // A waiting waits for the lease of any partition, of each on a channel of its own. It takes the first at once: a queue that does
@@ -46,17 +52,17 @@ func WaitForLease(ctx context.Context, link *Link, settings Settings, partitions
 type waiting struct {
 	link       *Link
 	publisher  *Publisher
-	settings   Settings
+	settings   bus.Settings
 	missing    func([]int) // is told which partitions have no queues
 	partitions []int
-	leases     []*Held // that were asked for; to be read once asked is closed
-	won        chan *Held
+	leases     []*held // that were asked for; to be read once asked is closed
+	won        chan *held
 	enough     chan struct{} // is closed once a lease is won
 	asked      chan struct{} // is closed once no more are asked for
 	faults     chan error    // has a value where asking has failed
 }
 
-func (w *waiting) wait(ctx context.Context) (*Held, error) {
+func (w *waiting) wait(ctx context.Context) (*held, error) {
 	select {
 	case lease := <-w.won:
 		close(w.enough)
@@ -115,15 +121,15 @@ func (w *waiting) askAll(partitions []int) (missing []int, err error) {
 		if w.isEnough() {
 			return nil, nil
 		}
-		route := w.settings.Route(AnswersExchange, TopicLease, partitions[at])
-		lease := &Held{Partition: partitions[at], route: route, link: w.link}
+		route := w.settings.Route(bus.AnswersExchange, bus.TopicLease, partitions[at])
+		lease := &held{partition: partitions[at], route: route, link: w.link}
 		err := w.askFor(lease)
-		if IsMissing(err) {
-			missing = append(missing, lease.Partition)
+		if isMissing(err) {
+			missing = append(missing, lease.partition)
 			continue
 		}
 		if err != nil {
-			return nil, fmt.Errorf("the lease of partition %d: %w", lease.Partition, err)
+			return nil, fmt.Errorf("the lease of partition %d: %w", lease.partition, err)
 		}
 		w.leases = append(w.leases, lease)
 	}
@@ -131,23 +137,23 @@ func (w *waiting) askAll(partitions []int) (missing []int, err error) {
 }
 
 // askFor asks for a lease; it is handed over through won once it is this process's.
-func (w *waiting) askFor(l *Held) error {
-	channel, err := w.link.Loose()
+func (w *waiting) askFor(l *held) error {
+	channel, err := w.link.loose()
 	if err != nil {
 		return err
 	}
 	if err := channel.Qos(1, 0, false); err != nil {
 		return w.link.Because(err)
 	}
-	queue := w.settings.Queue(Lease, l.Partition)
-	if l.deliveries, err = channel.Consume(queue, strconv.Itoa(l.Partition), false, false, false, false, nil); err != nil {
-		if IsMissing(err) {
+	queue := w.settings.Queue(bus.Lease, l.partition)
+	if l.deliveries, err = channel.Consume(queue, strconv.Itoa(l.partition), false, false, false, false, nil); err != nil {
+		if isMissing(err) {
 			return err
 		}
 		return w.link.Because(err)
 	}
 	l.channel = channel
-	if err := w.publisher.Publish(l.route, nil, nil); err != nil { // a second message is dropped
+	if err := w.publisher.Append(l.route, nil, nil); err != nil { // a second message is dropped
 		return err
 	}
 	go w.watch(l)
@@ -156,14 +162,14 @@ func (w *waiting) askFor(l *Held) error {
 
 // watch waits until the lease is this process's. Where the broker ends the waiting, as for a queue that is deleted, all
 // is begun anew: otherwise the partition would be left to the others.
-func (w *waiting) watch(l *Held) {
+func (w *waiting) watch(l *held) {
 	delivery, open := <-l.deliveries
 	if open {
-		l.held = delivery
+		l.message = delivery
 		w.won <- l
 		return
 	}
-	err := w.link.Because(fmt.Errorf("the lease of partition %d: the broker ended the waiting for it", l.Partition))
+	err := w.link.Because(fmt.Errorf("the lease of partition %d: the broker ended the waiting for it", l.partition))
 	if !w.isEnough() {
 		w.link.Fail(err)
 	}
@@ -179,38 +185,38 @@ func (w *waiting) isEnough() bool {
 }
 
 // giveUp gives up the other partitions, once no more are asked for. What was won of them goes back with its channel.
-func (w *waiting) giveUp(held *Held) {
+func (w *waiting) giveUp(kept *held) {
 	select {
 	case <-w.asked:
 	case <-w.link.Done():
 		return
 	}
 	for _, other := range w.leases {
-		if other == held {
+		if other == kept {
 			continue
 		}
-		err := other.channel.Cancel(strconv.Itoa(other.Partition), false)
+		err := other.channel.Cancel(strconv.Itoa(other.partition), false)
 		if err == nil {
 			err = other.channel.Close()
 		}
 		if err != nil {
-			w.link.Fail(fmt.Errorf("giving up the lease of partition %d: %w", other.Partition, err))
+			w.link.Fail(fmt.Errorf("giving up the lease of partition %d: %w", other.partition, err))
 			return
 		}
 	}
 }
 
 // keep renews the lease until the link fails, or fails the link.
-func (l *Held) keep() {
-	publisher, err := l.link.Publisher()
+func (l *held) keep() {
+	publisher, err := l.link.publisher()
 	for err == nil {
 		err = l.renew(publisher)
 	}
-	l.link.Fail(fmt.Errorf("the lease of partition %d: %w", l.Partition, err))
+	l.link.Fail(fmt.Errorf("the lease of partition %d: %w", l.partition, err))
 }
 
 // renew replaces the message by a new one, after a while.
-func (l *Held) renew(publisher *Publisher) error {
+func (l *held) renew(publisher *Publisher) error {
 	while := time.NewTimer(renewal)
 	defer while.Stop()
 	select {
@@ -218,23 +224,23 @@ func (l *Held) renew(publisher *Publisher) error {
 	case <-l.link.Done():
 		return l.link.Err()
 	}
-	if err := publisher.Publish(l.route, nil, nil); err != nil {
+	if err := publisher.Append(l.route, nil, nil); err != nil {
 		return err
 	}
 	if err := publisher.Settle(); err != nil {
 		return err
 	}
-	if err := l.held.Ack(false); err != nil {
+	if err := l.message.Ack(false); err != nil {
 		return err
 	}
-	late := time.NewTimer(Patience)
+	late := time.NewTimer(bus.Patience)
 	defer late.Stop()
 	select {
 	case delivery, open := <-l.deliveries:
 		if !open {
 			return errors.New("it was taken away")
 		}
-		l.held = delivery
+		l.message = delivery
 		return nil
 	case <-l.link.Done():
 		return l.link.Err()
@@ -242,3 +248,6 @@ func (l *Held) renew(publisher *Publisher) error {
 		return errors.New("it was not handed back")
 	}
 }
+
+// isMissing says of a failure whether a queue isn't there.
+func isMissing(failure error) bool { return (Broker{}).Judge(failure) == bus.Missing }

@@ -7,19 +7,19 @@ import (
 	"time"
 
 	"gateway/rabbit/brokertest"
+	"gateway/rabbit/bus"
 )
 
-func linked(t *testing.T, b *brokertest.Broker, partitions int) (*Link, Settings) {
+func linked(t *testing.T, b *brokertest.Broker, partitions int) (*Link, bus.Settings) {
 	t.Helper()
 	ctx, stop := context.WithCancel(context.Background())
 	t.Cleanup(stop)
-	settings := Settings{Addresses: []string{b.Address}, Partitions: partitions}
-	link, err := Connect(ctx, settings, "test")
+	link, err := Broker{Addresses: []string{b.Address}}.connect(ctx, "test", "")
 	if err != nil {
 		t.Fatal(err)
 	}
 	t.Cleanup(link.Close)
-	return link, settings
+	return link, bus.Settings{Partitions: partitions}
 }
 
 // A partition that is free is taken at once, also where the queues of others do not confirm, and these are given up.
@@ -30,8 +30,8 @@ func TestALeaseBesideQueuesThatDoNotConfirm(t *testing.T) {
 	b.Counts = b.Confirms
 	link, settings := linked(t, b, 8)
 	begun := time.Now()
-	held, err := WaitForLease(context.Background(), link, settings, settings.All(), func([]int) {})
-	if err != nil || held.Partition != 3 || time.Since(begun) >= Patience {
+	held, err := link.Own(context.Background(), settings, settings.All(), func([]int) {})
+	if err != nil || held != 3 || time.Since(begun) >= bus.Patience {
 		t.Fatalf("%+v, %v, after %v", held, err, time.Since(begun))
 	}
 	givenUp(t, b)
@@ -53,9 +53,9 @@ func TestALeaseBesideAQueueThatIsMissing(t *testing.T) {
 	b.Missing = func(queue string) bool { return !brokertest.Is(queue, "lease", "1") }
 	link, settings := linked(t, b, 2)
 	told := make(chan []int, 1)
-	waited := make(chan *Held, 1)
+	waited := make(chan int, 1)
 	go func() {
-		held, _ := WaitForLease(context.Background(), link, settings, settings.All(), func(missing []int) { told <- missing })
+		held, _ := link.Own(context.Background(), settings, settings.All(), func(missing []int) { told <- missing })
 		waited <- held
 	}()
 	if missing := <-told; len(missing) != 1 || missing[0] != 0 {
@@ -75,7 +75,7 @@ func TestTheOthersAreGivenUp(t *testing.T) {
 		return brokertest.Is(queue, "lease", "1") || brokertest.Is(queue, "lease", "2")
 	}
 	link, settings := linked(t, b, 4)
-	if _, err := WaitForLease(context.Background(), link, settings, settings.All(), func([]int) {}); err != nil {
+	if _, err := link.Own(context.Background(), settings, settings.All(), func([]int) {}); err != nil {
 		t.Fatal(err)
 	}
 	givenUp(t, b)
@@ -86,7 +86,7 @@ func TestAWaitingThatTheBrokerEnds(t *testing.T) {
 	b := brokertest.Start(t)
 	b.Ends = func(queue string) bool { return brokertest.Is(queue, "lease", "1") }
 	link, settings := linked(t, b, 2)
-	if _, err := WaitForLease(context.Background(), link, settings, settings.All(), func([]int) {}); err == nil || !strings.Contains(err.Error(), "partition 1") {
+	if _, err := link.Own(context.Background(), settings, settings.All(), func([]int) {}); err == nil || !strings.Contains(err.Error(), "partition 1") {
 		t.Error(err)
 	}
 }

@@ -5,11 +5,12 @@ import (
 	"errors"
 	"fmt"
 	"net"
-	"strings"
 	"sync"
 	"time"
 
 	amqp "github.com/rabbitmq/amqp091-go"
+
+	"gateway/rabbit/bus"
 )
 
 const (
@@ -18,14 +19,12 @@ const (
 	dialTurn    = 500 * time.Millisecond // how long a broker has until the next is tried beside it
 	closePause  = time.Second            // how long a connection may take to end in good order
 	reasonPause = time.Second            // how long the reason of a failure may be on its way
-	// Patience is how long the broker may take to do what it is asked for.
-	Patience = 30 * time.Second
 )
 
 // A Link is a connection to one of the brokers. It fails as a whole: where a channel, a message or a wait fails, all
 // of it ends, and the work is begun anew on another.
 type Link struct {
-	Address    string // of the broker
+	address    string // of the broker
 	connection *amqp.Connection
 	socket     net.Conn
 	done       chan struct{}
@@ -33,15 +32,12 @@ type Link struct {
 	err        error
 }
 
-// ErrAway tells that no broker can be reached.
-var ErrAway = errors.New("no broker can be reached")
-
-// An away error is ErrAway, with the reason of one of the brokers.
+// An away error is bus.ErrAway, with the reason of one of the brokers.
 type away struct{ reason error }
 
-func (a *away) Error() string { return fmt.Sprintf("%v: %v", ErrAway, a.reason) }
+func (a *away) Error() string { return fmt.Sprintf("%v: %v", bus.ErrAway, a.reason) }
 
-func (a *away) Is(target error) bool { return target == ErrAway }
+func (a *away) Is(target error) bool { return target == bus.ErrAway }
 
 func (a *away) Unwrap() error { return a.reason }
 
@@ -50,12 +46,12 @@ type dialed struct {
 	err  error
 }
 
-// Connect connects to one of the brokers, in random order. One that does not answer at once holds nothing up: the next
+// connect connects to one of the brokers, in random order. One that does not answer at once holds nothing up: the next
 // is tried beside it. The link fails where the context ends.
-func Connect(ctx context.Context, settings Settings, name string) (*Link, error) {
-	order, open := settings.order(), 0
+func (b Broker) connect(ctx context.Context, name, last string) (*Link, error) {
+	order, open := b.order(last), 0
 	results := make(chan dialed, len(order))
-	var last error
+	var fault error
 	for len(order) > 0 || open > 0 {
 		var turn <-chan time.Time
 		if len(order) > 0 {
@@ -75,12 +71,12 @@ func Connect(ctx context.Context, settings Settings, name string) (*Link, error)
 				go result.link.watch(ctx)
 				return result.link, nil
 			}
-			if is, _ := refused(last); !is {
-				last = result.err
+			if is := b.Judge(fault); is != bus.Refused && is != bus.Doubted {
+				fault = result.err
 			}
 		}
 	}
-	return nil, &away{last}
+	return nil, &away{fault}
 }
 
 // closeOthers closes the connections that came too late.
@@ -93,7 +89,7 @@ func closeOthers(results <-chan dialed, open int) {
 }
 
 func dial(ctx context.Context, address, name string) (*Link, error) {
-	link := &Link{Address: address, done: make(chan struct{})}
+	link := &Link{address: address, done: make(chan struct{})}
 	properties := amqp.NewConnectionProperties()
 	properties["connection_name"] = name
 	connection, err := amqp.DialConfig(address, amqp.Config{
@@ -167,14 +163,17 @@ func (l *Link) close() {
 	}
 }
 
+// Address is that of the broker.
+func (l *Link) Address() string { return l.address }
+
 // Done is closed once the link has failed.
 func (l *Link) Done() <-chan struct{} { return l.done }
 
 // Err is why the link failed. It is to be asked once Done is closed.
 func (l *Link) Err() error { return l.err }
 
-// Channel opens a channel. Where it fails, the link does.
-func (l *Link) Channel() (*amqp.Channel, error) {
+// channel opens a channel. Where it fails, the link does.
+func (l *Link) channel() (*amqp.Channel, error) {
 	channel, err := l.connection.Channel()
 	if err != nil {
 		return nil, l.Because(fmt.Errorf("opening a channel: %w", err))
@@ -188,8 +187,8 @@ func (l *Link) Channel() (*amqp.Channel, error) {
 	return channel, nil
 }
 
-// Loose opens a channel whose failure isn't that of the link.
-func (l *Link) Loose() (*amqp.Channel, error) {
+// loose opens a channel whose failure isn't that of the link.
+func (l *Link) loose() (*amqp.Channel, error) {
 	channel, err := l.connection.Channel()
 	if err != nil {
 		return nil, l.Because(fmt.Errorf("opening a channel: %w", err))
@@ -218,10 +217,4 @@ func (l *Link) end(channel *amqp.Channel) error {
 		return l.Because(fmt.Errorf("closing a channel: %w", err))
 	}
 	return nil
-}
-
-// IsOther tells of a failure whether a queue is there with other arguments than it was declared with.
-func IsOther(failure error) bool {
-	var reason *amqp.Error
-	return errors.As(failure, &reason) && reason.Code == amqp.PreconditionFailed && strings.Contains(reason.Reason, "inequivalent arg")
 }

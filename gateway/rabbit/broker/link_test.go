@@ -7,17 +7,18 @@ import (
 	"time"
 
 	"gateway/rabbit/brokertest"
+	"gateway/rabbit/bus"
 )
 
 // Brokers that are there and do not answer hold a connection up for no longer than their turns are.
 func TestConnectingBesideSilentBrokers(t *testing.T) {
-	settings := Settings{Partitions: 1}
+	var b Broker
 	for range make([]int, 5) {
-		settings.Addresses = append(settings.Addresses, brokertest.Silent(t))
+		b.Addresses = append(b.Addresses, brokertest.Silent(t))
 	}
-	settings.Addresses = append(settings.Addresses, brokertest.Start(t).Address)
+	b.Addresses = append(b.Addresses, brokertest.Start(t).Address)
 	begun := time.Now()
-	link, err := Connect(context.Background(), settings, "test")
+	link, err := b.Connect(context.Background(), "test", "")
 	if err != nil {
 		t.Fatal(err)
 	}
@@ -29,8 +30,8 @@ func TestConnectingBesideSilentBrokers(t *testing.T) {
 
 // Where no broker is reached, this is what is told.
 func TestNoBroker(t *testing.T) {
-	settings := Settings{Addresses: []string{"amqp://127.0.0.1:1", "amqp://127.0.0.1:2"}, Partitions: 1}
-	if _, err := Connect(context.Background(), settings, "test"); !errors.Is(err, ErrAway) {
+	b := Broker{Addresses: []string{"amqp://127.0.0.1:1", "amqp://127.0.0.1:2"}}
+	if _, err := b.Connect(context.Background(), "test", ""); !errors.Is(err, bus.ErrAway) {
 		t.Errorf("%v", err)
 	}
 }
@@ -39,14 +40,13 @@ func TestNoBroker(t *testing.T) {
 func TestStreamsThatAreNotCounted(t *testing.T) {
 	b := brokertest.Start(t)
 	b.Counts = func(string) bool { return false }
-	settings := Settings{Addresses: []string{b.Address}, Partitions: 1}
-	link, err := Connect(context.Background(), settings, "test")
+	link, err := Broker{Addresses: []string{b.Address}}.connect(context.Background(), "test", "")
 	if err != nil {
 		t.Fatal(err)
 	}
 	defer link.Close()
 	done := make(chan error, 1)
-	go func() { done <- link.declare(settings, 0, SegmentBytes) }()
+	go func() { done <- link.declare(bus.Settings{Partitions: 1}, 0, SegmentBytes) }()
 	select {
 	case err := <-done:
 		if err != nil {

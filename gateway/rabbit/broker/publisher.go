@@ -7,39 +7,73 @@ import (
 	"time"
 
 	amqp "github.com/rabbitmq/amqp091-go"
+
+	"gateway/rabbit/bus"
 )
 
 // maximumOpen is how many messages of a publisher may be without a confirm: one for each partition, and some marks.
-const maximumOpen = 2 * MaximumPartitions
+const maximumOpen = 2 * bus.MaximumPartitions
 
 // A Publisher publishes messages, and tells of their confirms in the order in which they were published.
 type Publisher struct {
 	link     *Link
 	channel  *amqp.Channel
-	confirms chan amqp.Confirmation
-	returned chan amqp.Return
+	confirms chan error
 	open     []time.Time // when the messages without a confirm were published, in order
 }
 
-// Publisher opens a channel of its own for publishing.
-func (l *Link) Publisher() (*Publisher, error) {
-	channel, err := l.Channel()
+// Appender opens a channel of its own for publishing.
+func (l *Link) Appender() (bus.Appender, error) {
+	publisher, err := l.publisher()
+	if err != nil {
+		return nil, err
+	}
+	return publisher, nil
+}
+
+func (l *Link) publisher() (*Publisher, error) {
+	channel, err := l.channel()
 	if err != nil {
 		return nil, err
 	}
 	if err := channel.Confirm(false); err != nil {
 		return nil, l.Because(fmt.Errorf("asking for confirms: %w", err))
 	}
+	p := &Publisher{link: l, channel: channel, confirms: make(chan error, maximumOpen)}
 	confirms := channel.NotifyPublish(make(chan amqp.Confirmation, maximumOpen))
-	returned := channel.NotifyReturn(make(chan amqp.Return, maximumOpen))
-	return &Publisher{link: l, channel: channel, confirms: confirms, returned: returned}, nil
+	go p.judge(confirms, channel.NotifyReturn(make(chan amqp.Return, maximumOpen)))
+	return p, nil
+}
+
+// judge hands the confirms on, as what they say.
+func (p *Publisher) judge(confirms <-chan amqp.Confirmation, returned <-chan amqp.Return) {
+	defer close(p.confirms)
+	for confirmation := range confirms {
+		p.confirms <- said(confirmation, returned)
+	}
+}
+
+// said is what a confirm says: nil if the message is in its stream.
+func said(confirmation amqp.Confirmation, returned <-chan amqp.Return) error {
+	if !confirmation.Ack {
+		return errors.New("the broker refused a message")
+	}
+	select {
+	case message, open := <-returned: // what comes back is confirmed too, but later
+		if !open {
+			return errors.New("the channel ended")
+		}
+		return fmt.Errorf("no queue for %s (%s): %w", message.RoutingKey, message.ReplyText, bus.ErrMissing)
+	default:
+		return nil
+	}
 }
 
 // Open is how many messages are without a confirm.
 func (p *Publisher) Open() int { return len(p.open) }
 
-// Publish publishes a message.
-func (p *Publisher) Publish(to Route, headers Headers, body []byte) error {
+// Append publishes a message.
+func (p *Publisher) Append(to bus.Route, headers bus.Headers, body []byte) error {
 	now := time.Now()
 	message := amqp.Publishing{Headers: amqp.Table(headers), Body: body, Timestamp: now, DeliveryMode: amqp.Persistent}
 	if err := p.channel.PublishWithContext(context.Background(), to.Exchange, to.Key, true, false, message); err != nil {
@@ -50,23 +84,17 @@ func (p *Publisher) Publish(to Route, headers Headers, body []byte) error {
 }
 
 // Confirms has a value for each confirm; each is to be handed to Take.
-func (p *Publisher) Confirms() <-chan amqp.Confirmation { return p.confirms }
+func (p *Publisher) Confirms() <-chan error { return p.confirms }
 
 // Take takes in the confirm of the oldest message without one.
-func (p *Publisher) Take(confirmation amqp.Confirmation, open bool) error {
-	if !open {
+func (p *Publisher) Take(confirm error, open bool) error {
+	switch {
+	case !open:
 		return p.link.Because(errors.New("the channel ended"))
-	}
-	if !confirmation.Ack || len(p.open) == 0 {
-		return errors.New("the broker refused a message")
-	}
-	select {
-	case message, open := <-p.returned: // what comes back is confirmed too, but later
-		if !open {
-			return p.link.Because(errors.New("the channel ended"))
-		}
-		return fmt.Errorf("no queue for %s (%s): %w", message.RoutingKey, message.ReplyText, ErrMissing)
-	default:
+	case confirm != nil:
+		return confirm
+	case len(p.open) == 0:
+		return errors.New("the broker confirmed what was not published")
 	}
 	p.open = p.open[1:]
 	return nil
@@ -74,26 +102,26 @@ func (p *Publisher) Take(confirmation amqp.Confirmation, open bool) error {
 
 // Late tells whether some message has waited for its confirm for too long.
 func (p *Publisher) Late() error {
-	if len(p.open) > 0 && time.Since(p.open[0]) > Patience {
-		return fmt.Errorf("no confirm for %v", Patience)
+	if len(p.open) > 0 && time.Since(p.open[0]) > bus.Patience {
+		return fmt.Errorf("no confirm for %v", bus.Patience)
 	}
 	return nil
 }
 
 // Settle waits until all messages are confirmed.
 func (p *Publisher) Settle() error {
-	late := time.NewTimer(Patience)
+	late := time.NewTimer(bus.Patience)
 	defer late.Stop()
 	for len(p.open) > 0 {
 		select {
-		case confirmation, open := <-p.confirms:
-			if err := p.Take(confirmation, open); err != nil {
+		case confirm, open := <-p.confirms:
+			if err := p.Take(confirm, open); err != nil {
 				return err
 			}
 		case <-p.link.Done():
 			return p.link.Err()
 		case <-late.C:
-			return fmt.Errorf("no confirm for %v", Patience)
+			return fmt.Errorf("no confirm for %v", bus.Patience)
 		}
 	}
 	return nil

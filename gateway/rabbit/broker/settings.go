@@ -1,105 +1,92 @@
-// Package broker is what the programs of the partitions share of RabbitMQ, and the only one that knows the client library:
-// where the brokers are, the names in them, a connection that ends whole, publishing with confirms, reading a stream, the lease of
-// a partition, how far its log is answered, and trying again.
+// Package broker is the bus on RabbitMQ, and the only package that knows the client library: where the brokers are, a connection
+// that ends whole, publishing with confirms, reading a stream, and the lease of a partition.
 package broker
 
 import (
+	"context"
+	"errors"
 	"fmt"
 	"math/rand"
 	"os"
 	"strconv"
 	"strings"
+	"time"
 
 	amqp "github.com/rabbitmq/amqp091-go"
+
+	"gateway/rabbit/bus"
 )
 
-// The environment variables that every program reads.
-const (
-	BrokersVariable    = "DESK_BROKERS"
-	PartitionsVariable = "DESK_PARTITIONS"
-)
+// A Broker is the bus on RabbitMQ, at these addresses of the scheme amqp or amqps.
+type Broker struct{ Addresses []string }
 
-// MaximumPartitions is how many partitions there may be.
-const MaximumPartitions = 1024
-
-// WindowBytes is how much may be on its way in one direction.
-const WindowBytes = 16 << 20
-
-// MessageBytes is how much of several lines a message carries. A line that is longer has a message of its own.
-const MessageBytes = 256 << 10
-
-// MessageLines is how many lines a message carries at most.
-const MessageLines = 2048
-
-// prefix begins the name of every queue. Its number rises with the form of their messages, so that no program reads those
-// of another form.
-const prefix = "desk.2."
-
-// Registry is the stream in which senders with names of their own claim these.
-const Registry = prefix + "senders"
-
-// A Kind is one of the three queues of a partition.
-type Kind string
-
-// The kinds.
-const (
-	Lines   Kind = "lines"   // a stream: the log
-	Answers Kind = "answers" // a stream: answers and snapshots
-	Lease   Kind = "lease"   // a quorum queue with a single active consumer
-)
-
-// Settings say where the brokers are, and how many partitions there are.
-type Settings struct {
-	Addresses  []string // of the scheme amqp or amqps
-	Partitions int
-	Last       string // the address that is tried last, since it has failed, or empty
-}
-
-// ReadSettings reads the environment. Without it there is one partition, at a broker on this machine. An error does not
-// tell an address, which may have a password.
-func ReadSettings() (Settings, error) {
-	settings := Settings{Addresses: []string{"amqp://127.0.0.1"}, Partitions: 1}
-	if text := os.Getenv(BrokersVariable); text != "" {
-		settings.Addresses = strings.Split(text, ",")
+// Read reads the environment. Without it there is one partition, at a broker on this machine. An error does not tell an
+// address, which may have a password.
+func Read() (Broker, bus.Settings, error) {
+	b, settings := Broker{Addresses: []string{"amqp://127.0.0.1"}}, bus.Settings{Partitions: 1}
+	if text := os.Getenv(bus.BrokersVariable); text != "" {
+		b.Addresses = strings.Split(text, ",")
 	}
-	for at, address := range settings.Addresses {
+	for at, address := range b.Addresses {
 		if _, err := amqp.ParseURI(address); err != nil {
-			return settings, fmt.Errorf("%s: number %d is no address as amqp://HOST:PORT", BrokersVariable, at+1)
+			return b, settings, fmt.Errorf("%s: number %d is no address as amqp://HOST:PORT", bus.BrokersVariable, at+1)
 		}
 	}
-	if text := os.Getenv(PartitionsVariable); text != "" {
+	if text := os.Getenv(bus.PartitionsVariable); text != "" {
 		number, err := strconv.Atoi(text)
-		if err != nil || number < 1 || number > MaximumPartitions {
-			return settings, fmt.Errorf("%s: %q is no number from 1 to %d", PartitionsVariable, text, MaximumPartitions)
+		if err != nil || number < 1 || number > bus.MaximumPartitions {
+			return b, settings, fmt.Errorf("%s: %q is no number from 1 to %d", bus.PartitionsVariable, text, bus.MaximumPartitions)
 		}
 		settings.Partitions = number
 	}
-	return settings, nil
-}
-
-// All are the numbers of the partitions.
-func (s Settings) All() []int {
-	all := make([]int, s.Partitions)
-	for partition := range all {
-		all[partition] = partition
-	}
-	return all
+	return b, settings, nil
 }
 
 // order is the addresses in random order, but for the last.
-func (s Settings) order() []string {
-	var order, last []string
-	for _, at := range rand.Perm(len(s.Addresses)) {
-		if address := s.Addresses[at]; address == s.Last {
-			last = append(last, address)
+func (b Broker) order(last string) []string {
+	var order, end []string
+	for _, at := range rand.Perm(len(b.Addresses)) {
+		if address := b.Addresses[at]; address == last {
+			end = append(end, address)
 		} else {
 			order = append(order, address)
 		}
 	}
-	return append(order, last...)
+	return append(order, end...)
 }
 
-// Queue is the name of a partition's queue. It has the number of partitions: who counts with another finds no queue.
-func (s Settings) Queue(kind Kind, partition int) string {
-	return fmt.Sprintf("%s%s.%d.of.%d", prefix, kind, partition, s.Partitions)
+// Connect connects to one of the brokers.
+func (b Broker) Connect(ctx context.Context, name, last string) (bus.Link, error) {
+	link, err := b.connect(ctx, name, last)
+	if err != nil {
+		return nil, err
+	}
+	return link, nil
+}
+
+// Pause waits, but not beyond the context's end.
+func (b Broker) Pause(ctx context.Context, long time.Duration) {
+	wait := time.NewTimer(long)
+	defer wait.Stop()
+	select {
+	case <-ctx.Done():
+	case <-wait.C:
+	}
+}
+
+// Judge says what a failure means. The client library says that a login was refused also where the connection broke off at that
+// point, so that is doubted.
+func (b Broker) Judge(failure error) bus.Judgement {
+	var reason *amqp.Error
+	switch {
+	case !errors.As(failure, &reason):
+		return bus.Passing
+	case reason.Code == amqp.NotFound:
+		return bus.Missing
+	case reason.Code == amqp.AccessRefused && reason.Server:
+		return bus.Refused
+	case reason.Code == amqp.AccessRefused:
+		return bus.Doubted
+	}
+	return bus.Passing
 }

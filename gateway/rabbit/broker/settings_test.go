@@ -3,22 +3,24 @@ package broker
 import (
 	"strings"
 	"testing"
+
+	"gateway/rabbit/bus"
 )
 
 func TestSettings(t *testing.T) {
-	settings, err := ReadSettings()
-	if err != nil || len(settings.Addresses) != 1 || settings.Partitions != 1 {
+	b, settings, err := Read()
+	if err != nil || len(b.Addresses) != 1 || settings.Partitions != 1 {
 		t.Errorf("without the environment: %+v, %v", settings, err)
 	}
-	t.Setenv(BrokersVariable, "amqp://a:1,amqps://user:secret@b")
-	t.Setenv(PartitionsVariable, "8")
-	settings, err = ReadSettings()
-	if err != nil || len(settings.Addresses) != 2 || settings.Queue(Lines, 3) != "desk.2.lines.3.of.8" {
+	t.Setenv(bus.BrokersVariable, "amqp://a:1,amqps://user:secret@b")
+	t.Setenv(bus.PartitionsVariable, "8")
+	b, settings, err = Read()
+	if err != nil || len(b.Addresses) != 2 || settings.Queue(bus.Lines, 3) != "desk.2.lines.3.of.8" {
 		t.Errorf("%+v, %v", settings, err)
 	}
 	for _, number := range []string{"0", "1025", "x"} {
-		t.Setenv(PartitionsVariable, number)
-		if _, err := ReadSettings(); err == nil {
+		t.Setenv(bus.PartitionsVariable, number)
+		if _, _, err := Read(); err == nil {
 			t.Errorf("%s partitions", number)
 		}
 	}
@@ -27,8 +29,8 @@ func TestSettings(t *testing.T) {
 // A wrong address is told before anything is tried, and without what it says.
 func TestAWrongAddress(t *testing.T) {
 	for _, addresses := range []string{"http://user:secret@a", "amqp://a,b", "amqp://user:secret@a:port", "amqp://a, amqp://b"} {
-		t.Setenv(BrokersVariable, addresses)
-		if _, err := ReadSettings(); err == nil || strings.Contains(err.Error(), "secret") {
+		t.Setenv(bus.BrokersVariable, addresses)
+		if _, _, err := Read(); err == nil || strings.Contains(err.Error(), "secret") {
 			t.Errorf("%s: %v", addresses, err)
 		}
 	}
@@ -36,10 +38,10 @@ func TestAWrongAddress(t *testing.T) {
 
 // A broker that has failed is tried last.
 func TestTheOrderOfBrokers(t *testing.T) {
-	settings := Settings{Addresses: []string{"a", "b", "c"}, Last: "b"}
+	b := Broker{Addresses: []string{"a", "b", "c"}}
 	first := make(map[string]bool)
 	for range make([]int, 100) {
-		order := settings.order()
+		order := b.order("b")
 		if len(order) != 3 || order[2] != "b" {
 			t.Fatal(order)
 		}

@@ -3,129 +3,189 @@ package broker
 import (
 	"errors"
 	"fmt"
+	"sync"
 	"time"
 
 	amqp "github.com/rabbitmq/amqp091-go"
+
+	"gateway/rabbit/bus"
 )
 
-// MostOpen is how many messages of a stream may be on their way. With messages of at most a mebibyte, as the programs
-// publish them but for snapshots, these are 16 MiB.
-const MostOpen = 16
-
-// OpenOf is how many messages of each of so many streams that are read at once may be on their way: of full messages of
-// several lines these are 16 MiB, and of each stream at least two.
-func OpenOf(streams int) int {
-	open := WindowBytes / MessageBytes / streams
-	if open > MostOpen {
-		return MostOpen
-	}
-	if open < 2 {
-		return 2
-	}
-	return open
-}
-
-// OffsetHeader is the header in which the broker tells a message's offset.
-const OffsetHeader = "x-stream-offset"
+// offsetHeader is the header in which the broker tells a message's offset, and is told where a reader begins.
+const offsetHeader = "x-stream-offset"
 
 // A Stream is being read.
 type Stream struct {
-	link    *Link
-	channel *amqp.Channel
-	Arrivals
-	together int // so many messages are acknowledged together
+	link     *Link
+	channel  *amqp.Channel
+	arrivals chan bus.Message
+	together int // so many messages are acknowledged together, which is less work for the broker
 	taken    int // since the last of them
+	closed   chan struct{}
+	mutex    sync.Mutex // is held while a message is acknowledged, and while the channel is closed
+	isClosed bool
 }
 
-// Together lets so many messages be acknowledged together, which is less work for the broker. It is for a stream that is
-// soon closed: what isn't acknowledged is an old delivery to the broker after a while.
-func (s *Stream) Together(count int) {
-	if count > 1 {
-		s.together = count
+// offsetOf is where a reader begins, as the broker is told it.
+func offsetOf(from bus.From) interface{} {
+	switch from.Place {
+	case bus.Last:
+		return "last"
+	case bus.Next:
+		return "next"
+	case bus.At:
+		return from.Offset
+	case bus.Since:
+		return from.Since
 	}
+	return "first"
 }
 
-// Where a reader of a stream begins, beside an offset (an int64) and a time (a time.Time).
-const (
-	FromFirst = "first"
-	FromLast  = "last" // with the last messages that were written together
-	FromNext  = "next"
-)
-
-// Read reads a stream from a place on, with so many messages on their way. What arrives is to be handed to Take.
-func (l *Link) Read(queue string, from interface{}, open int) (*Stream, error) {
-	channel, err := l.Channel()
+// Read reads a stream.
+func (l *Link) Read(what bus.Reading) (bus.Reader, error) {
+	stream, err := l.read(what)
 	if err != nil {
 		return nil, err
 	}
-	if err := channel.Qos(open, 0, false); err != nil {
-		return nil, l.Because(fmt.Errorf("reading %s: %w", queue, err))
-	}
-	deliveries, err := channel.Consume(queue, "", false, false, false, false, amqp.Table{OffsetHeader: from})
+	return stream, nil
+}
+
+func (l *Link) read(what bus.Reading) (*Stream, error) {
+	channel, err := l.channel()
 	if err != nil {
-		return nil, l.Because(fmt.Errorf("reading %s: %w", queue, err))
+		return nil, err
 	}
-	return &Stream{link: l, channel: channel, Arrivals: deliveries, together: 1}, nil
+	if err := channel.Qos(what.Window, 0, false); err != nil {
+		return nil, l.Because(fmt.Errorf("reading %s: %w", what.Stream, err))
+	}
+	deliveries, err := channel.Consume(what.Stream, "", false, false, false, false, amqp.Table{offsetHeader: offsetOf(what.From)})
+	if err != nil {
+		return nil, l.Because(fmt.Errorf("reading %s: %w", what.Stream, err))
+	}
+	s := &Stream{link: l, channel: channel, arrivals: make(chan bus.Message), together: 1, closed: make(chan struct{})}
+	if what.Brief && what.Window >= 8 { // what isn't acknowledged is an old delivery to the broker after a while
+		s.together = what.Window / 4
+	}
+	go s.handOn(deliveries)
+	return s, nil
 }
 
-// Take lets the broker send the next message, and gives the one that has arrived.
-func (s *Stream) Take(delivery amqp.Delivery, open bool) (Message, error) {
-	if !open {
-		return Message{}, s.link.Because(errors.New("the stream's reader ended"))
-	}
-	if s.taken++; s.taken >= s.together {
-		if err := delivery.Ack(s.taken > 1); err != nil {
-			return Message{}, s.link.Because(fmt.Errorf("reading a stream: %w", err))
+// handOn hands the messages on, one after the other, and lets the broker send further ones.
+func (s *Stream) handOn(deliveries <-chan amqp.Delivery) {
+	defer close(s.arrivals)
+	for delivery := range deliveries {
+		message, err := messageOf(delivery)
+		if err != nil {
+			s.link.Fail(err)
+			return
 		}
-		s.taken = 0
+		select {
+		case s.arrivals <- message:
+		case <-s.closed:
+			return
+		case <-s.link.Done():
+			return
+		}
+		if err := s.acknowledge(delivery); err != nil {
+			s.link.Fail(s.link.Because(fmt.Errorf("reading a stream: %w", err)))
+			return
+		}
 	}
-	return messageOf(delivery)
 }
 
-// Next waits for the next message, and takes it.
-func (s *Stream) Next() (Message, error) {
-	late := time.NewTimer(Patience)
+// acknowledge lets the broker send further messages. On a channel that is being closed nothing may be said.
+func (s *Stream) acknowledge(delivery amqp.Delivery) error {
+	s.mutex.Lock()
+	defer s.mutex.Unlock()
+	if s.taken++; s.isClosed || s.taken < s.together {
+		return nil
+	}
+	err := delivery.Ack(s.taken > 1)
+	s.taken = 0
+	return err
+}
+
+// messageOf is a delivery of a stream as a message.
+func messageOf(delivery amqp.Delivery) (bus.Message, error) {
+	offset, is := delivery.Headers[offsetHeader].(int64)
+	if !is {
+		return bus.Message{}, fmt.Errorf("reading a stream: a message without an offset")
+	}
+	return bus.Message{Offset: offset, At: bus.Route{Exchange: delivery.Exchange, Key: delivery.RoutingKey},
+		Headers: bus.Headers(delivery.Headers), Body: delivery.Body, Sent: delivery.Timestamp}, nil
+}
+
+// Arrivals has the messages.
+func (s *Stream) Arrivals() <-chan bus.Message { return s.arrivals }
+
+// Ended is why no more come.
+func (s *Stream) Ended() error { return s.link.Because(errors.New("the stream's reader ended")) }
+
+// Next waits for the next message.
+func (s *Stream) Next() (bus.Message, error) {
+	late := time.NewTimer(bus.Patience)
 	defer late.Stop()
 	select {
-	case delivery, open := <-s.Arrivals:
-		return s.Take(delivery, open)
+	case message, open := <-s.arrivals:
+		if !open {
+			return bus.Message{}, s.Ended()
+		}
+		return message, nil
 	case <-s.link.Done():
-		return Message{}, s.link.Err()
+		return bus.Message{}, s.link.Err()
 	case <-late.C:
-		return Message{}, fmt.Errorf("no message for %v", Patience)
+		return bus.Message{}, fmt.Errorf("no message for %v", bus.Patience)
 	}
 }
 
 // Close ends the reading.
-func (s *Stream) Close() error { return s.link.end(s.channel) }
-
-// A Counter asks how many messages a stream has.
-type Counter struct {
-	queue   string
-	channel *amqp.Channel
+func (s *Stream) Close() error {
+	s.mutex.Lock()
+	s.isClosed = true
+	close(s.closed)
+	s.mutex.Unlock()
+	return s.link.end(s.channel)
 }
 
-// Counter opens a channel for asking. The broker may ask the stream's leader, and wait for it without end.
-func (l *Link) Counter(queue string) (*Counter, error) {
-	channel, err := l.Loose()
+// An end asks how many messages a stream has, which costs the broker next to nothing. Where its first message is, is looked up at
+// the begin, and when it has fewer messages than before: a reader costs the broker the more the more files the stream has.
+type end struct {
+	link          *Link
+	queue         string
+	channel       *amqp.Channel
+	first, before int64
+}
+
+// End opens a channel for asking. The broker may ask the stream's leader, and wait for it without end.
+func (l *Link) End(stream string) (bus.End, error) {
+	channel, err := l.loose()
 	if err != nil {
 		return nil, err
 	}
-	return &Counter{queue: queue, channel: channel}, nil
+	return &end{link: l, queue: stream, channel: channel}, nil
 }
 
-// Count is how many offsets there are from the first message to the last, some seconds ago; 0 if that isn't known.
-func (c *Counter) Count() (int64, error) {
-	state, err := c.channel.QueueDeclarePassive(c.queue, true, false, false, false, nil)
+// Offset is that of the last message, some seconds ago.
+func (e *end) Offset() (int64, error) {
+	state, err := e.channel.QueueDeclarePassive(e.queue, true, false, false, false, nil)
 	if err != nil {
-		return 0, fmt.Errorf("counting the messages of %s: %w", c.queue, err)
+		return 0, fmt.Errorf("counting the messages of %s: %w", e.queue, err)
 	}
-	return int64(state.Messages), nil
+	count := int64(state.Messages)
+	if e.before == 0 || count < e.before {
+		if e.first, err = e.link.First(e.queue); err != nil {
+			return 0, err
+		}
+	}
+	if e.before = count; count == 0 {
+		return -1, nil
+	}
+	return e.first + count - 1, nil
 }
 
 // First is the offset of the first message of a stream that has some.
 func (l *Link) First(queue string) (int64, error) {
-	stream, err := l.Read(queue, FromFirst, 1)
+	stream, err := l.read(bus.Reading{Stream: queue, Window: 1, Brief: true})
 	if err != nil {
 		return 0, err
 	}

@@ -188,6 +188,19 @@ func (s *Senders) seen(from Origin) *Sender {
 	return sender
 }
 
+// BreakOff takes in that what the open batches had sent last isn't known: none of them can be sent again.
+func (s *Senders) BreakOff() {
+	for _, of := range s.byUse {
+		for element := of.Front(); element != nil; element = element.Next() {
+			for _, batch := range element.Value.(*Sender).Batches {
+				if !batch.Ended {
+					batch.Missing++
+				}
+			}
+		}
+	}
+}
+
 // forgetOld forgets the senders and batches whose time has passed.
 func (s *Senders) forgetOld() {
 	for first := s.of(false).Front(); first != nil && s.isOld(first, namelessTime); first = s.of(false).Front() {

@@ -7,7 +7,7 @@ import (
 	"math/rand"
 	"testing"
 
-	"gateway/rabbit/broker"
+	"gateway/rabbit/bus"
 	"gateway/rabbit/ledger"
 	"gateway/rabbit/process"
 )
@@ -63,7 +63,7 @@ func (l *batchLog) answered(t *testing.T) int {
 	chain.Reach(ledger.Start)
 	found := map[ledger.Place]bool{}
 	for _, message := range l.answers {
-		part, _, err := broker.ReadPart(message)
+		part, _, err := bus.ReadPart(message)
 		if err != nil {
 			t.Fatal(err)
 		}
@@ -124,7 +124,7 @@ func TestBatchesKeepTheirModels(t *testing.T) {
 		h.read(t, 1+random.Intn(9))
 		if random.Intn(2) == 0 {
 			h.output.sinceMessages = snapshotMessages
-			if err := h.step(); err != nil {
+			if err := h.Step(); err != nil {
 				t.Fatal(err)
 			}
 			from = len(l.answers) - 1

@@ -10,7 +10,7 @@ import (
 	"github.com/prometheus/client_golang/prometheus"
 
 	"gateway/rabbit/answer"
-	"gateway/rabbit/broker"
+	"gateway/rabbit/bus"
 	"gateway/rabbit/ledger"
 )
 
@@ -143,7 +143,7 @@ func (g *Gauges) whatFor() string {
 	}
 	sort.Strings(said)
 	if len(g.missing) > 0 {
-		said = append(said, fmt.Sprintf("partitions %v have no queues: %v", g.missing, broker.ErrMissing))
+		said = append(said, fmt.Sprintf("partitions %v have no queues: %v", g.missing, bus.ErrMissing))
 	}
 	return strings.Join(said, "; ")
 }

@@ -7,7 +7,7 @@ import (
 	"io"
 
 	"gateway/rabbit/answer"
-	"gateway/rabbit/broker"
+	"gateway/rabbit/bus"
 	"gateway/rabbit/ledger"
 	"gateway/rabbit/line"
 )
@@ -32,8 +32,8 @@ type intake struct {
 }
 
 // errOtherLog says that the stream of the lines was deleted, and is another one now.
-var errOtherLog = errors.New("the log is not the one that the answers are for: its stream was made anew. " +
-	"Delete both streams of the partition, so that it begins anew")
+var errOtherLog = errors.New("the log is not the one that the answers are for: its stream was made anew. desk partition repair " +
+	"lets it go on behind the answers")
 
 // errOvertaken says that retention has cut messages that this owner was about to read. Another owner may have answered them, so
 // the partition is taken over anew, with what the answers say now.
@@ -42,33 +42,33 @@ var errOvertaken = errors.New("retention has cut the log while it was read")
 // errModel says that a model came under the topic of requests, under which everybody may send who may send at all.
 var errModel = errors.New("a model without the right to send models")
 
-func newIntake(log io.Writer, gauges *Gauges, queue *queue, h *broker.History, first func() (int64, error)) *intake {
+func newIntake(log io.Writer, gauges *Gauges, queue *queue, h *bus.History, first func() (int64, error)) *intake {
 	return &intake{log: log, gauges: gauges, first: first, queue: queue, senders: h.Ledger.Senders.Clone(), begin: h.Ledger.Place, part: h.Ledger.Part,
 		upto: h.Upto(), more: h.More, records: h.Records, offset: -1, lines: h.Ledger.Lines}
 }
 
 // from is where the log is to be read from.
-func (in *intake) from() interface{} {
+func (in *intake) from() bus.From {
 	if in.begin.Offset < 0 {
-		return broker.FromFirst
+		return bus.From{}
 	}
-	return in.begin.Offset
+	return bus.FromOffset(in.begin.Offset)
 }
 
 // take takes in a message.
-func (in *intake) take(message broker.Message) {
+func (in *intake) take(message bus.Message) {
 	offset := message.Offset
 	if in.lookForGap(offset); in.fault != nil {
 		return
 	}
 	in.offset = offset
-	if message.Topic(broker.RequestsExchange) == broker.TopicMarks {
-		if message.Headers[broker.MarkHeader] == in.mark && offset <= in.upto.Offset {
+	if message.Topic(bus.RequestsExchange) == bus.TopicMarks {
+		if message.Headers[bus.MarkHeader] == in.mark && offset <= in.upto.Offset {
 			in.fault = errOtherLog
 		}
 		return
 	}
-	from, err := broker.ReadOrigin(message)
+	from, err := bus.ReadOrigin(message)
 	if err != nil {
 		in.drop(ledger.Place{Offset: offset}, err)
 		return

@@ -12,6 +12,7 @@ import (
 	"time"
 
 	"gateway/rabbit/broker"
+	"gateway/rabbit/bus"
 	"gateway/rabbit/ledger"
 	"gateway/rabbit/process"
 )
@@ -73,7 +74,7 @@ func TestWhatIsLostIsKnown(t *testing.T) {
 	first := take(t, &l.log, 0, options, 1000)
 	first.read(t, 2)
 	first.output.sinceMessages = snapshotMessages // a snapshot of all up to message 1
-	if err := first.step(); err != nil {
+	if err := first.Step(); err != nil {
 		t.Fatal(err)
 	}
 	from := len(l.answers) - 1
@@ -136,7 +137,7 @@ func TestAnEngineThatRefusesTheModelInForce(t *testing.T) {
 	h := take(t, l, 0, process.Options{Path: path, Workers: 1, Longest: 1 << 20}, 1000)
 	h.read(t, 1)
 	h.output.sinceMessages = snapshotMessages
-	if err := h.step(); err != nil {
+	if err := h.Step(); err != nil {
 		t.Fatal(err)
 	}
 	h.work.end()
@@ -149,9 +150,9 @@ func TestAnEngineThatRefusesTheModelInForce(t *testing.T) {
 		t.Fatal(reason)
 	}
 	var log bytes.Buffer
-	taker := &taker{options: Options{Settings: broker.Settings{Partitions: 2}, Log: &log, Gauges: NewGauges()}, refused: map[int]error{},
-		rests: map[int]time.Time{}}
-	var final *broker.Final
+	taker := &taker{options: Options{Bus: broker.Broker{}, Settings: bus.Settings{Partitions: 2}, Log: &log, Gauges: NewGauges()},
+		refused: map[int]error{}, rests: map[int]time.Time{}, fails: map[int]time.Time{}}
+	var final *bus.Final
 	if err := taker.failed(1, reason); errors.As(err, &final) || fmt.Sprint(taker.partitions()) != "[0]" {
 		t.Errorf("%v; then %v", err, taker.partitions())
 	}
@@ -171,7 +172,7 @@ func (h *holder) readToFault(t *testing.T) error {
 	h.intake.take(h.log.lines[h.next])
 	h.intake.take(h.log.lines[h.next+1])
 	for {
-		if err := h.step(); err != nil {
+		if err := h.Step(); err != nil {
 			return err
 		}
 		batch, open := <-h.work.process.Answers()
@@ -224,14 +225,14 @@ func TestWhatIsAnsweredAndCut(t *testing.T) {
 }
 
 // snapshot is what the holder would publish now.
-func (l *log) snapshot(t *testing.T, h *holder) broker.Message {
+func (l *log) snapshot(t *testing.T, h *holder) bus.Message {
 	t.Helper()
 	body, err := h.output.ledger.Snapshot("")
 	if err != nil {
 		t.Fatal(err)
 	}
-	headers := broker.PartHeaders(broker.Part{Snapshot: true, Upto: h.output.ledger.Place})
-	return broker.Message{At: settings.Route(broker.AnswersExchange, broker.TopicAnswers, 0), Headers: headers, Body: body}
+	headers := bus.PartHeaders(bus.Part{Snapshot: true, Upto: h.output.ledger.Place})
+	return bus.Message{At: settings.Route(bus.AnswersExchange, bus.TopicAnswers, 0), Headers: headers, Body: body}
 }
 
 // dropSnapshots takes the snapshots from a message on away.
@@ -239,7 +240,7 @@ func (l *log) dropSnapshots(t *testing.T, from int) {
 	t.Helper()
 	kept := l.answers[:from:from]
 	for _, message := range l.answers[from:] {
-		if part, _, err := broker.ReadPart(message); err != nil {
+		if part, _, err := bus.ReadPart(message); err != nil {
 			t.Fatal(err)
 		} else if !part.Snapshot {
 			kept = append(kept, message)

@@ -5,7 +5,7 @@ import (
 	"time"
 
 	"gateway/rabbit/answer"
-	"gateway/rabbit/broker"
+	"gateway/rabbit/bus"
 	"gateway/rabbit/ledger"
 )
 
@@ -24,16 +24,17 @@ const (
 	modelPause       = 10 * time.Second // from one snapshot to the next one after a model
 )
 
-// A publisher publishes messages, and knows how many of them are without a confirm.
+// A publisher appends messages, and knows how many of them are without a confirm.
 type publisher interface {
 	Open() int
-	Publish(to broker.Route, headers broker.Headers, body []byte) error
+	Append(to bus.Route, headers bus.Headers, body []byte) error
 }
 
 // An output publishes the answers in the order of their lines, and snapshots between them.
 type output struct {
 	publisher publisher
-	route     broker.Route // of the answers
+	now       func() time.Time
+	route     bus.Route // of the answers
 	ledger    *ledger.Ledger
 	program   string       // the version of this one
 	last      ledger.Place // the place of the last answer that was published
@@ -57,7 +58,7 @@ type output struct {
 
 // room tells whether the next answer may be settled.
 func (out *output) room() bool {
-	return len(out.body) < broker.MessageBytes && out.lines < broker.MessageLines && !out.snapshotDue()
+	return len(out.body) < bus.MessageBytes && out.lines < bus.MessageLines && !out.snapshotDue()
 }
 
 func (out *output) snapshotDue() bool {
@@ -140,8 +141,8 @@ func (out *output) publish() (bool, error) {
 }
 
 func (out *output) publishAnswers() error {
-	part := broker.Part{After: out.last, Upto: out.upto, More: out.more, SnapshotAt: out.snapshotAt}
-	if err := out.publisher.Publish(out.route, broker.PartHeaders(part), out.body); err != nil {
+	part := bus.Part{After: out.last, Upto: out.upto, More: out.more, SnapshotAt: out.snapshotAt}
+	if err := out.publisher.Append(out.route, bus.PartHeaders(part), out.body); err != nil {
 		return fmt.Errorf("publishing answers: %w", err)
 	}
 	out.published++
@@ -156,14 +157,14 @@ func (out *output) publishSnapshot() error {
 	if err != nil {
 		return err
 	}
-	part := broker.Part{Snapshot: true, Upto: out.ledger.Place, SnapshotAt: out.snapshotAt}
-	if err := out.publisher.Publish(out.route, broker.PartHeaders(part), body); err != nil {
+	part := bus.Part{Snapshot: true, After: out.last, Upto: out.ledger.Place, SnapshotAt: out.snapshotAt}
+	if err := out.publisher.Append(out.route, bus.PartHeaders(part), body); err != nil {
 		return fmt.Errorf("publishing a snapshot: %w", err)
 	}
 	out.published++
 	out.snapshotAt = out.published
 	out.sinceBytes, out.sinceMessages, out.size = 0, 0, len(body)
-	out.written, out.fresh = time.Now(), true
+	out.written, out.fresh = out.now(), true
 	out.next, out.aged, out.modelled = out.written.Add(snapshotPause), false, false
 	return nil
 }

@@ -10,7 +10,7 @@ import (
 	"os"
 	"time"
 
-	"gateway/rabbit/broker"
+	"gateway/rabbit/bus"
 	"gateway/rabbit/process"
 )
 
@@ -19,29 +19,39 @@ const tick = 50 * time.Millisecond
 
 // Options say how a partition is worked on.
 type Options struct {
-	Settings broker.Settings
+	Bus      bus.Bus
+	Settings bus.Settings
 	Engine   process.Options
 	Deadline time.Duration // how long the evaluation of a line may take
 	Keep     time.Duration // how long a named sender is known after its last message; 0 says for ever
 	Log      io.Writer
 	Gauges   *Gauges
 	Program  string // the version of this one
+	// Begin begins an engine: a process of it, where it is nil. Now is the clock: the machine's, where it is nil.
+	Begin func(process.Options) (Evaluator, error)
+	Now   func() time.Time
 }
 
 // Run owns partitions until the context ends.
 func Run(ctx context.Context, options Options) error {
-	t := &taker{options: options, patience: firstPatience, refused: make(map[int]error), rests: make(map[int]time.Time)}
-	return broker.Again(ctx, options.Log, t.own)
+	t := &taker{options: options, patience: firstPatience, refused: make(map[int]error), rests: make(map[int]time.Time), fails: make(map[int]time.Time)}
+	return bus.Again(ctx, options.Bus, options.Log, t.own)
 }
 
 // A taker takes partitions over, one after the other.
 type taker struct {
 	options  Options
 	patience time.Duration // of the next takeover
+	last     string        // the address that is tried last, since a takeover failed there, or empty
 	refused  map[int]error // of partitions whose model this program's engine refuses: another program has to own them
 	// rests says until when other partitions come first than one that can't be owned before something is done.
 	rests map[int]time.Time
+	// fails says since when a partition can't be taken over.
+	fails map[int]time.Time
 }
+
+// lasting is how long a partition can't be taken over until its log may be lost for good.
+const lasting = 2 * time.Minute
 
 // rest is how long a partition is left alone that can't be owned before something is done.
 const rest = 30 * time.Second
@@ -67,57 +77,74 @@ func (t *taker) partitions() []int {
 // missing takes in which partitions have no queues, and reports it if that has changed.
 func (t *taker) missing(partitions []int) {
 	if t.options.Gauges.setMissing(partitions) && len(partitions) > 0 {
-		fmt.Fprintf(t.options.Log, "partitions %v have no queues: %v\n", partitions, broker.ErrMissing)
+		fmt.Fprintf(t.options.Log, "partitions %v have no queues: %v\n", partitions, bus.ErrMissing)
 	}
 }
 
 // failed takes in why a partition can't be owned. Where none is left that this program can own, the error is final.
 func (t *taker) failed(partition int, reason error) error {
-	if broker.IsMissing(reason) {
-		reason = fmt.Errorf("%w: %v", broker.ErrMissing, reason)
+	if t.options.Bus.Judge(reason) == bus.Missing {
+		reason = fmt.Errorf("%w: %v", bus.ErrMissing, reason)
 	}
 	err := fmt.Errorf("partition %d: %w", partition, reason)
-	for _, lasting := range []error{errOtherLog, broker.ErrNoSnapshot, broker.ErrMissing} {
+	for _, lasting := range []error{errOtherLog, bus.ErrNoSnapshot, bus.ErrMissing} {
 		if errors.Is(reason, lasting) {
 			t.rests[partition] = time.Now().Add(rest)
 			t.options.Gauges.waitsFor(partition, reason, time.Now().Add(2*rest))
 		}
 	}
 	if !errors.Is(reason, errRefusedModel) {
-		return err
+		return t.mayBeLost(partition, err)
 	}
 	t.options.Gauges.waitsFor(partition, reason, time.Time{})
 	fmt.Fprintf(t.options.Log, "%v\n", err)
 	if t.refused[partition] = reason; len(t.partitions()) == 0 {
-		return &broker.Final{Reason: err}
+		return &bus.Final{Reason: err}
 	}
+	return err
+}
+
+// mayBeLost takes in that a partition can't be taken over, and says what to do if that lasts.
+func (t *taker) mayBeLost(partition int, reason error) error {
+	since, known := t.fails[partition]
+	if !known {
+		t.fails[partition] = time.Now()
+		return reason
+	}
+	if time.Since(since) < lasting {
+		return reason
+	}
+	err := fmt.Errorf("%w (for %v now; if its stream of lines is lost for good: desk partition repair %d)", reason,
+		time.Since(since).Round(time.Second), partition)
+	t.options.Gauges.waitsFor(partition, err, time.Now().Add(2*rest))
 	return err
 }
 
 // own waits for a partition that is free, and owns it until the connection is lost.
 func (t *taker) own(ctx context.Context) error {
 	options := t.options
-	link, err := broker.Connect(ctx, options.Settings, fmt.Sprintf("desk partition, process %d", os.Getpid()))
+	link, err := options.Bus.Connect(ctx, fmt.Sprintf("desk partition, process %d", os.Getpid()), t.last)
 	if err != nil {
 		return err
 	}
 	defer link.Close()
 	options.Gauges.setConnected(true)
 	defer options.Gauges.setConnected(false)
-	held, err := t.wait(ctx, link)
+	partition, err := t.wait(ctx, link)
 	if err != nil {
 		return err
 	}
-	fmt.Fprintf(options.Log, "partition %d: owned by process %d\n", held.Partition, os.Getpid())
-	o, err := t.take(link, held.Partition)
+	fmt.Fprintf(options.Log, "partition %d: owned by process %d\n", partition, os.Getpid())
+	o, err := t.take(link, partition)
 	if err != nil {
-		return t.failed(held.Partition, err)
+		return t.failed(partition, err)
 	}
-	defer o.work.end()
-	options.Gauges.takeover(held.Partition)
+	defer o.End()
+	delete(t.fails, partition)
+	options.Gauges.takeover(partition)
 	defer options.Gauges.left()
 	if err := o.run(); err != nil {
-		return t.failed(held.Partition, err)
+		return t.failed(partition, err)
 	}
 	return nil
 }
@@ -126,48 +153,49 @@ func (t *taker) own(ctx context.Context) error {
 var errRested = errors.New("partitions that could not be owned are looked at again")
 
 // wait waits for the lease of a partition, but while some rest no longer than that.
-func (t *taker) wait(ctx context.Context, link *broker.Link) (*broker.Held, error) {
+func (t *taker) wait(ctx context.Context, link bus.Link) (int, error) {
 	may := t.partitions()
 	if len(may)+len(t.refused) == t.options.Settings.Partitions {
-		return broker.WaitForLease(ctx, link, t.options.Settings, may, t.missing)
+		return link.Own(ctx, t.options.Settings, may, t.missing)
 	}
 	until, cancel := context.WithTimeout(ctx, rest)
 	defer cancel()
-	held, err := broker.WaitForLease(until, link, t.options.Settings, may, t.missing)
+	partition, err := link.Own(until, t.options.Settings, may, t.missing)
 	if errors.Is(err, context.DeadlineExceeded) {
-		return nil, errRested
+		return 0, errRested
 	}
-	return held, err
+	return partition, err
 }
 
 // take takes a partition over. Where a broker does nothing for a while it fails, and next time has twice as much patience.
 // Where it fails, whatever the reason, it is begun anew at another broker.
-func (t *taker) take(link *broker.Link, partition int) (*owner, error) {
+func (t *taker) take(link bus.Link, partition int) (*Owner, error) {
 	log := prefixed{t.options.Log, fmt.Sprintf("partition %d: ", partition)}
 	late := fmt.Errorf("the broker did nothing for %v in a takeover", t.patience)
 	s := beginSteps(t.patience, func() { link.Fail(late) })
-	o, err := t.begin(link, partition, log, s)
+	o, err := begin(t.options, link, partition, log, s)
 	s.end()
 	if err != nil {
 		fmt.Fprintf(log, "not taken over, after %v: %v\n", s, err)
 		if errors.Is(err, late) {
 			t.patience = longer(t.patience)
 		}
-		t.options.Settings.Last = link.Address
+		t.last = link.Address()
 		return nil, err
 	}
-	t.patience, t.options.Settings.Last = firstPatience, ""
+	t.patience, t.last = firstPatience, ""
 	fmt.Fprintf(log, "goes on behind line %v, after %v\n", o.intake.upto, s)
 	return o, nil
 }
 
-// An owner owns a partition.
-type owner struct {
+// An Owner owns a partition.
+type Owner struct {
 	log       io.Writer
 	gauges    *Gauges
-	link      *broker.Link
-	publisher *broker.Publisher
-	stream    *broker.Stream
+	link      bus.Link
+	lines     string // the name of the log
+	publisher bus.Appender
+	stream    bus.Reader
 	queue     *queue
 	intake    *intake
 	work      *work
@@ -177,15 +205,23 @@ type owner struct {
 	idle      idle
 }
 
+// Begin takes a partition over, once, where its last answer stands.
+func Begin(options Options, link bus.Link, partition int) (*Owner, error) {
+	return begin(options, link, partition, options.Log, unwatched{})
+}
+
+type unwatched struct{}
+
+func (unwatched) Moved()        {}
+func (unwatched) Passed(string) {}
+
 // begin takes up a partition where its last answer stands.
-func (t *taker) begin(link *broker.Link, partition int, log io.Writer, s *steps) (*owner, error) {
-	options := t.options
-	publisher, err := link.Publisher()
+func begin(options Options, link bus.Link, partition int, log io.Writer, s bus.Progress) (*Owner, error) {
+	publisher, err := link.Appender()
 	if err != nil {
 		return nil, err
 	}
-	lines := options.Settings.Queue(broker.Lines, partition)
-	h, err := broker.ReadHistory(broker.HistoryOptions{Link: link, Settings: options.Settings, Partition: partition, Open: broker.MostOpen,
+	h, err := bus.ReadHistory(bus.HistoryOptions{Link: link, Settings: options.Settings, Partition: partition, Open: bus.MostOpen,
 		Keep: options.Keep, Progress: s}, publisher)
 	if err != nil {
 		return nil, err
@@ -195,71 +231,83 @@ func (t *taker) begin(link *broker.Link, partition int, log io.Writer, s *steps)
 		options.Gauges.unreadSnapshot()
 	}
 	s.Passed("the mark is confirmed")
-	q, route := &queue{}, options.Settings.Route(broker.AnswersExchange, broker.TopicAnswers, partition)
-	first := func() (int64, error) { return link.First(lines) }
-	o := &owner{log: log, gauges: options.Gauges, link: link, publisher: publisher, queue: q,
-		intake: newIntake(log, options.Gauges, q, h, first),
-		work: &work{log: log, options: options.Engine, deadline: int(options.Deadline / tick), queue: q, ledger: h.Ledger,
-			models: h.Ledger.Models.Clone(), begin: beginProcess, restarts: options.Gauges.restart, taken: time.Now()},
-		output: &output{publisher: publisher, route: route, program: options.Program, ledger: h.Ledger, last: h.Upto(),
-			published: h.End, snapshotAt: h.At, sinceMessages: h.Messages, next: time.Now().Add(firstPause)}}
-	o.stream, err = link.Read(lines, o.intake.from(), broker.MostOpen)
-	if err != nil {
+	o := newOwner(options, link, partition, log, h)
+	o.publisher, o.output.publisher = publisher, publisher
+	if o.stream, err = link.Read(bus.Reading{Stream: o.lines, From: o.intake.from(), Window: bus.MostOpen}); err != nil {
 		return nil, err
 	}
 	s.Passed("the log is begun")
-	if o.intake.mark, err = broker.NewMark(); err != nil {
+	if o.intake.mark, err = bus.NewMark(); err != nil {
 		return nil, err
 	}
-	if err := o.publishMarks(options.Settings, partition, h.At); err != nil {
-		return nil, err
+	return o, o.publishMarks(options.Settings, partition, h.At)
+}
+
+// newOwner is an owner that goes on behind a history.
+func newOwner(options Options, link bus.Link, partition int, log io.Writer, h *bus.History) *Owner {
+	lines := options.Settings.Queue(bus.Lines, partition)
+	q, route := &queue{}, options.Settings.Route(bus.AnswersExchange, bus.TopicAnswers, partition)
+	first := func() (int64, error) { return link.First(lines) }
+	now, begin := options.Now, options.Begin
+	if now == nil {
+		now = time.Now
 	}
-	o.tail = watchTail(link, lines)
-	return o, nil
+	if begin == nil {
+		begin = beginProcess
+	}
+	return &Owner{log: log, gauges: options.Gauges, link: link, lines: lines, queue: q,
+		intake: newIntake(log, options.Gauges, q, h, first),
+		work: &work{log: log, options: options.Engine, deadline: int(options.Deadline / tick), queue: q, ledger: h.Ledger,
+			models: h.Ledger.Models.Clone(), begin: begin, restarts: options.Gauges.restart, taken: time.Now()},
+		output: &output{now: now, route: route, program: options.Program, ledger: h.Ledger, last: h.Upto(),
+			published: h.End, snapshotAt: h.At, sinceMessages: h.Messages, next: now().Add(firstPause)}}
 }
 
 // publishMarks marks the log, and lets the answers say at their end where the last snapshot is.
-func (o *owner) publishMarks(settings broker.Settings, partition int, snapshotAt int64) error {
-	marks := settings.Route(broker.RequestsExchange, broker.TopicMarks, partition)
-	if err := o.publisher.Publish(marks, broker.Headers{broker.MarkHeader: o.intake.mark}, nil); err != nil {
+func (o *Owner) publishMarks(settings bus.Settings, partition int, snapshotAt int64) error {
+	marks := settings.Route(bus.RequestsExchange, bus.TopicMarks, partition)
+	if err := o.publisher.Append(marks, bus.Headers{bus.MarkHeader: o.intake.mark}, nil); err != nil {
 		return err
 	}
-	marks = settings.Route(broker.AnswersExchange, broker.TopicMarks, partition)
-	if err := o.publisher.Publish(marks, broker.PointerHeaders(snapshotAt), nil); err != nil {
+	marks = settings.Route(bus.AnswersExchange, bus.TopicMarks, partition)
+	if err := o.publisher.Append(marks, bus.PointerHeaders(snapshotAt), nil); err != nil {
 		return err
 	}
 	return o.publisher.Settle()
 }
 
 // run works until the link fails.
-func (o *owner) run() error {
+func (o *Owner) run() error {
 	ticker := time.NewTicker(tick)
 	defer ticker.Stop()
+	o.tail = watchTail(o.link, o.lines)
 	for {
-		if err := o.step(); err != nil {
+		if err := o.Step(); err != nil {
 			return err
 		}
-		if err := o.wait(ticker); err != nil {
+		if err := o.Wait(ticker.C); err != nil {
 			return err
 		}
 	}
 }
 
-// wait waits for something to happen, and takes it in.
-func (o *owner) wait(ticker *time.Ticker) error {
-	var arrivals broker.Arrivals
+// End ends the engine.
+func (o *Owner) End() { o.work.end() }
+
+// Wait waits for something to happen, and takes it in.
+func (o *Owner) Wait(ticks <-chan time.Time) error {
+	var arrivals <-chan bus.Message
 	if o.room() {
-		arrivals = o.stream.Arrivals
+		arrivals = o.stream.Arrivals()
 	}
 	var answers <-chan []process.Answer
 	if o.work.process != nil {
 		answers = o.work.process.Answers()
 	}
 	select {
-	case arrival, open := <-arrivals:
-		message, err := o.stream.Take(arrival, open)
-		if err != nil {
-			return err
+	case message, open := <-arrivals:
+		if !open {
+			return o.stream.Ended()
 		}
 		o.intake.take(message)
 		o.idle.since = time.Now()
@@ -269,11 +317,11 @@ func (o *owner) wait(ticker *time.Ticker) error {
 		} else {
 			o.work.ended(o.work.process.Err())
 		}
-	case confirmation, open := <-o.publisher.Confirms():
-		return o.publisher.Take(confirmation, open)
-	case <-ticker.C:
+	case confirm, open := <-o.publisher.Confirms():
+		return o.publisher.Take(confirm, open)
+	case <-ticks:
 		o.work.tick()
-		o.output.tick(time.Now())
+		o.output.tick(o.output.now())
 		o.tell()
 		if err := o.idle.late(time.Now(), o.unread() > 0 && o.room()); err != nil {
 			return err
@@ -286,18 +334,18 @@ func (o *owner) wait(ticker *time.Ticker) error {
 }
 
 // room tells whether further messages are read.
-func (o *owner) room() bool { return o.queue.bytes+o.queue.ready < broker.WindowBytes }
+func (o *Owner) room() bool { return o.queue.bytes+o.queue.ready < bus.WindowBytes }
 
 // unread is how many messages of the log were not read.
-func (o *owner) unread() int64 {
+func (o *Owner) unread() int64 {
 	if unread := o.tail.offset() - o.intake.offset; unread > 0 {
 		return unread
 	}
 	return 0
 }
 
-// step does what can be done without waiting.
-func (o *owner) step() error {
+// Step does what can be done without waiting.
+func (o *Owner) Step() error {
 	for {
 		o.settle()
 		published, err := o.output.publish()
@@ -318,7 +366,7 @@ func (o *owner) step() error {
 }
 
 // settle hands the settled entries at the head of the queue to the output.
-func (o *owner) settle() {
+func (o *Owner) settle() {
 	for e := o.queue.head(); e != nil && e.settled() && o.output.room(); e = o.queue.head() {
 		o.output.settle(e)
 		o.gauges.settled(e)

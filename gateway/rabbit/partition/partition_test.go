@@ -14,27 +14,27 @@ import (
 	"time"
 
 	"gateway/engine"
-	"gateway/rabbit/broker"
+	"gateway/rabbit/bus"
 	"gateway/rabbit/ledger"
 	"gateway/rabbit/line"
 	"gateway/rabbit/process"
 )
 
-var settings = broker.Settings{Partitions: 1}
+var settings = bus.Settings{Partitions: 1}
 
 // A log is a partition's two streams, in memory.
 type log struct {
-	lines   []broker.Message
+	lines   []bus.Message
 	cut     int // so many of the first lines' messages are cut
-	answers []broker.Message
+	answers []bus.Message
 }
 
 func (l *log) Open() int { return 0 }
 
 func (l *log) firstKept() (int64, error) { return int64(l.cut), nil }
 
-func (l *log) Publish(to broker.Route, headers broker.Headers, body []byte) error {
-	l.answers = append(l.answers, broker.Message{At: to, Headers: headers, Body: body})
+func (l *log) Append(to bus.Route, headers bus.Headers, body []byte) error {
+	l.answers = append(l.answers, bus.Message{At: to, Headers: headers, Body: body})
 	return nil
 }
 
@@ -45,14 +45,14 @@ func (l *log) send(number int64, lines ...string) {
 
 // put appends a message.
 func (l *log) put(from ledger.Origin, lines ...string) {
-	route := settings.Route(broker.RequestsExchange, broker.TopicModels, 0)
-	l.lines = append(l.lines, broker.Message{Offset: int64(len(l.lines)), At: route, Headers: broker.OriginHeaders(from),
+	route := settings.Route(bus.RequestsExchange, bus.TopicModels, 0)
+	l.lines = append(l.lines, bus.Message{Offset: int64(len(l.lines)), At: route, Headers: bus.OriginHeaders(from),
 		Body: []byte(strings.Join(lines, "\n"))})
 }
 
 // A holder owns the partition, until it is dropped.
 type holder struct {
-	*owner
+	*Owner
 	log  *log
 	next int // the next message of the log
 }
@@ -60,7 +60,7 @@ type holder struct {
 // take takes the partition over, with what is answered from this message of the answers' stream on.
 func take(t *testing.T, l *log, from int, options process.Options, deadline int) *holder {
 	t.Helper()
-	h := broker.NewHistory(from == 0, 0)
+	h := bus.NewHistory(from == 0, 0)
 	for _, message := range l.answers[from:] {
 		if err := h.Take(message); err != nil {
 			t.Fatal(err)
@@ -68,14 +68,14 @@ func take(t *testing.T, l *log, from int, options process.Options, deadline int)
 	}
 	q := &queue{}
 	gauges := NewGauges()
-	o := &owner{log: io.Discard, gauges: gauges, queue: q, intake: newIntake(io.Discard, gauges, q, h, l.firstKept),
+	o := &Owner{log: io.Discard, gauges: gauges, queue: q, intake: newIntake(io.Discard, gauges, q, h, l.firstKept),
 		work:   &work{log: io.Discard, options: options, deadline: deadline, queue: q, ledger: h.Ledger, models: h.Ledger.Models.Clone(), begin: beginProcess, restarts: func() {}},
-		output: &output{publisher: l, route: settings.Route(broker.AnswersExchange, broker.TopicAnswers, 0), ledger: h.Ledger, last: h.Upto()}}
+		output: &output{publisher: l, now: time.Now, route: settings.Route(bus.AnswersExchange, bus.TopicAnswers, 0), ledger: h.Ledger, last: h.Upto()}}
 	next := int(h.Ledger.Place.Offset)
 	if next < 0 {
 		next = 0
 	}
-	return &holder{owner: o, log: l, next: next}
+	return &holder{Owner: o, log: l, next: next}
 }
 
 // work lets the holder read so many messages more, and waits for the answers, or for so many of them.
@@ -88,7 +88,7 @@ func (h *holder) read(t *testing.T, messages int) {
 	ticker := time.NewTicker(10 * time.Millisecond)
 	defer ticker.Stop()
 	for begun := time.Now(); ; {
-		if err := h.step(); err != nil {
+		if err := h.Step(); err != nil {
 			t.Fatal(err)
 		}
 		if len(h.queue.entries) == 0 {
@@ -197,7 +197,7 @@ func given(t *testing.T, l *log) map[string][]string {
 	chain.Reach(ledger.Start)
 	var lines [][]byte
 	for _, message := range l.answers {
-		part, _, err := broker.ReadPart(message)
+		part, _, err := bus.ReadPart(message)
 		if err != nil {
 			t.Fatal(err)
 		}
@@ -255,7 +255,7 @@ func TestTakeoversAnswerAsOneProcess(t *testing.T) {
 			h.read(t, 1+random.Intn(6))
 			if random.Intn(2) == 0 {
 				h.output.sinceMessages = snapshotMessages
-				if err := h.step(); err != nil {
+				if err := h.Step(); err != nil {
 					t.Fatal(err)
 				}
 				from = len(l.answers) - 1
@@ -279,14 +279,14 @@ func TestASnapshotComesWithTime(t *testing.T) {
 	h.output.next = time.Now().Add(-time.Second)
 	for range []int{1, 2} {
 		h.output.tick(time.Now())
-		if err := h.step(); err != nil {
+		if err := h.Step(); err != nil {
 			t.Fatal(err)
 		}
 	}
 	if len(l.answers) != answered+1 {
 		t.Fatalf("%d messages more", len(l.answers)-answered)
 	}
-	if part, is, err := broker.ReadPart(l.answers[answered]); err != nil || !is || !part.Snapshot {
+	if part, is, err := bus.ReadPart(l.answers[answered]); err != nil || !is || !part.Snapshot {
 		t.Errorf("%+v, %v, %v", part, is, err)
 	}
 }
@@ -405,7 +405,7 @@ func TestALongAnswer(t *testing.T) {
 	h.work.end()
 	body := ""
 	for _, message := range l.answers {
-		if part, _, err := broker.ReadPart(message); err == nil && !part.Snapshot {
+		if part, _, err := bus.ReadPart(message); err == nil && !part.Snapshot {
 			body += string(message.Body)
 		}
 	}

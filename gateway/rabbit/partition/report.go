@@ -6,7 +6,7 @@ import (
 	"sync/atomic"
 	"time"
 
-	"gateway/rabbit/broker"
+	"gateway/rabbit/bus"
 )
 
 // reportPause is how often is told how far behind the partition is, and its log's end looked at.
@@ -32,7 +32,7 @@ type report struct {
 }
 
 // tell tells how far behind the partition is, if something has changed.
-func (o *owner) tell() {
+func (o *Owner) tell() {
 	waiting := len(o.queue.entries)
 	var seconds float64
 	if head := o.queue.head(); head != nil {
@@ -54,8 +54,8 @@ func (i *idle) late(now time.Time, due bool) error {
 	if !due || i.since.IsZero() {
 		i.since = now
 	}
-	if now.Sub(i.since) > broker.Patience {
-		return fmt.Errorf("no message for %v, and some are there", broker.Patience)
+	if now.Sub(i.since) > bus.Patience {
+		return fmt.Errorf("no message for %v, and some are there", bus.Patience)
 	}
 	return nil
 }
@@ -63,41 +63,30 @@ func (i *idle) late(now time.Time, due bool) error {
 // A tail knows, some seconds late, where the log ends.
 type tail struct{ last int64 }
 
-func (t *tail) offset() int64 { return atomic.LoadInt64(&t.last) }
+func (t *tail) offset() int64 {
+	if t == nil {
+		return -1
+	}
+	return atomic.LoadInt64(&t.last)
+}
 
-// watchTail asks from time to time how many messages a stream has, which costs the broker next to nothing. Where its first
-// message is, is looked up at the begin, and when it has fewer messages than before: a reader costs the broker the more the
-// more files the stream has.
-func watchTail(link *broker.Link, queue string) *tail {
+// watchTail asks from time to time where a stream ends, until the link ends or the stream can't be read: its owner's reader
+// fails then, too.
+func watchTail(link bus.Link, stream string) *tail {
 	t := &tail{last: -1}
 	go func() {
-		if counter, err := link.Counter(queue); err == nil {
-			t.watch(link, queue, counter)
+		end, err := link.End(stream)
+		for pause := time.Duration(0); err == nil; pause = reportPause {
+			select {
+			case <-link.Done():
+				return
+			case <-time.After(pause):
+			}
+			var last int64
+			if last, err = end.Offset(); err == nil && last >= 0 {
+				atomic.StoreInt64(&t.last, last)
+			}
 		}
 	}()
 	return t
-}
-
-// watch ends when the link does, or when the stream can't be read: its owner's reader fails then, too.
-func (t *tail) watch(link *broker.Link, queue string, counter *broker.Counter) {
-	var first, before int64
-	for pause := time.Duration(0); ; pause = reportPause {
-		select {
-		case <-link.Done():
-			return
-		case <-time.After(pause):
-		}
-		count, err := counter.Count()
-		if err != nil {
-			return
-		}
-		if before == 0 || count < before {
-			if first, err = link.First(queue); err != nil {
-				return
-			}
-		}
-		if before = count; count > 0 {
-			atomic.StoreInt64(&t.last, first+count-1)
-		}
-	}
 }

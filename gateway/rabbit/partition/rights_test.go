@@ -5,13 +5,13 @@ import (
 	"strings"
 	"testing"
 
-	"gateway/rabbit/broker"
+	"gateway/rabbit/bus"
 	"gateway/rabbit/ledger"
 	"gateway/rabbit/process"
 )
 
 // publishedAs says under which exchange and topic the last message was published.
-func (l *log) publishedAs(exchange string, topic broker.Topic) {
+func (l *log) publishedAs(exchange string, topic bus.Topic) {
 	l.lines[len(l.lines)-1].At = settings.Route(exchange, topic, 0)
 }
 
@@ -22,14 +22,14 @@ func TestModelsNeedTheirTopic(t *testing.T) {
 	l := newBatchLog()
 	l.send("right", 1000, 2)
 	l.send("wrong", 2000, 2)
-	l.publishedAs(broker.RequestsExchange, broker.TopicLines)
+	l.publishedAs(bus.RequestsExchange, bus.TopicLines)
 	for place := range l.due {
 		if place.Offset == 1 { // they are answered by the model in force at the batch's first line
 			l.due[place] = fmt.Sprintf(`"result":%d,`, (100+place.Index)*3+1000)
 		}
 	}
 	l.put(ledger.Origin{Kind: ledger.Lines, Sender: "test", Batch: "past"}, fmt.Sprintf(model, 3000), request(1))
-	l.publishedAs("", broker.TopicModels)
+	l.publishedAs("", bus.TopicModels)
 	l.send("right", 0, 2)
 	h := take(t, &l.log, 0, options, 1000)
 	h.read(t, 100)
@@ -54,10 +54,10 @@ func TestMarksNeedTheirTopic(t *testing.T) {
 	l := newBatchLog()
 	in := take(t, &l.log, 0, process.Options{}, 1000).intake
 	in.mark, in.upto.Offset = "mine", 5
-	for _, topic := range []broker.Topic{broker.TopicLines, broker.TopicMarks} {
-		route := settings.Route(broker.RequestsExchange, topic, 0)
-		in.take(broker.Message{Offset: 3, At: route, Headers: broker.Headers{broker.MarkHeader: "mine"}})
-		if got := in.fault != nil; got != (topic == broker.TopicMarks) {
+	for _, topic := range []bus.Topic{bus.TopicLines, bus.TopicMarks} {
+		route := settings.Route(bus.RequestsExchange, topic, 0)
+		in.take(bus.Message{Offset: 3, At: route, Headers: bus.Headers{bus.MarkHeader: "mine"}})
+		if got := in.fault != nil; got != (topic == bus.TopicMarks) {
 			t.Errorf("%s: %v", topic, in.fault)
 		}
 	}

@@ -8,7 +8,7 @@ import (
 	"testing"
 	"time"
 
-	"gateway/rabbit/broker"
+	"gateway/rabbit/bus"
 	"gateway/rabbit/ledger"
 	"gateway/rabbit/process"
 )
@@ -92,7 +92,7 @@ func TestAReaderThatIsLost(t *testing.T) {
 	if err := i.late(last, true); err != nil {
 		t.Error(err)
 	}
-	if err := i.late(last.Add(broker.Patience+2*time.Second), true); err == nil {
+	if err := i.late(last.Add(bus.Patience+2*time.Second), true); err == nil {
 		t.Error("nothing is late")
 	}
 }
@@ -108,7 +108,7 @@ func TestSnapshotsAfterModels(t *testing.T) {
 	h.read(t, 1)
 	snapshots := func() (count int) {
 		for _, message := range l.answers {
-			if part, _, err := broker.ReadPart(message); err == nil && part.Snapshot {
+			if part, _, err := bus.ReadPart(message); err == nil && part.Snapshot {
 				count++
 			}
 		}
@@ -122,7 +122,7 @@ func TestSnapshotsAfterModels(t *testing.T) {
 		t.Errorf("%d snapshots after 101 models", got)
 	}
 	h.output.tick(time.Now().Add(modelPause))
-	if err := h.step(); err != nil || snapshots() != 2 {
+	if err := h.Step(); err != nil || snapshots() != 2 {
 		t.Errorf("%d snapshots after a while, %v", snapshots(), err)
 	}
 }

@@ -3,6 +3,7 @@ package partition
 import (
 	"bytes"
 	"context"
+	"errors"
 	"strings"
 	"testing"
 	"time"
@@ -15,10 +16,10 @@ import (
 func taken(t *testing.T, b *brokertest.Broker, patience time.Duration) (*taker, string) {
 	t.Helper()
 	var log bytes.Buffer
-	settings := broker.Settings{Addresses: []string{b.Address}, Partitions: 1}
-	taker := &taker{options: Options{Settings: settings, Log: &log, Gauges: NewGauges()}, patience: patience,
-		rests: map[int]time.Time{}}
-	link, err := broker.Connect(context.Background(), settings, "test")
+	on := broker.Broker{Addresses: []string{b.Address}}
+	taker := &taker{options: Options{Bus: on, Settings: settings, Log: &log, Gauges: NewGauges()}, patience: patience,
+		rests: map[int]time.Time{}, fails: map[int]time.Time{}}
+	link, err := on.Connect(context.Background(), "test", "")
 	if err != nil {
 		t.Fatal(err)
 	}
@@ -26,8 +27,8 @@ func taken(t *testing.T, b *brokertest.Broker, patience time.Duration) (*taker, 
 	if _, err := taker.take(link, 0); err == nil {
 		t.Fatal("it is taken over")
 	}
-	if taker.options.Settings.Last != b.Address {
-		t.Errorf("%q is the last", taker.options.Settings.Last)
+	if taker.last != b.Address {
+		t.Errorf("%q is the last", taker.last)
 	}
 	return taker, log.String()
 }
@@ -54,5 +55,24 @@ func TestATakeoverAtABrokerThatRefuses(t *testing.T) {
 	}
 	if !strings.Contains(text, "no copy is here") {
 		t.Error(text)
+	}
+}
+
+// A partition that can't be taken over for long is told with what to do.
+func TestAPartitionWhoseLogMayBeLost(t *testing.T) {
+	b := brokertest.Start(t)
+	b.Refuses = func(queue string) bool { return brokertest.Is(queue, "answers", "0") }
+	taker, _ := taken(t, b, firstPatience)
+	reason := errors.New("no copy is here")
+	if err := taker.failed(0, reason); strings.Contains(err.Error(), "repair") {
+		t.Error(err)
+	}
+	taker.fails[0] = time.Now().Add(-2 * lasting)
+	if err := taker.failed(0, reason); !errors.Is(err, reason) || !strings.Contains(err.Error(), "desk partition repair 0") {
+		t.Error(err)
+	}
+	taker.options.Gauges.setConnected(true)
+	if is, said := taker.options.Gauges.Ready(); is || !strings.Contains(said, "desk partition repair 0") {
+		t.Error(said)
 	}
 }

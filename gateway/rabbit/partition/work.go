@@ -7,14 +7,14 @@ import (
 	"time"
 
 	"gateway/rabbit/answer"
-	"gateway/rabbit/broker"
+	"gateway/rabbit/bus"
 	"gateway/rabbit/ledger"
 	"gateway/rabbit/line"
 	"gateway/rabbit/process"
 )
 
 // readyBytes is how much of answers may wait for their turn before the engine is given one line at a time.
-const readyBytes = 4 * broker.WindowBytes
+const readyBytes = 4 * bus.WindowBytes
 
 // A work lets the engine answer the entries of a queue. Where the engine dies, comes to a line's deadline, or answers
 // too much before its turn, it is begun anew, and is given the lines that it had one at a time: so the line at fault is
@@ -25,13 +25,14 @@ type work struct {
 	deadline int // in ticks
 	queue    *queue
 	ledger   *ledger.Ledger // of all that is settled
-	process  evaluator
-	begin    func(process.Options) (evaluator, error)
+	process  Evaluator
+	begin    func(process.Options) (Evaluator, error)
 	restarts func() // is called when the engine is begun anew
 
 	next     int                        // the first entry of the queue that isn't given
 	models   *ledger.Models             // what is in force for the batches at that entry
 	inForce  []byte                     // the model that the engine has, or nil
+	going    [][]byte                   // given, and not yet handed to the engine
 	fault    error                      // why the partition can't be owned any longer
 	model    *entry                     // a model that was given and isn't answered: nothing else is given before
 	waiting  [line.Clients + 1][]*entry // given, of each client and of none; some of the first may be answered
@@ -50,16 +51,16 @@ type work struct {
 	lonely   bool                       // whether the engine had no other entry all that time
 }
 
-// An evaluator is an engine: it answers the lines that it is given, in the order of each client's.
-type evaluator interface {
-	Give(line []byte)
+// An Evaluator is an engine: it answers the lines that it is given, in the order of each client's.
+type Evaluator interface {
+	Give(lines [][]byte)
 	Answers() <-chan []process.Answer
 	End()
 	Err() error
 }
 
 // beginProcess begins an engine that is a process.
-func beginProcess(options process.Options) (evaluator, error) {
+func beginProcess(options process.Options) (Evaluator, error) {
 	started, err := process.Start(options)
 	if err != nil {
 		return nil, err
@@ -81,8 +82,18 @@ var (
 	errRefusedModel = errors.New("the engine refuses the model in force: a program that takes it has to own the partition")
 )
 
-// give gives the engine the entries that it may have.
+// give gives the engine the entries that it may have, together.
 func (w *work) give() error {
+	err := w.choose()
+	if w.process != nil && len(w.going) > 0 {
+		w.process.Give(w.going)
+	}
+	w.going = nil
+	return err
+}
+
+// choose chooses the entries that the engine may have.
+func (w *work) choose() error {
 	for w.next < len(w.queue.entries) {
 		e := w.queue.entries[w.next]
 		if e.settled() {
@@ -112,7 +123,7 @@ func (w *work) needed(e *entry) []byte {
 
 // ready makes the engine ready for an entry, and says whether it is.
 func (w *work) ready(e *entry) (bool, error) {
-	if w.careful > 0 && len(w.byLine) > 0 || w.queue.ready > broker.WindowBytes || w.model != nil || w.greeting > 0 {
+	if w.careful > 0 && len(w.byLine) > 0 || w.queue.ready > bus.WindowBytes || w.model != nil || w.greeting > 0 {
 		return false, nil
 	}
 	model := w.needed(e)
@@ -170,7 +181,7 @@ func (w *work) giveOne(e *entry) {
 	if e.line.IsModel() {
 		w.model = e
 	}
-	w.process.Give(e.line.Engine)
+	w.going = append(w.going, e.line.Engine)
 }
 
 // start starts an engine, and greets it. It is given lines once it has answered: so an engine that can do nothing is not
@@ -191,10 +202,10 @@ func (w *work) greet(model []byte) {
 	before := w.lines
 	if model != nil {
 		w.lines++
-		w.process.Give(model)
+		w.going = append(w.going, model)
 	}
 	w.lines++
-	w.process.Give(greeting)
+	w.going = append(w.going, greeting)
 	w.greeting, w.inForce = int(w.lines-before), model
 }
 
@@ -204,7 +215,7 @@ func (w *work) end() {
 		w.process.End()
 	}
 	w.process, w.byLine, w.waiting, w.next = nil, nil, [line.Clients + 1][]*entry{}, 0
-	w.models, w.inForce, w.model = w.ledger.Models.Clone(), nil, nil
+	w.models, w.inForce, w.model, w.going = w.ledger.Models.Clone(), nil, nil, nil
 	w.oldest, w.age, w.greeting = nil, 0, 0
 }
 

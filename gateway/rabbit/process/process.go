@@ -6,11 +6,8 @@ import (
 	"errors"
 	"fmt"
 	"io"
-	"os"
-	"os/exec"
 	"strconv"
 	"sync"
-	"syscall"
 
 	"gateway/engine"
 	"gateway/rabbit/line"
@@ -38,7 +35,7 @@ type Options struct {
 
 // A Process is one process of the engine. What is given to it waits in memory until the engine reads it.
 type Process struct {
-	command *exec.Cmd
+	running *engine.Running
 	answers chan []Answer
 	longest int
 
@@ -49,39 +46,24 @@ type Process struct {
 	err     error // why it ended; to be asked once answers is closed
 }
 
-// Start starts the engine, in a process group of its own, so that a signal to ours does not reach it.
+// Start starts the engine.
 func Start(options Options) (*Process, error) {
-	command := exec.Command(options.Path, "serve", "--clients", strconv.Itoa(line.Clients), "--workers",
+	running, err := engine.Begin(options.Path, options.Memory, "serve", "--clients", strconv.Itoa(line.Clients), "--workers",
 		strconv.Itoa(options.Workers), "--capacity", strconv.Itoa(Capacity))
-	command.Stderr = os.Stderr
-	command.SysProcAttr = &syscall.SysProcAttr{Setpgid: true}
-	input, err := command.StdinPipe()
 	if err != nil {
-		return nil, fmt.Errorf("starting the engine: %w", err)
+		return nil, err
 	}
-	output, err := command.StdoutPipe()
-	if err != nil {
-		return nil, fmt.Errorf("starting the engine: %w", err)
-	}
-	if err := command.Start(); err != nil {
-		return nil, fmt.Errorf("starting the engine: %w", err)
-	}
-	if err := engine.Bound(command.Process.Pid, options.Memory); err != nil {
-		command.Process.Kill()
-		command.Wait()
-		return nil, fmt.Errorf("starting the engine: %w", err)
-	}
-	p := &Process{command: command, answers: make(chan []Answer, 16), longest: options.Longest}
+	p := &Process{running: running, answers: make(chan []Answer, 16), longest: options.Longest}
 	p.wake = sync.NewCond(&p.mutex)
-	go p.write(input)
-	go p.read(output)
+	go p.write(running.In())
+	go p.read(running.Out())
 	return p, nil
 }
 
-// Give gives the engine a line, without its line end.
-func (p *Process) Give(text []byte) {
+// Give gives the engine lines, without their line ends.
+func (p *Process) Give(lines [][]byte) {
 	p.mutex.Lock()
-	p.waiting = append(p.waiting, text)
+	p.waiting = append(p.waiting, lines...)
 	p.mutex.Unlock()
 	p.wake.Signal()
 }
@@ -94,7 +76,7 @@ func (p *Process) Err() error { return p.err }
 
 // End ends the engine. Its last answers may be lost.
 func (p *Process) End() {
-	p.command.Process.Kill()
+	p.running.Kill()
 	p.stopWriting()
 	go func() {
 		for range p.answers { // so that its reader comes to its end
@@ -111,7 +93,7 @@ func (p *Process) stopWriting() {
 
 func (p *Process) write(input io.WriteCloser) {
 	defer input.Close()
-	output := bufio.NewWriterSize(input, 64<<10)
+	output := bufio.NewWriterSize(input, 256<<10)
 	for {
 		lines := p.next()
 		if lines == nil {
@@ -161,7 +143,7 @@ func (p *Process) read(output io.Reader) {
 	}
 	p.stopWriting()
 	p.err = errors.New("the engine ended")
-	if err := p.command.Wait(); err != nil {
+	if err := p.running.Wait(); err != nil {
 		p.err = fmt.Errorf("the engine ended: %w", err)
 	}
 	close(p.answers)

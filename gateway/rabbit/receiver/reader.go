@@ -7,18 +7,18 @@ import (
 	"io"
 	"sync"
 
-	"gateway/rabbit/broker"
+	"gateway/rabbit/bus"
 )
 
 // A message of one partition.
 type message struct {
 	partition int
-	broker.Message
+	bus.Message
 }
 
-// A reader reads the answers of one partition, over a connection of its own: where one partition can't be read, the others
+// A Reader reads the answers of one partition, over a connection of its own: where one partition can't be read, the others
 // go on.
-type reader struct {
+type Reader struct {
 	options   Options
 	partition int
 	last      int64 // the offset of the last message that was handed on, or -1
@@ -30,14 +30,14 @@ type reader struct {
 }
 
 // work reads until the context ends.
-func (r *reader) work(ctx context.Context) {
+func (r *Reader) work(ctx context.Context) {
 	log := prefixed{r.options.Log, fmt.Sprintf("partition %d: ", r.partition)}
-	err := broker.Again(ctx, log, func(ctx context.Context) error {
+	err := bus.Again(ctx, r.options.Bus, log, func(ctx context.Context) error {
 		err := r.run(ctx)
 		r.failed(err)
 		return err
 	})
-	var final *broker.Final
+	var final *bus.Final
 	if errors.As(err, &final) {
 		select {
 		case r.faults <- fmt.Errorf("partition %d: %w", r.partition, final.Reason):
@@ -47,20 +47,20 @@ func (r *reader) work(ctx context.Context) {
 }
 
 // failed takes in why the partition can't be read, or nil once it can.
-func (r *reader) failed(err error) {
+func (r *Reader) failed(err error) {
 	r.mutex.Lock()
 	r.tried, r.failure = true, err
 	r.mutex.Unlock()
 }
 
-func (r *reader) isTried() bool {
+func (r *Reader) isTried() bool {
 	r.mutex.Lock()
 	defer r.mutex.Unlock()
 	return r.tried
 }
 
 // fault says why the partition can't be read, or nil where it can.
-func (r *reader) fault() error {
+func (r *Reader) fault() error {
 	r.mutex.Lock()
 	defer r.mutex.Unlock()
 	if r.failure == nil {
@@ -70,31 +70,22 @@ func (r *reader) fault() error {
 }
 
 // run reads with one connection.
-func (r *reader) run(ctx context.Context) error {
-	link, err := broker.Connect(ctx, r.options.Settings, "desk receive")
+func (r *Reader) run(ctx context.Context) error {
+	link, stream, err := r.Open(ctx)
 	if err != nil {
 		return err
 	}
 	defer link.Close()
-	queue := r.options.Settings.Queue(broker.Answers, r.partition)
-	stream, err := link.Read(queue, r.from(), broker.OpenOf(r.options.Settings.Partitions))
-	if err != nil {
-		return err
-	}
-	if err := r.pin(link); err != nil {
-		return err
-	}
 	r.failed(nil)
 	for {
 		select {
-		case arrival, open := <-stream.Arrivals:
-			next, err := stream.Take(arrival, open)
-			if err != nil {
-				return err
+		case next, open := <-stream.Arrivals():
+			if !open {
+				return stream.Ended()
 			}
 			select {
 			case r.messages <- message{r.partition, next}:
-				r.last = next.Offset
+				r.Took(next)
 			case <-link.Done():
 				return link.Err()
 			}
@@ -104,26 +95,47 @@ func (r *reader) run(ctx context.Context) error {
 	}
 }
 
+// Open connects, and reads on.
+func (r *Reader) Open(ctx context.Context) (bus.Link, bus.Reader, error) {
+	link, err := r.options.Bus.Connect(ctx, "desk receive", "")
+	if err != nil {
+		return nil, nil, err
+	}
+	queue := r.options.Settings.Queue(bus.Answers, r.partition)
+	stream, err := link.Read(bus.Reading{Stream: queue, From: r.from(), Window: bus.OpenOf(r.options.Settings.Partitions)})
+	if err == nil {
+		err = r.pin(link)
+	}
+	if err != nil {
+		link.Close()
+		return nil, nil, err
+	}
+	return link, stream, nil
+}
+
+// Took takes in that a message was handed on.
+func (r *Reader) Took(message bus.Message) { r.last = message.Offset }
+
 // from is where the stream is to be read from.
-func (r *reader) from() interface{} {
+func (r *Reader) from() bus.From {
 	if r.last >= 0 {
-		return r.last
+		return bus.FromOffset(r.last)
 	}
 	return r.options.From
 }
 
 // pin publishes a mark in a stream that is read from its end on, and of which nothing was read yet. So there is a place to
 // go on from, and what is answered while the receiver is away is not missed.
-func (r *reader) pin(link *broker.Link) error {
-	if r.options.From != broker.FromNext || r.last >= 0 {
+func (r *Reader) pin(link bus.Link) error {
+	if r.options.From.Place != bus.Next || r.last >= 0 {
 		return nil
 	}
-	publisher, err := link.Publisher()
+	publisher, err := link.Appender()
 	if err != nil {
 		return err
 	}
-	route := r.options.Settings.Route(broker.AnswersExchange, broker.TopicMarks, r.partition)
-	if err := publisher.Publish(route, broker.Headers{broker.MarkHeader: "desk receive"}, nil); err != nil {
+	route := r.options.Settings.Route(bus.AnswersExchange, bus.TopicMarks, r.partition)
+	if err := publisher.Append(route, bus.Headers{bus.MarkHeader: "desk receive"}, nil); err != nil {
 		return err
 	}
 	if err := publisher.Settle(); err != nil {

@@ -12,7 +12,7 @@ import (
 	"time"
 
 	"gateway/rabbit/answer"
-	"gateway/rabbit/broker"
+	"gateway/rabbit/bus"
 	"gateway/rabbit/ledger"
 )
 
@@ -21,8 +21,9 @@ const savePause = 250 * time.Millisecond
 
 // Options say what is received, and where it goes.
 type Options struct {
-	Settings broker.Settings
-	From     interface{}   // broker.FromFirst, broker.FromNext or a time; for partitions that the place doesn't know
+	Bus      bus.Bus
+	Settings bus.Settings
+	From     bus.From      // for partitions that the place doesn't know
 	Place    string        // the file that keeps the place, or empty
 	Output   *os.File      // where answers go
 	File     bool          // whether Output is a file of its own, whose length belongs to the place
@@ -30,7 +31,8 @@ type Options struct {
 	Log      io.Writer
 }
 
-type receiver struct {
+// A Receiver writes the answers that it is handed.
+type Receiver struct {
 	options Options
 	output  *bufio.Writer
 	written int64  // the length of the output's file
@@ -38,7 +40,7 @@ type receiver struct {
 	streams []int64
 	chains  []ledger.Chain
 	holes   []bool // whether offsets are missing since the last answers or snapshot
-	readers []*reader
+	readers []*Reader
 	gaps    int       // of requests or answers that are lost, for each of which a line is written
 	dirty   bool      // whether something is written, and the place isn't
 	moved   time.Time // when the last answer came
@@ -47,20 +49,19 @@ type receiver struct {
 // Receive writes answers until the context ends, or none came for a while. The error says which partitions could not be
 // read at the end, or that some requests or answers are lost.
 func Receive(ctx context.Context, options Options) error {
-	r, err := newReceiver(options)
+	r, err := New(options)
 	if err != nil {
 		return err
 	}
 	reading, cancel := context.WithCancel(ctx)
 	defer cancel()
 	messages, faults := make(chan message), make(chan error)
-	r.readers = make([]*reader, len(r.streams))
-	for partition := range r.readers {
-		r.readers[partition] = &reader{options: options, partition: partition, last: r.streams[partition], messages: messages, faults: faults}
-		go r.readers[partition].work(reading)
+	for _, reader := range r.readers {
+		reader.messages, reader.faults = messages, faults
+		go reader.work(reading)
 	}
 	fault := r.write(ctx, messages, faults)
-	if saved := r.save(); fault == nil {
+	if saved := r.Save(); fault == nil {
 		fault = saved
 	}
 	for _, reader := range r.readers {
@@ -76,13 +77,13 @@ func Receive(ctx context.Context, options Options) error {
 
 // write writes what comes until the context ends, a partition fails for good, or nothing came for a while. What is at hand is
 // written together.
-func (r *receiver) write(ctx context.Context, messages <-chan message, faults <-chan error) error {
+func (r *Receiver) write(ctx context.Context, messages <-chan message, faults <-chan error) error {
 	ticker := time.NewTicker(savePause)
 	defer ticker.Stop()
 	for {
 		select {
 		case m := <-messages:
-			if err := r.add(m.partition, m.Message); err != nil {
+			if err := r.Add(m.partition, m.Message); err != nil {
 				return err
 			}
 			continue
@@ -93,11 +94,11 @@ func (r *receiver) write(ctx context.Context, messages <-chan message, faults <-
 		}
 		select {
 		case m := <-messages:
-			if err := r.add(m.partition, m.Message); err != nil {
+			if err := r.Add(m.partition, m.Message); err != nil {
 				return err
 			}
 		case <-ticker.C:
-			if err := r.save(); err != nil {
+			if err := r.Save(); err != nil {
 				return err
 			}
 			if r.idled() {
@@ -112,7 +113,7 @@ func (r *receiver) write(ctx context.Context, messages <-chan message, faults <-
 }
 
 // idled says whether nothing came for a while. That begins once each partition was reached, or could not be.
-func (r *receiver) idled() bool {
+func (r *Receiver) idled() bool {
 	if r.options.Idle == 0 {
 		return false
 	}
@@ -125,16 +126,25 @@ func (r *receiver) idled() bool {
 	return time.Since(r.moved) > r.options.Idle
 }
 
-// newReceiver is a receiver that stands at the place in its file.
-func newReceiver(options Options) (*receiver, error) {
-	r := &receiver{options: options, output: bufio.NewWriterSize(options.Output, broker.MessageBytes), moved: time.Now()}
+// New is a receiver that stands at the place in its file.
+func New(options Options) (*Receiver, error) {
+	r := &Receiver{options: options, output: bufio.NewWriterSize(options.Output, bus.MessageBytes), moved: time.Now()}
 	for partition := 0; partition < options.Settings.Partitions; partition++ {
 		r.streams = append(r.streams, -1)
 		r.chains = append(r.chains, ledger.Chain{})
 		r.holes = append(r.holes, false)
 	}
-	return r, r.restore()
+	if err := r.restore(); err != nil {
+		return r, err
+	}
+	for partition, last := range r.streams {
+		r.readers = append(r.readers, &Reader{options: options, partition: partition, last: last})
+	}
+	return r, nil
 }
+
+// Readers are those of each partition.
+func (r *Receiver) Readers() []*Reader { return r.readers }
 
 // ErrNotEmpty says that nothing tells how much of an output belongs to the answers.
 var ErrNotEmpty = errors.New("the output is not empty, and no place says where it goes on: give another file, or the --place that belongs to it")
@@ -142,7 +152,7 @@ var ErrNotEmpty = errors.New("the output is not empty, and no place says where i
 // restore goes back to the place in the file, and cuts what the output has after it. Without a place the output has to be
 // empty: nothing that is there is overwritten. The place is written at once, so that there is one as soon as there is an
 // answer.
-func (r *receiver) restore() error {
+func (r *Receiver) restore() error {
 	known := false
 	if r.options.Place != "" {
 		var err error
@@ -156,11 +166,11 @@ func (r *receiver) restore() error {
 		}
 	}
 	r.dirty = !known
-	return r.save()
+	return r.Save()
 }
 
 // restorePlace reads the place, if there is one, and says so.
-func (r *receiver) restorePlace() (bool, error) {
+func (r *Receiver) restorePlace() (bool, error) {
 	p, err := readPlaces(r.options.Place, len(r.streams))
 	if err != nil || p == nil {
 		return false, err
@@ -173,7 +183,7 @@ func (r *receiver) restorePlace() (bool, error) {
 	return true, nil
 }
 
-func (r *receiver) cutOutput(known bool) error {
+func (r *Receiver) cutOutput(known bool) error {
 	state, err := r.options.Output.Stat()
 	if err != nil {
 		return fmt.Errorf("the output: %w", err)
@@ -200,8 +210,8 @@ func (r *receiver) cutOutput(known bool) error {
 	return nil
 }
 
-// add takes the next message of a partition's stream in, and writes the answers that it adds.
-func (r *receiver) add(partition int, message broker.Message) error {
+// Add takes the next message of a partition's stream in, and writes the answers that it adds.
+func (r *Receiver) Add(partition int, message bus.Message) error {
 	offset := message.Offset
 	chain, before := &r.chains[partition], r.streams[partition]
 	if offset == 0 {
@@ -209,7 +219,7 @@ func (r *receiver) add(partition int, message broker.Message) error {
 	}
 	r.holes[partition] = r.holes[partition] || before >= 0 && offset > before+1
 	r.streams[partition], r.dirty = offset, true
-	part, is, err := broker.ReadPart(message)
+	part, is, err := bus.ReadPart(message)
 	if err != nil {
 		return fmt.Errorf("partition %d, offset %d: %w", partition, offset, err)
 	}
@@ -232,11 +242,8 @@ func (r *receiver) add(partition int, message broker.Message) error {
 // lookForCut finds answers that were cut before they were received: where offsets are missing and the next message is not the
 // one that is due. Missing offsets alone say nothing: the broker takes some for itself. It writes a line that says so, and goes
 // on after them.
-func (r *receiver) lookForCut(partition int, part broker.Part) error {
+func (r *Receiver) lookForCut(partition int, part bus.Part) error {
 	chain, begin := &r.chains[partition], part.After
-	if part.Snapshot {
-		begin = part.Upto
-	}
 	isCut := r.holes[partition] && chain.Known && chain.Upto.Before(begin)
 	r.holes[partition] = false
 	if !isCut {
@@ -251,7 +258,7 @@ func (r *receiver) lookForCut(partition int, part broker.Part) error {
 }
 
 // writeLine writes a line of a partition's answers.
-func (r *receiver) writeLine(partition int, text []byte) error {
+func (r *Receiver) writeLine(partition int, text []byte) error {
 	prefix := fmt.Sprintf(`{"partition":%d,`, partition)
 	r.output.WriteString(prefix)
 	r.output.Write(text[1:])
@@ -262,7 +269,7 @@ func (r *receiver) writeLine(partition int, text []byte) error {
 	return nil
 }
 
-func (r *receiver) writeAnswers(partition int, body []byte, chain *ledger.Chain, part broker.Part) error {
+func (r *Receiver) writeAnswers(partition int, body []byte, chain *ledger.Chain, part bus.Part) error {
 	for _, text := range bytes.Split(bytes.TrimSuffix(body, []byte("\n")), []byte("\n")) {
 		record, err := answer.ReadRecord(text)
 		if err != nil {
@@ -283,8 +290,8 @@ func (r *receiver) writeAnswers(partition int, body []byte, chain *ledger.Chain,
 	return nil
 }
 
-// save flushes the output, and writes the place.
-func (r *receiver) save() error {
+// Save flushes the output, and writes the place.
+func (r *Receiver) Save() error {
 	if err := r.output.Flush(); err != nil {
 		return fmt.Errorf("writing answers: %w", err)
 	}

@@ -11,13 +11,13 @@ import (
 	"time"
 
 	"gateway/rabbit/answer"
-	"gateway/rabbit/broker"
+	"gateway/rabbit/bus"
 	"gateway/rabbit/ledger"
 )
 
 // A file is a receiver that writes into a file and keeps its place, and what it told.
 type file struct {
-	*receiver
+	*Receiver
 	path string
 	told *bytes.Buffer
 }
@@ -32,24 +32,24 @@ func opened(t *testing.T, folder string) file {
 	}
 	t.Cleanup(func() { output.Close() })
 	told := &bytes.Buffer{}
-	r, err := newReceiver(Options{Settings: broker.Settings{Partitions: 1}, From: broker.FromFirst,
+	r, err := New(Options{Settings: bus.Settings{Partitions: 1}, From: bus.From{},
 		Place: filepath.Join(folder, "place"), Output: output, File: true, Log: told})
 	if err != nil {
 		t.Fatal(err)
 	}
-	return file{receiver: r, path: path, told: told}
+	return file{Receiver: r, path: path, told: told}
 }
 
 // messageOf is a message of the answers' stream.
-func messageOf(offset int64, part broker.Part, body []byte) broker.Message {
-	return broker.Message{Offset: offset, At: broker.Route{Exchange: broker.AnswersExchange, Key: "answers.0.of.1"},
-		Headers: broker.PartHeaders(part), Body: body}
+func messageOf(offset int64, part bus.Part, body []byte) bus.Message {
+	return bus.Message{Offset: offset, At: bus.Route{Exchange: bus.AnswersExchange, Key: "answers.0.of.1"},
+		Headers: bus.PartHeaders(part), Body: body}
 }
 
 // answers gives the receiver a message of the answers of so many lines behind this one, each a message of its own.
 func (f file) answers(t *testing.T, stream, behind, count int64) {
 	t.Helper()
-	part := broker.Part{After: ledger.Place{Offset: behind}, Upto: ledger.Place{Offset: behind + count}}
+	part := bus.Part{After: ledger.Place{Offset: behind}, Upto: ledger.Place{Offset: behind + count}}
 	if behind < 0 {
 		part.After = ledger.Start
 	}
@@ -57,7 +57,7 @@ func (f file) answers(t *testing.T, stream, behind, count int64) {
 	for line := behind + 1; line <= behind+count; line++ {
 		body = answer.Append(body, ledger.Place{Offset: line}, []byte(`"k"`), []byte(fmt.Sprint(line)), []byte(`{"ticket":0}`))
 	}
-	if err := f.add(0, messageOf(stream, part, body)); err != nil {
+	if err := f.Add(0, messageOf(stream, part, body)); err != nil {
 		t.Fatal(err)
 	}
 }
@@ -81,7 +81,7 @@ func (f file) written(t *testing.T) string {
 
 func (f file) saved(t *testing.T) {
 	t.Helper()
-	if err := f.save(); err != nil {
+	if err := f.Save(); err != nil {
 		t.Fatal(err)
 	}
 }
@@ -89,11 +89,11 @@ func (f file) saved(t *testing.T) {
 // Answers that are published twice, with a gap before them or over again by a second owner are written once.
 func TestEachAnswerIsWrittenOnce(t *testing.T) {
 	f := opened(t, t.TempDir())
-	f.answers(t, 0, -1, 3)                                      // 0 to 2
-	f.answers(t, 1, -1, 3)                                      // the same again
-	f.answers(t, 2, 5, 1)                                       // behind a gap
-	f.answers(t, 3, 0, 4)                                       // 1 to 4
-	if err := f.add(0, broker.Message{Offset: 4}); err != nil { // a mark
+	f.answers(t, 0, -1, 3)                                   // 0 to 2
+	f.answers(t, 1, -1, 3)                                   // the same again
+	f.answers(t, 2, 5, 1)                                    // behind a gap
+	f.answers(t, 3, 0, 4)                                    // 1 to 4
+	if err := f.Add(0, bus.Message{Offset: 4}); err != nil { // a mark
 		t.Fatal(err)
 	}
 	f.answers(t, 5, 4, 2) // 5 and 6
@@ -135,11 +135,11 @@ func TestNothingIsOverwritten(t *testing.T) {
 	before := f.written(t)
 	options := f.options
 	options.Place = filepath.Join(folder, "mistyped")
-	if _, err := newReceiver(options); !errors.Is(err, ErrNotEmpty) {
+	if _, err := New(options); !errors.Is(err, ErrNotEmpty) {
 		t.Errorf("with another place: %v", err)
 	}
 	options.Place = ""
-	if _, err := newReceiver(options); !errors.Is(err, ErrNotEmpty) {
+	if _, err := New(options); !errors.Is(err, ErrNotEmpty) {
 		t.Errorf("with no place: %v", err)
 	}
 	if after := f.written(t); after != before {
@@ -149,7 +149,7 @@ func TestNothingIsOverwritten(t *testing.T) {
 	if err := os.WriteFile(f.path, []byte(other), 0o600); err != nil {
 		t.Fatal(err)
 	}
-	if _, err := newReceiver(f.options); err == nil {
+	if _, err := New(f.options); err == nil {
 		t.Error("another file is taken")
 	}
 	if text, err := os.ReadFile(f.path); err != nil || string(text) != other {
@@ -193,9 +193,9 @@ func TestLostRequestsAreWritten(t *testing.T) {
 	f := opened(t, t.TempDir())
 	f.answers(t, 0, -1, 3)
 	gap := ledger.Gap{From: 3, To: 8}
-	part := broker.Part{After: ledger.Place{Offset: 2}, Upto: gap.Place()}
+	part := bus.Part{After: ledger.Place{Offset: 2}, Upto: gap.Place()}
 	for stream := int64(1); stream <= 2; stream++ {
-		if err := f.add(0, messageOf(stream, part, answer.AppendLost(nil, gap))); err != nil {
+		if err := f.Add(0, messageOf(stream, part, answer.AppendLost(nil, gap))); err != nil {
 			t.Fatal(err)
 		}
 	}
@@ -211,7 +211,7 @@ func TestACutBeforeAMarkIsTold(t *testing.T) {
 	folder := t.TempDir()
 	f := opened(t, folder)
 	f.answers(t, 0, -1, 3)
-	if err := f.add(0, broker.Message{Offset: 9}); err != nil {
+	if err := f.Add(0, bus.Message{Offset: 9}); err != nil {
 		t.Fatal(err)
 	}
 	f.saved(t)
@@ -253,7 +253,7 @@ func TestAPlaceOfOtherPartitions(t *testing.T) {
 func TestIdleTimeBeginsWithThePartitions(t *testing.T) {
 	f := opened(t, t.TempDir())
 	f.options.Idle = time.Nanosecond
-	f.readers = []*reader{{}, {}}
+	f.readers = []*Reader{{}, {}}
 	f.readers[0].failed(nil)
 	f.moved = time.Time{}
 	if f.idled() {

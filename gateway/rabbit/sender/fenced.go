@@ -6,7 +6,7 @@ import (
 	"fmt"
 	"sync"
 
-	"gateway/rabbit/broker"
+	"gateway/rabbit/bus"
 	"gateway/rabbit/ledger"
 )
 
@@ -28,14 +28,27 @@ func (c *fencedCount) add(requests, models int64) {
 }
 
 // takenBefore counts the lines of this process that were taken, over all partitions.
-func (s *sender) takenBefore(ctx context.Context) (int64, error) {
-	link, err := broker.Connect(ctx, s.options.Settings, "desk send, "+s.options.Name)
+func (s *Sender) takenBefore(ctx context.Context) (int64, error) {
+	var taken int64
+	err := bus.Again(ctx, s.options.Bus, s.options.Log, func(ctx context.Context) error {
+		link, err := s.connect(ctx)
+		if err != nil {
+			return err
+		}
+		defer link.Close()
+		taken, err = s.takenOver(link)
+		return err
+	})
 	if err != nil {
 		return 0, fmt.Errorf("counting the lines that were taken: %w", err)
 	}
-	defer link.Close()
+	return taken, nil
+}
+
+// takenOver counts the lines of this process that were taken, with one connection.
+func (s *Sender) takenOver(link bus.Link) (int64, error) {
 	var count fencedCount
-	err = eachPartition(len(s.lanes), func(partition int) error {
+	err := eachPartition(len(s.lanes), func(partition int) error {
 		if l := s.lanes[partition]; !l.claimed || l.fenced {
 			return nil
 		}
@@ -43,19 +56,16 @@ func (s *sender) takenBefore(ctx context.Context) (int64, error) {
 		count.add(requests, models)
 		return err
 	})
-	if err != nil {
-		return 0, fmt.Errorf("counting the lines that were taken: %w", err)
-	}
-	return count.requests + count.models, nil
+	return count.requests + count.models, err
 }
 
 // takenIn reads a partition's log from this process's claim on, up to the claim of a newer one or the end.
-func (s *sender) takenIn(link *broker.Link, l *lane) (requests, models int64, err error) {
+func (s *Sender) takenIn(link bus.Link, l *Lane) (requests, models int64, err error) {
 	token, err := s.claimAgain(link, l)
 	if err != nil {
 		return 0, 0, err
 	}
-	stream, err := link.Read(l.queue, l.claim, open)
+	stream, err := link.Read(bus.Reading{Stream: l.queue, From: bus.FromOffset(l.claim), Window: open})
 	if err != nil {
 		return 0, 0, err
 	}
@@ -65,9 +75,9 @@ func (s *sender) takenIn(link *broker.Link, l *lane) (requests, models int64, er
 		if err != nil {
 			return requests, models, err
 		}
-		from, foreign := broker.ReadOrigin(message)
+		from, foreign := bus.ReadOrigin(message)
 		isNewer := foreign == nil && from.Sender == s.options.Name && from.Epoch > s.epoch
-		if isNewer || message.Headers[tokenHeader] == token {
+		if isNewer || message.Headers[bus.TokenHeader] == token {
 			return requests, models, stream.Close()
 		}
 		if foreign != nil || from.Kind != ledger.Lines || from.Key() != s.origin().Key() || from.Epoch != s.epoch {
@@ -87,27 +97,27 @@ func (s *sender) takenIn(link *broker.Link, l *lane) (requests, models int64, er
 
 // claimAgain claims the name once more in a partition's log, which changes nothing and marks the log's end. It gives the token
 // of that message.
-func (s *sender) claimAgain(link *broker.Link, l *lane) (string, error) {
-	publisher, err := link.Publisher()
+func (s *Sender) claimAgain(link bus.Link, l *Lane) (string, error) {
+	publisher, err := link.Appender()
 	if err != nil {
 		return "", err
 	}
-	token, err := broker.NewMark()
+	token, err := bus.NewMark()
 	if err != nil {
 		return "", err
 	}
 	again := s.origin()
 	again.Kind = ledger.Claim
-	headers := broker.OriginHeaders(again)
-	headers[tokenHeader] = token
-	if err := publisher.Publish(linesRoute(s.options.Settings, l.partition), headers, nil); err != nil {
+	headers := bus.OriginHeaders(again)
+	headers[bus.TokenHeader] = token
+	if err := publisher.Append(linesRoute(s.options.Settings, l.partition), headers, nil); err != nil {
 		return "", err
 	}
 	return token, publisher.Settle()
 }
 
 // takenOf are the lines of a message that the partition takes, if it waits for the line with this number.
-func takenOf(message broker.Message, from ledger.Origin, next int64) [][]byte {
+func takenOf(message bus.Message, from ledger.Origin, next int64) [][]byte {
 	lines := bytes.Split(message.Body, []byte("\n"))
 	skipped := next - from.Number
 	if skipped < 0 || skipped >= int64(len(lines)) {

@@ -4,13 +4,13 @@ import (
 	"fmt"
 	"testing"
 
-	"gateway/rabbit/broker"
+	"gateway/rabbit/bus"
 	"gateway/rabbit/ledger"
 )
 
 // Of a message the lines count that the partition takes: none before the line that it waits for, and none if that is missing.
 func TestWhatIsTakenOfAMessage(t *testing.T) {
-	message := broker.Message{Body: []byte("a\nb\nc")}
+	message := bus.Message{Body: []byte("a\nb\nc")}
 	for next, want := range map[int64]string{4: "[]", 5: "[a b c]", 6: "[b c]", 7: "[c]", 8: "[]"} {
 		if got := fmt.Sprintf("%s", takenOf(message, ledger.Origin{Number: 5}, next)); got != want {
 			t.Errorf("from line %d: %s", next, got)

@@ -7,7 +7,7 @@ import (
 	"errors"
 	"io"
 
-	"gateway/rabbit/broker"
+	"gateway/rabbit/bus"
 	"gateway/rabbit/line"
 )
 
@@ -28,7 +28,7 @@ func readInput(ctx context.Context, input io.Reader) <-chan batch {
 	batches := make(chan batch, 2)
 	go func() {
 		defer close(batches)
-		reader := bufio.NewReaderSize(input, broker.MessageBytes)
+		reader := bufio.NewReaderSize(input, bus.MessageBytes)
 		for {
 			next := readBatch(reader)
 			select {
@@ -54,7 +54,7 @@ func readBatch(reader *bufio.Reader) batch {
 		}
 		b.err = err
 		size += len(next.text)
-		if err != nil || reader.Buffered() == 0 || size >= broker.MessageBytes || len(b.lines) >= broker.MessageLines {
+		if err != nil || reader.Buffered() == 0 || size >= bus.MessageBytes || len(b.lines) >= bus.MessageLines {
 			return b
 		}
 	}

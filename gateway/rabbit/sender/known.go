@@ -4,7 +4,7 @@ import (
 	"fmt"
 	"sync"
 
-	"gateway/rabbit/broker"
+	"gateway/rabbit/bus"
 	"gateway/rabbit/ledger"
 	"gateway/rabbit/line"
 )
@@ -13,7 +13,7 @@ import (
 const atOnce = 8
 
 // open is how many messages of each of them may be on their way.
-var open = broker.OpenOf(atOnce)
+var open = bus.OpenOf(atOnce)
 
 // A claimed partition has the claim of this process in its log.
 type claimed struct {
@@ -47,30 +47,30 @@ func eachPartition(partitions int, work func(partition int) error) error {
 
 // claimPartition claims the name in a partition's log, and finds out what the partition took of the batch: no line of an
 // older process counts after the claim.
-func claimPartition(link *broker.Link, settings broker.Settings, partition int, as ledger.Origin) (claimed, error) {
-	publisher, err := link.Publisher()
+func claimPartition(link bus.Link, settings bus.Settings, partition int, as ledger.Origin) (claimed, error) {
+	publisher, err := link.Appender()
 	if err != nil {
 		return claimed{}, err
 	}
-	h, err := broker.LookAtHistory(broker.HistoryOptions{Link: link, Settings: settings, Partition: partition, Open: open})
+	h, err := bus.LookAtHistory(bus.HistoryOptions{Link: link, Settings: settings, Partition: partition, Open: open})
 	if err != nil {
 		return claimed{}, err
 	}
-	token, err := broker.NewMark()
+	token, err := bus.NewMark()
 	if err != nil {
 		return claimed{}, err
 	}
 	as.Kind, as.Number = ledger.Claim, 0
-	headers := broker.OriginHeaders(as)
-	headers[tokenHeader] = token
-	if err := publisher.Publish(linesRoute(settings, partition), headers, nil); err != nil {
+	headers := bus.OriginHeaders(as)
+	headers[bus.TokenHeader] = token
+	if err := publisher.Append(linesRoute(settings, partition), headers, nil); err != nil {
 		return claimed{}, err
 	}
 	if err := publisher.Settle(); err != nil {
 		return claimed{}, err
 	}
 	found := claimed{}
-	if found.offset, err = readOn(link, settings.Queue(broker.Lines, partition), token, h.Ledger); err != nil {
+	if found.offset, err = readOn(link, settings.Queue(bus.Lines, partition), token, h.Ledger); err != nil {
 		return claimed{}, err
 	}
 	sender := h.Ledger.Senders.Find(as.Sender)
@@ -79,17 +79,17 @@ func claimPartition(link *broker.Link, settings broker.Settings, partition int, 
 }
 
 // linesRoute is where requests, claims and ends of batches are published.
-func linesRoute(settings broker.Settings, partition int) broker.Route {
-	return settings.Route(broker.RequestsExchange, broker.TopicLines, partition)
+func linesRoute(settings bus.Settings, partition int) bus.Route {
+	return settings.Route(bus.RequestsExchange, bus.TopicLines, partition)
 }
 
 // readOn takes the lines after the ledger's place in, up to the claim with the token, and gives the claim's offset.
-func readOn(link *broker.Link, lines, token string, l *ledger.Ledger) (int64, error) {
-	var from interface{} = broker.FromFirst
+func readOn(link bus.Link, lines, token string, l *ledger.Ledger) (int64, error) {
+	var from bus.From
 	if l.Place.Offset >= 0 {
-		from = l.Place.Offset
+		from = bus.FromOffset(l.Place.Offset)
 	}
-	stream, err := link.Read(lines, from, open)
+	stream, err := link.Read(bus.Reading{Stream: lines, From: from, Window: open})
 	if err != nil {
 		return 0, err
 	}
@@ -98,8 +98,8 @@ func readOn(link *broker.Link, lines, token string, l *ledger.Ledger) (int64, er
 		if err != nil {
 			return 0, err
 		}
-		broker.TakeMessage(message, l)
-		if message.Headers[tokenHeader] == token {
+		bus.TakeMessage(message, l)
+		if message.Headers[bus.TokenHeader] == token {
 			return message.Offset, stream.Close()
 		}
 	}

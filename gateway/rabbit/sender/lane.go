@@ -8,14 +8,14 @@ import (
 	"sync"
 	"time"
 
-	"gateway/rabbit/broker"
+	"gateway/rabbit/bus"
 	"gateway/rabbit/ledger"
 )
 
-// A lane sends the lines of one partition. One message is on its way at a time: with several, one could be lost and the
+// A Lane sends the lines of one partition. One message is on its way at a time: with several, one could be lost and the
 // next one kept where a stream changes its leader.
-type lane struct {
-	sender    *sender
+type Lane struct {
+	sender    *Sender
 	partition int
 	queue     string
 	limit     int           // how many bytes may wait
@@ -23,14 +23,16 @@ type lane struct {
 	wake      chan struct{} // has a value where there may be something to send
 
 	// What the lane's own goroutine knows.
-	claimed bool
-	claim   int64 // the offset of this process's claim in the log
-	fenced  bool  // whether a newer process had claimed the name before: no line counts
-	before  int64 // how many lines of the batch were taken before
-	known   known
-	next    int64 // the number of the next message's first line
-	models  int64 // how many lines of the batch so far are models
-	message *message
+	claimed  bool
+	claim    int64 // the offset of this process's claim in the log
+	fenced   bool  // whether a newer process had claimed the name before: no line counts
+	before   int64 // how many lines of the batch were taken before
+	known    known
+	next     int64 // the number of the next message's first line
+	models   int64 // how many lines of the batch so far are models
+	message  *message
+	link     bus.Link
+	appender bus.Appender
 
 	mutex    sync.Mutex
 	pending  []pending
@@ -52,12 +54,12 @@ type message struct {
 	body   []byte
 }
 
-func newLane(s *sender, partition int) *lane {
-	limit := broker.WindowBytes / s.options.Settings.Partitions
-	if limit < broker.MessageBytes {
-		limit = broker.MessageBytes
+func newLane(s *Sender, partition int) *Lane {
+	limit := bus.WindowBytes / s.options.Settings.Partitions
+	if limit < bus.MessageBytes {
+		limit = bus.MessageBytes
 	}
-	return &lane{sender: s, partition: partition, queue: s.options.Settings.Queue(broker.Lines, partition), limit: limit,
+	return &Lane{sender: s, partition: partition, queue: s.options.Settings.Queue(bus.Lines, partition), limit: limit,
 		room: make(chan struct{}, 1), wake: make(chan struct{}, 1)}
 }
 
@@ -69,7 +71,7 @@ func signal(to chan struct{}) {
 }
 
 // put takes a line in, unless there is no room.
-func (l *lane) put(next pending) bool {
+func (l *Lane) put(next pending) bool {
 	l.mutex.Lock()
 	defer l.mutex.Unlock()
 	if l.passed {
@@ -88,7 +90,7 @@ func (l *lane) put(next pending) bool {
 }
 
 // close takes in that no further line comes.
-func (l *lane) close() {
+func (l *Lane) close() {
 	l.mutex.Lock()
 	l.closed = true
 	l.mutex.Unlock()
@@ -96,7 +98,7 @@ func (l *lane) close() {
 }
 
 // passBy leaves out the lines that come from now on.
-func (l *lane) passBy() {
+func (l *Lane) passBy() {
 	l.mutex.Lock()
 	l.passed = true
 	reason := l.reason
@@ -106,20 +108,20 @@ func (l *lane) passBy() {
 }
 
 // isStuck says whether nothing was confirmed for so long, though something is due.
-func (l *lane) isStuck(long time.Duration) bool {
+func (l *Lane) isStuck(long time.Duration) bool {
 	l.mutex.Lock()
 	defer l.mutex.Unlock()
 	return !l.done && !l.stuck.IsZero() && time.Since(l.stuck) >= long
 }
 
-func (l *lane) isDone() bool {
+func (l *Lane) isDone() bool {
 	l.mutex.Lock()
 	defer l.mutex.Unlock()
 	return l.done
 }
 
 // tally counts the lines, and says why some were not sent.
-func (l *lane) tally() (sent, repeated, unsent int64, reason error) {
+func (l *Lane) tally() (sent, repeated, unsent int64, reason error) {
 	l.mutex.Lock()
 	defer l.mutex.Unlock()
 	unsent = l.unsent
@@ -133,7 +135,7 @@ func (l *lane) tally() (sent, repeated, unsent int64, reason error) {
 }
 
 // failed takes in that the connection has failed.
-func (l *lane) failed(reason error) {
+func (l *Lane) failed(reason error) {
 	l.mutex.Lock()
 	if l.stuck.IsZero() {
 		l.stuck = time.Now()
@@ -144,7 +146,7 @@ func (l *lane) failed(reason error) {
 }
 
 // reached takes in that there is a connection. Where nothing waits for a confirm, the lane is not stuck.
-func (l *lane) reached() {
+func (l *Lane) reached() {
 	l.mutex.Lock()
 	if l.message == nil && len(l.pending) == 0 {
 		l.stuck = time.Time{}
@@ -153,9 +155,9 @@ func (l *lane) reached() {
 }
 
 // work sends until all is sent, or the context ends.
-func (l *lane) work(ctx context.Context) {
+func (l *Lane) work(ctx context.Context) {
 	log := prefixed{l.sender.options.Log, fmt.Sprintf("partition %d: ", l.partition)}
-	err := broker.Again(ctx, log, func(ctx context.Context) error {
+	err := bus.Again(ctx, l.sender.options.Bus, log, func(ctx context.Context) error {
 		err := l.run(ctx)
 		if err != nil {
 			l.failed(err)
@@ -166,45 +168,54 @@ func (l *lane) work(ctx context.Context) {
 }
 
 // run sends with one connection.
-func (l *lane) run(ctx context.Context) error {
+func (l *Lane) run(ctx context.Context) error {
 	if !l.isNeeded(ctx) {
 		return nil
 	}
-	link, err := broker.Connect(ctx, l.sender.options.Settings, "desk send, "+l.sender.options.Name)
-	if err != nil {
+	if err := l.Open(ctx); err != nil {
 		return err
 	}
-	defer link.Close()
-	if err := l.claimBatch(link); err != nil {
-		return err
-	}
-	publisher, err := link.Publisher()
-	if err != nil {
-		return err
-	}
-	if l.message != nil { // it may have to be sent again
-		if err := l.publish(publisher); err != nil {
-			return err
-		}
-	}
-	l.reached()
+	defer l.link.Close()
 	for {
-		more, err := l.step(publisher)
-		if err != nil {
+		if more, err := l.Step(); err != nil || !more {
 			return err
 		}
-		if !more {
-			return l.end(publisher)
-		}
-		if err := l.wait(ctx, link, publisher); err != nil {
+		if err := l.Wait(ctx); err != nil {
 			return err
 		}
 	}
 }
 
+// Open connects, claims the name in the partition, and publishes again what is without a confirm.
+func (l *Lane) Open(ctx context.Context) (err error) {
+	if l.link, err = l.sender.connect(ctx); err != nil {
+		return err
+	}
+	if err = l.begin(); err != nil {
+		l.link.Close()
+	}
+	return err
+}
+
+func (l *Lane) begin() (err error) {
+	if err := l.claimBatch(l.link); err != nil {
+		return err
+	}
+	if l.appender, err = l.link.Appender(); err != nil {
+		return err
+	}
+	if l.message != nil { // it may have to be sent again
+		if err := l.append(); err != nil {
+			return err
+		}
+	}
+	l.reached()
+	return nil
+}
+
 // isNeeded waits until there is something to do: a sender without a name of its own connects to a partition with its
 // first line.
-func (l *lane) isNeeded(ctx context.Context) bool {
+func (l *Lane) isNeeded(ctx context.Context) bool {
 	for !l.sender.options.Named {
 		l.mutex.Lock()
 		has, closed := len(l.pending) > 0 || l.next > 0, l.closed
@@ -226,7 +237,7 @@ func (l *lane) isNeeded(ctx context.Context) bool {
 }
 
 // claimBatch claims the name in the partition's log, and reads what the partition has of the batch.
-func (l *lane) claimBatch(link *broker.Link) error {
+func (l *Lane) claimBatch(link bus.Link) error {
 	if !l.sender.options.Named || l.claimed {
 		return nil
 	}
@@ -241,8 +252,8 @@ func (l *lane) claimBatch(link *broker.Link) error {
 	return nil
 }
 
-// step publishes the next message, if none is on its way. It says whether there is more to wait for.
-func (l *lane) step(publisher *broker.Publisher) (more bool, err error) {
+// Step publishes the next message, if none is on its way, or ends the batch. It says whether there is more to wait for.
+func (l *Lane) Step() (more bool, err error) {
 	if l.message != nil {
 		return true, nil
 	}
@@ -250,17 +261,20 @@ func (l *lane) step(publisher *broker.Publisher) (more bool, err error) {
 	if err != nil {
 		return false, err
 	}
+	if next == nil && closed {
+		return false, l.end()
+	}
 	if next == nil {
-		return !closed, nil
+		return true, nil
 	}
 	l.mutex.Lock()
 	l.message = next
 	l.mutex.Unlock()
-	return true, l.publish(publisher)
+	return true, l.append()
 }
 
 // nextMessage makes the next message, or nil if there is nothing to send, and says whether no more lines come.
-func (l *lane) nextMessage() (next *message, closed bool, err error) {
+func (l *Lane) nextMessage() (next *message, closed bool, err error) {
 	lines, closed, err := l.take()
 	if err != nil || len(lines) == 0 {
 		return nil, closed, err
@@ -280,13 +294,13 @@ func (l *lane) nextMessage() (next *message, closed bool, err error) {
 
 // take takes the lines of the next message, and says whether no more come. Those that the partition has are left out. Models
 // and requests have messages of their own, since other rights are needed to send models.
-func (l *lane) take() (lines []pending, closed bool, err error) {
+func (l *Lane) take() (lines []pending, closed bool, err error) {
 	l.mutex.Lock()
 	defer l.mutex.Unlock()
 	size := 0
-	for len(l.pending) > 0 && len(lines) < broker.MessageLines {
+	for len(l.pending) > 0 && len(lines) < bus.MessageLines {
 		next := l.pending[0]
-		if len(lines) > 0 && (size+len(next.text) >= broker.MessageBytes || next.isModel() != lines[0].isModel()) {
+		if len(lines) > 0 && (size+len(next.text) >= bus.MessageBytes || next.isModel() != lines[0].isModel()) {
 			break
 		}
 		repeated, err := l.known.take(next.text)
@@ -318,35 +332,35 @@ func (l *lane) take() (lines []pending, closed bool, err error) {
 }
 
 // other is the error of a batch that was sent before with other lines.
-func (l *lane) other(err error) error {
-	return &broker.Final{Reason: fmt.Errorf("batch %q, partition %d: %w", l.sender.options.Batch, l.partition, err)}
+func (l *Lane) other(err error) error {
+	return &bus.Final{Reason: fmt.Errorf("batch %q, partition %d: %w", l.sender.options.Batch, l.partition, err)}
 }
 
-func (l *lane) publish(publisher *broker.Publisher) error {
+func (l *Lane) append() error {
 	from := l.sender.origin()
 	from.Number, from.Models = l.message.number, l.message.models
 	route := linesRoute(l.sender.options.Settings, l.partition)
 	if l.message.lines[0].isModel() {
-		route = l.sender.options.Settings.Route(broker.RequestsExchange, broker.TopicModels, l.partition)
+		route = l.sender.options.Settings.Route(bus.RequestsExchange, bus.TopicModels, l.partition)
 	}
-	return publisher.Publish(route, broker.OriginHeaders(from), l.message.body)
+	return l.appender.Append(route, bus.OriginHeaders(from), l.message.body)
 }
 
-// wait waits for something to happen, and takes it in.
-func (l *lane) wait(ctx context.Context, link *broker.Link, publisher *broker.Publisher) error {
+// Wait waits for something to happen, and takes it in.
+func (l *Lane) Wait(ctx context.Context) error {
 	late := time.NewTimer(time.Second)
 	defer late.Stop()
 	select {
 	case <-l.wake:
-	case confirmation, open := <-publisher.Confirms():
-		if err := publisher.Take(confirmation, open); err != nil {
+	case confirm, open := <-l.appender.Confirms():
+		if err := l.appender.Take(confirm, open); err != nil {
 			return err
 		}
 		l.confirmed()
 	case <-late.C:
-		return publisher.Late()
-	case <-link.Done():
-		return link.Err()
+		return l.appender.Late()
+	case <-l.link.Done():
+		return l.link.Err()
 	case <-ctx.Done():
 		return ctx.Err()
 	}
@@ -354,7 +368,7 @@ func (l *lane) wait(ctx context.Context, link *broker.Link, publisher *broker.Pu
 }
 
 // confirmed takes in that the message on its way is in the log.
-func (l *lane) confirmed() {
+func (l *Lane) confirmed() {
 	l.mutex.Lock()
 	defer l.mutex.Unlock()
 	for _, next := range l.message.lines {
@@ -368,7 +382,7 @@ func (l *lane) confirmed() {
 }
 
 // end tells the partition that the batch has no further line, if it has all, and finishes the lane.
-func (l *lane) end(publisher *broker.Publisher) error {
+func (l *Lane) end() error {
 	l.mutex.Lock()
 	whole := !l.passed
 	l.mutex.Unlock()
@@ -376,10 +390,10 @@ func (l *lane) end(publisher *broker.Publisher) error {
 		end := l.sender.origin()
 		end.Kind, end.Number, end.Models = ledger.End, l.next, l.models
 		route := linesRoute(l.sender.options.Settings, l.partition)
-		if err := publisher.Publish(route, broker.OriginHeaders(end), nil); err != nil {
+		if err := l.appender.Append(route, bus.OriginHeaders(end), nil); err != nil {
 			return err
 		}
-		if err := publisher.Settle(); err != nil {
+		if err := l.appender.Settle(); err != nil {
 			return err
 		}
 	}
@@ -387,7 +401,7 @@ func (l *lane) end(publisher *broker.Publisher) error {
 	return nil
 }
 
-func (l *lane) finish() {
+func (l *Lane) finish() {
 	l.mutex.Lock()
 	l.done, l.stuck = true, time.Time{}
 	l.mutex.Unlock()

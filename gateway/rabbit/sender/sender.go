@@ -10,14 +10,15 @@ import (
 	"sync"
 	"time"
 
-	"gateway/rabbit/broker"
+	"gateway/rabbit/bus"
 	"gateway/rabbit/ledger"
 	"gateway/rabbit/line"
 )
 
 // Options say what is sent, and as whom.
 type Options struct {
-	Settings broker.Settings
+	Bus      bus.Bus
+	Settings bus.Settings
 	Name     string // the sender's name
 	Named    bool   // whether the name is its own, under which it may be started again
 	Batch    string // the id of the batch that the input is; of a sender with a name of its own
@@ -35,10 +36,10 @@ type Tally struct {
 	Unsent   int64 // of partitions that could not be reached
 }
 
-// A sender hands the lines of the input to the lanes of their partitions.
-type sender struct {
+// A Sender is a process that hands the lines of its input to the lanes of their partitions.
+type Sender struct {
 	options Options
-	lanes   []*lane
+	lanes   []*Lane
 	epoch   int64 // of this process; 0 without a name of its own
 	count   int64 // lines of the input
 	refused int64
@@ -66,22 +67,29 @@ func (p pending) counts() (first bool) {
 	return first
 }
 
+// New makes a sender that has sent nothing.
+func New(options Options) *Sender {
+	s := &Sender{options: options, fault: make(chan error, 1), changed: make(chan struct{}, 1)}
+	for partition := 0; partition < options.Settings.Partitions; partition++ {
+		s.lanes = append(s.lanes, newLane(s, partition))
+	}
+	return s
+}
+
 // Send sends the lines of the input, and ends when the broker has confirmed all.
 func Send(ctx context.Context, options Options) (Tally, error) {
-	ctx, cancel := context.WithCancel(ctx)
+	whole := ctx
+	ctx, cancel := context.WithCancel(whole)
 	defer cancel()
-	s := &sender{options: options, fault: make(chan error, 1), changed: make(chan struct{}, 1)}
-	if err := s.claimName(ctx); err != nil {
+	s := New(options)
+	if err := s.Claim(ctx); err != nil {
 		return Tally{}, err
 	}
+	go s.watchName(ctx)
 	var running sync.WaitGroup
-	for partition := 0; partition < options.Settings.Partitions; partition++ {
-		l := newLane(s, partition)
-		s.lanes = append(s.lanes, l)
-	}
 	for _, l := range s.lanes {
 		running.Add(1)
-		go func(l *lane) {
+		go func(l *Lane) {
 			defer running.Done()
 			l.work(ctx)
 		}(l)
@@ -91,20 +99,23 @@ func Send(ctx context.Context, options Options) (Tally, error) {
 		err = s.wait(ctx)
 	}
 	if err == nil {
-		err = s.checkName(ctx)
+		err = s.Check(ctx)
 	}
 	cancel()
 	running.Wait()
-	return s.ended(err)
+	return s.Ended(whole, err)
 }
 
+// Lanes are the lanes, of each partition one.
+func (s *Sender) Lanes() []*Lane { return s.lanes }
+
 // origin is what this process says of itself on its messages.
-func (s *sender) origin() ledger.Origin {
+func (s *Sender) origin() ledger.Origin {
 	return ledger.Origin{Kind: ledger.Lines, Sender: s.options.Name, Named: s.options.Named, Epoch: s.epoch, Batch: s.options.Batch}
 }
 
 // fail ends all, for this reason if it is the first.
-func (s *sender) fail(reason error) {
+func (s *Sender) fail(reason error) {
 	select {
 	case s.fault <- reason:
 	default:
@@ -112,7 +123,7 @@ func (s *sender) fail(reason error) {
 }
 
 // notice lets wait look at the lanes again.
-func (s *sender) notice() {
+func (s *Sender) notice() {
 	select {
 	case s.changed <- struct{}{}:
 	default:
@@ -120,7 +131,7 @@ func (s *sender) notice() {
 }
 
 // feed hands the lines of the input to the lanes.
-func (s *sender) feed(ctx context.Context) error {
+func (s *Sender) feed(ctx context.Context) error {
 	input := readInput(ctx, s.options.Input)
 	for {
 		select {
@@ -137,9 +148,7 @@ func (s *sender) feed(ctx context.Context) error {
 			if !errors.Is(next.err, io.EOF) {
 				return fmt.Errorf("reading the input after line %d: %w", s.count, next.err)
 			}
-			for _, l := range s.lanes {
-				l.close()
-			}
+			s.End()
 			return nil
 		case reason := <-s.fault:
 			return reason
@@ -149,7 +158,20 @@ func (s *sender) feed(ctx context.Context) error {
 	}
 }
 
-func (s *sender) takeLine(ctx context.Context, text inputLine) error {
+// Take takes a line of the input in.
+func (s *Sender) Take(ctx context.Context, text []byte) error {
+	s.count++
+	return s.takeLine(ctx, inputLine{text: text})
+}
+
+// End takes in that the input has ended.
+func (s *Sender) End() {
+	for _, l := range s.lanes {
+		l.close()
+	}
+}
+
+func (s *Sender) takeLine(ctx context.Context, text inputLine) error {
 	if len(text.text) == 0 && !text.tooLong {
 		return nil // a blank line
 	}
@@ -171,7 +193,7 @@ func (s *sender) takeLine(ctx context.Context, text inputLine) error {
 	return nil
 }
 
-func (s *sender) read(text inputLine) (line.Line, error) {
+func (s *Sender) read(text inputLine) (line.Line, error) {
 	if text.tooLong {
 		return line.Line{}, fmt.Errorf("over %d bytes", line.MaximumBytes)
 	}
@@ -183,7 +205,7 @@ func (s *sender) read(text inputLine) (line.Line, error) {
 }
 
 // put hands a line to a lane, once that has room. A lane that can't be reached while others can is passed by.
-func (s *sender) put(ctx context.Context, l *lane, next pending) error {
+func (s *Sender) put(ctx context.Context, l *Lane, next pending) error {
 	look := time.NewTicker(time.Second)
 	defer look.Stop()
 	for !l.put(next) {
@@ -206,7 +228,7 @@ func (s *sender) put(ctx context.Context, l *lane, next pending) error {
 const stuckTime = 30 * time.Second
 
 // others says whether some other lane goes on.
-func (s *sender) others(of *lane) bool {
+func (s *Sender) others(of *Lane) bool {
 	for _, l := range s.lanes {
 		if l != of && !l.isStuck(0) {
 			return true
@@ -217,7 +239,7 @@ func (s *sender) others(of *lane) bool {
 
 // wait waits until each lane has sent all it has, or is given up: while a broker is reached, one that has had no confirm
 // for so long as the options say.
-func (s *sender) wait(ctx context.Context) error {
+func (s *Sender) wait(ctx context.Context) error {
 	look := time.NewTicker(time.Second)
 	defer look.Stop()
 	for !s.isDone() {
@@ -238,7 +260,7 @@ func (s *sender) wait(ctx context.Context) error {
 	}
 }
 
-func (s *sender) isDone() bool {
+func (s *Sender) isDone() bool {
 	for _, l := range s.lanes {
 		if !l.isDone() && !(s.options.GiveUp > 0 && l.isStuck(s.options.GiveUp) && s.others(l)) {
 			return false
@@ -247,9 +269,9 @@ func (s *sender) isDone() bool {
 	return true
 }
 
-// ended is what is reported at the end. Where a newer process has taken the name, the lines are counted that were taken
+// Ended is what is reported at the end, by an error or without one. Where a newer process has taken the name, the lines are counted that were taken
 // before.
-func (s *sender) ended(err error) (Tally, error) {
+func (s *Sender) Ended(ctx context.Context, err error) (Tally, error) {
 	tally := Tally{Refused: s.refused}
 	var unreached []error
 	for _, l := range s.lanes {
@@ -259,9 +281,9 @@ func (s *sender) ended(err error) (Tally, error) {
 			unreached = append(unreached, fmt.Errorf("partition %d: %d lines were not sent: %w", l.partition, unsent, reason))
 		}
 	}
-	var newer *superseded
+	var newer *bus.Superseded
 	if errors.As(err, &newer) {
-		taken, fault := s.takenBefore(context.Background())
+		taken, fault := s.takenBefore(ctx)
 		if fault != nil {
 			return tally, fmt.Errorf("%w; %v", newer, fault)
 		}

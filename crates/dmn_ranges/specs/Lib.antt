@@ -1,0 +1,3 @@
+pub mod Ranges
+pub mod Numbers
+pub mod Steps

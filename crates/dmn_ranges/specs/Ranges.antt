@@ -1,0 +1,49 @@
+-- Which values a range has, and what it says of names and of an evaluation.
+use Rattle.std.specs.Prelude.{◌≡◌, ℕ, ℤ, int_le, List, [], ◌∷◌, Bool, true, false, ◌&&◌, Option, Some, None, unwrap_or, bytes_eq, if◌then◌else◌}
+use Rattle.std.specs.Arc.{arc_str_bytes}
+use Rattle.feel_value.specs.Datum.{Datum, null, boolean, number, text, list, context}
+use Rattle.feel_value.specs.declared.feel.Outcome.{Outcome}
+use Rattle.feel_value.specs.declared.feel.Outcome.TheVariants.{Is, Limit}
+use Rattle.feel_text.specs.Meaning.{Bindings, bound}
+use Rattle.dmn_ranges.specs.declared.interval.Interval.{Interval}
+use Rattle.dmn_ranges.specs.declared.range.Range.{Range}
+use Rattle.dmn_ranges.specs.declared.range.NamedRange.{NamedRange}
+use Rattle.dmn_ranges.specs.declared.outcomes.Outcomes.{Outcomes}
+
+abbrev pub inside : Interval → ℤ → Bool
+inside i z = int_le i.low z && int_le z i.high
+
+abbrev pub within : Option Interval → ℤ → Bool
+within None z = false
+within (Some i) z = inside i z
+
+-- whether a value is one of the range
+abbrev pub lies_in : Range → Datum → Bool
+lies_in r null = r.nulls
+lies_in r (boolean true) = r.trues
+lies_in r (boolean false) = r.falses
+lies_in r (number z) = within r.numbers z
+lies_in r (text s) = r.texts
+lies_in r (list ds) = r.lists
+lies_in r (context es) = r.contexts
+
+-- whether an evaluation may give this
+abbrev pub covers : Outcomes → Outcome → Bool
+covers r (Is d) = lies_in r.range d
+covers r Limit = r.limit
+
+abbrev pub null_alone : Range
+null_alone = record { nulls = true; trues = false; falses = false; numbers = None; texts = false; lists = false; contexts = false }
+
+-- the range of the last of that name; otherwise this one
+abbrev pub named_or : Range → List NamedRange → List ℕ → Range
+named_or r [] name = r
+named_or r (x ∷ xs) name = named_or (if bytes_eq name (arc_str_bytes x.name) then x.range else r) xs name
+
+-- what is said of a name; of any other name that it stands for nothing, which is null
+abbrev pub range_named : List NamedRange → List ℕ → Range
+range_named xs name = named_or null_alone xs name
+
+-- the value of each name lies in its range
+abbrev pub Fits : List NamedRange → Bindings → Type 0
+Fits xs m = (name : List ℕ) → lies_in (range_named xs name) (unwrap_or (bound name m) null) ≡ true

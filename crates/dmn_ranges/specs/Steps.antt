@@ -1,0 +1,232 @@
+-- What each form of an expression can give, from what its parts can give.
+use Rattle.std.specs.Prelude.{ℕ, ℤ, pos, List, Bool, true, false, not, ◌&&◌, ◌||◌, Option, Some, None, is_some, if◌then◌else◌}
+use Rattle.std.specs.Option.{is_none}
+use Rattle.feel_value.specs.Limits.{in_range}
+use Rattle.feel_text.specs.declared.expr.Operator.{Operator}
+use Rattle.feel_text.specs.declared.expr.Operator.TheVariants as operator
+use Rattle.feel_text.specs.declared.expr.Function.{Function}
+use Rattle.feel_text.specs.declared.expr.Function.TheVariants as function
+use Rattle.feel_text.specs.Expr as expr
+use Rattle.feel_text.specs.Expr.{Expr}
+use Rattle.dmn_ranges.specs.Numbers.{least_number, most_number, sum, difference, product, absolute, hull, are_less, reach}
+use Rattle.dmn_ranges.specs.Ranges.{null_alone, range_named}
+use Rattle.dmn_ranges.specs.declared.bounded.Bounded.{Bounded}
+use Rattle.dmn_ranges.specs.declared.interval.Interval.{Interval}
+use Rattle.dmn_ranges.specs.declared.outcomes.Outcomes.{Outcomes}
+use Rattle.dmn_ranges.specs.declared.range.NamedRange.{NamedRange}
+use Rattle.dmn_ranges.specs.declared.range.Range.{Range}
+use Rattle.dmn_ranges.specs.declared.truths.Truths.{Truths}
+
+-- ---- ranges
+
+abbrev pub everything : Interval
+everything = record { low = least_number; high = most_number }
+
+-- numbers, and null where this is said
+abbrev pub numbers_or_null : Bool → Option Interval → Range
+numbers_or_null n i = record { nulls = n; trues = false; falses = false; numbers = i; texts = false; lists = false; contexts = false }
+
+abbrev pub nothing : Range
+nothing = numbers_or_null false None
+
+abbrev pub anything : Range
+anything = record { nulls = true; trues = true; falses = true; numbers = Some everything; texts = true; lists = true; contexts = true }
+
+abbrev pub truth_values : Bool → Bool → Bool → Range
+truth_values n t f = record { nulls = n; trues = t; falses = f; numbers = None; texts = false; lists = false; contexts = false }
+
+abbrev pub texts_alone : Range
+texts_alone = record { nulls = false; trues = false; falses = false; numbers = None; texts = true; lists = false; contexts = false }
+
+abbrev pub lists_alone : Range
+lists_alone = record { nulls = false; trues = false; falses = false; numbers = None; texts = false; lists = true; contexts = false }
+
+abbrev pub joined : Range → Range → Range
+joined a b = record {
+  nulls = a.nulls || b.nulls;
+  trues = a.trues || b.trues;
+  falses = a.falses || b.falses;
+  numbers = hull a.numbers b.numbers;
+  texts = a.texts || b.texts;
+  lists = a.lists || b.lists;
+  contexts = a.contexts || b.contexts;
+}
+
+-- some value is no number
+abbrev pub is_other : Range → Bool
+is_other r = (r.nulls || (r.trues || r.falses)) || (r.texts || (r.lists || r.contexts))
+
+-- some value is no text
+abbrev pub is_other_than_text : Range → Bool
+is_other_than_text r = (r.nulls || (r.trues || r.falses)) || (is_some r.numbers || (r.lists || r.contexts))
+
+-- ---- outcomes
+
+abbrev pub given : Range → Outcomes
+given r = record { range = r; limit = false }
+
+abbrev pub limited : Bool → Outcomes → Outcomes
+limited l o = record { range = o.range; limit = l || o.limit }
+
+abbrev pub with_one : Outcomes → (Range → Outcomes) → Outcomes
+with_one o f = limited o.limit (f o.range)
+
+abbrev pub with_two : Outcomes → Outcomes → (Range → Range → Outcomes) → Outcomes
+with_two o p f = limited (o.limit || p.limit) (f o.range p.range)
+
+abbrev pub either_outcomes : Outcomes → Outcomes → Outcomes
+either_outcomes o p = record { range = joined o.range p.range; limit = o.limit || p.limit }
+
+abbrev pub when : Bool → Outcomes → Outcomes
+when b o = if b then o else given nothing
+
+-- ---- numbers
+
+abbrev pub numbers_given : Bool → Option Bounded → Outcomes
+numbers_given n None = given (numbers_or_null n None)
+numbers_given n (Some b) = record { range = numbers_or_null n (Some b.numbers); limit = b.limit }
+
+abbrev pub worked_out : Operator → Interval → Interval → Bounded
+worked_out operator.Add x y = sum x y
+worked_out operator.Subtract x y = difference x y
+worked_out op x y = product x y
+
+abbrev pub paired : Operator → Option Interval → Option Interval → Option Bounded
+paired op None y = None
+paired op (Some x) None = None
+paired op (Some x) (Some y) = Some (worked_out op x y)
+
+abbrev pub arithmetic : Operator → Range → Range → Outcomes
+arithmetic op a b = numbers_given (is_other a || is_other b) (paired op a.numbers b.numbers)
+
+abbrev pub negated : Range → Outcomes
+negated a = numbers_given (is_other a) (paired operator.Subtract (Some (record { low = pos 0; high = pos 0 })) a.numbers)
+
+abbrev pub absolute_if : Option Interval → Option Bounded
+absolute_if None = None
+absolute_if (Some x) = Some (absolute x)
+
+abbrev pub absolutes : Range → Outcomes
+absolutes a = numbers_given (is_other a) (absolute_if a.numbers)
+
+-- any number or null, or a limit is broken
+abbrev pub some_number : Outcomes
+some_number = record { range = numbers_or_null true (Some everything); limit = true }
+
+abbrev pub remainders_of : Option Interval → Option Interval → Outcomes
+remainders_of None y = given null_alone
+remainders_of (Some x) None = given null_alone
+remainders_of (Some x) (Some y) = some_number
+
+abbrev pub remainders : Range → Range → Outcomes
+remainders a b = remainders_of a.numbers b.numbers
+
+-- ---- truth values
+
+abbrev pub truths : Range → Truths
+truths r = record { yes = r.trues; no = r.falses; unknown = (r.nulls || is_some r.numbers) || (r.texts || (r.lists || r.contexts)) }
+
+abbrev pub opposite : Truths → Truths
+opposite a = record { yes = a.no; no = a.yes; unknown = a.unknown }
+
+abbrev pub and_truths : Truths → Truths → Truths
+and_truths a b = record { yes = a.yes && b.yes; no = a.no || b.no; unknown = (a.unknown && (b.yes || b.unknown)) || (a.yes && b.unknown) }
+
+abbrev pub or_truths : Truths → Truths → Truths
+or_truths a b = record { yes = a.yes || b.yes; no = a.no && b.no; unknown = (a.unknown && (b.no || b.unknown)) || (a.no && b.unknown) }
+
+abbrev pub told : Truths → Outcomes
+told a = given (truth_values a.unknown a.yes a.no)
+
+-- ---- comparisons
+
+abbrev pub less_truths : Range → Range → Truths
+less_truths a b = record {
+  yes = are_less a.numbers b.numbers || (a.texts && b.texts);
+  no = reach a.numbers b.numbers || (a.texts && b.texts);
+  unknown = (is_other a || is_other b) && (is_other_than_text a || is_other_than_text b);
+}
+
+-- Each value is null, or of a kind for which this is said.
+abbrev pub has_only : Range → Bool → Bool → Bool → Bool
+has_only a truths numbers texts =
+    ((truths || not (a.trues || a.falses)) && (numbers || not (is_some a.numbers))) && ((texts || not a.texts) && not (a.lists || a.contexts))
+
+-- of each value of the first and each of the second it is known whether they are equal
+abbrev pub is_alike : Range → Range → Bool
+is_alike a b =
+    (has_only a false false false || has_only b false false false)
+    || ((has_only a true false false && has_only b true false false)
+    || ((has_only a false true false && has_only b false true false) || (has_only a false false true && has_only b false false true)))
+
+abbrev pub equal_truths : Range → Range → Truths
+equal_truths a b = record { yes = true; no = true; unknown = not (is_alike a b) }
+
+abbrev pub operated : Operator → Range → Range → Outcomes
+operated operator.Or a b = told (or_truths (truths a) (truths b))
+operated operator.And a b = told (and_truths (truths a) (truths b))
+operated operator.Equal a b = told (equal_truths a b)
+operated operator.NotEqual a b = told (opposite (equal_truths a b))
+operated operator.Less a b = told (less_truths a b)
+operated operator.LessEqual a b = told (opposite (less_truths b a))
+operated operator.Greater a b = told (less_truths b a)
+operated operator.GreaterEqual a b = told (opposite (less_truths a b))
+operated operator.Add a b = arithmetic operator.Add a b
+operated operator.Subtract a b = arithmetic operator.Subtract a b
+operated operator.Multiply a b = arithmetic operator.Multiply a b
+
+abbrev pub between : Range → Range → Range → Outcomes
+between a low high = told (and_truths (opposite (less_truths a low)) (opposite (less_truths high a)))
+
+abbrev pub inverted : Range → Outcomes
+inverted a = told (opposite (truths a))
+
+-- ---- functions, paths and lists
+
+abbrev pub folded : Range → Outcomes
+folded a = if a.lists then some_number else given null_alone
+
+abbrev pub counted : Range → Outcomes
+counted a = if a.lists then record { range = numbers_or_null true (Some (record { low = pos 0; high = most_number })); limit = true } else given null_alone
+
+abbrev pub called : Function → Range → Outcomes
+called function.Abs a = absolutes a
+called function.Count a = counted a
+called f a = folded a
+
+abbrev pub paths : Range → Outcomes
+paths a = if a.contexts || a.lists then record { range = anything; limit = true } else given null_alone
+
+abbrev pub listed : Outcomes
+listed = record { range = lists_alone; limit = true }
+
+-- ---- expressions
+
+abbrev pub point : ℤ → Range
+point z = numbers_or_null false (Some (record { low = z; high = z }))
+
+-- a number of a text, which may be past the range
+abbrev pub natural : ℕ → Outcomes
+natural n = if in_range (pos n) then given (point (pos n)) else record { range = nothing; limit = true }
+
+-- the branches of an `if` that can be taken
+abbrev pub branches : Truths → Outcomes → Outcomes → Outcomes
+branches t o p = either_outcomes (when t.yes o) (when (t.no || t.unknown) p)
+
+abbrev pub outcomes : Expr → List NamedRange → Outcomes
+outcomes expr.Null xs = given null_alone
+outcomes (expr.Boolean b) xs = given (truth_values false b (not b))
+outcomes (expr.Number n) xs = natural n
+outcomes (expr.Text bytes) xs = given texts_alone
+outcomes (expr.Name name) xs = given (range_named xs name)
+outcomes (expr.Group e) xs = outcomes e xs
+outcomes (expr.Members es) xs = listed
+outcomes (expr.Call f e) xs = with_one (outcomes e xs) (called f)
+outcomes (expr.Modulo a b) xs = with_two (outcomes a xs) (outcomes b xs) remainders
+outcomes (expr.Not e) xs = with_one (outcomes e xs) inverted
+outcomes (expr.Negate e) xs = with_one (outcomes e xs) negated
+outcomes (expr.Path e name) xs = with_one (outcomes e xs) paths
+outcomes (expr.Binary op a b) xs = with_two (outcomes a xs) (outcomes b xs) (operated op)
+outcomes (expr.Between e low high) xs =
+    with_one (outcomes e xs) (λ r. with_two (outcomes low xs) (outcomes high xs) (between r))
+outcomes (expr.If test a b) xs = with_one (outcomes test xs) (λ r. branches (truths r) (outcomes a xs) (outcomes b xs))

@@ -1,0 +1,133 @@
+//! What an expression can give.
+ghost use Rattle.std.specs.Prelude.{◌≡◌, true, []};
+ghost use Rattle.feel_text.specs.Constants.{expr_of_constant};
+ghost use Rattle.feel_text.specs.Meaning.{Bindings, den};
+ghost use Rattle.feel_text.specs.View.{view};
+ghost use Rattle.dmn_ranges.specs.Ranges.{Fits, covers};
+ghost use Rattle.dmn_ranges.specs.Steps.{natural as natural_of, outcomes as outcomes_of, point as point_of, branches as branches_of};
+
+use crate::calls::{called, listed, paths};
+use crate::comparison::{between, inverted, operated};
+use crate::interval::Interval;
+use crate::numbers::{negated, remainders};
+use crate::outcomes::{Outcomes, either_of, when};
+use crate::range::{NamedRange, Range, either, named};
+use crate::truths::{Truths, truths_in};
+use feel_text::{Constant, Tree};
+use feel_value::Value;
+
+/// What an expression can give, where each name stands for a value of its range.
+///
+/// Whatever values of their ranges the names have, its value lies in the range that is answered; and where a limit is broken, the
+/// answer says that it can be. A name that isn't among them stands for null. The steps are in proportion to the size of the
+/// expression, times the number of names.
+#[tactic(auto, using(crate::proofs::Sound::sound))]
+pub fn range_of_expression(expr: &Tree, names: &[NamedRange]) -> Outcomes
+    ensures { (m : Bindings) → Fits names.now m → covers result (den (view expr.now) m) ≡ true }
+{
+    outcomes(expr, names)
+}
+
+// One number.
+fn point(n: i64) -> Range
+    ensures { result ≡ point_of n }
+{
+    Range::numbers_or_null(false, Some(Interval { low: n, high: n }))
+}
+
+// The value of a literal.
+fn constant(constant: &Constant) -> Outcomes
+    ensures { result ≡ outcomes_of (expr_of_constant constant.now) [] }
+{
+    match constant.value().value() {
+        Value::Bool(holds) => Outcomes::given(Range {
+            nulls: false,
+            trues: *holds,
+            falses: !*holds,
+            numbers: None,
+            texts: false,
+            lists: false,
+            contexts: false,
+        }),
+        Value::Number(n) => Outcomes::given(point(*n)),
+        Value::Text(_) => Outcomes::given(Range {
+            nulls: false,
+            trues: false,
+            falses: false,
+            numbers: None,
+            texts: true,
+            lists: false,
+            contexts: false,
+        }),
+        Value::Null | Value::List(_) | Value::Context(_) => Outcomes::given(Range::null()),
+    }
+}
+
+// A number of a text, which may be past the range.
+fn natural(n: u64) -> Outcomes
+    ensures { result ≡ natural_of n }
+{
+    match i64::try_from(n) {
+        Ok(n) => Outcomes::given(point(n)),
+        Err(_) => Outcomes {
+            range: Range::nothing(),
+            limit: true,
+        },
+    }
+}
+
+// The branches of an `if` that can be taken.
+fn branches(test: Truths, a: Outcomes, b: Outcomes) -> Outcomes
+    ensures { result ≡ branches_of test a b }
+{
+    either_of(when(test.yes, a), when(either(test.no, test.unknown), b))
+}
+
+#[cycle(outcomes)]
+fn outcomes(expr: &Tree, names: &[NamedRange]) -> Outcomes
+    ensures { result ≡ outcomes_of (view expr.now) names.now }
+{
+    match expr {
+        Tree::Constant(literal) => constant(literal),
+        Tree::Number(n) => natural(*n),
+        Tree::Name(reference) => Outcomes::given(named(reference.name.as_str(), names)),
+        Tree::Group(inner) => outcomes(inner, names),
+        Tree::List(_) => listed(),
+        Tree::Call(function, argument) => {
+            let argument = outcomes(argument, names);
+            called(*function, argument.range).limited(argument.limit)
+        }
+        Tree::Modulo(left, right) => {
+            let (left, right) = (outcomes(left, names), outcomes(right, names));
+            remainders(left.range, right.range).limited(either(left.limit, right.limit))
+        }
+        Tree::Not(inner) => {
+            let inner = outcomes(inner, names);
+            inverted(inner.range).limited(inner.limit)
+        }
+        Tree::Negate(inner) => {
+            let inner = outcomes(inner, names);
+            negated(inner.range).limited(inner.limit)
+        }
+        Tree::Path(inner, _) => {
+            let inner = outcomes(inner, names);
+            paths(inner.range).limited(inner.limit)
+        }
+        Tree::Binary(operator, left, right) => {
+            let (left, right) = (outcomes(left, names), outcomes(right, names));
+            operated(*operator, left.range, right.range).limited(either(left.limit, right.limit))
+        }
+        Tree::Between(value, low, high) => {
+            let value = outcomes(value, names);
+            let (low, high) = (outcomes(low, names), outcomes(high, names));
+            between(value.range, low.range, high.range)
+                .limited(either(low.limit, high.limit))
+                .limited(value.limit)
+        }
+        Tree::If(test, yes, no) => {
+            let test = outcomes(test, names);
+            let (yes, no) = (outcomes(yes, names), outcomes(no, names));
+            branches(truths_in(test.range), yes, no).limited(test.limit)
+        }
+    }
+}

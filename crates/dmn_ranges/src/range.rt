@@ -1,0 +1,152 @@
+//! Sets of values.
+ghost use Rattle.std.specs.Prelude.{◌≡◌, ◌&&◌, ◌||◌, Some, None, bytes_eq, if◌then◌else◌};
+ghost use Rattle.std.specs.Arc.{arc_str_bytes};
+ghost use Rattle.dmn_ranges.specs.Ranges.{range_named, null_alone};
+ghost use Rattle.dmn_ranges.specs.Steps.{nothing as no_value, anything, everything, joined as joined_of, is_other as is_other_of, is_other_than_text as is_other_than_text_of, numbers_or_null as numbers_or_null_of};
+
+use crate::interval::{Interval, hull};
+use std::sync::ArcStr;
+
+/// A set of values: null, the truth values, the numbers of an interval, texts, lists and contexts.
+#[derive(Clone, Copy, Debug, PartialEq, Eq)]
+pub struct Range {
+    pub nulls: bool,
+    pub trues: bool,
+    pub falses: bool,
+    pub numbers: Option<Interval>,
+    pub texts: bool,
+    pub lists: bool,
+    pub contexts: bool,
+}
+
+/// What a name can stand for.
+#[derive(Drop)]
+pub struct NamedRange {
+    pub name: ArcStr,
+    pub range: Range,
+}
+
+pub(crate) fn either(a: bool, b: bool) -> bool
+    ensures { result ≡ a || b }
+{
+    a || b
+}
+
+pub(crate) fn both(a: bool, b: bool) -> bool
+    ensures { result ≡ a && b }
+{
+    a && b
+}
+
+impl Range {
+    /// No value.
+    pub fn nothing() -> Range
+        ensures { result ≡ no_value }
+    {
+        Range::numbers_or_null(false, None)
+    }
+
+    /// Null alone.
+    pub fn null() -> Range
+        ensures { result ≡ null_alone }
+    {
+        Range::numbers_or_null(true, None)
+    }
+
+    /// Any value.
+    pub fn any() -> Range
+        ensures { result ≡ anything }
+    {
+        Range {
+            nulls: true,
+            trues: true,
+            falses: true,
+            numbers: every_number(),
+            texts: true,
+            lists: true,
+            contexts: true,
+        }
+    }
+
+    /// Numbers, and null where this is said.
+    pub(crate) fn numbers_or_null(nulls: bool, numbers: Option<Interval>) -> Range
+        ensures { result ≡ numbers_or_null_of nulls numbers }
+    {
+        Range {
+            nulls,
+            trues: false,
+            falses: false,
+            numbers,
+            texts: false,
+            lists: false,
+            contexts: false,
+        }
+    }
+
+    /// Whether some value is no number.
+    pub(crate) fn is_other(&self) -> bool
+        ensures { result ≡ is_other_of self.now }
+    {
+        either(
+            either(self.nulls, either(self.trues, self.falses)),
+            either(self.texts, either(self.lists, self.contexts)),
+        )
+    }
+
+    /// Whether some value is no text.
+    pub(crate) fn is_other_than_text(&self) -> bool
+        ensures { result ≡ is_other_than_text_of self.now }
+    {
+        either(
+            either(self.nulls, either(self.trues, self.falses)),
+            either(self.numbers.is_some(), either(self.lists, self.contexts)),
+        )
+    }
+}
+
+/// Every number of the range of numbers.
+pub(crate) fn every_number() -> Option<Interval>
+    ensures { result ≡ Some everything }
+{
+    Some(Interval {
+        low: -i64::MAX,
+        high: i64::MAX,
+    })
+}
+
+/// A set with the values of both.
+pub(crate) fn joined(a: Range, b: Range) -> Range
+    ensures { result ≡ joined_of a b }
+{
+    Range {
+        nulls: either(a.nulls, b.nulls),
+        trues: either(a.trues, b.trues),
+        falses: either(a.falses, b.falses),
+        numbers: hull(a.numbers, b.numbers),
+        texts: either(a.texts, b.texts),
+        lists: either(a.lists, b.lists),
+        contexts: either(a.contexts, b.contexts),
+    }
+}
+
+/// What a name stands for: what the last of its name says; null where it has none.
+pub(crate) fn named(name: &str, names: &[NamedRange]) -> Range
+    ensures { result ≡ range_named names.now name.now }
+{
+    let mut range = Range::null();
+    for entry in names {
+        range = chosen(name, entry, range);
+    }
+    range
+}
+
+// The range of the entry, if it has this name, and otherwise the other one.
+fn chosen(name: &str, entry: &NamedRange, other: Range) -> Range
+    ensures { result ≡ (if bytes_eq name.now (arc_str_bytes entry.now.name) then entry.now.range else other) }
+{
+    if name == entry.name.as_str() {
+        entry.range
+    } else {
+        other
+    }
+}

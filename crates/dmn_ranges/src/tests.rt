@@ -1,0 +1,253 @@
+//! What expressions can give, worked out by hand.
+use crate::{Interval, NamedRange, Outcomes, Range, range_of_expression};
+use feel_text::read_expr;
+use std::alloc::{AllocError, Global};
+use std::process::Abort;
+use std::sync::ArcStr;
+use std::test::Fail;
+
+fn numbers(low: i64, high: i64) -> Range {
+    Range::numbers_or_null(false, Some(Interval { low, high }))
+}
+
+fn others(trues: bool, falses: bool, texts: bool, lists: bool, contexts: bool) -> Range {
+    Range {
+        nulls: false,
+        trues,
+        falses,
+        numbers: None,
+        texts,
+        lists,
+        contexts,
+    }
+}
+
+/// The names that the rows have. `missing` has none.
+fn names(alloc: Global) -> Result<Vec<NamedRange>, AllocError> {
+    let maybe = Range::numbers_or_null(true, Some(Interval { low: 0, high: 5 }));
+    let ranges = [
+        ("small", numbers(7, 7)),
+        ("small", numbers(1, 10)),
+        ("wide", numbers(-3, 10)),
+        ("full", numbers(-i64::MAX, i64::MAX)),
+        ("maybe", maybe),
+        ("word", others(false, false, true, false, false)),
+        ("yesno", others(true, true, false, false, false)),
+        ("sure", others(true, false, false, false, false)),
+        ("items", others(false, false, false, true, false)),
+        ("parts", others(false, false, false, false, true)),
+        ("any", Range::any()),
+    ];
+    let mut names = Vec::new(alloc);
+    for (name, range) in ranges {
+        let name = ArcStr::from_str(alloc, name)?;
+        names.push(NamedRange { name, range })?;
+    }
+    Ok(names)
+}
+
+/// What can be given, in words.
+fn words(alloc: Global, told: Outcomes) -> Result<String, AllocError> {
+    let range = told.range;
+    let mut text = String::new(alloc);
+    for (is_told, word) in [
+        (range.nulls, "null "),
+        (range.trues, "true "),
+        (range.falses, "false "),
+    ] {
+        if is_told {
+            text.push_str(word)?;
+        }
+    }
+    if let Some(numbers) = range.numbers {
+        let (low, high) = (numbers.low, numbers.high);
+        let interval = format!(in alloc; "{low}..{high} ")?;
+        text.push_str(interval.as_str())?;
+    }
+    for (is_told, word) in [
+        (range.texts, "text "),
+        (range.lists, "list "),
+        (range.contexts, "context "),
+        (told.limit, "limit "),
+    ] {
+        if is_told {
+            text.push_str(word)?;
+        }
+    }
+    Ok(text)
+}
+
+/// Holds each expression against what it can give.
+fn hold(rt: &impl Abort, alloc: Global, rows: &[(&str, &str)]) -> Result<(), Fail> {
+    let names = names(alloc)?;
+    for (text, want) in rows {
+        let expr = read_expr(alloc, text)?;
+        let got = words(alloc, range_of_expression(expr.tree(), &names))?;
+        assert_eq!(rt; (*text, got.as_str()), (*text, *want));
+    }
+    Ok(())
+}
+
+const LITERALS: &[(&str, &str)] = &[
+    ("null", "null "),
+    ("true", "true "),
+    ("false", "false "),
+    ("7", "7..7 "),
+    ("-7", "-7..-7 "),
+    ("-0", "0..0 "),
+    ("\"a\"", "text "),
+    ("missing", "null "),
+    ("(small)", "1..10 "),
+    ("[1, 2]", "list limit "),
+    (
+        "parts.a",
+        "null true false -9223372036854775807..9223372036854775807 text list context limit ",
+    ),
+    (
+        "items.a",
+        "null true false -9223372036854775807..9223372036854775807 text list context limit ",
+    ),
+    ("word.a", "null "),
+    ("missing.a", "null "),
+];
+
+const ARITHMETIC: &[(&str, &str)] = &[
+    ("small + small", "2..20 "),
+    ("small - small", "-9..9 "),
+    ("small * small", "1..100 "),
+    ("wide * wide", "-30..100 "),
+    ("wide * -2", "-20..6 "),
+    ("small * -1", "-10..-1 "),
+    ("-wide", "-10..3 "),
+    ("-missing", "null "),
+    ("maybe + small", "null 1..15 "),
+    ("maybe * maybe", "null 0..25 "),
+    ("word + 1", "null "),
+    ("small + yesno", "null "),
+    (
+        "full + 1",
+        "-9223372036854775806..9223372036854775807 limit ",
+    ),
+    (
+        "full - 1",
+        "-9223372036854775807..9223372036854775806 limit ",
+    ),
+    ("full + 0", "-9223372036854775807..9223372036854775807 "),
+    ("full * 0", "0..0 "),
+    (
+        "full * 2",
+        "-9223372036854775807..9223372036854775807 limit ",
+    ),
+    ("full * -1", "-9223372036854775807..9223372036854775807 "),
+    ("-full", "-9223372036854775807..9223372036854775807 "),
+    (
+        "9223372036854775807 + 1",
+        "9223372036854775807..9223372036854775807 limit ",
+    ),
+    (
+        "any + small",
+        "null -9223372036854775806..9223372036854775807 limit ",
+    ),
+    (
+        "modulo(small, 3)",
+        "null -9223372036854775807..9223372036854775807 limit ",
+    ),
+    ("modulo(word, 3)", "null "),
+];
+
+const CALLS: &[(&str, &str)] = &[
+    ("abs(wide)", "0..10 "),
+    ("abs(-5)", "5..5 "),
+    ("abs(small)", "1..10 "),
+    ("abs(small - 20)", "10..19 "),
+    ("abs(maybe)", "null 0..5 "),
+    ("abs(full)", "0..9223372036854775807 "),
+    ("abs(word)", "null "),
+    ("count(items)", "null 0..9223372036854775807 limit "),
+    ("count(word)", "null "),
+    (
+        "sum(items)",
+        "null -9223372036854775807..9223372036854775807 limit ",
+    ),
+    ("min(small)", "null "),
+    (
+        "max([1, 2])",
+        "null -9223372036854775807..9223372036854775807 limit ",
+    ),
+];
+
+const COMPARISONS: &[(&str, &str)] = &[
+    ("small < 20", "true "),
+    ("small < 1", "false "),
+    ("small < 5", "true false "),
+    ("small <= 10", "true "),
+    ("small <= 0", "false "),
+    ("small > 0", "true "),
+    ("small > 10", "false "),
+    ("small >= 11", "false "),
+    ("small >= 1", "true "),
+    ("maybe < 9", "null true "),
+    ("missing < 9", "null "),
+    ("word < \"b\"", "true false "),
+    ("word < 1", "null "),
+    ("any < 1", "null true false "),
+    ("small = 5", "true false "),
+    ("maybe = 5", "true false "),
+    ("any = null", "true false "),
+    ("word = \"a\"", "true false "),
+    ("yesno = true", "true false "),
+    ("small = \"a\"", "null true false "),
+    ("small != \"a\"", "null true false "),
+    ("items = items", "null true false "),
+    ("small between 1 and 10", "true "),
+    ("small between 11 and 12", "false "),
+    ("small between 5 and 8", "true false "),
+    ("maybe between 0 and 5", "null true "),
+    ("small between full + 1 and 20", "true false limit "),
+];
+
+const LOGIC: &[(&str, &str)] = &[
+    ("yesno and sure", "true false "),
+    ("sure and sure", "true "),
+    ("sure and missing", "null "),
+    ("yesno and missing", "null false "),
+    ("sure or any", "true "),
+    ("yesno or missing", "null true "),
+    ("missing or missing", "null "),
+    ("not(yesno)", "true false "),
+    ("not(sure)", "false "),
+    ("not(missing)", "null "),
+    ("not(small)", "null "),
+    ("if yesno then 1 else 5", "1..5 "),
+    ("if sure then 1 else \"a\"", "1..1 "),
+    ("if missing then 1 else 2", "2..2 "),
+    ("if maybe > 1 then \"a\" else null", "null text "),
+    ("if small < 20 then small else full", "1..10 "),
+    ("if sure then 1 else full + 1", "1..1 "),
+    ("if full + 1 > 0 then 1 else 2", "1..2 limit "),
+];
+
+#[test]
+fn literals_names_and_paths(rt: HostRuntime) -> Result<(), Fail> {
+    hold(&rt, rt.alloc(), LITERALS)
+}
+
+#[test]
+fn arithmetic(rt: HostRuntime) -> Result<(), Fail> {
+    hold(&rt, rt.alloc(), ARITHMETIC)
+}
+
+#[test]
+fn calls(rt: HostRuntime) -> Result<(), Fail> {
+    hold(&rt, rt.alloc(), CALLS)
+}
+
+#[test]
+fn comparisons(rt: HostRuntime) -> Result<(), Fail> {
+    hold(&rt, rt.alloc(), COMPARISONS)
+}
+
+#[test]
+fn logic(rt: HostRuntime) -> Result<(), Fail> {
+    hold(&rt, rt.alloc(), LOGIC)
+}

@@ -1,0 +1,165 @@
+package bus
+
+import (
+	"errors"
+	"fmt"
+	"unicode/utf8"
+
+	"gateway/rabbit/ledger"
+)
+
+// MaximumSenderBytes is the length of a sender's name at most.
+const MaximumSenderBytes = 255
+
+// MarkHeader is the header of a message that carries nothing: its publisher reads a stream up to it, so that it has
+// read all that was there.
+const MarkHeader = "mark"
+
+// MaximumBatchBytes is the length of a batch's id at most.
+const MaximumBatchBytes = 255
+
+// The headers of a message of a log. Its time stamp says when it was sent.
+const (
+	senderHeader = "sender"
+	namedHeader  = "named"
+	epochHeader  = "epoch"
+	batchHeader  = "batch"
+	numberHeader = "number"
+	modelsHeader = "models"
+)
+
+// The headers of a message of answers or of a snapshot.
+const (
+	kindHeader        = "kind"
+	afterOffsetHeader = "after-offset"
+	afterIndexHeader  = "after-index"
+	offsetHeader      = "offset"
+	indexHeader       = "index"
+	snapshotAtHeader  = "snapshot-at"
+	moreHeader        = "more"
+	kindAnswers       = "answers"
+	kindSnapshot      = "snapshot"
+)
+
+// ErrForeign tells that a message's topic or headers are not those that the programs write.
+var ErrForeign = errors.New("not from desk send")
+
+// OriginHeaders are the headers of a message of a log.
+func OriginHeaders(from ledger.Origin) Headers {
+	return Headers{kindHeader: string(from.Kind), senderHeader: from.Sender, namedHeader: from.Named,
+		epochHeader: from.Epoch, batchHeader: from.Batch, numberHeader: from.Number, modelsHeader: from.Models}
+}
+
+// IsSender says whether a sender may have this name: UTF-8 of 1 to MaximumSenderBytes bytes, as a snapshot can hold it.
+func IsSender(name string) bool {
+	return len(name) > 0 && len(name) <= MaximumSenderBytes && utf8.ValidString(name)
+}
+
+// IsBatch says whether a batch may have this id: UTF-8 of at most MaximumBatchBytes bytes.
+func IsBatch(id string) bool { return len(id) <= MaximumBatchBytes && utf8.ValidString(id) }
+
+// ReadOrigin reads the headers of a message of a log or of the registry.
+func ReadOrigin(message Message) (ledger.Origin, error) {
+	topic, headers := message.Topic(RequestsExchange), message.Headers
+	from := ledger.Origin{Sent: message.Sent, MayHaveModels: topic == TopicModels}
+	if topic != TopicLines && topic != TopicModels && topic != TopicSenders {
+		return from, ErrForeign
+	}
+	var is [6]bool
+	var kind string
+	kind, is[0] = headers[kindHeader].(string)
+	from.Sender, is[1] = headers[senderHeader].(string)
+	from.Named, is[2] = headers[namedHeader].(bool)
+	from.Epoch, is[3] = number(headers[epochHeader])
+	from.Batch, is[4] = headers[batchHeader].(string)
+	from.Number, is[5] = number(headers[numberHeader])
+	from.Kind = ledger.Kind(kind)
+	models, isCounted := number(headers[modelsHeader])
+	if from.Models = models; !isCounted {
+		from.Models = -1
+	}
+	isKind := from.Kind == ledger.Lines || from.Kind == ledger.Claim || from.Kind == ledger.End
+	if is != [6]bool{true, true, true, true, true, true} || !isKind || !IsSender(from.Sender) || !IsBatch(from.Batch) ||
+		from.Number < 0 || from.Epoch < 0 {
+		return from, ErrForeign
+	}
+	return from, nil
+}
+
+// number is a whole number, of whichever width a client's library has chosen.
+func number(value interface{}) (int64, bool) {
+	switch value := value.(type) {
+	case int64:
+		return value, true
+	case int32:
+		return int64(value), true
+	case int16:
+		return int64(value), true
+	case int8:
+		return int64(value), true
+	}
+	return 0, false
+}
+
+// A Part is what a message of the answers' stream says of itself.
+type Part struct {
+	Snapshot bool
+	After    ledger.Place // the place of the last answer before; the headers don't tell the start
+	Upto     ledger.Place // answers: the place of the last; snapshot: all up to here is answered
+	More     bool         // answers: whether the message of the last has further lines
+	// SnapshotAt is an offset of the stream: the last snapshot before the message is there, or soon after. -1 says nothing.
+	SnapshotAt int64
+}
+
+// PartHeaders are the headers of a message of answers, or of a snapshot.
+func PartHeaders(part Part) Headers {
+	headers := Headers{kindHeader: kindAnswers, offsetHeader: part.Upto.Offset, indexHeader: part.Upto.Index,
+		snapshotAtHeader: part.SnapshotAt, moreHeader: part.More}
+	if part.Snapshot {
+		headers[kindHeader] = kindSnapshot
+	}
+	if part.After != ledger.Start { // some libraries read no number below 0
+		headers[afterOffsetHeader], headers[afterIndexHeader] = part.After.Offset, part.After.Index
+	}
+	return headers
+}
+
+// PointerHeaders are the headers of a mark that says where the last snapshot is.
+func PointerHeaders(snapshotAt int64) Headers {
+	return Headers{MarkHeader: "taken over", snapshotAtHeader: snapshotAt}
+}
+
+// SnapshotAt is what a message of the answers' stream says of where the last snapshot is, or -1.
+func SnapshotAt(message Message) int64 {
+	if at, is := number(message.Headers[snapshotAtHeader]); is {
+		return at
+	}
+	return -1
+}
+
+// ReadPart reads the headers of a message of the answers' stream. A mark is no part, and is told by is, as is what was published
+// under another topic.
+func ReadPart(message Message) (part Part, is bool, err error) {
+	headers := message.Headers
+	kind, _ := headers[kindHeader].(string)
+	if message.Topic(AnswersExchange) != TopicAnswers || kind != kindAnswers && kind != kindSnapshot {
+		return part, false, nil
+	}
+	part.Snapshot = kind == kindSnapshot
+	part.More, _ = headers[moreHeader].(bool)
+	part.SnapshotAt = SnapshotAt(message)
+	names, places := []string{offsetHeader, indexHeader}, []*int64{&part.Upto.Offset, &part.Upto.Index}
+	part.After = ledger.Start
+	if _, has := headers[afterOffsetHeader]; has {
+		names = append(names, afterOffsetHeader, afterIndexHeader)
+		places = append(places, &part.After.Offset, &part.After.Index)
+	}
+	for at, name := range names {
+		value, isNumber := number(headers[name])
+		if !isNumber {
+			return part, false, fmt.Errorf("a message of answers has no header %s", name)
+		}
+		*places[at] = value
+	}
+	return part, true, nil
+}

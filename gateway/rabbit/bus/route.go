@@ -1,0 +1,52 @@
+package bus
+
+import "fmt"
+
+// The exchanges. Both have the type topic, so that the broker's permissions say who may publish what, and each message that is
+// read has the exchange and the topic under which it was published: what has others counts for nothing.
+const (
+	RequestsExchange = prefix + "requests" // leads to the logs and to the registry
+	AnswersExchange  = prefix + "answers"  // leads to the streams of answers and to the leases
+)
+
+// A Topic says what a message is. A routing key begins with it.
+type Topic string
+
+// The topics of the exchange of requests, of the exchange of answers, and of both.
+const (
+	TopicLines   Topic = "lines"   // requests, claims of names, ends of batches
+	TopicModels  Topic = "models"  // lines with models, and requests among them
+	TopicSenders Topic = "senders" // the registry, which has no partition
+	TopicAnswers Topic = "answers" // answers and snapshots
+	TopicLease   Topic = "lease"
+	TopicMarks   Topic = "marks" // messages that carry nothing
+)
+
+// A Route is where a message is published.
+type Route struct{ Exchange, Key string }
+
+// RegistryRoute leads to the registry.
+var RegistryRoute = Route{RequestsExchange, string(TopicSenders)}
+
+// Route is where messages of a topic are published for a partition.
+func (s Settings) Route(exchange string, topic Topic, partition int) Route {
+	return Route{exchange, fmt.Sprintf("%s.%d.of.%d", topic, partition, s.Partitions)}
+}
+
+// A Binding leads messages of a route to a stream or a lease.
+type Binding struct {
+	Queue string
+	Route Route
+}
+
+// Bindings are those of a partition, and of the registry.
+func (s Settings) Bindings(partition int) []Binding {
+	of := func(kind Kind, exchange string, topic Topic) Binding {
+		return Binding{s.Queue(kind, partition), s.Route(exchange, topic, partition)}
+	}
+	return []Binding{
+		of(Lines, RequestsExchange, TopicLines), of(Lines, RequestsExchange, TopicModels), of(Lines, RequestsExchange, TopicMarks),
+		of(Answers, AnswersExchange, TopicAnswers), of(Answers, AnswersExchange, TopicMarks),
+		of(Lease, AnswersExchange, TopicLease), {Registry, RegistryRoute},
+	}
+}

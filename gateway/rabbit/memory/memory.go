@@ -1,0 +1,386 @@
+// Package memory is a bus in memory. A seeded scheduler decides what becomes of each message: it is in its stream and confirmed,
+// or there without a confirm, or comes later, or never; and what retention cuts. It hands nothing over by itself: whoever moves
+// a process lets its link have a confirm or a message, one at a time, so a history is the same each time.
+package memory
+
+import (
+	"context"
+	"errors"
+	"fmt"
+	"math/rand"
+	"time"
+
+	"gateway/rabbit/bus"
+)
+
+// A Bus is one in memory.
+type Bus struct {
+	Settings bus.Settings
+	Clock    time.Time
+	Steady   bool // whether nothing fails any more
+	// Rewrite changes what is appended, and Alter what is read; nil changes nothing. With them a test leaves out a rule.
+	Rewrite func(bus.Route, bus.Headers) bus.Headers
+	Alter   func(bus.Message) bus.Message
+	random  *rand.Rand
+	streams map[string]*Stream
+	late    []func() // appends messages that come later
+}
+
+// A Stream has all messages that there ever were. Those before Cut are cut.
+type Stream struct {
+	Messages []bus.Message
+	Cut      int
+	next     int64 // the next offset
+}
+
+// New is a bus with empty streams, but for a mark in each stream of answers. All is decided by the seed.
+func New(random *rand.Rand, settings bus.Settings) *Bus {
+	b := &Bus{Settings: settings, Clock: time.Unix(1_700_000_000, 0), random: random, streams: map[string]*Stream{}}
+	for _, partition := range settings.All() {
+		for _, binding := range settings.Bindings(partition) {
+			b.Stream(binding.Queue)
+		}
+		b.append(settings.Route(bus.AnswersExchange, bus.TopicMarks, partition), bus.Headers{bus.MarkHeader: "declared"}, nil)
+	}
+	return b
+}
+
+// Stream is the stream of this name.
+func (b *Bus) Stream(name string) *Stream {
+	if b.streams[name] == nil {
+		b.streams[name] = &Stream{}
+	}
+	return b.streams[name]
+}
+
+// Chance is true once in so many times.
+func (b *Bus) Chance(of int) bool { return b.random.Intn(of) == 0 }
+
+// append appends a message to the streams of its route. The bus takes an offset for itself now and then, as RabbitMQ does.
+func (b *Bus) append(to bus.Route, headers bus.Headers, body []byte) {
+	b.Clock = b.Clock.Add(time.Second)
+	for _, partition := range b.Settings.All() {
+		for _, binding := range b.Settings.Bindings(partition) {
+			if binding.Route != to {
+				continue
+			}
+			s := b.Stream(binding.Queue)
+			if len(s.Messages) > 0 && b.Chance(30) {
+				s.next++
+			}
+			s.Messages = append(s.Messages, bus.Message{Offset: s.next, At: to, Headers: headers, Body: body, Sent: b.Clock})
+			s.next++
+			if binding.Queue == bus.Registry {
+				return
+			}
+		}
+	}
+}
+
+// Late says how many messages come later, and Come lets the first of them come.
+func (b *Bus) Late() int { return len(b.late) }
+
+// Come lets the first message that comes later come.
+func (b *Bus) Come() {
+	first := b.late[0]
+	b.late = b.late[1:]
+	first()
+}
+
+// Connect opens a connection.
+func (b *Bus) Connect(ctx context.Context, name, last string) (bus.Link, error) {
+	return &Link{bus: b, done: make(chan struct{})}, nil
+}
+
+// Judge says that each failure may pass.
+func (b *Bus) Judge(error) bus.Judgement { return bus.Passing }
+
+// Pause lets time pass.
+func (b *Bus) Pause(_ context.Context, long time.Duration) { b.Clock = b.Clock.Add(long) }
+
+// ErrLink says that a connection was lost.
+var ErrLink = errors.New("the connection was lost")
+
+// A Link is a connection.
+type Link struct {
+	bus       *Bus
+	done      chan struct{}
+	err       error
+	appenders []*Appender
+	readers   []*Reader
+}
+
+// Appender opens a way to append.
+func (l *Link) Appender() (bus.Appender, error) {
+	if l.err != nil {
+		return nil, l.err
+	}
+	a := &Appender{link: l, confirms: make(chan error, 64)}
+	l.appenders = append(l.appenders, a)
+	return a, nil
+}
+
+// Read reads a stream.
+func (l *Link) Read(what bus.Reading) (bus.Reader, error) {
+	if l.err != nil {
+		return nil, l.err
+	}
+	s := l.bus.Stream(what.Stream)
+	r := &Reader{link: l, stream: s, arrivals: make(chan bus.Message, 1)}
+	switch what.From.Place {
+	case bus.At:
+		r.next = what.From.Offset
+	case bus.Next:
+		r.next = s.next
+	case bus.Last:
+		if r.next = s.next; len(s.Messages) > s.Cut {
+			together := 1 + l.bus.random.Intn(min(4, len(s.Messages)-s.Cut))
+			r.next = s.Messages[len(s.Messages)-together].Offset
+		}
+	}
+	l.readers = append(l.readers, r)
+	return r, nil
+}
+
+func min(a, b int) int {
+	if a < b {
+		return a
+	}
+	return b
+}
+
+// First is the offset of the first message that is left.
+func (l *Link) First(stream string) (int64, error) {
+	s := l.bus.Stream(stream)
+	if l.err != nil || len(s.Messages) == s.Cut {
+		return 0, errors.New("there is no message")
+	}
+	return s.Messages[s.Cut].Offset, nil
+}
+
+// End watches the end of a stream.
+func (l *Link) End(stream string) (bus.End, error) { return l.bus.Stream(stream), l.err }
+
+// Offset is that of the last message.
+func (s *Stream) Offset() (int64, error) { return s.next - 1, nil }
+
+// Own gives one of the partitions, whoever else owns it.
+func (l *Link) Own(_ context.Context, _ bus.Settings, partitions []int, _ func([]int)) (int, error) {
+	return partitions[l.bus.random.Intn(len(partitions))], l.err
+}
+
+// Address is where the link leads to.
+func (l *Link) Address() string { return "memory" }
+
+// Done is closed once the link has ended.
+func (l *Link) Done() <-chan struct{} { return l.done }
+
+// Err is why the link ended.
+func (l *Link) Err() error { return l.err }
+
+// Fail ends the link. What is without a confirm is there, comes later, or never.
+func (l *Link) Fail(reason error) {
+	if l.err != nil {
+		return
+	}
+	l.err = reason
+	close(l.done)
+	for _, a := range l.appenders {
+		for _, message := range a.open {
+			l.bus.lose(message)
+		}
+	}
+}
+
+// Close ends the link.
+func (l *Link) Close() { l.Fail(errors.New("it was closed")) }
+
+// lose decides what becomes of a message whose link has ended.
+func (b *Bus) lose(m appended) {
+	named, isLine := m.headers["named"].(bool)
+	switch choice := b.random.Intn(3); {
+	case choice == 0:
+		b.append(m.to, m.headers, m.body)
+	case choice == 1 && !b.Steady && (named || !isLine): // a sender without a name of its own isn't known any more after its end
+		b.late = append(b.late, func() { b.append(m.to, m.headers, m.body) })
+	}
+}
+
+// Confirm lets the first message without a confirm be appended and have its confirm, or lets the link be lost.
+func (l *Link) Confirm(lost int) {
+	for _, a := range l.appenders {
+		if len(a.open) > 0 {
+			a.one(lost)
+			return
+		}
+	}
+}
+
+// Waits says whether a message is without a confirm.
+func (l *Link) Waits() bool {
+	for _, a := range l.appenders {
+		if l.err == nil && len(a.open) > 0 && len(a.confirms) == 0 {
+			return true
+		}
+	}
+	return false
+}
+
+// Due says whether a message is there for a reader of the link.
+func (l *Link) Due() bool {
+	for _, r := range l.readers {
+		if l.err == nil && !r.closed && r.at() < len(r.stream.Messages) {
+			return true
+		}
+	}
+	return false
+}
+
+// Deliver hands the reader of the link its next message.
+func (l *Link) Deliver() {
+	for _, r := range l.readers {
+		if !r.closed && r.at() < len(r.stream.Messages) {
+			r.arrivals <- r.take()
+			return
+		}
+	}
+}
+
+type appended struct {
+	to      bus.Route
+	headers bus.Headers
+	body    []byte
+}
+
+// An Appender appends to streams in memory.
+type Appender struct {
+	link     *Link
+	open     []appended
+	confirms chan error
+}
+
+// Append appends a message, soon.
+func (a *Appender) Append(to bus.Route, headers bus.Headers, body []byte) error {
+	if a.link.err != nil {
+		return a.link.err
+	}
+	copied := bus.Headers{}
+	for name, value := range headers {
+		copied[name] = value
+	}
+	if a.link.bus.Rewrite != nil {
+		copied = a.link.bus.Rewrite(to, copied)
+	}
+	a.open = append(a.open, appended{to, copied, append([]byte(nil), body...)})
+	return nil
+}
+
+// one appends the first message and confirms it, or loses the link, once in so many times.
+func (a *Appender) one(lost int) {
+	if !a.link.bus.Steady && a.link.bus.Chance(lost) {
+		a.link.Fail(ErrLink)
+		return
+	}
+	m := a.open[0]
+	a.link.bus.append(m.to, m.headers, m.body)
+	a.confirms <- nil
+}
+
+// Open is how many messages are without a confirm.
+func (a *Appender) Open() int { return len(a.open) }
+
+// Confirms has a value for each message.
+func (a *Appender) Confirms() <-chan error { return a.confirms }
+
+// Take takes a confirm in.
+func (a *Appender) Take(confirm error, _ bool) error {
+	a.open = a.open[1:]
+	return confirm
+}
+
+// seldom is how seldom a link is lost while something is waited for.
+const seldom = 60
+
+// Settle waits until all messages are confirmed.
+func (a *Appender) Settle() error {
+	for len(a.open) > 0 {
+		if len(a.confirms) == 0 && a.link.err == nil {
+			a.one(seldom)
+		}
+		if a.link.err != nil {
+			return a.link.err
+		}
+		if err := a.Take(<-a.confirms, true); err != nil {
+			return err
+		}
+	}
+	return nil
+}
+
+// Late says that no message waits for too long.
+func (a *Appender) Late() error { return nil }
+
+// Close ends the appender.
+func (a *Appender) Close() error { return a.link.err }
+
+// A Reader reads a stream in memory.
+type Reader struct {
+	link     *Link
+	stream   *Stream
+	next     int64
+	arrivals chan bus.Message
+	closed   bool
+}
+
+// at is the number of the next message that is left, or how many there are.
+func (r *Reader) at() int {
+	at := len(r.stream.Messages)
+	for at > r.stream.Cut && r.stream.Messages[at-1].Offset >= r.next {
+		at--
+	}
+	return at
+}
+
+func (r *Reader) take() bus.Message {
+	message := r.stream.Messages[r.at()]
+	r.next = message.Offset + 1
+	copied := bus.Headers{}
+	for name, value := range message.Headers {
+		copied[name] = value
+	}
+	message.Headers = copied
+	if r.link.bus.Alter != nil {
+		return r.link.bus.Alter(message)
+	}
+	return message
+}
+
+// Arrivals has what is delivered.
+func (r *Reader) Arrivals() <-chan bus.Message { return r.arrivals }
+
+// Ended is why no more comes.
+func (r *Reader) Ended() error { return r.link.err }
+
+// Next gives the next message. Where none is there, what its link has appended comes, or the link is lost.
+func (r *Reader) Next() (bus.Message, error) {
+	if r.link.err == nil && !r.link.bus.Steady && r.link.bus.Chance(10*seldom) {
+		r.link.Fail(ErrLink)
+	}
+	for r.link.err == nil && r.at() == len(r.stream.Messages) {
+		if !r.link.Waits() {
+			r.link.Fail(fmt.Errorf("no message: %w", ErrLink))
+			break
+		}
+		r.link.Confirm(seldom)
+	}
+	if r.link.err != nil {
+		return bus.Message{}, r.link.err
+	}
+	return r.take(), nil
+}
+
+// Close ends the reader.
+func (r *Reader) Close() error {
+	r.closed = true
+	return r.link.err
+}

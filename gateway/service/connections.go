@@ -1,0 +1,203 @@
+package service
+
+import (
+	"container/list"
+	"net"
+	"net/http"
+	"net/netip"
+	"sync"
+	"time"
+)
+
+// connections bounds how many connections there are, in all and from one address. Where places get scarce, those that have been
+// idle longest are closed for new ones. Connections from this machine through a unix socket have no address, and one bound alone.
+type connections struct {
+	limit, addressLimit int
+
+	mu sync.Mutex
+	// all has the connections that are open, byAddress how many of them each address has.
+	all       map[net.Conn]*place
+	byAddress map[netip.Addr]*peer
+	// idle has those that wait for a request, the longest first.
+	idle list.List
+	// freed is closed, and made anew, whenever a place gets free.
+	freed chan struct{}
+}
+
+// A place is one connection.
+type place struct {
+	of *peer
+	// idle is its element among those that are idle, in all and of its address; nil where it is not.
+	idle, own *list.Element
+}
+
+// A peer is what one address has.
+type peer struct {
+	address netip.Addr
+	count   int
+	idle    list.List
+}
+
+func newConnections(limit, addressLimit int) *connections {
+	return &connections{limit: limit, addressLimit: addressLimit, all: map[net.Conn]*place{}, byAddress: map[netip.Addr]*peer{},
+		freed: make(chan struct{})}
+}
+
+// count is how many connections are open.
+func (c *connections) count() int {
+	c.mu.Lock()
+	defer c.mu.Unlock()
+	return len(c.all)
+}
+
+// addressOf is the address of who is connected; the same for all that have none. Those of a network of 64 bits are one.
+func addressOf(connection net.Conn) netip.Addr {
+	from, err := netip.ParseAddrPort(connection.RemoteAddr().String())
+	if err != nil {
+		return netip.Addr{}
+	}
+	address := from.Addr().Unmap()
+	if address.Is6() {
+		if prefix, err := address.Prefix(64); err == nil {
+			return prefix.Addr()
+		}
+	}
+	return address
+}
+
+// enter takes a connection, which may cost an idle one its place, or says that there is none for its address.
+func (c *connections) enter(connection net.Conn) bool {
+	address := addressOf(connection)
+	c.mu.Lock()
+	defer c.mu.Unlock()
+	of := c.byAddress[address]
+	if of == nil {
+		of = &peer{address: address}
+		c.byAddress[address] = of
+	}
+	if of.count >= c.addressLimit && !c.closeOldest(&of.idle) {
+		return false
+	}
+	of.count++
+	c.all[connection] = &place{of: of}
+	// One that has said nothing yet is idle too.
+	c.rest(connection)
+	return true
+}
+
+// closeOldest closes the connection of a list that has been idle longest, and says whether there was one.
+func (c *connections) closeOldest(idle *list.List) bool {
+	first := idle.Front()
+	if first == nil {
+		return false
+	}
+	connection := first.Value.(net.Conn)
+	c.leave(connection)
+	// It may have to say that it ends, which is not to be waited for.
+	go connection.Close()
+	return true
+}
+
+// rest says that a connection waits for a request.
+func (c *connections) rest(connection net.Conn) {
+	if it := c.all[connection]; it != nil && it.idle == nil {
+		it.idle, it.own = c.idle.PushBack(connection), it.of.idle.PushBack(connection)
+	}
+}
+
+// wake says that a connection has a request.
+func (c *connections) wake(connection net.Conn) {
+	if it := c.all[connection]; it != nil && it.idle != nil {
+		c.idle.Remove(it.idle)
+		it.of.idle.Remove(it.own)
+		it.idle, it.own = nil, nil
+	}
+}
+
+// leave takes a connection out.
+func (c *connections) leave(connection net.Conn) {
+	it := c.all[connection]
+	if it == nil {
+		return
+	}
+	c.wake(connection)
+	delete(c.all, connection)
+	if it.of.count--; it.of.count == 0 {
+		delete(c.byAddress, it.of.address)
+	}
+	close(c.freed)
+	c.freed = make(chan struct{})
+}
+
+// see notes what a connection does.
+func (c *connections) see(connection net.Conn, state http.ConnState) {
+	c.mu.Lock()
+	defer c.mu.Unlock()
+	switch state {
+	case http.StateActive:
+		c.wake(connection)
+	case http.StateIdle:
+		c.rest(connection)
+	case http.StateClosed, http.StateHijacked:
+		c.leave(connection)
+	}
+}
+
+// room waits until there is a place for one more connection, or the channel is closed. An idle one loses its place for it.
+func (c *connections) room(ended <-chan struct{}) {
+	for {
+		c.mu.Lock()
+		if len(c.all) < c.limit || c.closeOldest(&c.idle) {
+			c.mu.Unlock()
+			return
+		}
+		freed := c.freed
+		c.mu.Unlock()
+		select {
+		case <-freed:
+		case <-ended:
+			return
+		}
+	}
+}
+
+// A boundListener accepts connections for which there is a place.
+type boundListener struct {
+	net.Listener
+	places *connections
+	ended  chan struct{}
+	once   sync.Once
+	// refused is told of an address that has its places taken.
+	refused func(from net.Addr)
+}
+
+// Accept gives the next connection that has a place.
+func (b *boundListener) Accept() (net.Conn, error) {
+	for {
+		b.places.room(b.ended)
+		connection, err := b.Listener.Accept()
+		if err != nil {
+			return nil, err
+		}
+		if b.places.enter(connection) {
+			return connection, nil
+		}
+		b.refused(connection.RemoteAddr())
+		connection.Close()
+	}
+}
+
+// Close ends it.
+func (b *boundListener) Close() error {
+	b.once.Do(func() { close(b.ended) })
+	return b.Listener.Close()
+}
+
+// refusedConnection counts a connection for which its address had no place, and logs one a minute.
+func (s *Service) refusedConnection(from net.Addr) {
+	s.metrics.refusedConnections.Inc()
+	now := time.Now().Unix()
+	if last := s.refusedAt.Load(); now-last >= 60 && s.refusedAt.CompareAndSwap(last, now) {
+		s.options.Log("connections of %s are refused: it has %d that are not idle", from, s.places.addressLimit)
+	}
+}

@@ -1,0 +1,358 @@
+package service
+
+import (
+	"bufio"
+	"context"
+	"encoding/csv"
+	"encoding/json"
+	"errors"
+	"fmt"
+	"net/http"
+	"os"
+	"path/filepath"
+	"strconv"
+	"time"
+
+	"gateway/release"
+)
+
+// A Trial asks two models for the recorded requests that are wanted.
+type Trial struct {
+	Old, New *Source
+	// Client, Service, Rule, Release, From and To say which requests are wanted; empty ones want any.
+	Client, Service, Rule, Release, From, To string
+	// Asked is told how many requests were asked by now, and ends the trial with an error. Take is told of each that gets another
+	// answer, in their order.
+	Asked func(count int) error
+	Take  func(*TrialDifference) error
+}
+
+// A TrialDifference is a recorded request that gets another answer.
+type TrialDifference struct {
+	ID      string          `json:"id"`
+	Request string          `json:"request,omitempty"`
+	Time    string          `json:"time,omitempty"`
+	Service string          `json:"service"`
+	Inputs  json.RawMessage `json:"inputs"`
+	// Old and New are the results, or why there is none. Rules says by which rules they differ.
+	Old   string `json:"old"`
+	New   string `json:"new"`
+	Rules string `json:"rules"`
+}
+
+// A TrialCount is how many answers differ by some rules.
+type TrialCount struct {
+	Rules string `json:"rules"`
+	Count int    `json:"count"`
+}
+
+// A Tried is what a trial found. Left counts the requests that can't be asked again.
+type Tried struct {
+	Asked     int          `json:"asked"`
+	Differing int          `json:"differing"`
+	Left      int          `json:"left"`
+	By        []TrialCount `json:"by"`
+}
+
+// A Trier holds two models against each other.
+type Trier interface {
+	// Changes has what differs between the models themselves, as JSON.
+	Changes(old, new *Source) (json.RawMessage, error)
+	// Try asks both for the requests of a journal.
+	Try(ctx context.Context, folder string, it *Trial) (*Tried, error)
+}
+
+// A trying is one trial, whose findings are written as they come.
+type trying struct {
+	service *Service
+	request *http.Request
+	to      *bufio.Writer
+	table   *csv.Writer
+	flush   func()
+	trial   *Trial
+	// most is how many differing requests are listed, listed how many are.
+	most, listed int
+}
+
+// mostTried is how many differing requests are listed unless the query says another number.
+const mostTried = 1000
+
+// trialPath answers POST /v1/trial: the recorded requests are asked of two models. The answer is lines of JSON as they are found, or
+// CSV.
+func (s *Service) trialPath(w http.ResponseWriter, r *http.Request) {
+	t, who, p := s.newTrial(r)
+	var changes json.RawMessage
+	if p == nil {
+		select {
+		case s.trying <- struct{}{}:
+			defer func() { <-s.trying }()
+		default:
+			p = problemBusy.with("another trial is under way")
+		}
+	}
+	if p == nil {
+		var err error
+		if changes, err = s.options.Trier.Changes(t.trial.Old, t.trial.New); err != nil {
+			p = problemInside.with(err.Error())
+		}
+	}
+	if p != nil {
+		limitWrite(r, longAnswer+1)
+		p.write(w, w.Header().Get("X-Request-Id"))
+		return
+	}
+	t.begin(w)
+	tried, err := t.run(changes)
+	if err == nil {
+		err = s.keepTried(t.trial, tried, who)
+	}
+	t.end(tried, err)
+}
+
+// newTrial reads what is to be tried.
+func (s *Service) newTrial(r *http.Request) (*trying, caller, *problem) {
+	if r.Method != http.MethodPost {
+		p := problemMethod.with("it takes POST")
+		p.allow = http.MethodPost
+		return nil, caller{}, p
+	}
+	who, p := s.reader(r)
+	if p != nil {
+		return nil, who, p
+	}
+	if s.recorder == nil || s.options.Trier == nil {
+		return nil, who, problemPath.with("no journal is kept, so there are no recorded requests")
+	}
+	t, p := s.readTrial(r)
+	if p == nil {
+		t.trial.Old, p = s.sourceOf(r.URL.Query().Get("against"))
+	}
+	return t, who, p
+}
+
+// readTrial reads the query of a trial.
+func (s *Service) readTrial(r *http.Request) (*trying, *problem) {
+	query := r.URL.Query()
+	t := &trying{service: s, request: r, most: mostTried, trial: &Trial{Client: query.Get("client"), Service: query.Get("service"),
+		Rule: query.Get("rule"), Release: query.Get("release"), From: query.Get("from"), To: query.Get("to")}}
+	if said := query.Get("most"); said != "" {
+		var err error
+		if t.most, err = strconv.Atoi(said); err != nil || t.most < 0 {
+			return nil, problemHeader.with("most is a number, not " + said)
+		}
+	}
+	if said := query.Get("csv"); said == "true" {
+		t.table = &csv.Writer{}
+	} else if said != "" && said != "false" {
+		return nil, problemHeader.with("csv is true or false")
+	}
+	if query.Get("model") == "" {
+		return nil, problemHeader.with("model is due: the SHA-256 of a release, or of a model that was checked")
+	}
+	var p *problem
+	t.trial.New, p = s.sourceOf(query.Get("model"))
+	return t, p
+}
+
+// sourceOf is the model with a SHA-256: the one in force, also where the sum is empty, one that was checked, or a release.
+func (s *Service) sourceOf(sum string) (*Source, *problem) {
+	inForce := s.model.Load()
+	if sum == "" || sum == inForce.wholeSum {
+		return inForce.source, nil
+	}
+	if model := s.shelf.find(sum); model != nil {
+		return model.source, nil
+	}
+	if s.options.Releases != "" {
+		all, err := s.releases()
+		if err != nil {
+			return nil, problemInside.with(err.Error())
+		}
+		for _, it := range all {
+			if it.Sum == sum {
+				return it.source, nil
+			}
+		}
+	}
+	return nil, problemUnkept.with("no model with the SHA-256 " + sum + " is kept")
+}
+
+// begin begins the answer.
+func (t *trying) begin(w http.ResponseWriter) {
+	header := w.Header()
+	t.to = bufio.NewWriterSize(w, 64<<10)
+	t.flush = func() {
+		limitWrite(t.request, longAnswer+1)
+		_ = t.to.Flush()
+		if flusher, is := w.(http.Flusher); is {
+			flusher.Flush()
+		}
+	}
+	if t.table == nil {
+		header["Content-Type"] = contentLines
+		return
+	}
+	header["Content-Type"] = contentCSV
+	header["Content-Disposition"] = []string{`attachment; filename="differing.csv"`}
+	t.table = csv.NewWriter(t.to)
+	_ = t.table.Write([]string{"id", "request", "time", "service", "inputs", "old", "new", "rules"})
+}
+
+var (
+	contentLines = []string{"application/x-ndjson"}
+	contentCSV   = []string{"text/csv; charset=utf-8"}
+)
+
+// errEnding ends a trial since the service ends.
+var errEnding = errors.New("the service is about to end")
+
+func (t *trying) run(changes json.RawMessage) (*Tried, error) {
+	side := func(source *Source) releasePage { return releasePage{source.Sum(), *source.namedBy()} }
+	if err := t.line(map[string]any{"old": side(t.trial.Old), "new": side(t.trial.New), "changes": changes}); err != nil {
+		return nil, err
+	}
+	t.trial.Take = t.take
+	t.trial.Asked = func(count int) error {
+		if t.service.stopping.Load() {
+			return errEnding
+		}
+		return t.line(map[string]int{"asked": count})
+	}
+	return t.service.options.Trier.Try(t.request.Context(), t.service.options.Journal, t.trial)
+}
+
+// line writes a line of JSON, and lets all be read that was written; there are none in CSV.
+func (t *trying) line(value any) error {
+	defer t.flush()
+	if t.table != nil {
+		t.table.Flush()
+		return t.table.Error()
+	}
+	text, err := plainJSON(value)
+	if err == nil {
+		_, err = t.to.Write(append(text, '\n'))
+	}
+	return err
+}
+
+// take lists a request that gets another answer.
+func (t *trying) take(it *TrialDifference) error {
+	if t.table != nil {
+		return t.table.Write([]string{it.ID, it.Request, it.Time, it.Service, string(it.Inputs), it.Old, it.New, it.Rules})
+	}
+	if t.listed == t.most {
+		return nil
+	}
+	t.listed++
+	text, err := plainJSON(map[string]any{"difference": it})
+	if err == nil {
+		_, err = t.to.Write(append(text, '\n'))
+	}
+	return err
+}
+
+// end writes what was found. CSV that is not whole ends with the connection.
+func (t *trying) end(tried *Tried, err error) {
+	if err == nil {
+		if tried.By == nil {
+			tried.By = []TrialCount{}
+		}
+		_ = t.line(struct {
+			IsDone bool `json:"done"`
+			Listed int  `json:"listed"`
+			*Tried
+		}{true, t.listed, tried})
+		return
+	}
+	t.service.options.Log("a trial ended early: %v", err)
+	if t.table != nil {
+		panic(http.ErrAbortHandler)
+	}
+	p := faultProblem(err)
+	if errors.Is(err, errEnding) {
+		p = problemStopping.with("")
+	}
+	_ = t.line(map[string]any{"problem": p})
+}
+
+// keepTried notes that a release of the folder was tried.
+func (s *Service) keepTried(it *Trial, tried *Tried, who caller) error {
+	if s.options.Releases == "" {
+		return nil
+	}
+	all, err := s.releases()
+	if err != nil {
+		return err
+	}
+	sum := it.New.Sum()
+	for _, kept := range all {
+		if kept.Sum == sum {
+			return release.KeepTried(s.options.Releases, release.Tried{Sum: sum, Against: it.Old.Sum(), Over: []string{s.options.Journal},
+				Asked: tried.Asked, Differing: tried.Differing, Who: who.name(), When: time.Now().UTC().Format(time.RFC3339)})
+		}
+	}
+	return nil
+}
+
+// A releaseLine is a release of the folder.
+type releaseLine struct {
+	releasePage
+	File     string `json:"file"`
+	IsActive bool   `json:"active"`
+	// Fault is why it can't be read, or empty.
+	Fault  string `json:"fault,omitempty"`
+	source *Source
+}
+
+// releases are those of the folder, by their files' names.
+func (s *Service) releases() ([]releaseLine, error) {
+	files, err := release.Files(s.options.Releases)
+	if err != nil {
+		return nil, err
+	}
+	active, _, err := release.ReadActive(s.options.Releases)
+	if err != nil && !errors.Is(err, release.ErrNone) {
+		return nil, err
+	}
+	all := make([]releaseLine, len(files))
+	for at, file := range files {
+		it := &all[at]
+		it.File, it.IsActive = file, active != nil && active.File == file
+		text, err := os.ReadFile(filepath.Join(s.options.Releases, file))
+		if err == nil {
+			it.source, err = ReadSource(text)
+		}
+		if err != nil {
+			it.Fault = fmt.Sprint(err)
+			continue
+		}
+		it.releasePage = releasePage{it.source.Sum(), *it.source.namedBy()}
+	}
+	return all, nil
+}
+
+// releasesPath answers GET /v1/releases.
+func (s *Service) releasesPath(w http.ResponseWriter, r *http.Request) {
+	if !takes(w, r, http.MethodGet, http.MethodHead) {
+		return
+	}
+	_, p := s.caller(r)
+	if p == nil && s.options.Releases == "" {
+		p = problemPath.with("there is no folder of releases")
+	}
+	var all []releaseLine
+	if p == nil {
+		var err error
+		if all, err = s.releases(); err != nil {
+			p = problemInside.with(err.Error())
+		}
+	}
+	if p != nil {
+		p.write(w, w.Header().Get("X-Request-Id"))
+		return
+	}
+	if all == nil {
+		all = []releaseLine{}
+	}
+	writePage(w, http.StatusOK, map[string]any{"releases": all})
+}
