@@ -150,7 +150,8 @@ func serveHTTP(ctx context.Context, c *cobra.Command, files []string, o httpOpti
 		}
 	}
 	options.ReadDMN = putDMN(o.reading, options.Log)
-	options.Trier = &trier{path: options.Engine, memory: options.Memory, atOnce: least(options.Processes, maxTried)}
+	options.Trier = &trier{path: options.Engine, memory: options.Memory, atOnce: least(options.Processes, maxTried),
+		patience: options.Deadline + service.ExplainPatience}
 	options.Named = strings.Join(files, " ")
 	if err = setTLS(&options, o.tls); err != nil {
 		return err

@@ -10,6 +10,8 @@ import (
 	"gateway/engine"
 	"gateway/rabbit/broker"
 	"gateway/rabbit/bus"
+	"gateway/rabbit/logs"
+	"gateway/rabbit/metrics"
 	"gateway/rabbit/partition"
 	"gateway/rabbit/process"
 )
@@ -20,6 +22,18 @@ const brokerHelp = `Environment:
   DESK_PARTITIONS  how many partitions there are [default: 1]
 
 ops/rabbitmq/README.md describes the protocol, settings and alarms.`
+
+// metricsHelp describes --metrics of send, partition and receive.
+const metricsHelp = "Serve /metrics, /healthz and /readyz at this `ADDRESS`, as 127.0.0.1:9100"
+
+// serveMetrics serves them at an address, if there is one.
+func serveMetrics(ctx context.Context, address string, of metrics.Source) error {
+	if address == "" {
+		return nil
+	}
+	_, err := metrics.Serve(ctx, address, of)
+	return err
+}
 
 // partitionOptions are the options of partition.
 type partitionOptions struct {
@@ -49,7 +63,7 @@ func partitionCommand() *cobra.Command {
 	flags.Var(&options.deadline, "deadline", "Give the evaluation of a line this long, from 1s on")
 	flags.IntVar(&options.engine.Longest, "longest", 1<<20, "Allow an answer this many `BYTES`, 1024 to 16777216")
 	flags.Var(&options.memory, "memory", "Limit the address space of the engine, from 32MiB on; 0 for no limit")
-	flags.StringVar(&options.metrics, "metrics", "", "Serve /metrics, /healthz and /readyz at this `ADDRESS`, as 127.0.0.1:9100")
+	flags.StringVar(&options.metrics, "metrics", "", metricsHelp)
 	flags.BoolVar(&options.declare, "declare", false, "Make the exchanges and queues of all partitions where they aren't there, and end")
 	flags.IntVar(&options.days, "sender-days", 90, "Know a sender and its batches for this `NUMBER` of days after its last message; 0 for ever")
 	return c
@@ -79,12 +93,15 @@ func runRepair(c *cobra.Command, text string) error {
 	}
 	ctx, stop := untilTold(c)
 	defer stop()
-	if err := on.Repair(ctx, broker.Repair{Settings: settings, Partition: number, Program: version, Log: c.ErrOrStderr()}); err != nil {
+	if err := on.Repair(ctx, broker.Repair{Settings: settings, Partition: number, Program: version, Log: partitionLog(c)}); err != nil {
 		return err
 	}
 	c.PrintErrf("desk partition: partition %d is repaired\n", number)
 	return nil
 }
+
+// partitionLog is the log of desk partition.
+func partitionLog(c *cobra.Command) *logs.Log { return logs.New(c.ErrOrStderr(), "desk partition") }
 
 // check reports a number that is out of its range.
 func (o *partitionOptions) check() error {
@@ -120,16 +137,15 @@ func runPartition(c *cobra.Command, o partitionOptions) error {
 	if o.engine.Path, err = engine.Path(); err != nil {
 		return err
 	}
+	log := partitionLog(c)
 	for _, note := range engineNotes(o.engine.Path) {
-		c.PrintErrf("desk partition: %s\n", note)
+		log.Warning("%s", note)
 	}
 	gauges := partition.NewGauges()
-	if o.metrics != "" {
-		if _, err := partition.ServeMetrics(ctx, o.metrics, gauges); err != nil {
-			return err
-		}
+	if err := serveMetrics(ctx, o.metrics, gauges); err != nil {
+		return err
 	}
-	options := partition.Options{Bus: on, Settings: settings, Deadline: time.Duration(o.deadline), Log: c.ErrOrStderr(), Gauges: gauges,
+	options := partition.Options{Bus: on, Settings: settings, Deadline: time.Duration(o.deadline), Log: log, Gauges: gauges,
 		Engine: o.engine, Keep: time.Duration(o.days) * 24 * time.Hour, Program: version}
 	if err := partition.Run(ctx, options); err != nil && ctx.Err() == nil {
 		return err
@@ -139,7 +155,7 @@ func runPartition(c *cobra.Command, o partitionOptions) error {
 
 // declare makes what the partitions need at the brokers.
 func declare(ctx context.Context, c *cobra.Command, on broker.Broker, settings bus.Settings) error {
-	if err := on.Declare(ctx, settings, c.ErrOrStderr()); err != nil {
+	if err := on.Declare(ctx, settings, partitionLog(c)); err != nil {
 		return err
 	}
 	c.PrintErrf("desk partition: %d partitions are declared\n", settings.Partitions)

@@ -2,12 +2,14 @@ package command
 
 import (
 	"os"
+	"strconv"
 	"time"
 
 	"github.com/spf13/cobra"
 
 	"gateway/rabbit/broker"
 	"gateway/rabbit/bus"
+	"gateway/rabbit/logs"
 	"gateway/rabbit/receiver"
 )
 
@@ -15,6 +17,7 @@ import (
 type receiveOptions struct {
 	from, place, output string
 	idle                duration
+	metrics             string
 }
 
 func receiveCommand() *cobra.Command {
@@ -28,10 +31,12 @@ func receiveCommand() *cobra.Command {
 	}
 	flags := c.Flags()
 	flags.StringVar(&options.from, "from", fromFirst,
-		"Begin at `WHERE`: first, next, or a time as 2026-11-27T16:00:00Z; the place that --place keeps comes first")
+		"Begin at `WHERE`: first, next, a time as 2026-11-27T16:00:00Z, or an offset of each partition's answers; the place that --place "+
+			"keeps comes first")
 	flags.StringVar(&options.place, "place", "", "Keep the place in this `FILE`, and go on there when started again")
 	flags.StringVar(&options.output, "output", "",
 		"Write the answers to this `FILE`; with --place it has each answer once, whatever happens")
+	flags.StringVar(&options.metrics, "metrics", "", metricsHelp)
 	flags.Var(&options.idle, "idle", "End after so long without an answer, as 5s; 0s for never")
 	return c
 }
@@ -50,9 +55,12 @@ func fromOf(text string) (bus.From, error) {
 	case fromNext:
 		return bus.From{Place: bus.Next}, nil
 	}
+	if offset, err := strconv.ParseInt(text, 10, 64); err == nil && offset >= 0 {
+		return bus.FromOffset(offset), nil
+	}
 	at, err := time.Parse(time.RFC3339, text)
 	if err != nil {
-		return bus.From{}, wrong("--from is first, next, or a time as 2026-11-27T16:00:00Z, not %q", text)
+		return bus.From{}, wrong("--from is first, next, a time as 2026-11-27T16:00:00Z, or an offset as 1000, not %q", text)
 	}
 	return bus.From{Place: bus.Since, Since: at}, nil
 }
@@ -63,7 +71,7 @@ func runReceive(c *cobra.Command, o receiveOptions) error {
 		return wrong("%w", err)
 	}
 	options := receiver.Options{Bus: on, Settings: settings, Place: o.place, Output: os.Stdout,
-		Idle: time.Duration(o.idle), Log: c.ErrOrStderr()}
+		Idle: time.Duration(o.idle), Log: logs.New(c.ErrOrStderr(), "desk receive"), Gauges: receiver.NewGauges()}
 	if options.From, err = fromOf(o.from); err != nil {
 		return err
 	}
@@ -77,5 +85,8 @@ func runReceive(c *cobra.Command, o receiveOptions) error {
 	}
 	ctx, stop := untilTold(c)
 	defer stop()
+	if err := serveMetrics(ctx, o.metrics, options.Gauges); err != nil {
+		return err
+	}
 	return receiver.Receive(ctx, options)
 }

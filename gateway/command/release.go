@@ -1,6 +1,7 @@
 package command
 
 import (
+	"bytes"
 	"context"
 	"errors"
 	"fmt"
@@ -20,6 +21,7 @@ import (
 	"gateway/profile"
 	"gateway/release"
 	"gateway/service"
+	"gateway/tell"
 )
 
 func releaseCommand() *cobra.Command {
@@ -239,36 +241,51 @@ const (
 	needsTried   = "tried"
 )
 
-// meets says why a release doesn't meet what is required, or nil.
-func meets(ctx context.Context, folder string, it kept, required []string) error {
+// meets says why a release doesn't meet what is required, or nil. Where it was to be tried, it says against which file.
+func meets(ctx context.Context, folder string, it kept, required []string) (against string, err error) {
 	source, _ := readKept(folder, it.file)
 	for _, word := range required {
 		switch word {
 		case needsChecked:
-			said, status, err := engine.Once(ctx, source.Text, "check", "--tables", "--strict")
-			if err != nil {
-				return err
-			}
-			if status != statusDone {
-				return refused(fmt.Errorf("%s is not in force, since check --tables --strict refuses it:\n%s", it.called(), strings.TrimSpace(string(said))))
+			if err := checked(ctx, it, source.Text); err != nil {
+				return "", err
 			}
 		case needsTried:
 			active, _, err := release.ReadActive(folder)
 			if err != nil {
-				return err
+				return "", err
 			}
 			_, inForce := readKept(folder, active.File)
 			tried, err := release.ReadTried(folder, it.sum, inForce.sum)
 			if err != nil {
-				return err
+				return "", err
 			}
 			if tried == nil {
-				return refused(fmt.Errorf("%s is not in force, since it was not tried against %s: desk release try --over JOURNAL %s %q",
+				return "", refused(fmt.Errorf("%s is not in force, since it was not tried against %s: desk release try --over JOURNAL %s %q",
 					it.called(), inForce.called(), folder, it.called()))
 			}
+			against = active.File
 		default:
-			return wrong("--require takes %s and %s, not %q", needsChecked, needsTried, word)
+			return "", wrong("--require takes %s and %s, not %q", needsChecked, needsTried, word)
 		}
+	}
+	return against, nil
+}
+
+// checked says why check --tables --strict refuses a model, or nil.
+func checked(ctx context.Context, it kept, model []byte) error {
+	path, err := engine.Path()
+	if err != nil {
+		return err
+	}
+	var said bytes.Buffer
+	options := tell.CheckOptions{Tables: true, Strict: true, Format: tell.Text, Version: version}
+	status, err := tell.Check(ctx, path, options, bytes.NewReader(model), &said, &said)
+	if err != nil {
+		return engine.NotStarted(path, err)
+	}
+	if status != statusDone {
+		return refused(fmt.Errorf("%s is not in force, since check --tables --strict refuses it:\n%s", it.called(), strings.TrimSpace(said.String())))
 	}
 	return nil
 }
@@ -295,11 +312,18 @@ stays, and desk release back puts it in force again.`,
 		if err != nil {
 			return err
 		}
-		if err := meets(c.Context(), folder, it, required); err != nil {
+		against, err := meets(c.Context(), folder, it, required)
+		if err != nil {
 			return err
 		}
 		next := release.Active{File: it.file, Sum: it.sum, Who: by.name(), When: now(), Why: by.why}
-		if err := release.Activate(folder, next); err != nil {
+		err = release.Activate(folder, next, func(before *release.Active) error {
+			if against != "" && (before == nil || before.File != against) {
+				return refused(fmt.Errorf("%s is not in force, since another release than %s, against which it was tried, is by now", it.called(), against))
+			}
+			return nil
+		})
+		if err != nil {
 			return err
 		}
 		_, err = fmt.Fprintf(c.OutOrStdout(), "%s is in force, SHA-256 %s\n", it.called(), it.sum)

@@ -13,6 +13,7 @@ import (
 	"gateway/engine"
 	"gateway/rabbit/broker"
 	"gateway/rabbit/bus"
+	"gateway/rabbit/logs"
 	"gateway/rabbit/sender"
 )
 
@@ -20,6 +21,7 @@ import (
 type sendOptions struct {
 	sender, batch string
 	giveUp        duration
+	metrics       string
 }
 
 func sendCommand() *cobra.Command {
@@ -38,19 +40,28 @@ can't be reached, the lines of the others are sent; the status is then 1, and th
 	c.Flags().StringVar(&options.batch, "batch", "",
 		"Use this `ID` for this input: sent again under it, only what is missing is sent (default a new one)")
 	c.Flags().Var(&options.giveUp, "give-up", "Give up a partition that confirms nothing for so long, while others do; 0s for never")
+	c.Flags().StringVar(&options.metrics, "metrics", "", metricsHelp)
 	return c
+}
+
+// check reports a name or an id that can't be one.
+func (o sendOptions) check() error {
+	switch {
+	case o.batch != "" && (o.sender == "" || !bus.IsBatch(o.batch)):
+		return wrong("--batch is an id in UTF-8 of at most %d bytes, and is for a --sender", bus.MaximumBatchBytes)
+	case o.sender != "" && !bus.IsSender(o.sender):
+		return wrong("--sender is a name in UTF-8 of 1 to %d bytes", bus.MaximumSenderBytes)
+	}
+	return nil
 }
 
 func runSend(c *cobra.Command, o sendOptions) error {
 	options := sender.Options{Name: o.sender, Named: o.sender != "", Batch: o.batch, GiveUp: time.Duration(o.giveUp),
-		Input: c.InOrStdin(), Log: c.ErrOrStderr()}
-	if o.batch != "" && (!options.Named || !bus.IsBatch(o.batch)) {
-		return wrong("--batch is an id in UTF-8 of at most %d bytes, and is for a --sender", bus.MaximumBatchBytes)
+		Input: c.InOrStdin(), Log: logs.New(c.ErrOrStderr(), "desk send"), Gauges: sender.NewGauges()}
+	err := o.check()
+	if err != nil {
+		return err
 	}
-	if options.Named && !bus.IsSender(o.sender) {
-		return wrong("--sender is a name in UTF-8 of 1 to %d bytes", bus.MaximumSenderBytes)
-	}
-	var err error
 	if options.Bus, options.Settings, err = broker.Read(); err != nil {
 		return wrong("%w", err)
 	}
@@ -71,6 +82,9 @@ func runSend(c *cobra.Command, o sendOptions) error {
 			return err
 		}
 		c.PrintErrf("desk send: batch %s\n", options.Batch)
+	}
+	if err := serveMetrics(ctx, o.metrics, options.Gauges); err != nil {
+		return err
 	}
 	tally, err := sender.Send(ctx, options)
 	c.PrintErrf("desk send: %d lines sent, %d repeated (taken before in this batch), %d not sent\n",

@@ -3,6 +3,7 @@ package command
 import (
 	"context"
 	"encoding/json"
+	"time"
 
 	"gateway/compare"
 	"gateway/record"
@@ -11,9 +12,10 @@ import (
 
 // A trier holds two models against each other for the service over HTTP.
 type trier struct {
-	path   string
-	memory uint64
-	atOnce int
+	path     string
+	memory   uint64
+	atOnce   int
+	patience time.Duration
 }
 
 // Changes has what differs between the models.
@@ -30,11 +32,12 @@ func (t *trier) Changes(old, new *service.Source) (json.RawMessage, error) {
 
 // Try asks both for the requests of a journal.
 func (t *trier) Try(ctx context.Context, folder string, it *service.Trial) (*service.Tried, error) {
-	trial := &record.Trial{Asker: &record.Asker{Path: t.path, Memory: t.memory}, Old: it.Old, New: it.New, Asked: it.Asked, AtOnce: t.atOnce}
+	trial := &record.Trial{Asker: &record.Asker{Path: t.path, Memory: t.memory}, Old: it.Old, New: it.New, Asked: it.Asked, AtOnce: t.atOnce,
+		Patience: t.patience}
 	filter := record.Filter{Client: it.Client, Service: it.Service, Rule: it.Rule, Release: it.Release, From: it.From, To: it.To}
 	found, err := trial.Run(ctx, folder, filter, func(d *record.Difference) error {
 		return it.Take(&service.TrialDifference{ID: d.Case.ID, Request: d.Case.Request, Time: d.Case.Time, Service: d.Case.Service,
-			Inputs: d.Inputs, Old: d.Old.String(), New: d.New.String(), Rules: d.Where})
+			Inputs: d.Inputs, Old: d.Old, New: d.New, Rules: d.Where})
 	})
 	if err != nil {
 		return nil, err

@@ -193,8 +193,7 @@ func (t *trying) take(it *record.Difference) error {
 	if t.table == nil {
 		return nil
 	}
-	return t.table.Write([]string{it.Case.ID, it.Case.Request, it.Case.Time, it.Case.Service, string(it.Inputs), it.Old.String(), it.New.String(),
-		it.Where})
+	return t.table.Write([]string{it.Case.ID, it.Case.Request, it.Case.Time, it.Case.Service, string(it.Inputs), it.Old, it.New, it.Where})
 }
 
 // keep notes that a release of the folder was tried.
@@ -229,5 +228,5 @@ func (t *trying) write(changes []compare.Change, tried *record.Tried) error {
 }
 
 func writeDifference(to io.Writer, it *record.Difference) {
-	fmt.Fprintf(to, "%s %s: %s -> %s\n", it.Case.ID, it.Inputs, plain(it.Old.String()), plain(it.New.String()))
+	fmt.Fprintf(to, "%s %s: %s -> %s\n", it.Case.ID, it.Inputs, plain(it.Old), plain(it.New))
 }

@@ -99,8 +99,20 @@ func shorten(digits *big.Int, power int) error {
 	return nil
 }
 
+// mostPower is the greatest n of which 10^n is an int64.
+const mostPower = 18
+
 // Power is 10^n.
-func Power(n int) *big.Int { return new(big.Int).Exp(big.NewInt(10), big.NewInt(int64(n)), nil) }
+func Power(n int) *big.Int {
+	if n < 0 || n > mostPower {
+		return new(big.Int).Exp(big.NewInt(10), big.NewInt(int64(n)), nil)
+	}
+	power := int64(1)
+	for ; n > 0; n-- {
+		power *= 10
+	}
+	return big.NewInt(power)
+}
 
 // Text is a whole number of a unit as a decimal in its shortest form. A quotient that doesn't end has 34 significant digits,
 // rounded half even.

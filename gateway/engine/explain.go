@@ -34,12 +34,22 @@ type Explainer struct {
 // process.
 func (e *Explainer) Explain(ctx context.Context, model *Model, jobs []*Job, room func(size int) bool) ([]Explanation, error) {
 	told := make([]Explanation, 0, len(jobs))
-	err := e.Each(ctx, model, jobs, func(line []byte, cut bool) error {
-		it, err := readExplanation(line, cut, room)
-		told = append(told, it)
-		return err
+	err := e.Tell(ctx, model, jobs, room, func(it *Explanation) error {
+		told = append(told, *it)
+		return nil
 	})
 	return told, err
+}
+
+// Tell asks the same, and hands what is told of each request to take, in their order.
+func (e *Explainer) Tell(ctx context.Context, model *Model, jobs []*Job, room func(size int) bool, take func(*Explanation) error) error {
+	return e.Each(ctx, model, jobs, func(line []byte, cut bool) error {
+		it, err := readExplanation(line, cut, room)
+		if err != nil {
+			return err
+		}
+		return take(&it)
+	})
 }
 
 // Each asks the same, and hands the line of each request to take, in their order: of one over MaxAnswer bytes the first, and

@@ -104,11 +104,14 @@ func (f *file) write(text []byte) error {
 	return err
 }
 
+// syncFile has what was written to a file on the disk.
+var syncFile = (*os.File).Sync
+
 func (f *file) sync() error {
 	if err := f.to.Flush(); err != nil {
 		return err
 	}
-	if err := f.os.Sync(); err != nil {
+	if err := syncFile(f.os); err != nil {
 		return err
 	}
 	f.synced = f.size

@@ -348,8 +348,7 @@ func (j *Journal) add(now time.Time, model Model, posts []*post) (int64, error) 
 	}
 	if err != nil {
 		j.chain.at = at
-		j.forget(f)
-		j.past = append(j.past, f.kept(now))
+		j.end(now, f)
 		if left := f.abandon(); left != nil {
 			return 0, &lostError{left}
 		}
@@ -410,14 +409,19 @@ func (j *Journal) forget(f *file) {
 	}
 }
 
-// finish ends a file.
+// finish ends a file, and closes it.
 func (j *Journal) finish(now time.Time, f *file) error {
+	j.end(now, f)
+	return f.close()
+}
+
+// end says that a file is written no more.
+func (j *Journal) end(now time.Time, f *file) {
 	j.forget(f)
 	j.past = append(j.past, f.kept(now))
 	if j.options.Ended != nil {
 		j.options.Ended(f.os.Name(), j.chain.at.n, j.chain.at.String())
 	}
-	return f.close()
 }
 
 // turn ends all files.

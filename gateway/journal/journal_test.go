@@ -225,3 +225,72 @@ func TestAFileThatFailsIsCut(t *testing.T) {
 	}
 	same(t, files(t, folder), [][]string{{`{"model":"a"}`, `{"n":1}`}, {`{"model":"a"}`, `{"n":3}`}})
 }
+
+// A file that failed has ended: its head is told, and the chain goes on from there.
+func TestHeadOfAFileThatFails(t *testing.T) {
+	folder := t.TempDir()
+	var heads []string
+	j, _, err := Open(folder, Options{Size: 1 << 20, Ended: func(_ string, _ uint64, sum string) { heads = append(heads, sum) }})
+	if err != nil {
+		t.Fatal(err)
+	}
+	a := namedModel("a")
+	add(t, j, &a, `{"n":1}`)
+	full, err := os.OpenFile("/dev/full", os.O_WRONLY, 0)
+	if err != nil {
+		t.Skip(err)
+	}
+	defer full.Close()
+	j.files[0].to.Reset(full)
+	if err := j.Append(&a, []byte("{\"n\":2}\n"), 1); err == nil {
+		t.Error("a full device took a line")
+	}
+	add(t, j, &a, `{"n":3}`)
+	if err := j.Close(); err != nil {
+		t.Fatal(err)
+	}
+	if len(heads) != 2 || len(paths(t, folder)) != 2 {
+		t.Fatalf("%v are the heads of %v", heads, paths(t, folder))
+	}
+	for n, head := range heads {
+		if report := verified(t, folder, head); len(report.Faults) > 0 || report.At != uint64(2+2*n) {
+			t.Errorf("head %d: %+v", n, report)
+		}
+	}
+}
+
+// What is recorded is on the disk before whoever recorded it goes on.
+func TestSyncedBeforeItGoesOn(t *testing.T) {
+	a := namedModel("a")
+	j := open(t, t.TempDir(), 1<<20)
+	add(t, j, &a, `{"n":1}`)
+	begun, goOn := make(chan int64), make(chan struct{})
+	syncFile = func(f *os.File) error {
+		about, err := f.Stat()
+		if err != nil {
+			return err
+		}
+		begun <- about.Size()
+		<-goOn
+		return f.Sync()
+	}
+	defer func() { syncFile = (*os.File).Sync }()
+	before := j.files[0].synced
+	done := make(chan error, 1)
+	go func() { done <- j.Append(&a, []byte("{\"n\":2}\n"), 1) }()
+	if size := <-begun; size <= before {
+		t.Errorf("%d bytes are there when they are to be synced, and %d were before", size, before)
+	}
+	select {
+	case err := <-done:
+		t.Errorf("it goes on before the disk has it: %v", err)
+	default:
+	}
+	close(goOn)
+	if err := <-done; err != nil {
+		t.Error(err)
+	}
+	if err := j.Close(); err != nil {
+		t.Fatal(err)
+	}
+}

@@ -82,7 +82,7 @@ func (j *Journal) sayPruned(now time.Time, to *file, names []string, last uint64
 		return nil
 	}
 	j.chain.at = before
-	j.forget(to)
+	j.end(now, to)
 	if left := to.abandon(); left != nil {
 		return &lostError{left}
 	}

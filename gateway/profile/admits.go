@@ -12,7 +12,7 @@ import (
 // value that is none of them, and of a list or context with such a part. What surely is allowed is left as it is; what may
 // not be is tested; and what can't be tested is refused.
 func (t *translator) admitted(b *box, of, due *valueType, refuse func(why, instead string)) (*box, *valueType) {
-	made := narrowedTo(due, of)
+	made := t.narrowedTo(due, of)
 	if !due.isNarrow() || t.isSure(b, of, due) {
 		return b, made
 	}
@@ -35,12 +35,12 @@ func (t *translator) admitted(b *box, of, due *valueType, refuse func(why, inste
 }
 
 // narrowedTo is a type of the values of another one that were held against it.
-func narrowedTo(due, of *valueType) *valueType {
+func (t *translator) narrowedTo(due, of *valueType) *valueType {
 	switch {
 	case due.kind != anyKind && (!due.isScalar() || len(due.allowed.all) > 0 || len(of.values().all) == 0):
-		return countedAs(due, of)
+		return t.countedAs(due, of)
 	case due.kind != anyKind:
-		own := *countedAs(due, of)
+		own := *t.countedAs(due, of)
 		own.common = of.values()
 		return &own
 	case len(due.allowed.all) == 0:

@@ -142,7 +142,7 @@ func indexOf(all []string, one string) int {
 // absCall translates abs, which a quotient may have too.
 func absCall(t *translator, _ *feel.Call, arguments []phrase) phrase {
 	x := arguments[0]
-	made := call("abs", numberOf(uncelled(x.of.within())), x)
+	made := call("abs", numberOf(uncelled(t.within(x.of))), x)
 	if x.number != nil {
 		made.number = new(big.Rat).Abs(x.number)
 	}
@@ -173,7 +173,7 @@ func (t *translator) gathered(n *feel.Call, arguments []phrase) phrase {
 // sumCall translates a sum. Of one value that is no list it is the value, which the engine's sum is not.
 func sumCall(t *translator, n *feel.Call, arguments []phrase) phrase {
 	list := t.gathered(n, arguments)
-	of := numberOf(uncelled(list.of.within()))
+	of := numberOf(uncelled(t.within(list.of)))
 	switch {
 	case list.of.hasQuotient():
 		return t.refuse(n, "a sum of quotients: each is rounded to 34 digits in the standard", quotientInstead)
@@ -197,7 +197,7 @@ func extremeCall(name string) func(*translator, *feel.Call, []phrase) phrase {
 		if list.of.kind == listKind {
 			switch element := list.of.element; {
 			case element.kind == numberKind || element.isNothing():
-				return call(name, numberOf(uncelled(list.of.within())), list)
+				return call(name, numberOf(uncelled(t.within(list.of))), list)
 			case element.isTemporal():
 				return call(name, &valueType{kind: element.kind, sort: element.sort}, list)
 			}

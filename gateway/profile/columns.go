@@ -26,7 +26,7 @@ func (r *tableReader) alignOutputs() {
 		}
 		o.gives = joined(o.gives, r.together(all, refuse))
 		r.writeOutput(o, i, all)
-		if isCount && o.other != nil && o.other.of.isCounted() {
+		if isCount && o.other != nil && r.isCounted(o.other.of) {
 			refuse("a default with decimals where hits are counted", "a whole number")
 		}
 	}
@@ -73,13 +73,13 @@ func (r *tableReader) countsOtherwise(value phrase, c column) bool {
 	if value.isQuotient() || c.value.isQuotient() {
 		return true
 	}
-	return value.of.kind != numberKind && value.of.isCounted() || value.of.kind == numberKind && value.number == nil &&
-		value.of.units.scale > c.value.of.within().scale
+	return value.of.kind != numberKind && r.isCounted(value.of) || value.of.kind == numberKind && value.number == nil &&
+		value.of.units.scale > r.within(c.value.of).scale
 }
 
 // bound is an order comparison with a column's value, in its unit.
 func (r *tableReader) bound(n feel.Node, operator string, value phrase, c column) (string, phrase) {
-	u := c.value.of.within()
+	u := r.within(c.value.of)
 	switch {
 	case !r.counts || value.of.isPlain() && u.isPlain():
 		return operator, value.within(rankSum)
@@ -94,7 +94,7 @@ func (r *tableReader) bound(n feel.Node, operator string, value phrase, c column
 
 // equalIn is a value as a test of a column, in its unit; false where the column has no such value.
 func (r *tableReader) equalIn(n feel.Node, value phrase, c column) (phrase, bool) {
-	u := c.value.of.within()
+	u := r.within(c.value.of)
 	switch {
 	case !r.counts || value.of.kind != numberKind || value.of.isPlain() && u.isPlain():
 		return value, true

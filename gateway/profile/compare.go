@@ -26,7 +26,7 @@ func (t *translator) compare(n feel.Node, l phrase, operator string, r phrase) p
 		return t.compareQuotients(n, l, operator, r)
 	case l.of.hasQuotient() || r.of.hasQuotient():
 		return t.refuse(n, "lists or contexts with quotients are not compared", "a rounding of what is in them")
-	case !l.of.isCounted() && !r.of.isCounted():
+	case !t.isCounted(l.of) && !t.isCounted(r.of):
 		return infix(l, operator, r, rankComparison, booleanType)
 	case r.number != nil && l.number == nil:
 		return t.againstNumber(l, operator, r.number)
@@ -38,14 +38,14 @@ func (t *translator) compare(n feel.Node, l phrase, operator string, r phrase) p
 
 // meeting notes that a number meets another one.
 func (t *translator) meeting(p, other phrase) phrase {
-	a, b := p.of.within(), other.of.within()
+	a, b := t.within(p.of), t.within(other.of)
 	met(a, b)
 	return p
 }
 
 // compareCounted compares values of which no one is a constant.
 func (t *translator) compareCounted(n feel.Node, l phrase, operator string, r phrase) phrase {
-	of := joinedUnits(l.of.within(), r.of.within())
+	of := joinedUnits(t.within(l.of), t.within(r.of))
 	for _, side := range []*phrase{&l, &r} {
 		other := l
 		if side == &l {
@@ -67,12 +67,12 @@ func (t *translator) againstNumber(x phrase, operator string, value *big.Rat) ph
 	if operator == "=" || operator == "!=" {
 		return t.equalToNumber(x, operator, value)
 	}
-	operator, limit := boundIn(operator, value, x.of.within())
+	operator, limit := boundIn(operator, value, t.within(x.of))
 	return infix(x, operator, wholeConstant(limit), rankComparison, booleanType)
 }
 
 func (t *translator) equalToNumber(x phrase, operator string, value *big.Rat) phrase {
-	if at := inUnits(value, x.of.within()); at.IsInt() && isNumber(at.Num()) {
+	if at := inUnits(value, t.within(x.of)); at.IsInt() && isNumber(at.Num()) {
 		return infix(x, operator, wholeConstant(at.Num()), rankComparison, booleanType)
 	}
 	// A number is not two numbers, null is none, and of another kind it is unknown.
@@ -87,7 +87,11 @@ func (t *translator) equalToNumber(x phrase, operator string, value *big.Rat) ph
 
 // inUnits is a number as it is counted in some units; it may not be whole there.
 func inUnits(value *big.Rat, u units) *big.Rat {
-	return new(big.Rat).Mul(scaledBy(value, u.scale), new(big.Rat).SetInt64(u.parts()))
+	scaled := scaledBy(value, u.scale)
+	if u.parts() == 1 {
+		return scaled
+	}
+	return scaled.Mul(scaled, new(big.Rat).SetInt64(u.parts()))
 }
 
 var mostNumber, leastNumber = big.NewInt(lines.MaxNumber), big.NewInt(-lines.MaxNumber)
@@ -189,7 +193,7 @@ func (t *translator) between(n feel.Node, x, low, high phrase) phrase {
 		return refused
 	}
 	if !t.counts && x.over == nil && low.over == nil && high.over == nil ||
-		!x.of.isCounted() && !low.of.isCounted() && !high.of.isCounted() && x.over == nil && low.over == nil && high.over == nil {
+		!t.isCounted(x.of) && !t.isCounted(low.of) && !t.isCounted(high.of) && x.over == nil && low.over == nil && high.over == nil {
 		t.meeting(x, low)
 		t.meeting(x, high)
 		return between(x, low, high)

@@ -115,6 +115,9 @@ var decimalRows = []decimalRow{
 	{"a + 1.5", `{"a":92233720368547758.07}`, "limit"}, {"a + 1.5", `{"a":-92233720368547758.07}`, "-92233720368547756.57"},
 	{"a + 1.5", `{"a":92233720368547758.08}`, "refused: past the range"}, {"a + 1.5", `{"a":0.005}`, "refused: more than 2 decimals"},
 	{"a + 1.5", `{"a":1e2}`, "101.5"}, {"a + 1.5", `{"a":1E+2}`, "101.5"}, {"a + 1.5", `{"a":1.000}`, "2.5"}, {"a + 1.5", `{"a":-0.0}`, "1.5"},
+	{"a < 0." + strings.Repeat("0", 90) + "1", `{"a":0}`, "true"}, {"a < 0." + strings.Repeat("0", 90) + "1", `{"a":0.01}`, "false"},
+	{"a + 0." + strings.Repeat("0", 90) + "1", `{}`, "refused: decimals"}, {"a * 0." + strings.Repeat("0", 90) + "1", `{}`, "refused: decimals"},
+	{"a < 0." + strings.Repeat("0", 6175) + "1", `{"a":0}`, "true"}, {"a < 0." + strings.Repeat("0", 6176) + "1", `{}`, "refused: decimals"},
 	{"(a + 1.5) * (b + 0.25)", `{"a":0.5,"b":0.75}`, "2"},
 	// Comparisons: a literal moves to the unit of the value.
 	{"a < 1234567890123.4567890123", `{"a":1234567890123.45}`, "true"}, {"a < 1234567890123.4567890123", `{"a":1234567890123.46}`, "false"},

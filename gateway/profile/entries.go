@@ -181,7 +181,7 @@ func (r *tableReader) listTest(n *feel.List, c column, underNot bool) string {
 	if members == "" || !c.value.of.mayBe(listKind) {
 		return members
 	}
-	if r.counts && (c.value.of.isCounted() || r.operand(n, r.scope).of.isCounted()) {
+	if r.counts && (r.isCounted(c.value.of) || r.isCounted(r.operand(n, r.scope).of)) {
 		return ""
 	}
 	return r.operand(n, r.scope).text

@@ -63,10 +63,12 @@ type graph struct {
 	clock *clock
 	// offsets say which times of inputs have an offset, and what they are counted in.
 	offsets *offsets
+	// constants are the numbers with decimals that texts have, by their digits.
+	constants map[string]phrase
 }
 
 func newGraph(files []*dmn.File, r *refusals, w *words, options Options) *graph {
-	g := &graph{refusals: r, words: w, byID: map[string]interface{}{}}
+	g := &graph{refusals: r, words: w, byID: map[string]interface{}{}, constants: map[string]phrase{}}
 	g.clock = newClock(g, options.Clock)
 	for i, file := range files {
 		r.know(file, i)

@@ -13,41 +13,66 @@ import (
 // mostScale is how many decimals a value on the way may have: one of more would nearly always be past the range.
 const mostScale = 36
 
+// mostDecimals is how many decimals a number of the standard has at most, which are those of IEEE 754's decimal128.
+const mostDecimals = 6176
+
 // quotientInstead is what to write in place of a calculation with a quotient.
 const quotientInstead = "the products first and the division last, as x * 0.05 / 12, or a rounding round the quotient: decimal(x / 3, 2)"
 
-// fraction translates a numeric literal with decimals: its digits, in the unit that they have.
+// fraction translates a numeric literal with decimals: its digits, in the unit that they have. Each text is read once.
 func (t *translator) fraction(n *feel.Number) phrase {
 	t.fractions = true
+	if known, is := t.constants[n.Text]; is {
+		return known
+	}
+	scale := decimalsOf(n.Text)
+	if scale > mostDecimals {
+		return t.refuse(n, fmt.Sprintf("the number has over %d decimals, which no number of the standard has", mostDecimals), "fewer decimals")
+	}
 	value, fine := new(big.Rat).SetString(n.Text)
 	if !fine || len(strings.Trim(strings.ReplaceAll(n.Text, ".", ""), "0")) > decimal.Digits {
 		return t.refuse(n, fmt.Sprintf("the number has over %d digits, to which the standard rounds", decimal.Digits), "fewer digits")
 	}
-	return constantNumber(value)
+	made := constantAt(value, units{scale: scale})
+	t.constants[n.Text] = made
+	return made
+}
+
+// decimalsOf is how many decimals a literal has, without zeros at its end.
+func decimalsOf(text string) int {
+	point := strings.IndexByte(text, '.')
+	if point < 0 {
+		return 0
+	}
+	return len(strings.TrimRight(text[point+1:], "0"))
 }
 
 // constantNumber is a number that ends, in the coarsest unit that it has.
 func constantNumber(value *big.Rat) phrase {
-	scale := 0
-	for ; scale <= 2*mostScale; scale++ {
-		if scaledBy(value, scale).IsInt() {
-			break
-		}
-	}
+	rest := new(big.Int).Set(value.Denom())
+	scale := maximum(removed(rest, 2), removed(rest, 5))
 	return constantAt(value, units{scale: scale})
 }
 
 // scaledBy is a number times 10^scale.
 func scaledBy(value *big.Rat, scale int) *big.Rat {
-	if scale < 0 {
+	switch {
+	case scale == 0:
+		return new(big.Rat).Set(value)
+	case scale < 0:
 		return new(big.Rat).Quo(value, new(big.Rat).SetInt(decimal.Power(-scale)))
+	}
+	whole, rest := decimal.Power(scale), new(big.Int)
+	whole.Mul(whole, value.Num()).QuoRem(whole, value.Denom(), rest)
+	if rest.Sign() == 0 {
+		return new(big.Rat).SetInt(whole)
 	}
 	return new(big.Rat).Mul(value, new(big.Rat).SetInt(decimal.Power(scale)))
 }
 
 // constantAt is a number as it is counted in some units, in which it has to be whole.
 func constantAt(value *big.Rat, u units) phrase {
-	made := wholeConstant(new(big.Rat).Mul(scaledBy(value, u.scale), new(big.Rat).SetInt64(u.parts())).Num())
+	made := wholeConstant(inUnits(value, u).Num())
 	made.number, made.of = value, numberOf(u)
 	return made
 }
@@ -134,7 +159,7 @@ func (t *translator) countedFinely(u units) { t.finest = maximum(t.finest, u.sca
 
 // noteRange says from which size on the answer of a decision is limit.
 func (t *translator) noteRange(n *node) {
-	if finest := maximum(t.finest, n.of.within().scale); t.counts && finest > 0 {
+	if finest := maximum(t.finest, t.within(n.of).scale); t.counts && finest > 0 {
 		t.refusals.note(n.element(), fmt.Sprintf("numbers on the way have up to %d decimals: one past %s is limit", finest,
 			decimal.Unit{Decimals: finest}.Text(largestNumber)), "")
 	}
@@ -143,7 +168,7 @@ func (t *translator) noteRange(n *node) {
 // aligned is a value that is counted as values of another type, which may be had by multiplying numbers; refused where it
 // may not.
 func (t *translator) aligned(p phrase, to *valueType, refuse func(why, instead string)) phrase {
-	if !t.counts || !to.isCounted() && !p.of.isCounted() {
+	if !t.counts || !t.isCounted(to) && !t.isCounted(p.of) {
 		return p
 	}
 	if p.of.kind == numberKind {

@@ -23,7 +23,7 @@ func (t *translator) listOfBoxes(made *box, all []*valueType, refuse func(why, i
 // alignedBox is a box whose value is counted as values of another type.
 func (t *translator) alignedBox(b *box, of, to *valueType, refuse func(why, instead string)) *box {
 	switch {
-	case !t.counts || !of.isCounted() && !to.isCounted() || of.kind == refusedKind:
+	case !t.counts || !t.isCounted(of) && !t.isCounted(to) || of.kind == refusedKind:
 		return b
 	case b.kind == textBox:
 		p := b.value

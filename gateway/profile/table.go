@@ -433,7 +433,7 @@ func (r *tableReader) outputType(i int) *valueType {
 	o := &r.outputs[i]
 	of, values := o.gives, o.gives.values()
 	if o.of != nil && o.of.kind != anyKind {
-		of = countedAs(o.of, o.gives)
+		of = r.countedAs(o.of, o.gives)
 	}
 	if len(values.all) == 0 {
 		values = o.allowed

@@ -32,14 +32,6 @@ var withOffset = map[kindOfType]kindOfType{timeKind: offsetTimeKind, dateTimeKin
 // isTemporal tells whether values are dates or durations.
 func (t *valueType) isTemporal() bool { return temporalNames[t.kind] != "" }
 
-// hasTemporal tells whether values of a type are dates or durations, or have such in them.
-func (t *valueType) hasTemporal() bool {
-	if t.kind == listKind || t.kind == contextKind {
-		return t.some((*valueType).isTemporal)
-	}
-	return t.isTemporal()
-}
-
 // isNothing tells whether there is no value of a type that another one could be told from.
 func (t *valueType) isNothing() bool {
 	return t.kind == nullKind || t.kind == refusedKind || t.kind == anyKind && t.unasked

@@ -50,6 +50,10 @@ type translator struct {
 	guard *guard
 	// offsets say what times are counted in.
 	offsets *offsets
+	// constants are the numbers with decimals that were read, by their texts.
+	constants map[string]phrase
+	// kept has what was found of contexts.
+	kept *kept
 	// civils are the parts of dates that were asked for.
 	civils map[civilKey]*civil
 	// written counts the bytes of the model so far.

@@ -67,6 +67,8 @@ type valueType struct {
 	parent *valueType
 	// unasked tells that it is of a parameter without a declared type of business knowledge that nothing invokes.
 	unasked bool
+	// known are the facts of a context that were found.
+	known knownFacts
 	// fitting keeps how other contexts stand to this one, which may have many entries.
 	fitting map[*valueType]fit
 	field   string
@@ -209,7 +211,7 @@ func (t *valueType) setField(name string, field *valueType) {
 	if _, found := t.fields[name]; !found {
 		t.order = append(t.order, name)
 	}
-	t.fields[name], t.narrow, t.implying = field, unknown, nil
+	t.fields[name], t.narrow, t.implying, t.known = field, unknown, nil, knownFacts{}
 }
 
 // joined is a type that the values of both types have.

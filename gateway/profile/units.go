@@ -152,45 +152,18 @@ func (t *valueType) within() units {
 	case contextKind:
 		var all units
 		first := true
-		for _, part := range t.entryTypes() {
+		t.eachEntry(func(part *valueType) bool {
 			if first {
 				all = part.within()
 			} else {
 				all = joinedUnits(all, part.within())
 			}
 			first = false
-		}
+			return true
+		})
 		return all
 	}
 	return t.units
-}
-
-// entryTypes are the types of all entries of a context.
-func (t *valueType) entryTypes() []*valueType {
-	all := make([]*valueType, 0, len(t.fields)+len(t.more))
-	for _, name := range t.order {
-		all = append(all, t.fields[name])
-	}
-	for _, part := range t.more {
-		all = append(all, part)
-	}
-	return all
-}
-
-// some tells whether a scalar in values of a type is as asked.
-func (t *valueType) some(is func(*valueType) bool) bool {
-	switch t.kind {
-	case listKind:
-		return t.element.some(is)
-	case contextKind:
-		for _, part := range t.entryTypes() {
-			if part.some(is) {
-				return true
-			}
-		}
-		return false
-	}
-	return is(t)
 }
 
 // isCounted tells whether some number in values of a type is counted in units.
@@ -198,23 +171,13 @@ func (t *valueType) isCounted() bool {
 	return t.some(func(part *valueType) bool { return !part.units.isPlain() })
 }
 
-// hasUnits tells whether something is known of how numbers in values of a type are counted.
-func (t *valueType) hasUnits() bool {
-	return t.some(func(part *valueType) bool { return part.units != (units{}) })
-}
-
 // hasQuotient tells whether some number in values of a type is a quotient.
 func (t *valueType) hasQuotient() bool {
 	return t.some(func(part *valueType) bool { return part.units.per > 1 })
 }
 
-// hasNumbers tells whether values of a type may have numbers.
-func (t *valueType) hasNumbers() bool {
-	return t.some(func(part *valueType) bool { return part.kind == numberKind || part.kind == anyKind })
-}
-
 // countedAs gives a declared type the units of the values that it is declared for.
-func countedAs(due, of *valueType) *valueType {
+func (t *translator) countedAs(due, of *valueType) *valueType {
 	if !of.hasUnits() && !of.hasTemporal() {
 		return due
 	}
@@ -226,29 +189,30 @@ func countedAs(due, of *valueType) *valueType {
 		own.kind, own.sort = of.kind, of.sort
 		return &own
 	case due.kind == numberKind || due.kind == anyKind:
-		if of.within() == (units{}) {
+		inside := t.within(of)
+		if inside == (units{}) {
 			return due
 		}
 		own := *due
-		own.units = of.within()
+		own.units = inside
 		return &own
 	case due.kind == listKind && of.kind == listKind:
 		own := *due
-		own.element = countedAs(due.element, of.element)
+		own.element = t.countedAs(due.element, of.element)
 		return &own
 	case due.kind == contextKind && of.kind == contextKind:
-		return countedContext(due, of)
+		return t.kept.contextAs(due, of, t.countedContext)
 	}
 	return due
 }
 
-func countedContext(due, of *valueType) *valueType {
+func (t *translator) countedContext(due, of *valueType) *valueType {
 	own := *due
 	own.fields, own.order, own.fitting, own.more = map[string]*valueType{}, nil, nil, map[string]*valueType{}
 	for _, name := range due.order {
 		field := due.fields[name]
 		if given := of.fields[name]; given != nil {
-			field = countedAs(field, given)
+			field = t.countedAs(field, given)
 		}
 		own.setField(name, field)
 	}
@@ -267,7 +231,7 @@ func countedContext(due, of *valueType) *valueType {
 // that they come from can be counted so, which is noted.
 func countedAlike(of, to *valueType) string {
 	switch {
-	case !of.hasNumbers() || to.kind == nullKind || to.kind == refusedKind:
+	case of == to || !of.hasNumbers() || to.kind == nullKind || to.kind == refusedKind:
 		return ""
 	case of.kind == listKind && to.kind == listKind:
 		return countedAlike(of.element, to.element)
@@ -283,12 +247,12 @@ func countedAlike(of, to *valueType) string {
 	case of.kind == listKind:
 		return countedAlike(of.element, to)
 	case of.kind == contextKind:
-		for _, part := range of.entryTypes() {
-			if why := countedAlike(part, to); why != "" {
-				return why
-			}
-		}
-		return ""
+		why := ""
+		of.eachEntry(func(part *valueType) bool {
+			why = countedAlike(part, to)
+			return why == ""
+		})
+		return why
 	}
 	due := to.within()
 	if of.units.isAs(due) {

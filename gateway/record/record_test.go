@@ -7,6 +7,7 @@ import (
 	"path/filepath"
 	"strings"
 	"testing"
+	"time"
 
 	"gateway/engine"
 	"gateway/engine/enginetest"
@@ -190,7 +191,7 @@ func TestTrial(t *testing.T) {
 		counted := 0
 		trial := &Trial{Asker: &Asker{Path: path}, Old: source(2), New: it.new, Asked: func(count int) error { counted = count; return nil }}
 		tried, err := trial.Run(context.Background(), folder, Filter{}, func(d *Difference) error {
-			found = append(found, d.Case.ID, d.Old.String(), d.New.String())
+			found = append(found, d.Case.ID, d.Old, d.New)
 			return nil
 		})
 		if err != nil {
@@ -218,5 +219,109 @@ func TestTrialEnds(t *testing.T) {
 	trial := &Trial{Asker: &Asker{Path: path}, Old: source, New: other}
 	if _, err := trial.Run(context.Background(), folder, Filter{}, func(*Difference) error { return full }); err != full {
 		t.Errorf("it ends with %v", err)
+	}
+}
+
+// What a trial keeps of answers is bounded, and says what it left out.
+func TestLongAnswers(t *testing.T) {
+	long := strings.Repeat("é", mostText)
+	one, other := whole(long), whole(long+"x")
+	if one == other || len(one) > mostText+200 || !strings.Contains(one, fmt.Sprintf(".. (%d bytes, SHA-256 ", len(long))) || whole("7") != "7" {
+		t.Errorf("%q", one)
+	}
+	var rules []string
+	for n := 1; n <= 25; n++ {
+		rules = append(rules, fmt.Sprintf(`{"decision":"d","rule":%d}`, n))
+	}
+	rules = append(rules, `{"decision":"e","default":true}`)
+	named := tables([]byte("[" + strings.Join(rules, ",") + "]"))
+	if !strings.HasPrefix(named["d"], "rule 1, 2, 3,") || !strings.HasSuffix(named["d"], ", 20 and 5 more") || named["e"] != "its default" {
+		t.Errorf("%v", named)
+	}
+	tried := &Tried{By: map[string]int{}}
+	for n := 0; n < 2*mostKinds; n++ {
+		tried.add(fmt.Sprint(n), 1)
+	}
+	if len(tried.By) != mostKinds+1 || tried.By[otherKinds] != mostKinds {
+		t.Errorf("%d kinds, and %d others", len(tried.By), tried.By[otherKinds])
+	}
+}
+
+// A request for which an engine dies, or that takes too long, has a problem, and the others have their answers.
+func TestTrialOfRequestsThatTakeTooMuch(t *testing.T) {
+	folder := recorded(t)
+	source, _ := service.ReadSource([]byte(`{"model":` + modelOf(2) + `,` + names + `}`))
+	path, err := engine.Path()
+	if err != nil {
+		t.Fatal(err)
+	}
+	// It ends, or stands still, at the request whose input is 3, where it is asked to explain the model with the price 3.
+	script := filepath.Join(t.TempDir(), "engine")
+	for became, does := range map[string]string{"died": "kill -9 $$", "late": "exec sleep 600"} {
+		text := fmt.Sprintf(`#!/bin/sh
+if [ "$1" != explain ]; then exec %[1]s "$@"; fi
+read -r model
+case $model in *'"then":["3"]'*) ;; *) { printf '%%s\n' "$model"; cat; } | %[1]s "$@"; exit;; esac
+while read -r line; do
+	case $line in *'"a_b":3}'*) %[2]s;; esac
+	{ printf '%%s\n' "$model"; printf '%%s\n' "$line"; } | %[1]s explain > "$0.out"
+	if [ -z "$said" ]; then sed -n 1p "$0.out"; said=1; fi
+	sed 1d "$0.out"
+done
+`, path, does)
+		if err := os.WriteFile(script, []byte(text), 0o700); err != nil {
+			t.Fatal(err)
+		}
+		dear, _ := service.ReadSource([]byte(`{"model":` + modelOf(3) + `,` + names + `}`))
+		trial := &Trial{Asker: &Asker{Path: script}, Old: source, New: dear, Patience: 30 * time.Second}
+		var found []string
+		tried, err := trial.Run(context.Background(), folder, Filter{}, func(d *Difference) error {
+			found = append(found, d.Case.ID, d.Old, strings.SplitN(d.New, ":", 2)[0])
+			return nil
+		})
+		if err != nil {
+			t.Fatal(err)
+		}
+		if got := strings.Join(found, " "); got != "old#0 2 3 o1 2 3 o2 1 problem "+became || tried.Asked != 3 {
+			t.Errorf("%s and %+v", got, tried)
+		}
+	}
+}
+
+// Long requests are asked in small pieces, so that a trial doesn't hold many of them.
+func TestPiecesOfATrial(t *testing.T) {
+	path, err := engine.Path()
+	if err != nil {
+		t.Fatal(err)
+	}
+	folder := t.TempDir()
+	j, _, err := journal.Open(folder, journal.Options{Size: 64 << 20})
+	if err != nil {
+		t.Fatal(err)
+	}
+	const count, size = 40, 100_000
+	entries := make([]journal.Entry, count)
+	for at := range entries {
+		entries[at].Asked = []byte(`{"client":"x","inputs":{"a_b":7,"pad":"` + strings.Repeat("x", size) + `"},"service":"s_t"}` + "\n")
+		entries[at].About = []byte(fmt.Sprintf(`"id":"o%d","release":"abc","result":1`, at))
+	}
+	if err := j.Record(&written{modelOf(2), `"release":{"sha256":"abc"},` + names}, entries); err != nil {
+		t.Fatal(err)
+	}
+	if err := j.Close(); err != nil {
+		t.Fatal(err)
+	}
+	source, _ := service.ReadSource([]byte(`{"model":` + modelOf(2) + `,` + names + `}`))
+	before := 0
+	trial := &Trial{Asker: &Asker{Path: path}, Old: source, New: source, Asked: func(asked int) error {
+		if asked-before > pieceBytes/size+1 {
+			t.Errorf("%d are asked at once", asked-before)
+		}
+		before = asked
+		return nil
+	}}
+	tried, err := trial.Run(context.Background(), folder, Filter{}, func(*Difference) error { return nil })
+	if err != nil || tried.Asked != count || tried.Differing != 0 {
+		t.Errorf("%+v (%v)", tried, err)
 	}
 }

@@ -8,6 +8,8 @@ import (
 	"sort"
 	"strings"
 	"sync"
+	"sync/atomic"
+	"time"
 
 	"gateway/engine"
 	"gateway/service"
@@ -21,13 +23,18 @@ type Trial struct {
 	Asked func(count int) error
 	// AtOnce is of how many pieces engines are asked at once, each of two; 0 is one for each processor.
 	AtOnce int
+	// Patience is how long an engine is waited for at one case; 0 is DefaultPatience.
+	Patience time.Duration
+	// givenUp counts the cases for which an engine was given up.
+	givenUp atomic.Int64
 }
 
 // A Difference is a case that gets another answer.
 type Difference struct {
-	Case     *Case
-	Inputs   json.RawMessage
-	Old, New *Decision
+	Case   *Case
+	Inputs json.RawMessage
+	// Old and New are the results, or why there is none; of a long one its beginning, its size and its SHA-256.
+	Old, New string
 	// Where says by which rules: those that decide in one model and not in the other.
 	Where string
 }
@@ -37,8 +44,22 @@ type Tried struct {
 	// Asked is how many cases both models were asked, Differing how many get another answer, and Left how many can't be decided
 	// again.
 	Asked, Differing, Left int
-	// By counts the differing cases by Where.
+	// By counts the differing cases by Where; past mostKinds of these the others are counted together.
 	By map[string]int
+}
+
+const (
+	// mostKinds is by how many texts cases that differ are counted, otherKinds the text for all others.
+	mostKinds  = 1000
+	otherKinds = "other rules"
+)
+
+// add counts cases that differ by some rules.
+func (t *Tried) add(where string, count int) {
+	if _, is := t.By[where]; !is && len(t.By) >= mostKinds {
+		where = otherKinds
+	}
+	t.By[where] += count
 }
 
 // Counts lists what differs by its count, the most first.
@@ -55,12 +76,16 @@ func (t *Tried) Counts() (all []string) {
 	return all
 }
 
-// pieceCases is how many cases are asked at once.
-const pieceCases = 2500
+// pieceCases is how many cases are asked at once, pieceBytes about how many bytes their inputs have at most.
+const (
+	pieceCases = 2500
+	pieceBytes = 1 << 20
+)
 
 // A piece is some cases in their order, with what differs of them.
 type piece struct {
 	cases []*Case
+	size  int
 	found []*Difference
 	err   error
 	done  chan struct{}
@@ -108,7 +133,7 @@ func (t *Trial) count(it *piece, tried *Tried, take func(*Difference) error) err
 	tried.Asked += len(it.cases)
 	for _, found := range it.found {
 		tried.Differing++
-		tried.By[found.Where]++
+		tried.add(found.Where, 1)
 		if err := take(found); err != nil {
 			return err
 		}
@@ -141,7 +166,10 @@ func (t *Trial) read(ctx context.Context, folder string, filter Filter, tried *T
 			tried.Left++
 			return nil
 		}
-		if next.cases = append(next.cases, c); len(next.cases) == pieceCases {
+		// Both models are asked what it comes to.
+		c.Result, c.Rules = nil, nil
+		next.cases, next.size = append(next.cases, c), next.size+len(c.asked)
+		if len(next.cases) == pieceCases || next.size >= pieceBytes {
 			return hand()
 		}
 		return nil
@@ -161,7 +189,7 @@ func (t *Trial) ask(ctx context.Context, cases []*Case, models [2]*service.Asked
 			return nil, err
 		}
 	}
-	var answers [2][]*Decision
+	var answers [2][]answer
 	var errs [2]error
 	var both sync.WaitGroup
 	for side := range models {
@@ -180,51 +208,51 @@ func (t *Trial) ask(ctx context.Context, cases []*Case, models [2]*service.Asked
 	}
 	var found []*Difference
 	for at, c := range cases {
-		old, new := answers[0][at], answers[1][at]
-		if old.String() != new.String() {
-			found = append(found, &Difference{Case: c, Inputs: inputs[at], Old: old, New: new, Where: where(old, new)})
+		old, new := &answers[0][at], &answers[1][at]
+		if old.text != new.text {
+			found = append(found, &Difference{Case: c, Inputs: inputs[at], Old: old.text, New: new.text, Where: where(old, new)})
 		}
 	}
 	return found, nil
 }
 
 // answers are those of one model.
-func (t *Trial) answers(ctx context.Context, cases []*Case, inputs []json.RawMessage, model *service.Asked) ([]*Decision, error) {
-	all, jobs, places := make([]*Decision, len(cases)), []*engine.Job{}, []int{}
+func (t *Trial) answers(ctx context.Context, cases []*Case, inputs []json.RawMessage, model *service.Asked) ([]answer, error) {
+	all, jobs, places := make([]answer, len(cases)), []*engine.Job{}, []int{}
 	for at, c := range cases {
 		job := &engine.Job{}
 		if refused := c.request(model, inputs[at], job); refused != nil {
-			all[at] = &Decision{Refused: refused}
+			all[at] = answerOf(&Decision{Refused: refused})
 			continue
 		}
 		jobs, places = append(jobs, job), append(places, at)
 	}
-	explainer := &engine.Explainer{Path: t.Asker.Path, Memory: t.Asker.Memory}
-	told, err := explainer.Explain(ctx, model.Model(), jobs, func(int) bool { return true })
-	if err != nil {
-		return nil, fmt.Errorf("asking a model: %w", err)
-	}
-	for n, at := range places {
-		all[at] = decisionOf(model, cases[at].Service, &told[n])
+	for len(jobs) > 0 {
+		count := 0
+		given, err := t.tell(ctx, model.Model(), jobs, func(told *engine.Explanation) error {
+			if count < len(places) {
+				at := places[count]
+				all[at] = answerOf(decisionOf(model, cases[at].Service, told))
+			}
+			count++
+			return nil
+		})
+		if err != nil {
+			return nil, fmt.Errorf("asking a model: %w", err)
+		}
+		if given == nil || count >= len(jobs) {
+			break
+		}
+		at := places[count]
+		all[at] = answerOf(decisionOf(model, cases[at].Service, given))
+		jobs, places = jobs[count+1:], places[count+1:]
 	}
 	return all, nil
 }
 
-// decisionOf is what a model came to.
-func decisionOf(model *service.Asked, name string, told *engine.Explanation) *Decision {
-	it := &Decision{Refused: model.Refused(told.Outcome)}
-	if it.Refused == nil {
-		it.Result = model.Result(name, told.Outcome.Value)
-	}
-	if decided := engine.DecidedIn(told.Decisions); len(decided) > 0 {
-		it.Rules = model.Rules(decided)
-	}
-	return it
-}
-
 // where says by which rules two answers differ.
-func where(old, new *Decision) string {
-	before, after := tables(old), tables(new)
+func where(old, new *answer) string {
+	before, after := old.tables, new.tables
 	var all []string
 	for _, key := range keys(before, after) {
 		if one, other := before[key], after[key]; one != other {
@@ -232,7 +260,7 @@ func where(old, new *Decision) string {
 		}
 	}
 	if len(all) > 0 {
-		return strings.Join(all, "; ")
+		return shortened(strings.Join(all, "; "), mostWhere)
 	}
 	for _, key := range keys(after, nil) {
 		all = append(all, key+": "+after[key])
@@ -240,7 +268,7 @@ func where(old, new *Decision) string {
 	if len(all) == 0 {
 		return "no table"
 	}
-	return strings.Join(all, "; ") + ", as before"
+	return shortened(strings.Join(all, "; "), mostWhere) + ", as before"
 }
 
 func orNone(rules string) string {
@@ -248,26 +276,6 @@ func orNone(rules string) string {
 		return "none"
 	}
 	return rules
-}
-
-// tables are the rules that decided, by their tables.
-func tables(it *Decision) map[string]string {
-	var rules []Rule
-	if len(it.Rules) > 0 && json.Unmarshal(it.Rules, &rules) != nil {
-		return nil
-	}
-	all := map[string]string{}
-	for _, rule := range rules {
-		key, text := rule.Decision+rule.At, fmt.Sprintf("rule %d", rule.Rule)
-		if rule.Default {
-			text = "its default"
-		}
-		if all[key] != "" {
-			text = all[key] + ", " + strings.TrimPrefix(text, "rule ")
-		}
-		all[key] = text
-	}
-	return all
 }
 
 func keys(one, other map[string]string) (all []string) {
@@ -287,6 +295,6 @@ func keys(one, other map[string]string) (all []string) {
 func (t *Tried) Add(other *Tried) {
 	t.Asked, t.Differing, t.Left = t.Asked+other.Asked, t.Differing+other.Differing, t.Left+other.Left
 	for where, count := range other.By {
-		t.By[where] += count
+		t.add(where, count)
 	}
 }

@@ -109,36 +109,64 @@ func Put(folder, file string, text []byte) error {
 	if err := os.MkdirAll(folder, folderMode); err != nil {
 		return fmt.Errorf("keeping a release: %w", err)
 	}
-	return locked(folder, func() error {
-		path := filepath.Join(folder, file)
-		if known, err := os.ReadFile(path); err == nil {
-			if bytes.Equal(known, text) {
-				return nil
-			}
-			return fmt.Errorf("%s: %w", path, ErrExists)
-		}
-		return write(path, text)
-	})
+	return locked(folder, func() error { return add(folder, file, text) })
 }
 
+// add adds the file of a release, unless it is there.
+func add(folder, file string, text []byte) error {
+	path := filepath.Join(folder, file)
+	if known, err := os.ReadFile(path); err == nil {
+		if bytes.Equal(known, text) {
+			return nil
+		}
+		return fmt.Errorf("%s: %w", path, ErrExists)
+	}
+	return write(path, text)
+}
+
+// A Check says why a release may not be put in force after the one before, which is nil where there is none. No change comes
+// between its answer and the change that it allows. It may be nil.
+type Check func(before *Active) error
+
 // Activate puts a release in force. The one before is named as former.
-func Activate(folder string, next Active) error {
+func Activate(folder string, next Active, check Check) error {
 	return locked(folder, func() error {
 		if _, err := os.Stat(filepath.Join(folder, next.File)); err != nil {
 			return fmt.Errorf("putting a release in force: %w", err)
 		}
-		before, _, err := ReadActive(folder)
-		switch {
-		case errors.Is(err, ErrNone):
-		case err != nil:
-			return err
-		case before.File == next.File:
-			next.Former = before.Former
-		default:
-			next.Former = append(before.Former, before.File)
-		}
-		return writeActive(folder, next)
+		return next.follow(folder, check, func() error { return nil })
 	})
+}
+
+// PutInForce adds the file of a release and puts it in force; neither where the check refuses it.
+func PutInForce(folder string, text []byte, next Active, check Check) error {
+	return locked(folder, func() error {
+		return next.follow(folder, check, func() error { return add(folder, next.File, text) })
+	})
+}
+
+// follow puts a release in force after the one before, once it is made.
+func (next *Active) follow(folder string, check Check, make func() error) error {
+	before, _, err := ReadActive(folder)
+	if err != nil && !errors.Is(err, ErrNone) {
+		return err
+	}
+	if check != nil {
+		if err := check(before); err != nil {
+			return err
+		}
+	}
+	if err := make(); err != nil {
+		return err
+	}
+	switch {
+	case before == nil:
+	case before.File == next.File:
+		next.Former = before.Former
+	default:
+		next.Former = append(before.Former, before.File)
+	}
+	return writeActive(folder, *next)
 }
 
 // Back puts the release in force that was before, and gives it.

@@ -40,7 +40,7 @@ func TestGoingBack(t *testing.T) {
 		if err := Put(folder, file, []byte(file)); err != nil {
 			t.Fatal(err)
 		}
-		if err := Activate(folder, Active{File: file, Who: "ann"}); err != nil {
+		if err := Activate(folder, Active{File: file, Who: "ann"}, nil); err != nil {
 			t.Fatal(err)
 		}
 	}
@@ -50,7 +50,7 @@ func TestGoingBack(t *testing.T) {
 	if err := Put(folder, "m-2.json", []byte("other")); !errors.Is(err, ErrExists) {
 		t.Errorf("another text: %v", err)
 	}
-	if err := Activate(folder, Active{File: "m-9.json"}); err == nil {
+	if err := Activate(folder, Active{File: "m-9.json"}, nil); err == nil {
 		t.Error("a release that isn't there is put in force")
 	}
 	if it := active(t, folder); it.File != "m-3.json" || fmt.Sprint(it.Former) != "[m-1.json m-2.json]" {
@@ -79,7 +79,7 @@ func TestReadersSeeOneOrTheOther(t *testing.T) {
 			t.Fatal(err)
 		}
 	}
-	if err := Activate(folder, Active{File: "a.json"}); err != nil {
+	if err := Activate(folder, Active{File: "a.json"}, nil); err != nil {
 		t.Fatal(err)
 	}
 	var writers sync.WaitGroup
@@ -89,7 +89,7 @@ func TestReadersSeeOneOrTheOther(t *testing.T) {
 		go func() {
 			defer writers.Done()
 			for n := 0; n < 50; n++ {
-				if err := Activate(folder, Active{File: file, Why: strings.Repeat("x", 9000)}); err != nil {
+				if err := Activate(folder, Active{File: file, Why: strings.Repeat("x", 9000)}, nil); err != nil {
 					t.Error(err)
 				}
 			}

@@ -124,20 +124,28 @@ func (a *Asked) Rules(decided []engine.Decided) []byte { return a.model.appendRu
 
 // Inputs are the inputs of a request as an engine takes them, with the names and decimals of the file.
 func (a *Asked) Inputs(service string, inputs []byte) []byte {
-	if len(a.model.words) == 0 && !a.model.counts {
+	if a.model.services[service] == nil {
+		return inputs
+	}
+	return a.model.shownInputs(inputs)
+}
+
+// shownInputs are inputs as an engine takes them, with the names and decimals of the file.
+func (m *served) shownInputs(inputs []byte) []byte {
+	if len(m.words) == 0 && !m.counts {
 		return inputs
 	}
 	tree, err := lines.Tree(inputs)
 	members, is := tree.(map[string]any)
-	if err != nil || !is || a.model.services[service] == nil {
+	if err != nil || !is {
 		return inputs
 	}
 	shown := make(map[string]any, len(members))
 	for word, value := range members {
-		if of := a.model.types[word]; of != nil && of.IsCounted() {
+		if of := m.types[word]; of != nil && of.IsCounted() {
 			value = of.Decimals(value)
 		}
-		shown[a.model.nameOf(word)] = a.model.toNames[word].Write(value)
+		shown[m.nameOf(word)] = m.toNames[word].Write(value)
 	}
 	return lines.Compact(nil, shown)
 }

@@ -13,8 +13,8 @@ import (
 const (
 	// maxExplained is the most requests of a list of which it is told how their answers came about.
 	maxExplained = 100
-	// explainPatience is how long that may take beside the deadline: a process is begun for it, and reads the model.
-	explainPatience = 20 * time.Second
+	// ExplainPatience is how long that may take beside the deadline: a process is begun for it, and reads the model.
+	ExplainPatience = 20 * time.Second
 )
 
 // explain asks how the answers of a call came about: its results, and those that broke a limit. Where no engine was asked
@@ -68,7 +68,7 @@ func (s *Service) explained(ctx context.Context, what string, explain func(ctx c
 	case <-ctx.Done():
 		return problemLeft.with("")
 	}
-	ctx, stop := context.WithTimeout(ctx, s.options.Deadline+explainPatience)
+	ctx, stop := context.WithTimeout(ctx, s.options.Deadline+ExplainPatience)
 	defer stop()
 	err := explain(ctx)
 	switch {

@@ -163,24 +163,34 @@ func (s *Service) firstRelease(ctx context.Context) (*served, error) {
 	return model, nil
 }
 
-// keepRelease writes a model that was put as a release, and names it as the one in force.
-func (s *Service) keepRelease(model *served) error {
+// keepRelease writes a model that was put as a release, and names it as the one in force. Where only the one of a SHA-256 is to be
+// followed, it is the one that the folder names: another service may have put one that is not followed here yet.
+func (s *Service) keepRelease(model *served, after string) error {
 	text, err := model.source.text()
 	if err != nil {
 		return err
 	}
 	it := model.source.Release
-	file := release.FileName(it.Name, it.Version)
-	if err := release.Put(s.options.Releases, file, text); err != nil {
-		return err
-	}
-	next := release.Active{File: file, Sum: model.wholeSum, Who: it.Who, When: it.When, Why: it.Why}
-	if err := release.Activate(s.options.Releases, next); err != nil {
+	next := release.Active{File: release.FileName(it.Name, it.Version), Sum: model.wholeSum, Who: it.Who, When: it.When, Why: it.Why}
+	err = release.PutInForce(s.options.Releases, text, next, func(before *release.Active) error {
+		if after == "" || before == nil {
+			return nil
+		}
+		// What can't be read is in force nowhere.
+		if source, err := s.readRelease(before); err == nil && source.Sum() != after {
+			return fmt.Errorf("%w: the release in force has the SHA-256 %s", errMatch, source.Sum())
+		}
+		return nil
+	})
+	if err != nil {
 		return err
 	}
 	_, s.following.seen, err = release.ReadActive(s.options.Releases)
 	return err
 }
+
+// errMatch says that another release is in force than the one that was to be followed.
+var errMatch = errors.New("If-Match names another")
 
 // versionForm is the form of a version that is made of a time.
 const versionForm = "20060102T150405.000Z"

@@ -6,6 +6,7 @@ import (
 	"os"
 	"path/filepath"
 	"strings"
+	"sync"
 	"testing"
 	"time"
 
@@ -33,7 +34,7 @@ func putRelease(t *testing.T, folder, name, version, model string) string {
 
 func activate(t *testing.T, folder, file string) {
 	t.Helper()
-	if err := release.Activate(folder, release.Active{File: file, Who: "ann"}); err != nil {
+	if err := release.Activate(folder, release.Active{File: file, Who: "ann"}, nil); err != nil {
 		t.Fatal(err)
 	}
 }
@@ -105,7 +106,7 @@ func TestFaultyReleases(t *testing.T) {
 	activate(t, folder, putRelease(t, folder, "adding", "2", strings.Replace(adding(2), "a + 2", "a +", 1)))
 	r.wait(t, "the release in force stays as it is: adding-2.json")
 	other := putRelease(t, folder, "adding", "3", adding(3))
-	if err := release.Activate(folder, release.Active{File: other, Sum: strings.Repeat("0", 64)}); err != nil {
+	if err := release.Activate(folder, release.Active{File: other, Sum: strings.Repeat("0", 64)}, nil); err != nil {
 		t.Fatal(err)
 	}
 	r.wait(t, "was put in force")
@@ -190,4 +191,127 @@ func TestOverriddenModels(t *testing.T) {
 	if r.metric(t, "desk_http_model_overridden") != 1 {
 		t.Error("the metric does not tell it")
 	}
+}
+
+// Where there is a folder of releases its files win, and what was put before is told.
+func TestReleasesWinOverWhatWasPut(t *testing.T) {
+	journal, folder := filepath.Join(t.TempDir(), "journal"), t.TempDir()
+	r := serve(t, adding(1), Options{Journal: journal})
+	send(t, "PUT", r.url+"/v1/model?name=adding&version=5", adding(5))
+	r.stop(t)
+	activate(t, folder, putRelease(t, folder, "adding", "2", adding(2)))
+	r = serve(t, adding(1), Options{Journal: journal, Releases: folder})
+	defer r.stop(t)
+	r.waitFor(t, `{"result":3}`)
+	if said := r.said(); !strings.Contains(said, "model.json, is not served") || !strings.Contains(said, "It was put by this machine, without a token, 20") {
+		t.Errorf("%q", said)
+	}
+	if r.metric(t, "desk_http_model_overridden") != 0 {
+		t.Error("the metric says that a model that was put is served")
+	}
+}
+
+// Who puts a release names it with the token's name; If-Match holds for what the folder names, which another service may have put.
+func TestPutFollowsWhatTheFolderNames(t *testing.T) {
+	folder := t.TempDir()
+	activate(t, folder, putRelease(t, folder, "adding", "1", adding(1)))
+	tokens := writeTokens(t, "shop call one", "deploy put two")
+	var services []*running
+	for n := 0; n < 2; n++ {
+		services = append(services, serve(t, adding(100), Options{Releases: folder, Tokens: tokens}))
+		defer services[n].stop(t)
+	}
+	put := func(n, version int) (int, string) {
+		status, text, _ := send(t, "PUT", fmt.Sprintf("%s/v1/model?name=adding&version=%d", services[n].url, version), adding(version),
+			"If-Match", `"`+modelSum(t, adding(1))+`"`, "Authorization", "Bearer two")
+		return status, text
+	}
+	if status, text := put(0, 2); status != 200 || !strings.Contains(text, `"who":"deploy"`) {
+		t.Errorf("%d %s", status, text)
+	}
+	// Whether the second service follows by now or not, it is another release that is in force.
+	if status, text := put(1, 3); status != 412 || !strings.Contains(text, "/problems/match") {
+		t.Errorf("%d %s", status, text)
+	}
+	files, err := release.Files(folder)
+	if active, _, _ := release.ReadActive(folder); err != nil || len(files) != 2 || active.File != "adding-2.json" || active.Who != "deploy" {
+		t.Errorf("%v (%v), and %+v is in force", files, err, active)
+	}
+}
+
+// The file that names the release in force may be renamed by hand, and the log as JSON has a line for it.
+func TestRenamedByHand(t *testing.T) {
+	folder := t.TempDir()
+	activate(t, folder, putRelease(t, folder, "adding", "1", adding(1)))
+	two := putRelease(t, folder, "adding", "2", adding(2))
+	var mu sync.Mutex
+	var written []string
+	r := serve(t, adding(100), Options{Releases: folder, Access: func(line []byte) {
+		mu.Lock()
+		defer mu.Unlock()
+		if strings.Contains(string(line), `"event":"release"`) {
+			written = append(written, string(line))
+		}
+	}})
+	r.waitFor(t, `{"result":2}`)
+	next := filepath.Join(t.TempDir(), "next")
+	if err := os.WriteFile(next, []byte(`{"file":"`+two+`","who":"bob"}`), 0o600); err != nil {
+		t.Fatal(err)
+	}
+	if err := os.Rename(next, filepath.Join(folder, "active.json")); err != nil {
+		t.Fatal(err)
+	}
+	r.waitFor(t, `{"result":3}`)
+	r.stop(t)
+	mu.Lock()
+	defer mu.Unlock()
+	due := `"caller":"bob","name":"adding","version":"2","why":"a new price","sha256":"` + modelSum(t, adding(2)) + `","before":"` + modelSum(t, adding(1)) + `"`
+	if len(written) != 1 || !strings.Contains(written[0], due) {
+		t.Errorf("%q, and %s is due", written, due)
+	}
+}
+
+// The file of a release is read once, and again where another is in its place; one that is gone is forgotten.
+func TestReleasesAreReadOnce(t *testing.T) {
+	folder := t.TempDir()
+	file := putRelease(t, folder, "adding", "1", adding(1))
+	activate(t, folder, file)
+	r := serve(t, adding(100), Options{Releases: folder})
+	defer r.stop(t)
+	path := filepath.Join(folder, file)
+	about, err := os.Stat(path)
+	if err != nil {
+		t.Fatal(err)
+	}
+	text, err := os.ReadFile(path)
+	if err != nil {
+		t.Fatal(err)
+	}
+	first, second := modelSum(t, adding(1)), modelSum(t, adding(2))
+	listed := func(due string) {
+		t.Helper()
+		if status, text, _ := send(t, "GET", r.url+"/v1/releases", ""); status != 200 || !strings.Contains(text, due) {
+			t.Errorf("%d %s, and %s is due", status, text, due)
+		}
+	}
+	listed(`"sha256":"` + first + `","name":"adding","version":"1"`)
+	if err := os.WriteFile(path, []byte(strings.Replace(string(text), "a + 1", "a + 2", 1)), 0o600); err != nil {
+		t.Fatal(err)
+	}
+	if err := os.Chtimes(path, about.ModTime(), about.ModTime()); err != nil {
+		t.Fatal(err)
+	}
+	listed(first)
+	if err := os.Chtimes(path, about.ModTime(), about.ModTime().Add(time.Second)); err != nil {
+		t.Fatal(err)
+	}
+	listed(second)
+	if err := os.WriteFile(path, []byte("{"), 0o600); err != nil {
+		t.Fatal(err)
+	}
+	listed(`"file":"adding-1.json","active":true,"fault":"`)
+	if err := os.Remove(path); err != nil {
+		t.Fatal(err)
+	}
+	listed(`{"releases":[]}`)
 }

@@ -30,8 +30,8 @@ func servicePath(name string) string {
 	return servicesPath + url.PathEscape(name)
 }
 
-// handler finds what a path stands for.
-func (s *Service) handler() http.Handler {
+// pages are the paths that don't depend on the model.
+func (s *Service) pages() map[string]http.HandlerFunc {
 	pages := map[string]http.HandlerFunc{
 		"/v1/model":     s.modelPath,
 		listStart:       s.listPath,
@@ -51,6 +51,12 @@ func (s *Service) handler() http.Handler {
 	if s.options.Admin != nil {
 		delete(pages, "/metrics")
 	}
+	return pages
+}
+
+// handler finds what a path stands for.
+func (s *Service) handler() http.Handler {
+	pages := s.pages()
 	below := map[string]http.HandlerFunc{"/problems/": s.problemsPath, explainStart: s.explainPath, page.Files: page.Handle}
 	return http.HandlerFunc(func(w http.ResponseWriter, r *http.Request) {
 		start := time.Now()

@@ -122,9 +122,11 @@ func (s *Service) putModel(w http.ResponseWriter, r *http.Request, who caller) (
 	if s.stopping.Load() {
 		return nil, nil, problemStopping.with("")
 	}
-	before := s.model.Load()
-	if match := r.Header.Get("If-Match"); match != "" && match != "*" && !strings.Contains(match, `"`+before.wholeSum+`"`) {
-		return nil, nil, problemMatch.with("the model in force has the SHA-256 " + before.wholeSum)
+	before, after := s.model.Load(), ""
+	if match := r.Header.Get("If-Match"); match != "" && match != "*" {
+		if after = before.wholeSum; !strings.Contains(match, `"`+after+`"`) {
+			return nil, nil, problemMatch.with("the model in force has the SHA-256 " + after)
+		}
 	}
 	source.Release = s.released(source, before, who, r.URL.Query().Get)
 	if p = source.Release.problem(); p != nil {
@@ -137,7 +139,7 @@ func (s *Service) putModel(w http.ResponseWriter, r *http.Request, who caller) (
 	if err != nil {
 		return nil, nil, faultProblem(err)
 	}
-	if p := s.putInForce(ctx, before, model); p != nil {
+	if p := s.putInForce(ctx, before, model, after); p != nil {
 		return nil, nil, p
 	}
 	page := &putPage{Sum: model.wholeSum, Release: source.Release, Before: before.wholeSum,
@@ -148,17 +150,21 @@ func (s *Service) putModel(w http.ResponseWriter, r *http.Request, who caller) (
 	return page, model, nil
 }
 
-// putInForce keeps a model, and puts it in force for whatever comes from now on.
-func (s *Service) putInForce(ctx context.Context, before, model *served) *problem {
+// putInForce keeps a model, and puts it in force for whatever comes from now on. Where after is not empty, it is the SHA-256 of the
+// model that is in force before.
+func (s *Service) putInForce(ctx context.Context, before, model *served, after string) *problem {
 	var err error
 	switch {
 	case s.options.Releases != "":
-		err = s.keepRelease(model)
+		err = s.keepRelease(model, after)
 	case s.statePath != "":
 		err = writeState(s.statePath, model.source)
 	}
-	if errors.Is(err, release.ErrExists) {
+	switch {
+	case errors.Is(err, release.ErrExists):
 		return problemVersion.with(err.Error())
+	case errors.Is(err, errMatch):
+		return problemMatch.with(err.Error())
 	}
 	if err != nil {
 		s.options.Log("%v", err)

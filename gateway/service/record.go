@@ -151,6 +151,9 @@ func (c *call) entryOf(at int, name naming, now []byte, p *problem) (it journal.
 	}
 	about := c.appendNames(make([]byte, 0, 512+len(c.outcomes[at].Value)+len(inputs)), at, name, now)
 	if !canAsk {
+		if job != nil {
+			inputs = c.model.shownInputs(inputs)
+		}
 		about = append(append(about, `,"service":`...), quoted(c.decision.word)...)
 		about = append(append(about, `,"inputs":`...), inputs...)
 	}

@@ -204,6 +204,25 @@ func TestRedaction(t *testing.T) {
 	}
 }
 
+// What is recorded beside a redacted input has the names and decimals of the file.
+func TestRedactedInputsHaveTheirNames(t *testing.T) {
+	folder, key := filepath.Join(t.TempDir(), "journal"), filepath.Join(t.TempDir(), "key")
+	if err := os.WriteFile(key, []byte("0123456789abcdef\n"), 0o600); err != nil {
+		t.Fatal(err)
+	}
+	model := strings.Replace(noted, `"inputData":["a_b"]`, `"inputData":["a_b","c"]`, 1)
+	model = strings.Replace(model, `{"type":["integer","null"]}`, `{"type":["number","null"],"multipleOf":0.01}`, 1)
+	r := serve(t, model, Options{Journal: folder, Redact: []string{"c"}, RedactKey: key})
+	if status, text, _ := send(t, "POST", r.url+"/v1/services/s%20t", `{"a b":7.12,"c":"Meier"}`); status != 200 {
+		t.Fatalf("%d %s", status, text)
+	}
+	r.stop(t)
+	_, about := entries(t, folder)
+	if text, _ := plainJSON(about[0]["inputs"]); !strings.HasPrefix(string(text), `{"a b":7.12,"c":"hmac-sha256:`) {
+		t.Errorf("%s", text)
+	}
+}
+
 // Under the journal engines tell which rules decide, and what they say of long values is left out: the answers are the same.
 func TestLongValuesUnderTheJournal(t *testing.T) {
 	folder := filepath.Join(t.TempDir(), "journal")

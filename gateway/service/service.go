@@ -47,6 +47,8 @@ type Service struct {
 	// putting lets one model be put at a time, following is what was seen of the folder of releases.
 	putting   sync.Mutex
 	following following
+	// readReleases is what was read of the files of releases.
+	readReleases readReleases
 	// stopping says that the service is to end.
 	stopping atomic.Bool
 	// isOverridden says that the model of the command line is not served, since another was put before.
@@ -227,6 +229,9 @@ func (s *Service) filesPruned(paths []string, last uint64, err error) {
 // firstModel is the release in force, or the model last put where one was kept, and else that of the command line.
 func (s *Service) firstModel(ctx context.Context) (*served, error) {
 	if s.options.Releases != "" {
+		if s.options.Journal != "" {
+			s.tellUnserved(filepath.Join(s.options.Journal, stateName))
+		}
 		return s.firstRelease(ctx)
 	}
 	if s.statePath == "" {
@@ -249,6 +254,16 @@ func (s *Service) firstModel(ctx context.Context) (*served, error) {
 			s.options.Named, put.namedBy().story())
 	}
 	return model, nil
+}
+
+// tellUnserved logs that a model was put before there was a folder of releases, whose files are served now.
+func (s *Service) tellUnserved(path string) {
+	switch put, err := readState(path); {
+	case err != nil:
+		s.options.Log("the model last put is not known: %v", err)
+	case put != nil:
+		s.options.Log("the model last put, in %s, is not served, since %s has releases. %s", path, s.options.Releases, put.namedBy().story())
+	}
 }
 
 // story says who put a model.

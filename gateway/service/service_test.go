@@ -583,3 +583,30 @@ func TestLimits(t *testing.T) {
 		t.Errorf("%d requests of %d clients", requests, named)
 	}
 }
+
+// The description has every path that there is.
+func TestEveryPathIsDescribed(t *testing.T) {
+	r := serve(t, adding(1), Options{})
+	defer r.stop(t)
+	_, text, _ := send(t, "GET", r.url+"/openapi.json", "")
+	var page struct{ Paths map[string]json.RawMessage }
+	if err := json.Unmarshal([]byte(text), &page); err != nil {
+		t.Fatal(err)
+	}
+	s := &Service{metrics: newMetrics(&Service{places: newConnections(1, 1)})}
+	due := []string{"/v1/services/s", "/v1/explain/s", "/problems/{word}"}
+	for path := range s.pages() {
+		// The list of services has a slash at its end or not.
+		if path != servicesPath {
+			due = append(due, path)
+		}
+	}
+	for _, path := range due {
+		if page.Paths[path] == nil {
+			t.Errorf("nothing describes %s", path)
+		}
+	}
+	if len(due) != len(page.Paths) {
+		t.Errorf("%d paths are described, and there are %d", len(page.Paths), len(due))
+	}
+}

@@ -6,10 +6,8 @@ import (
 	"encoding/csv"
 	"encoding/json"
 	"errors"
-	"fmt"
+	"io"
 	"net/http"
-	"os"
-	"path/filepath"
 	"strconv"
 	"time"
 
@@ -170,7 +168,7 @@ func (s *Service) sourceOf(sum string) (*Source, *problem) {
 		}
 		for _, it := range all {
 			if it.Sum == sum {
-				return it.source, nil
+				return s.sourceIn(it.File)
 			}
 		}
 	}
@@ -180,9 +178,8 @@ func (s *Service) sourceOf(sum string) (*Source, *problem) {
 // begin begins the answer.
 func (t *trying) begin(w http.ResponseWriter) {
 	header := w.Header()
-	t.to = bufio.NewWriterSize(w, 64<<10)
+	t.to = bufio.NewWriterSize(&piecewise{w, t.request}, 64<<10)
 	t.flush = func() {
-		limitWrite(t.request, longAnswer+1)
 		_ = t.to.Flush()
 		if flusher, is := w.(http.Flusher); is {
 			flusher.Flush()
@@ -196,6 +193,17 @@ func (t *trying) begin(w http.ResponseWriter) {
 	header["Content-Disposition"] = []string{`attachment; filename="differing.csv"`}
 	t.table = csv.NewWriter(t.to)
 	_ = t.table.Write([]string{"id", "request", "time", "service", "inputs", "old", "new", "rules"})
+}
+
+// A piecewise writer gives the caller time for each piece that is written, however long it took to find.
+type piecewise struct {
+	to      io.Writer
+	request *http.Request
+}
+
+func (p *piecewise) Write(text []byte) (int, error) {
+	limitWrite(p.request, longAnswer+1)
+	return p.to.Write(text)
 }
 
 var (
@@ -292,67 +300,4 @@ func (s *Service) keepTried(it *Trial, tried *Tried, who caller) error {
 		}
 	}
 	return nil
-}
-
-// A releaseLine is a release of the folder.
-type releaseLine struct {
-	releasePage
-	File     string `json:"file"`
-	IsActive bool   `json:"active"`
-	// Fault is why it can't be read, or empty.
-	Fault  string `json:"fault,omitempty"`
-	source *Source
-}
-
-// releases are those of the folder, by their files' names.
-func (s *Service) releases() ([]releaseLine, error) {
-	files, err := release.Files(s.options.Releases)
-	if err != nil {
-		return nil, err
-	}
-	active, _, err := release.ReadActive(s.options.Releases)
-	if err != nil && !errors.Is(err, release.ErrNone) {
-		return nil, err
-	}
-	all := make([]releaseLine, len(files))
-	for at, file := range files {
-		it := &all[at]
-		it.File, it.IsActive = file, active != nil && active.File == file
-		text, err := os.ReadFile(filepath.Join(s.options.Releases, file))
-		if err == nil {
-			it.source, err = ReadSource(text)
-		}
-		if err != nil {
-			it.Fault = fmt.Sprint(err)
-			continue
-		}
-		it.releasePage = releasePage{it.source.Sum(), *it.source.namedBy()}
-	}
-	return all, nil
-}
-
-// releasesPath answers GET /v1/releases.
-func (s *Service) releasesPath(w http.ResponseWriter, r *http.Request) {
-	if !takes(w, r, http.MethodGet, http.MethodHead) {
-		return
-	}
-	_, p := s.caller(r)
-	if p == nil && s.options.Releases == "" {
-		p = problemPath.with("there is no folder of releases")
-	}
-	var all []releaseLine
-	if p == nil {
-		var err error
-		if all, err = s.releases(); err != nil {
-			p = problemInside.with(err.Error())
-		}
-	}
-	if p != nil {
-		p.write(w, w.Header().Get("X-Request-Id"))
-		return
-	}
-	if all == nil {
-		all = []releaseLine{}
-	}
-	writePage(w, http.StatusOK, map[string]any{"releases": all})
 }

@@ -19,6 +19,9 @@ type stub struct {
 	fault error
 	// goOn lets a trial end; nil where it may at once.
 	begun, goOn chan struct{}
+	// pause is how long it takes to find the first answer that differs, inputs are those of the request.
+	pause  time.Duration
+	inputs string
 }
 
 func (s *stub) Changes(old, new *Source) (json.RawMessage, error) {
@@ -31,7 +34,15 @@ func (s *stub) Try(ctx context.Context, folder string, it *Trial) (*Tried, error
 		close(s.begun)
 		<-s.goOn
 	}
-	if err := it.Take(&TrialDifference{ID: "one", Service: "s", Inputs: []byte(`{"a":1}`), Old: "2", New: "3", Rules: "no table"}); err != nil {
+	if err := it.Asked(0); err != nil {
+		return nil, err
+	}
+	time.Sleep(s.pause)
+	inputs := s.inputs
+	if inputs == "" {
+		inputs = `{"a":1}`
+	}
+	if err := it.Take(&TrialDifference{ID: "one", Service: "s", Inputs: []byte(inputs), Old: "2", New: "3", Rules: "no table"}); err != nil {
 		return nil, err
 	}
 	if err := it.Asked(2); err != nil {
@@ -61,7 +72,8 @@ func TestTrial(t *testing.T) {
 	if !strings.Contains(text, due) || header.Get("Content-Type") != "application/x-ndjson" {
 		t.Errorf("%s %v, and %s is due", text, header, due)
 	}
-	due = `{"difference":{"id":"one","service":"s","inputs":{"a":1},"old":"2","new":"3","rules":"no table"}}
+	due = `{"asked":0}
+{"difference":{"id":"one","service":"s","inputs":{"a":1},"old":"2","new":"3","rules":"no table"}}
 {"asked":2}
 {"done":true,"listed":1,"asked":2,"differing":1,"left":0,"by":[{"rules":"no table","count":1}]}`
 	if !strings.HasSuffix(text, due) {
@@ -97,6 +109,17 @@ func TestTrialThatFails(t *testing.T) {
 		if err.Error() == "EOF" {
 			t.Error("CSV that is not whole ends as if it were")
 		}
+	}
+}
+
+// A trial may find nothing for longer than a caller may take to read, and then something long.
+func TestTrialThatTakesLong(t *testing.T) {
+	s := &stub{pause: writePatience + 2*time.Second, inputs: `{"a":"` + strings.Repeat("x", 1<<20) + `"}`}
+	r := serve(t, adding(1), Options{Journal: t.TempDir(), Trier: s})
+	defer r.stop(t)
+	_, text, _ := send(t, "POST", r.url+"/v1/trial?model="+modelSum(t, adding(1)), "")
+	if len(text) < 1<<20 || !strings.Contains(text, `"done":true`) {
+		t.Errorf("%d bytes came: %.200s", len(text), text)
 	}
 }
 

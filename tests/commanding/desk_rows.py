@@ -57,7 +57,7 @@ def wrong_words() -> Iterator[Row]:
     yield refused("send more", '"more" is no option')
     yield refused("partition --workers 9", "1 to 8")
     yield refused("partition --memory 1MiB", "at least 32MiB")
-    yield refused("receive --from later", "first, next, or a time")
+    yield refused("receive --from later", "first, next, a time as 2026-11-27T16:00:00Z, or an offset as 1000")
     yield refused("completion sh", "bash, zsh or fish")
     yield Row("a word that is not UTF-8", (b"replay\xff",), 2, None, ("is no command",))
 

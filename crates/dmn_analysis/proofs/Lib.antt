@@ -12,6 +12,7 @@ mod Ranks
 mod Results
 mod RulesOn
 mod Searches
+mod Seeings
 mod Sharings
 mod TextBehind
 mod TextOrder

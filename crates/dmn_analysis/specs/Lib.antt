@@ -11,3 +11,5 @@ pub mod Telling
 pub mod Joining
 pub mod Ranking
 pub mod Listing
+pub mod Kinds
+pub mod Seeing

@@ -15,6 +15,13 @@ pub(crate) fn number(expr: &Tree) -> Option<i64> {
     }
 }
 
+/// The lowest and the highest number that may meet some tests.
+#[derive(Clone, Copy)]
+pub(crate) struct Hull {
+    pub(crate) start: i64,
+    pub(crate) end: i64,
+}
+
 /// The numbers between two, both included, that tests cut; and from where to where some of them may meet the tests.
 #[derive(Drop)]
 pub(crate) struct Bounds {
@@ -22,17 +29,12 @@ pub(crate) struct Bounds {
     pub(crate) high: i64,
     /// The numbers at which a part begins, each rule's own, in no order.
     pub(crate) cuts: Vec<i64>,
-    /// Of each rule the lowest number that may meet its tests.
+    /// Of each test the lowest number that may meet it, or be barred by it. What a long entry lists stands for its middle alone.
     pub(crate) starts: Vec<i64>,
     /// And the highest.
     pub(crate) ends: Vec<i64>,
-}
-
-/// The lowest and the highest number that may meet some tests.
-#[derive(Clone, Copy)]
-struct Hull {
-    start: i64,
-    end: i64,
+    /// Of each rule the numbers that may meet its tests.
+    pub(crate) hulls: Vec<Hull>,
 }
 
 impl Bounds {
@@ -44,6 +46,15 @@ impl Bounds {
             cuts: Vec::new(alloc),
             starts: Vec::new(alloc),
             ends: Vec::new(alloc),
+            hulls: Vec::new(alloc),
+        }
+    }
+
+    // All of the numbers.
+    fn all(&self) -> Hull {
+        Hull {
+            start: self.low,
+            end: self.high,
         }
     }
 
@@ -74,10 +85,7 @@ impl Bounds {
     fn bounded_by(&mut self, bound: Bound, expr: &Tree) -> Result<Hull, AllocError> {
         match number(expr) {
             Some(n) => self.bounded(bound, n),
-            None => Ok(Hull {
-                start: self.low,
-                end: self.high,
-            }),
+            None => Ok(self.all()),
         }
     }
 
@@ -119,26 +127,43 @@ impl Bounds {
             end: self.low,
         };
         for test in tests {
-            if let Some(one) = self.tested(test)? {
-                hull.start = hull.start.min(one.start);
-                hull.end = hull.end.max(one.end);
+            let Some(one) = self.tested(test)? else {
+                continue;
+            };
+            hull.start = hull.start.min(one.start);
+            hull.end = hull.end.max(one.end);
+            if one.start <= self.high && self.low <= one.end {
+                self.starts.push(one.start)?;
+                self.ends.push(one.end)?;
             }
         }
         Ok(hull)
     }
 
-    /// Adds what is to be known of a rule whose tests list these numbers, which rise.
-    pub(crate) fn add_listed(&mut self, numbers: &[i64]) -> Result<(), AllocError> {
-        let (start, end) = match (numbers.first(), numbers.last()) {
-            (Some(first), Some(last)) => (*first, *last),
-            _ => (self.high, self.low),
+    /// Adds what is to be known of a rule whose tests list these numbers, which rise, or bar them.
+    pub(crate) fn add_listed(
+        &mut self,
+        numbers: &[i64],
+        is_barred: bool,
+    ) -> Result<(), AllocError> {
+        let hull = match (numbers.first(), numbers.last()) {
+            (Some(first), Some(last)) => Hull {
+                start: *first,
+                end: *last,
+            },
+            _ => Hull {
+                start: self.high,
+                end: self.low,
+            },
         };
-        for number in numbers {
-            self.cut(*number)?;
-            self.cut(number.saturating_add(1))?;
+        let hull = if is_barred { self.all() } else { hull };
+        if let Some(middle) = numbers.get(numbers.len() / 2) {
+            self.cut(*middle)?;
+            self.cut(middle.saturating_add(1))?;
+            self.starts.push(*middle)?;
+            self.ends.push(*middle)?;
         }
-        self.starts.push(start)?;
-        self.ends.push(end)?;
+        self.hulls.push(hull)?;
         Ok(())
     }
 
@@ -148,18 +173,11 @@ impl Bounds {
             TestsTree::OneOf(tests) => self.any_tested(tests)?,
             TestsTree::NoneOf(tests) => {
                 self.any_tested(tests)?;
-                Hull {
-                    start: self.low,
-                    end: self.high,
-                }
+                self.all()
             }
-            TestsTree::Any => Hull {
-                start: self.low,
-                end: self.high,
-            },
+            TestsTree::Any => self.all(),
         };
-        self.starts.push(hull.start)?;
-        self.ends.push(hull.end)?;
+        self.hulls.push(hull)?;
         Ok(())
     }
 }

@@ -278,10 +278,11 @@ fn bounds_of(
             continue;
         };
         match row.listing(place) {
-            Some(listing) if !listing.is_barred => {
-                bounds.add_listed(listing.numbers_in(cell.low, cell.high))?;
+            Some(listing) => {
+                let numbers = listing.numbers_in(cell.low, cell.high);
+                bounds.add_listed(numbers, listing.is_barred)?;
             }
-            _ => {
+            None => {
                 if let Some(tests) = row.rule().tests.get(place) {
                     bounds.add(tests.tree())?;
                 }
@@ -305,26 +306,41 @@ fn count_below(numbers: &[i64], known: usize, bound: i64) -> usize {
     numbers.len()
 }
 
-// The best choice to cut the numbers of a cell.
-fn numbers_choice(bounds: &Bounds, place: usize, met: usize) -> Option<Choice> {
-    let mut best = None;
+// The number at which the tests are parted best, each counted by itself, so that lists are cut in their middle.
+fn best_number(bounds: &Bounds) -> Option<i64> {
+    let mut best: Option<(u64, i64)> = None;
     let mut begun = 0;
     let mut ended = 0;
     for number in &bounds.cuts {
         begun = count_below(&bounds.starts, begun, *number);
         ended = count_below(&bounds.ends, ended, *number);
-        let lower = met.saturating_add(begun);
-        let upper = met.saturating_add(bounds.ends.len().saturating_sub(ended));
-        best = better(
-            best,
-            Choice {
-                place,
-                cut: Cut::Number(*number),
-                dear: dear(lower, upper),
-            },
-        );
+        let one = dear(begun, bounds.ends.len().saturating_sub(ended));
+        best = match best {
+            Some((least, _)) if least <= one => best,
+            _ => Some((one, *number)),
+        };
     }
-    best
+    let (_, number) = best?;
+    Some(number)
+}
+
+// The choice to cut the numbers of a cell.
+fn numbers_choice(bounds: &Bounds, place: usize, met: usize) -> Option<Choice> {
+    let number = best_number(bounds)?;
+    let (mut lower, mut upper) = (met, met);
+    for hull in &bounds.hulls {
+        if hull.start < number {
+            lower = lower.saturating_add(1);
+        }
+        if hull.end >= number {
+            upper = upper.saturating_add(1);
+        }
+    }
+    Some(Choice {
+        place,
+        cut: Cut::Number(number),
+        dear: dear(lower, upper),
+    })
 }
 
 // The best choice in one column; None where all of the rules that are left hit there, or nothing can be cut.

@@ -172,7 +172,7 @@ fn nothing_told(alloc: Global, words: Vec<Words>) -> Gaps
 /// Whether some rule of the table hits, whatever the values of its input columns that are asked about and whatever the names stand
 /// for: the gaps among them, of which at most so many are told. `asked` has an entry for each input column, with all texts, none, or
 /// just those that stand in the column's tests, as `kinds_asked` has them; otherwise nothing is decided. The search takes at most so
-/// many steps: a step is one entry of a rule asked of some values.
+/// many steps: a step is one entry of a rule asked of some values, or eight tests of a long one that isn't a list of constants.
 pub fn find_gaps(
     alloc: Global,
     table: &Table,

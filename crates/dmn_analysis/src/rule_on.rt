@@ -7,7 +7,24 @@ use crate::cell::{Cell, Words};
 use crate::listing::Listing;
 use crate::met::are_sure;
 use crate::row::Row;
-use feel_text::Tests;
+use feel_text::{Tests, TestsTree};
+
+/// So many tests are asked in a step.
+const TESTS_A_STEP: usize = 8;
+
+// How many steps an entry takes. What it lists is found by halving.
+fn steps_of(tests: &Tests, listing: Option<&Listing>) -> u64 {
+    if listing.is_some() {
+        return 1;
+    }
+    let count = match tests.tree() {
+        TestsTree::Any => 0,
+        TestsTree::OneOf(tests) => tests.len(),
+        TestsTree::NoneOf(tests) => tests.len(),
+    };
+    let steps = (count / TESTS_A_STEP) as u64;
+    steps.saturating_add(1)
+}
 
 /// Whether it is known that each value of the cell meets the tests, or that none does, as is asked. It takes steps.
 pub(crate) fn asked(
@@ -21,7 +38,7 @@ pub(crate) fn asked(
     requires { IfSome listing (λ l. IsListing l.now tests.now) }
     ensures { IsTrue result → SettlesIn met words.now cell tests.now }
 {
-    *steps = steps.saturating_sub(1);
+    *steps = steps.saturating_sub(steps_of(tests, listing));
     are_sure(&words.texts, cell, tests, listing, met)
 }
 

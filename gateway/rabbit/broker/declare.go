@@ -4,12 +4,11 @@ import (
 	"context"
 	"errors"
 	"fmt"
-	"io"
-	"strings"
 
 	amqp "github.com/rabbitmq/amqp091-go"
 
 	"gateway/rabbit/bus"
+	"gateway/rabbit/logs"
 )
 
 // SegmentBytes is how long a file of a stream gets. A broker that becomes the leader of a stream reads the newest file
@@ -21,16 +20,19 @@ const progressPartitions = 64
 
 // Declare makes the exchanges, and the queues of all partitions, where they aren't there. Streams that are there with files of
 // another length are left as they are.
-func (b Broker) Declare(ctx context.Context, settings bus.Settings, log io.Writer) error {
+func (b Broker) Declare(ctx context.Context, settings bus.Settings, log *logs.Log) error {
 	d := declaring{broker: b, settings: settings, log: log, segment: SegmentBytes}
 	return bus.Again(ctx, b, log, d.run)
 }
+
+// errSegment says that streams are there with files of another length, perhaps. They are left as they are.
+var errSegment = errors.New("a queue is there with other arguments, and is tried without the length of files")
 
 // A declaring has got so far.
 type declaring struct {
 	broker   Broker
 	settings bus.Settings
-	log      io.Writer
+	log      *logs.Log
 	next     int   // the next partition
 	segment  int64 // how long the files of its streams are, or 0 where these are there with files of another length
 }
@@ -43,16 +45,16 @@ func (d *declaring) run(ctx context.Context) error {
 	defer link.Close()
 	for d.next < d.settings.Partitions {
 		err := link.declare(d.settings, d.next, d.segment)
-		if isOther(err) && d.segment > 0 {
+		if isOther(err) && d.segment > 0 { // streams may be there with files of another length, and nothing else may be other
 			d.segment = 0
-		} else {
-			d.segment = SegmentBytes
+			return fmt.Errorf("partition %d: %w", d.next, errSegment)
 		}
 		if err != nil {
 			return fmt.Errorf("partition %d: %w", d.next, err)
 		}
+		d.segment = SegmentBytes
 		if d.next++; d.next%progressPartitions == 0 {
-			fmt.Fprintf(d.log, "desk partition: %d of %d partitions are declared\n", d.next, d.settings.Partitions)
+			d.log.Info("%d of %d partitions are declared", d.next, d.settings.Partitions)
 		}
 	}
 	return nil
@@ -93,13 +95,24 @@ func declareOn(channel *amqp.Channel, settings bus.Settings, partition int, segm
 		}
 	}
 	for queue, arguments := range arguments(settings, partition, segment) {
-		if _, err := channel.QueueDeclare(queue, true, false, false, true, arguments); err != nil {
-			return fmt.Errorf("queue %s: %w", queue, err)
+		if err := declareQueue(channel, settings, partition, queue, arguments); err != nil {
+			return err
 		}
 	}
+	return nil
+}
+
+// declareQueue makes a queue of a partition, or the registry, and leads to it what belongs there.
+func declareQueue(channel *amqp.Channel, settings bus.Settings, partition int, queue string, arguments amqp.Table) error {
+	if _, err := channel.QueueDeclare(queue, true, false, false, true, arguments); err != nil {
+		return fmt.Errorf("queue %s: %w", queue, err)
+	}
 	for _, b := range settings.Bindings(partition) {
-		if err := channel.QueueBind(b.Queue, b.Route.Key, b.Route.Exchange, true, nil); err != nil {
-			return fmt.Errorf("queue %s: %w", b.Queue, err)
+		if b.Queue != queue {
+			continue
+		}
+		if err := channel.QueueBind(queue, b.Route.Key, b.Route.Exchange, true, nil); err != nil {
+			return fmt.Errorf("queue %s: %w", queue, err)
 		}
 	}
 	return nil
@@ -117,10 +130,4 @@ func arguments(s bus.Settings, partition int, segment int64) map[string]amqp.Tab
 		s.Queue(bus.Lease, partition):   {"x-queue-type": "quorum", "x-single-active-consumer": true, "x-max-length": int64(1)},
 		bus.Registry:                    {"x-queue-type": "stream", "x-queue-leader-locator": "least-leaders"},
 	}
-}
-
-// isOther tells of a failure whether a queue is there with other arguments than it was declared with.
-func isOther(failure error) bool {
-	var reason *amqp.Error
-	return errors.As(failure, &reason) && reason.Code == amqp.PreconditionFailed && strings.Contains(reason.Reason, "inequivalent arg")
 }

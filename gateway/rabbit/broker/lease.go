@@ -82,19 +82,19 @@ func (w *waiting) wait(ctx context.Context) (*held, error) {
 const missingPause = 10 * time.Second
 
 // ask asks for the leases, until one is won: again and again for those whose queues aren't there. It waits for the confirms of
-// the others.
+// the others, unless one is won: what one without a leader never confirms keeps no other lease from being given up.
 func (w *waiting) ask() {
 	defer close(w.asked)
 	missing, err := w.askAll(w.partitions)
-	if err == nil && !w.isEnough() {
-		err = w.publisher.Settle()
+	if err == nil {
+		err = w.publisher.settleUnless(w.enough)
 	}
 	for err == nil && !w.isEnough() {
 		if w.missing(missing); len(missing) == 0 || !w.pause() {
 			break
 		}
 		if missing, err = w.askAll(missing); err == nil {
-			err = w.publisher.Settle()
+			err = w.publisher.settleUnless(w.enough)
 		}
 	}
 	if err != nil {

@@ -29,21 +29,22 @@ func TestALeaseBesideQueuesThatDoNotConfirm(t *testing.T) {
 	b.Full = func(queue string) bool { return brokertest.Is(queue, "lease", "3") }
 	b.Counts = b.Confirms
 	link, settings := linked(t, b, 8)
-	begun := time.Now()
 	held, err := link.Own(context.Background(), settings, settings.All(), func([]int) {})
-	if err != nil || held != 3 || time.Since(begun) >= bus.Patience {
-		t.Fatalf("%+v, %v, after %v", held, err, time.Since(begun))
+	if err != nil || held != 3 {
+		t.Fatalf("%+v, %v", held, err)
 	}
+	given := time.Now()
 	givenUp(t, b)
+	if waited := time.Since(given); waited >= bus.Patience {
+		t.Errorf("the others were given up after %v", waited)
+	}
 }
 
 // givenUp waits until all leases that were asked for are given up, but for the one that is held.
 func givenUp(t *testing.T, b *brokertest.Broker) {
 	t.Helper()
-	for begun := time.Now(); len(b.Cancelled()) != len(b.Consumed())-1; time.Sleep(10 * time.Millisecond) {
-		if time.Since(begun) > 10*time.Second {
-			t.Fatalf("of %v only %v are given up", b.Consumed(), b.Cancelled())
-		}
+	for len(b.Cancelled()) != len(b.Consumed())-1 {
+		time.Sleep(10 * time.Millisecond)
 	}
 }
 

@@ -71,12 +71,20 @@ func (b Broker) connect(ctx context.Context, name, last string) (*Link, error) {
 				go result.link.watch(ctx)
 				return result.link, nil
 			}
-			if is := b.Judge(fault); is != bus.Refused && is != bus.Doubted {
-				fault = result.err
-			}
+			fault = b.telling(fault, result.err)
 		}
 	}
 	return nil, &away{fault}
+}
+
+// telling is which of two brokers' failures says more: one of rights. A certificate that isn't trusted says nothing where another
+// broker may come back.
+func (b Broker) telling(before, next error) error {
+	isOfRights := func(failure error) bool { is := b.Judge(failure); return is == bus.Refused || is == bus.Doubted }
+	if before == nil || isOfRights(next) || !isOfRights(before) && b.Judge(before) == bus.Untrusted {
+		return next
+	}
+	return before
 }
 
 // closeOthers closes the connections that came too late.

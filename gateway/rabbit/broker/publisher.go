@@ -109,7 +109,10 @@ func (p *Publisher) Late() error {
 }
 
 // Settle waits until all messages are confirmed.
-func (p *Publisher) Settle() error {
+func (p *Publisher) Settle() error { return p.settleUnless(nil) }
+
+// settleUnless waits until all messages are confirmed, or it is enough.
+func (p *Publisher) settleUnless(enough <-chan struct{}) error {
 	late := time.NewTimer(bus.Patience)
 	defer late.Stop()
 	for len(p.open) > 0 {
@@ -118,6 +121,8 @@ func (p *Publisher) Settle() error {
 			if err := p.Take(confirm, open); err != nil {
 				return err
 			}
+		case <-enough:
+			return nil
 		case <-p.link.Done():
 			return p.link.Err()
 		case <-late.C:

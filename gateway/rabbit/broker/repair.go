@@ -3,11 +3,11 @@ package broker
 import (
 	"context"
 	"fmt"
-	"io"
 
 	"gateway/rabbit/answer"
 	"gateway/rabbit/bus"
 	"gateway/rabbit/ledger"
+	"gateway/rabbit/logs"
 )
 
 // fillOpen is how many marks are without a confirm while a log is filled.
@@ -19,19 +19,16 @@ type Repair struct {
 	Settings  bus.Settings
 	Partition int
 	Program   string // the version of this one
-	Log       io.Writer
+	Log       *logs.Log
 }
 
 // Repair repairs a partition. It owns the partition meanwhile.
 func (b Broker) Repair(ctx context.Context, r Repair) error {
-	link, err := b.connect(ctx, "desk partition repair", "")
+	link, err := b.connectDeclared(ctx, r)
 	if err != nil {
-		return err
-	}
-	defer link.Close()
-	if err := link.declare(r.Settings, r.Partition, SegmentBytes); err != nil && !isOther(err) {
 		return fmt.Errorf("partition %d: %w", r.Partition, err)
 	}
+	defer link.Close()
 	waiting := func([]int) {}
 	if _, err := link.Own(ctx, r.Settings, []int{r.Partition}, waiting); err != nil {
 		return fmt.Errorf("partition %d: %w", r.Partition, err)
@@ -49,11 +46,27 @@ func (b Broker) Repair(ctx context.Context, r Repair) error {
 		first--
 	}
 	gap := ledger.Gap{From: first, To: h.Upto().Offset + 1}
-	fmt.Fprintf(r.Log, "partition %d: answered up to line %v; the log is made anew from offset %d on\n", r.Partition, h.Upto(), gap.To+1)
+	r.Log.OfPartition(r.Partition).Info("answered up to line %v; the log is made anew from offset %d on", h.Upto(), gap.To+1)
 	if err := r.again(link, publisher, gap.To); err != nil {
 		return fmt.Errorf("partition %d: %w", r.Partition, err)
 	}
 	return r.publish(publisher, h, gap)
+}
+
+// connectDeclared connects, and makes the queues that aren't there. Streams may be there with files of another length.
+func (b Broker) connectDeclared(ctx context.Context, r Repair) (link *Link, err error) {
+	for _, segment := range []int64{SegmentBytes, 0} {
+		if link, err = b.connect(ctx, "desk partition repair", ""); err != nil {
+			return nil, err
+		}
+		if err = link.declare(r.Settings, r.Partition, segment); err == nil {
+			return link, nil
+		}
+		if link.Close(); !isOther(err) {
+			break
+		}
+	}
+	return nil, err
 }
 
 // again deletes the log, makes it anew, and fills it up to an offset.
@@ -66,7 +79,7 @@ func (r Repair) again(link *Link, publisher *Publisher, upto int64) error {
 	if _, err := channel.QueueDelete(lines, false, false, false); err != nil {
 		return link.Because(fmt.Errorf("deleting %s: %w", lines, err))
 	}
-	if err := declareOn(channel, r.Settings, r.Partition, SegmentBytes); err != nil {
+	if err := declareQueue(channel, r.Settings, r.Partition, lines, arguments(r.Settings, r.Partition, SegmentBytes)[lines]); err != nil {
 		return link.Because(err)
 	}
 	if err := link.end(channel); err != nil {

@@ -4,6 +4,8 @@ package broker
 
 import (
 	"context"
+	"crypto/tls"
+	"crypto/x509"
 	"errors"
 	"fmt"
 	"math/rand"
@@ -79,6 +81,8 @@ func (b Broker) Pause(ctx context.Context, long time.Duration) {
 func (b Broker) Judge(failure error) bus.Judgement {
 	var reason *amqp.Error
 	switch {
+	case isUntrusted(failure):
+		return bus.Untrusted
 	case !errors.As(failure, &reason):
 		return bus.Passing
 	case reason.Code == amqp.NotFound:
@@ -87,6 +91,29 @@ func (b Broker) Judge(failure error) bus.Judgement {
 		return bus.Refused
 	case reason.Code == amqp.AccessRefused:
 		return bus.Doubted
+	case isOther(failure), isTooLong(reason), reason.Code == amqp.NotImplemented:
+		return bus.Wrong
 	}
 	return bus.Passing
+}
+
+// isUntrusted says of a failure whether TLS ended it: the certificate isn't that of the broker, or of a CA that is known, or the
+// broker speaks no TLS there.
+func isUntrusted(failure error) bool {
+	var authority x509.UnknownAuthorityError
+	var name x509.HostnameError
+	var invalid x509.CertificateInvalidError
+	var plain tls.RecordHeaderError
+	return errors.As(failure, &authority) || errors.As(failure, &name) || errors.As(failure, &invalid) || errors.As(failure, &plain)
+}
+
+// isOther tells of a failure whether a queue or an exchange is there with other arguments than it was declared with.
+func isOther(failure error) bool {
+	var reason *amqp.Error
+	return errors.As(failure, &reason) && reason.Code == amqp.PreconditionFailed && strings.Contains(reason.Reason, "inequivalent arg")
+}
+
+// isTooLong tells whether a message is longer than the broker's max_message_size.
+func isTooLong(reason *amqp.Error) bool {
+	return reason.Code == amqp.PreconditionFailed && strings.Contains(reason.Reason, "is larger than")
 }

@@ -6,6 +6,7 @@ package bus
 import (
 	"context"
 	"errors"
+	"fmt"
 	"time"
 )
 
@@ -14,8 +15,13 @@ import (
 // Kafka: a cluster; each stream is a partition of a topic.
 type Bus interface {
 	// Connect opens a connection under a name that people are shown. The place with this address, if it isn't empty, is tried last.
+	//
+	// Kafka: the constructors of its clients, with client.id and bootstrap.servers.
 	Connect(ctx context.Context, name, last string) (Link, error)
 	// Judge says what a failure of this bus means.
+	//
+	// Kafka: a RetriableException passes; UnknownTopicOrPartition is missing; those of authorization, RecordTooLarge and
+	// InvalidConfiguration do not pass; an abortable one aborts the transaction.
 	Judge(failure error) Judgement
 	// Pause waits, but not beyond the context's end.
 	Pause(ctx context.Context, long time.Duration)
@@ -26,10 +32,12 @@ type Judgement int
 
 // The judgements.
 const (
-	Passing Judgement = iota // it may pass: the work is begun anew
-	Missing                  // a stream isn't there: somebody has to declare it
-	Refused                  // the user has no right to it
-	Doubted                  // the user may have no right to it: one such failure says nothing
+	Passing   Judgement = iota // it may pass: the work is begun anew
+	Missing                    // a stream isn't there: somebody has to declare it
+	Refused                    // the user has no right to it
+	Doubted                    // the user may have no right to it: one such failure says nothing
+	Wrong                      // it can't be done as it is asked for
+	Untrusted                  // the certificate isn't trusted, at one of several brokers perhaps
 )
 
 // A Link is a connection. It fails as a whole: where an appender, a reader or a wait fails, all of it ends, and the work is
@@ -78,6 +86,8 @@ type Appender interface {
 	// readers would see the batch as a whole, and later.
 	Append(to Route, headers Headers, body []byte) error
 	// Open is how many messages are without a confirm.
+	//
+	// Kafka: max.in.flight.requests.per.connection bounds it; a transaction counts its own.
 	Open() int
 	// Confirms has a value for each message, nil if it is in the stream. It is to be handed to Take.
 	//
@@ -89,7 +99,12 @@ type Appender interface {
 	// Kafka: flush.
 	Settle() error
 	// Late says whether some message has waited for its confirm for too long.
+	//
+	// Kafka: delivery.timeout.ms, after which the callback has a TimeoutException and the transaction is aborted.
 	Late() error
+	// Close ends the appender. All messages are confirmed before.
+	//
+	// Kafka: close, behind commitTransaction.
 	Close() error
 }
 
@@ -109,7 +124,12 @@ type Reader interface {
 	Arrivals() <-chan Message
 	Ended() error
 	// Next waits for the next message.
+	//
+	// Kafka: poll, which hands over no message of a transaction that is open or was aborted.
 	Next() (Message, error)
+	// Close ends the reader.
+	//
+	// Kafka: unsubscribe.
 	Close() error
 }
 
@@ -137,6 +157,21 @@ const (
 	At                 // with the message of an offset, or the first one after it that is left
 	Since              // with the first message since a time
 )
+
+// String says it in words.
+func (f From) String() string {
+	switch f.Place {
+	case Last:
+		return "the last messages"
+	case Next:
+		return "what comes from now on"
+	case At:
+		return fmt.Sprintf("offset %d, or the first one after it that is left", f.Offset)
+	case Since:
+		return "the first message since " + f.Since.UTC().Format(time.RFC3339)
+	}
+	return "the first message that is left"
+}
 
 // FromOffset begins with the message of an offset.
 func FromOffset(offset int64) From { return From{Place: At, Offset: offset} }

@@ -4,9 +4,10 @@ import (
 	"context"
 	"errors"
 	"fmt"
-	"io"
 	"math/rand"
 	"time"
+
+	"gateway/rabbit/logs"
 )
 
 // Pauses between two attempts.
@@ -51,11 +52,10 @@ func (p *pace) pause(failure error, lasted time.Duration) time.Duration {
 	return pause
 }
 
-// Again does the work on a bus until it ends without an error or with a final one, the context ends, or the bus says that the user
-// has no right to it. After a failure it waits, at most twice as long each time: up to 10 s where no broker is reached, and up to
-// 2 s where one is. The first failure and each
-// hundredth in a row are told.
-func Again(ctx context.Context, on Bus, log io.Writer, work func(ctx context.Context) error) error {
+// Again does the work on a bus until it ends without an error or with a final one, the context ends, or the bus says that it can't
+// be done: the user has no right to it, or what is asked for is wrong. After a failure it waits, at most twice as long each time: up
+// to 10 s where no broker is reached, and up to 2 s where one is. The first failure and each hundredth in a row are told.
+func Again(ctx context.Context, on Bus, log *logs.Log, work func(ctx context.Context) error) error {
 	var pace pace
 	var doubts doubts
 	for failures := 1; ; failures++ {
@@ -76,7 +76,7 @@ func Again(ctx context.Context, on Bus, log io.Writer, work func(ctx context.Con
 			failures = 1
 		}
 		if failures == 1 || failures%each == 0 {
-			fmt.Fprintf(log, "desk: failure %d in a row: %v; trying again\n", failures, err)
+			log.Warning("failure %d in a row: %v; trying again", failures, err)
 		}
 		pause := pace.pause(err, lasted)
 		// Not all come back at once.
@@ -87,17 +87,17 @@ func Again(ctx context.Context, on Bus, log io.Writer, work func(ctx context.Con
 	}
 }
 
-// doubtful is how often in a row a right may be doubted.
+// doubtful is how often in a row a right or a certificate may be doubted.
 const doubtful = 5
 
-// doubts counts how often in a row a right was doubted.
+// doubts counts how often in a row one was.
 type doubts struct{ count int }
 
-// final is the failure as a final one, if the user may not do what has to be done.
+// final is the failure as a final one, if it can't pass.
 func (d *doubts) final(is Judgement, failure error) error {
 	switch is {
-	case Refused:
-	case Doubted:
+	case Refused, Wrong:
+	case Doubted, Untrusted:
 		if d.count++; d.count < doubtful {
 			return nil
 		}
@@ -105,5 +105,16 @@ func (d *doubts) final(is Judgement, failure error) error {
 		d.count = 0
 		return nil
 	}
-	return &Final{fmt.Errorf("the broker's user has no right to this: %w (ops/rabbitmq/rights gives the rights)", failure)}
+	return &Final{is.told(failure)}
+}
+
+// told is a failure that can't pass, and what to do.
+func (j Judgement) told(failure error) error {
+	switch j {
+	case Wrong:
+		return fmt.Errorf("the broker can't do this: %w", failure)
+	case Untrusted:
+		return fmt.Errorf("the broker's certificate isn't trusted: %w (SSL_CERT_FILE names a CA of your own)", failure)
+	}
+	return fmt.Errorf("the broker's user has no right to this: %w (ops/rabbitmq/rights gives the rights)", failure)
 }

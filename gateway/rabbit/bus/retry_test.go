@@ -34,3 +34,22 @@ func TestPauses(t *testing.T) {
 		t.Errorf("after a minute of work: %v", pause)
 	}
 }
+
+// What can't pass is final: at once, or where it is doubted five times in a row.
+func TestWhatIsFinal(t *testing.T) {
+	failure := errors.New("no")
+	for is, due := range map[Judgement]int{Refused: 1, Wrong: 1, Doubted: doubtful, Untrusted: doubtful} {
+		var d doubts
+		for count := 1; count <= due; count++ {
+			if err := d.final(is, failure); (err != nil) != (count == due) || err != nil && !errors.Is(err, failure) {
+				t.Errorf("%d, failure %d: %v", is, count, err)
+			}
+		}
+	}
+	var d doubts
+	for count := 0; count < 4*doubtful; count++ {
+		if err := d.final([]Judgement{Doubted, Untrusted, Passing}[count%3], failure); err != nil {
+			t.Error(err)
+		}
+	}
+}

@@ -13,6 +13,7 @@ import (
 	"time"
 
 	"gateway/rabbit/bus"
+	"gateway/rabbit/logs"
 	"gateway/rabbit/memory"
 	"gateway/rabbit/partition"
 	engines "gateway/rabbit/process"
@@ -36,7 +37,7 @@ func (w *world) takeOver() (*owner, error) {
 		return nil, err
 	}
 	o := &owner{world: w, link: link.(*memory.Link), ticks: make(chan time.Time, 1), left: 3}
-	options := partition.Options{Bus: w.Bus, Settings: settings, Deadline: time.Hour * 24, Log: io.Discard, Gauges: partition.NewGauges(),
+	options := partition.Options{Bus: w.Bus, Settings: settings, Deadline: time.Hour * 24, Log: logs.New(io.Discard, "test"), Gauges: partition.NewGauges(),
 		Now: func() time.Time { return w.Clock }}
 	options.Begin = func(engines.Options) (partition.Evaluator, error) {
 		o.engine = &engine{tickets: map[string]int64{}, answers: make(chan []engines.Answer, 1)}
@@ -187,7 +188,7 @@ func (w *world) startReceiver() error {
 		return err
 	}
 	r, err := receiver.New(receiver.Options{Bus: w.Bus, Settings: settings, Place: filepath.Join(w.folder, "place"), Output: output,
-		File: true, Log: io.Discard})
+		File: true, Log: logs.New(io.Discard, "test")})
 	w.receiver = &receiving{Receiver: r, output: output}
 	return err
 }

@@ -13,6 +13,7 @@ import (
 
 	"gateway/rabbit/bus"
 	"gateway/rabbit/ledger"
+	"gateway/rabbit/logs"
 	"gateway/rabbit/memory"
 	"gateway/rabbit/sender"
 )
@@ -215,7 +216,7 @@ func (w *world) startSender() error {
 		w.input(p.of)
 	}
 	p.Sender = sender.New(sender.Options{Bus: p.opens, Settings: settings, Name: p.of.sender, Named: p.named, Batch: p.of.id,
-		Log: io.Discard, Check: func([]byte) error { return nil }})
+		Log: logs.New(io.Discard, "test"), Check: func([]byte) error { return nil }})
 	ctx := context.Background()
 	if err := p.Claim(ctx); err != nil {
 		return err

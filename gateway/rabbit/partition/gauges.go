@@ -133,13 +133,22 @@ func (g *Gauges) Ready() (bool, string) {
 	return true, fmt.Sprintf("owns partition %d%s", g.partition, g.lost)
 }
 
+// waiters are the partitions that wait for somebody to act, but for those without queues.
+func (g *Gauges) waiters() []int {
+	var found []int
+	for partition, w := range g.waits {
+		if w.until.IsZero() || time.Now().Before(w.until) {
+			found = append(found, partition)
+		}
+	}
+	return found
+}
+
 // whatFor says what partitions wait for.
 func (g *Gauges) whatFor() string {
 	var said []string
-	for partition, w := range g.waits {
-		if w.until.IsZero() || time.Now().Before(w.until) {
-			said = append(said, fmt.Sprintf("partition %d waits: %v", partition, w.reason))
-		}
+	for _, partition := range g.waiters() {
+		said = append(said, fmt.Sprintf("partition %d waits: %v", partition, g.waits[partition].reason))
 	}
 	sort.Strings(said)
 	if len(g.missing) > 0 {
@@ -166,6 +175,8 @@ func (g *Gauges) Collectors() []prometheus.Collector {
 			return 0
 		}),
 		g.gauge("owned", "The partition that is owned, or -1.", func() float64 { return float64(g.partition) }),
+		g.gauge("waiting_partitions", "Partitions that this process can't own before somebody acts.",
+			func() float64 { return float64(len(g.waiters()) + len(g.missing)) }),
 		g.gauge("lag_lines", "Lines that were read and have no answer.", func() float64 { return float64(g.waiting) }),
 		g.gauge("lag_messages", "Messages of the log that were not read, some seconds late.",
 			func() float64 { return float64(g.unread) }),

@@ -9,13 +9,14 @@ import (
 	"time"
 
 	"gateway/rabbit/answer"
+	"gateway/rabbit/metrics"
 )
 
 func TestMetricsAreShown(t *testing.T) {
 	g := NewGauges()
 	ctx, stop := context.WithCancel(context.Background())
 	defer stop()
-	address, err := ServeMetrics(ctx, "127.0.0.1:0", g)
+	address, err := metrics.Serve(ctx, "127.0.0.1:0", g)
 	if err != nil {
 		t.Fatal(err)
 	}
@@ -49,6 +50,9 @@ func TestMetricsAreShown(t *testing.T) {
 	g.waitsFor(1, errOtherLog, time.Now().Add(time.Hour))
 	if is, said := g.Ready(); is || !strings.HasPrefix(said, "partition 1 waits: the log is not the one") {
 		t.Error(said)
+	}
+	if _, text := get("/metrics"); !strings.Contains(text, "\ndesk_partition_waiting_partitions 1\n") {
+		t.Error(text)
 	}
 	g.takeover(3)
 	g.settled(&entry{answered: true, reason: answer.Deadline})

@@ -3,18 +3,17 @@ package partition
 import (
 	"bytes"
 	"errors"
-	"fmt"
-	"io"
 
 	"gateway/rabbit/answer"
 	"gateway/rabbit/bus"
 	"gateway/rabbit/ledger"
 	"gateway/rabbit/line"
+	"gateway/rabbit/logs"
 )
 
 // An intake makes entries of the messages of the log, of each line of each sender once.
 type intake struct {
-	log     io.Writer // of what is dropped
+	log     *logs.Log // of what is dropped
 	gauges  *Gauges
 	first   func() (int64, error) // the offset of the log's first message
 	queue   *queue
@@ -42,7 +41,7 @@ var errOvertaken = errors.New("retention has cut the log while it was read")
 // errModel says that a model came under the topic of requests, under which everybody may send who may send at all.
 var errModel = errors.New("a model without the right to send models")
 
-func newIntake(log io.Writer, gauges *Gauges, queue *queue, h *bus.History, first func() (int64, error)) *intake {
+func newIntake(log *logs.Log, gauges *Gauges, queue *queue, h *bus.History, first func() (int64, error)) *intake {
 	return &intake{log: log, gauges: gauges, first: first, queue: queue, senders: h.Ledger.Senders.Clone(), begin: h.Ledger.Place, part: h.Ledger.Part,
 		upto: h.Upto(), more: h.More, records: h.Records, offset: -1, lines: h.Ledger.Lines}
 }
@@ -107,11 +106,11 @@ func (in *intake) lookForGap(offset int64) {
 		gap.From = first
 	}
 	if gap.Messages() <= 0 || !in.upto.Before(gap.Place()) {
-		fmt.Fprintf(in.log, "messages up to offset %d are lost, but answered\n", gap.To)
+		in.log.Warning("messages up to offset %d are lost, but answered", gap.To)
 		in.queue.add(&entry{place: gap.Place(), lost: &lost{gap, records}, skipped: true, known: true})
 		return
 	}
-	fmt.Fprintf(in.log, "the messages from offset %d to %d are lost: retention has cut them, or the broker\n", gap.From, gap.To)
+	in.log.Error("the messages from offset %d to %d are lost: retention has cut them, or the broker", gap.From, gap.To)
 	in.gauges.lostMessages(gap)
 	in.queue.add(&entry{place: gap.Place(), lost: &lost{gap, records}, skipped: true})
 }
@@ -163,7 +162,7 @@ func (in *intake) lookForLines(from ledger.Origin, place ledger.Place, missing i
 		return
 	}
 	in.gauges.lostLines(missing)
-	fmt.Fprintf(in.log, "line %v: %d lines of sender %q are lost before it\n", place, missing, from.Sender)
+	in.log.Error("line %v: %d lines of sender %q are lost before it", place, missing, from.Sender)
 }
 
 // takeControl takes in a claim, or the end of a batch.
@@ -214,7 +213,7 @@ func (in *intake) recorded(place ledger.Place) ledger.Outcome {
 		in.records = in.records[1:]
 	}
 	if len(in.records) == 0 || in.records[0].Place != place {
-		fmt.Fprintf(in.log, "line %v counts as answered, but no answer stands there\n", place)
+		in.log.Error("line %v counts as answered, but no answer stands there", place)
 		return ledger.Outcome{}
 	}
 	outcome := in.records[0].Outcome
@@ -225,7 +224,7 @@ func (in *intake) recorded(place ledger.Place) ledger.Outcome {
 // drop tells of a line or a message that is left out, if it wasn't told before.
 func (in *intake) drop(place ledger.Place, reason error) {
 	if in.upto.Before(place) {
-		fmt.Fprintf(in.log, "line %v is dropped: %v\n", place, reason)
+		in.log.Warning("line %v is dropped: %v", place, reason)
 	}
 }
 
@@ -234,10 +233,9 @@ func (in *intake) tell(offset int64, from ledger.Origin, counts map[ledger.Verdi
 		return
 	}
 	if count := counts[ledger.Repeated]; count > 0 {
-		fmt.Fprintf(in.log, "message %d: %d lines of sender %q are dropped: they were taken before\n", offset, count, from.Sender)
+		in.log.Info("message %d: %d lines of sender %q are dropped: they were taken before", offset, count, from.Sender)
 	}
 	if count := counts[ledger.Fenced]; count > 0 {
-		fmt.Fprintf(in.log, "message %d: %d lines of sender %q are dropped: a newer process sends under its name\n", offset,
-			count, from.Sender)
+		in.log.Info("message %d: %d lines of sender %q are dropped: a newer process sends under its name", offset, count, from.Sender)
 	}
 }

@@ -4,7 +4,6 @@ import (
 	"bytes"
 	"errors"
 	"fmt"
-	"io"
 	"os"
 	"regexp"
 	"strings"
@@ -14,6 +13,7 @@ import (
 	"gateway/rabbit/broker"
 	"gateway/rabbit/bus"
 	"gateway/rabbit/ledger"
+	"gateway/rabbit/logs"
 	"gateway/rabbit/process"
 )
 
@@ -150,7 +150,7 @@ func TestAnEngineThatRefusesTheModelInForce(t *testing.T) {
 		t.Fatal(reason)
 	}
 	var log bytes.Buffer
-	taker := &taker{options: Options{Bus: broker.Broker{}, Settings: bus.Settings{Partitions: 2}, Log: &log, Gauges: NewGauges()},
+	taker := &taker{options: Options{Bus: broker.Broker{}, Settings: bus.Settings{Partitions: 2}, Log: logs.New(&log, "test"), Gauges: NewGauges()},
 		refused: map[int]error{}, rests: map[int]time.Time{}, fails: map[int]time.Time{}}
 	var final *bus.Final
 	if err := taker.failed(1, reason); errors.As(err, &final) || fmt.Sprint(taker.partitions()) != "[0]" {
@@ -168,7 +168,7 @@ func TestAnEngineThatRefusesTheModelInForce(t *testing.T) {
 // readToFault lets the holder read a message, and gives why it can't go on.
 func (h *holder) readToFault(t *testing.T) error {
 	t.Helper()
-	h.work.log = io.Discard
+	h.work.log = silent
 	h.intake.take(h.log.lines[h.next])
 	h.intake.take(h.log.lines[h.next+1])
 	for {

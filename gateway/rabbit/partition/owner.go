@@ -6,11 +6,11 @@ import (
 	"context"
 	"errors"
 	"fmt"
-	"io"
 	"os"
 	"time"
 
 	"gateway/rabbit/bus"
+	"gateway/rabbit/logs"
 	"gateway/rabbit/process"
 )
 
@@ -24,7 +24,7 @@ type Options struct {
 	Engine   process.Options
 	Deadline time.Duration // how long the evaluation of a line may take
 	Keep     time.Duration // how long a named sender is known after its last message; 0 says for ever
-	Log      io.Writer
+	Log      *logs.Log
 	Gauges   *Gauges
 	Program  string // the version of this one
 	// Begin begins an engine: a process of it, where it is nil. Now is the clock: the machine's, where it is nil.
@@ -77,7 +77,7 @@ func (t *taker) partitions() []int {
 // missing takes in which partitions have no queues, and reports it if that has changed.
 func (t *taker) missing(partitions []int) {
 	if t.options.Gauges.setMissing(partitions) && len(partitions) > 0 {
-		fmt.Fprintf(t.options.Log, "partitions %v have no queues: %v\n", partitions, bus.ErrMissing)
+		t.options.Log.Error("partitions %v have no queues: %v", partitions, bus.ErrMissing)
 	}
 }
 
@@ -97,7 +97,7 @@ func (t *taker) failed(partition int, reason error) error {
 		return t.mayBeLost(partition, err)
 	}
 	t.options.Gauges.waitsFor(partition, reason, time.Time{})
-	fmt.Fprintf(t.options.Log, "%v\n", err)
+	t.options.Log.Error("%v", err)
 	if t.refused[partition] = reason; len(t.partitions()) == 0 {
 		return &bus.Final{Reason: err}
 	}
@@ -134,7 +134,7 @@ func (t *taker) own(ctx context.Context) error {
 	if err != nil {
 		return err
 	}
-	fmt.Fprintf(options.Log, "partition %d: owned by process %d\n", partition, os.Getpid())
+	options.Log.OfPartition(partition).Info("owned by process %d", os.Getpid())
 	o, err := t.take(link, partition)
 	if err != nil {
 		return t.failed(partition, err)
@@ -170,13 +170,13 @@ func (t *taker) wait(ctx context.Context, link bus.Link) (int, error) {
 // take takes a partition over. Where a broker does nothing for a while it fails, and next time has twice as much patience.
 // Where it fails, whatever the reason, it is begun anew at another broker.
 func (t *taker) take(link bus.Link, partition int) (*Owner, error) {
-	log := prefixed{t.options.Log, fmt.Sprintf("partition %d: ", partition)}
+	log := t.options.Log.OfPartition(partition)
 	late := fmt.Errorf("the broker did nothing for %v in a takeover", t.patience)
 	s := beginSteps(t.patience, func() { link.Fail(late) })
 	o, err := begin(t.options, link, partition, log, s)
 	s.end()
 	if err != nil {
-		fmt.Fprintf(log, "not taken over, after %v: %v\n", s, err)
+		log.Warning("not taken over, after %v: %v", s, err)
 		if errors.Is(err, late) {
 			t.patience = longer(t.patience)
 		}
@@ -184,16 +184,17 @@ func (t *taker) take(link bus.Link, partition int) (*Owner, error) {
 		return nil, err
 	}
 	t.patience, t.last = firstPatience, ""
-	fmt.Fprintf(log, "goes on behind line %v, after %v\n", o.intake.upto, s)
+	log.Info("goes on behind line %v, after %v", o.intake.upto, s)
 	return o, nil
 }
 
 // An Owner owns a partition.
 type Owner struct {
-	log       io.Writer
+	log       *logs.Log
 	gauges    *Gauges
 	link      bus.Link
-	lines     string // the name of the log
+	lines     string    // the name of the log
+	marks     bus.Route // of marks of the log
 	publisher bus.Appender
 	stream    bus.Reader
 	queue     *queue
@@ -216,7 +217,7 @@ func (unwatched) Moved()        {}
 func (unwatched) Passed(string) {}
 
 // begin takes up a partition where its last answer stands.
-func begin(options Options, link bus.Link, partition int, log io.Writer, s bus.Progress) (*Owner, error) {
+func begin(options Options, link bus.Link, partition int, log *logs.Log, s bus.Progress) (*Owner, error) {
 	publisher, err := link.Appender()
 	if err != nil {
 		return nil, err
@@ -227,7 +228,7 @@ func begin(options Options, link bus.Link, partition int, log io.Writer, s bus.P
 		return nil, err
 	}
 	for _, fault := range h.Unread {
-		fmt.Fprintf(log, "a snapshot is left out, and the one before it counts: %v\n", fault)
+		log.Warning("a snapshot is left out, and the one before it counts: %v", fault)
 		options.Gauges.unreadSnapshot()
 	}
 	s.Passed("the mark is confirmed")
@@ -240,11 +241,11 @@ func begin(options Options, link bus.Link, partition int, log io.Writer, s bus.P
 	if o.intake.mark, err = bus.NewMark(); err != nil {
 		return nil, err
 	}
-	return o, o.publishMarks(options.Settings, partition, h.At)
+	return o, o.publishMarks(options.Settings.Route(bus.AnswersExchange, bus.TopicMarks, partition), h.At)
 }
 
 // newOwner is an owner that goes on behind a history.
-func newOwner(options Options, link bus.Link, partition int, log io.Writer, h *bus.History) *Owner {
+func newOwner(options Options, link bus.Link, partition int, log *logs.Log, h *bus.History) *Owner {
 	lines := options.Settings.Queue(bus.Lines, partition)
 	q, route := &queue{}, options.Settings.Route(bus.AnswersExchange, bus.TopicAnswers, partition)
 	first := func() (int64, error) { return link.First(lines) }
@@ -255,7 +256,8 @@ func newOwner(options Options, link bus.Link, partition int, log io.Writer, h *b
 	if begin == nil {
 		begin = beginProcess
 	}
-	return &Owner{log: log, gauges: options.Gauges, link: link, lines: lines, queue: q,
+	marks := options.Settings.Route(bus.RequestsExchange, bus.TopicMarks, partition)
+	return &Owner{log: log, gauges: options.Gauges, link: link, lines: lines, marks: marks, queue: q,
 		intake: newIntake(log, options.Gauges, q, h, first),
 		work: &work{log: log, options: options.Engine, deadline: int(options.Deadline / tick), queue: q, ledger: h.Ledger,
 			models: h.Ledger.Models.Clone(), begin: begin, restarts: options.Gauges.restart, taken: time.Now()},
@@ -264,16 +266,52 @@ func newOwner(options Options, link bus.Link, partition int, log io.Writer, h *b
 }
 
 // publishMarks marks the log, and lets the answers say at their end where the last snapshot is.
-func (o *Owner) publishMarks(settings bus.Settings, partition int, snapshotAt int64) error {
-	marks := settings.Route(bus.RequestsExchange, bus.TopicMarks, partition)
-	if err := o.publisher.Append(marks, bus.Headers{bus.MarkHeader: o.intake.mark}, nil); err != nil {
+func (o *Owner) publishMarks(answers bus.Route, snapshotAt int64) error {
+	if err := o.publisher.Append(o.marks, bus.Headers{bus.MarkHeader: o.intake.mark}, nil); err != nil {
 		return err
 	}
-	marks = settings.Route(bus.AnswersExchange, bus.TopicMarks, partition)
-	if err := o.publisher.Append(marks, bus.PointerHeaders(snapshotAt), nil); err != nil {
+	if err := o.publisher.Append(answers, bus.PointerHeaders(snapshotAt), nil); err != nil {
 		return err
 	}
 	return o.publisher.Settle()
+}
+
+// CheckLog makes sure that the log isn't shorter than its answers, as one that the brokers made anew: the owner reads from behind its
+// end then, and finds no message of it. It marks the log's end over the owner's link, and looks where that is.
+func (o *Owner) CheckLog() error {
+	stream, err := o.link.Read(bus.Reading{Stream: o.lines, From: bus.From{Place: bus.Last}, Window: bus.MostOpen})
+	if err != nil {
+		return err
+	}
+	publisher, err := o.link.Appender()
+	if err != nil {
+		return err
+	}
+	mark, err := bus.NewMark()
+	if err != nil {
+		return err
+	}
+	if err := publisher.Append(o.marks, bus.Headers{bus.MarkHeader: mark}, nil); err != nil {
+		return err
+	}
+	if err := publisher.Settle(); err != nil {
+		return err
+	}
+	for {
+		message, err := stream.Next()
+		switch {
+		case err != nil:
+			return err
+		case message.Headers[bus.MarkHeader] != mark:
+			continue
+		case message.Offset <= o.intake.upto.Offset:
+			return errOtherLog
+		}
+		if err := stream.Close(); err != nil {
+			return err
+		}
+		return publisher.Close()
+	}
 }
 
 // run works until the link fails.
@@ -281,6 +319,11 @@ func (o *Owner) run() error {
 	ticker := time.NewTicker(tick)
 	defer ticker.Stop()
 	o.tail = watchTail(o.link, o.lines)
+	go func() {
+		if err := o.CheckLog(); err != nil {
+			o.link.Fail(err)
+		}
+	}()
 	for {
 		if err := o.Step(); err != nil {
 			return err

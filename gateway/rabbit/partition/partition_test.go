@@ -17,10 +17,14 @@ import (
 	"gateway/rabbit/bus"
 	"gateway/rabbit/ledger"
 	"gateway/rabbit/line"
+	"gateway/rabbit/logs"
 	"gateway/rabbit/process"
 )
 
 var settings = bus.Settings{Partitions: 1}
+
+// silent is a log that nobody reads.
+var silent = logs.New(io.Discard, "test")
 
 // A log is a partition's two streams, in memory.
 type log struct {
@@ -68,8 +72,8 @@ func take(t *testing.T, l *log, from int, options process.Options, deadline int)
 	}
 	q := &queue{}
 	gauges := NewGauges()
-	o := &Owner{log: io.Discard, gauges: gauges, queue: q, intake: newIntake(io.Discard, gauges, q, h, l.firstKept),
-		work:   &work{log: io.Discard, options: options, deadline: deadline, queue: q, ledger: h.Ledger, models: h.Ledger.Models.Clone(), begin: beginProcess, restarts: func() {}},
+	o := &Owner{log: silent, gauges: gauges, queue: q, intake: newIntake(silent, gauges, q, h, l.firstKept),
+		work:   &work{log: silent, options: options, deadline: deadline, queue: q, ledger: h.Ledger, models: h.Ledger.Models.Clone(), begin: beginProcess, restarts: func() {}},
 		output: &output{publisher: l, now: time.Now, route: settings.Route(bus.AnswersExchange, bus.TopicAnswers, 0), ledger: h.Ledger, last: h.Upto()}}
 	next := int(h.Ledger.Place.Offset)
 	if next < 0 {

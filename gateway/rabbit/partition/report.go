@@ -2,7 +2,6 @@ package partition
 
 import (
 	"fmt"
-	"io"
 	"sync/atomic"
 	"time"
 
@@ -11,19 +10,6 @@ import (
 
 // reportPause is how often is told how far behind the partition is, and its log's end looked at.
 const reportPause = 10 * time.Second
-
-// prefixed writes each line behind a text.
-type prefixed struct {
-	to     io.Writer
-	prefix string
-}
-
-func (p prefixed) Write(text []byte) (int, error) {
-	if _, err := p.to.Write(append([]byte(p.prefix), text...)); err != nil {
-		return 0, err
-	}
-	return len(text), nil
-}
 
 // A report is what was told last.
 type report struct {
@@ -39,9 +25,9 @@ func (o *Owner) tell() {
 		seconds = time.Since(head.from.Sent).Seconds()
 	}
 	o.gauges.lag(waiting, o.unread(), seconds)
-	text := fmt.Sprintf("read to offset %d, %d without an answer\n", o.intake.offset, waiting)
+	text := fmt.Sprintf("read to offset %d, %d without an answer", o.intake.offset, waiting)
 	if now := time.Now(); text != o.report.text && now.Sub(o.report.at) > reportPause {
-		fmt.Fprint(o.log, text)
+		o.log.Info("%s", text)
 		o.report = report{text: text, at: now}
 	}
 }

@@ -3,7 +3,6 @@ package partition
 import (
 	"errors"
 	"fmt"
-	"io"
 	"regexp"
 	"testing"
 	"time"
@@ -62,7 +61,7 @@ func TestPatience(t *testing.T) {
 
 // An engine that could not begin is begun again soon, and later more seldom.
 func TestPausesBetweenEngines(t *testing.T) {
-	w := &work{log: io.Discard, options: process.Options{}, queue: &queue{}, ledger: ledger.New(0), restarts: func() {}}
+	w := &work{log: silent, options: process.Options{}, queue: &queue{}, ledger: ledger.New(0), restarts: func() {}}
 	last := time.Duration(0)
 	for failure := 0; failure < 100; failure++ {
 		w.greeting = 1

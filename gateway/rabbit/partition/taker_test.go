@@ -10,6 +10,7 @@ import (
 
 	"gateway/rabbit/broker"
 	"gateway/rabbit/brokertest"
+	"gateway/rabbit/logs"
 )
 
 // taken tries to take a partition over at this broker, which fails, and gives the taker and what was logged.
@@ -17,7 +18,7 @@ func taken(t *testing.T, b *brokertest.Broker, patience time.Duration) (*taker, 
 	t.Helper()
 	var log bytes.Buffer
 	on := broker.Broker{Addresses: []string{b.Address}}
-	taker := &taker{options: Options{Bus: on, Settings: settings, Log: &log, Gauges: NewGauges()}, patience: patience,
+	taker := &taker{options: Options{Bus: on, Settings: settings, Log: logs.New(&log, "test"), Gauges: NewGauges()}, patience: patience,
 		rests: map[int]time.Time{}, fails: map[int]time.Time{}}
 	link, err := on.Connect(context.Background(), "test", "")
 	if err != nil {

@@ -3,13 +3,13 @@ package partition
 import (
 	"errors"
 	"fmt"
-	"io"
 	"time"
 
 	"gateway/rabbit/answer"
 	"gateway/rabbit/bus"
 	"gateway/rabbit/ledger"
 	"gateway/rabbit/line"
+	"gateway/rabbit/logs"
 	"gateway/rabbit/process"
 )
 
@@ -20,7 +20,7 @@ const readyBytes = 4 * bus.WindowBytes
 // too much before its turn, it is begun anew, and is given the lines that it had one at a time: so the line at fault is
 // found, and refused.
 type work struct {
-	log      io.Writer
+	log      *logs.Log
 	options  process.Options
 	deadline int // in ticks
 	queue    *queue
@@ -221,7 +221,7 @@ func (w *work) end() {
 
 // again begins the engine anew, carefully.
 func (w *work) again(reason error) {
-	fmt.Fprintf(w.log, "%v; it is begun anew\n", reason)
+	w.log.Warning("%v; it is begun anew", reason)
 	w.end()
 	w.restarts()
 	for _, e := range w.queue.entries {
@@ -262,7 +262,7 @@ func (w *work) ended(reason error) {
 // neverGreeted takes in that an engine could do nothing, for which no line is to blame.
 func (w *work) neverGreeted(reason error) {
 	if w.failed++; w.failed == 1 || w.failed%100 == 0 {
-		fmt.Fprintf(w.log, "%d engines in a row could not begin: %v\n", w.failed, reason)
+		w.log.Error("%d engines in a row could not begin: %v", w.failed, reason)
 	}
 	pause := longestPause
 	if w.failed < 7 {
@@ -307,7 +307,7 @@ func (w *work) late(head *entry) {
 
 // refuse answers an entry in the engine's stead.
 func (w *work) refuse(e *entry, reason answer.Reason) {
-	fmt.Fprintf(w.log, "line %v is refused: %s\n", e.place, reason)
+	w.log.Warning("line %v is refused: %s", e.place, reason)
 	e.refuse(reason)
 	w.queue.ready += len(e.text)
 }
@@ -339,7 +339,7 @@ func (w *work) takeOne(given process.Answer) error {
 	}
 	w.answer(e, a)
 	if given.TooLong {
-		fmt.Fprintf(w.log, "line %v is refused: its answer has over %d bytes\n", e.place, w.options.Longest)
+		w.log.Warning("line %v is refused: its answer has over %d bytes", e.place, w.options.Longest)
 		e.reason = answer.TooLong
 		e.text = answer.Refusal(e.line.Client, e.number, e.reason, &e.outcome.Ticket)
 	}
@@ -371,7 +371,7 @@ func (w *work) tellBegun() {
 		return
 	}
 	now := time.Now()
-	fmt.Fprintf(w.log, "the engine has begun, %v behind the log, %v after its start\n",
+	w.log.Info("the engine has begun, %v behind the log, %v after its start",
 		now.Sub(w.taken).Round(time.Millisecond), now.Sub(w.started).Round(time.Millisecond))
 	w.taken = time.Time{}
 }

@@ -4,7 +4,6 @@ import (
 	"context"
 	"errors"
 	"fmt"
-	"io"
 	"sync"
 
 	"gateway/rabbit/bus"
@@ -31,7 +30,7 @@ type Reader struct {
 
 // work reads until the context ends.
 func (r *Reader) work(ctx context.Context) {
-	log := prefixed{r.options.Log, fmt.Sprintf("partition %d: ", r.partition)}
+	log := r.options.Log.OfPartition(r.partition)
 	err := bus.Again(ctx, r.options.Bus, log, func(ctx context.Context) error {
 		err := r.run(ctx)
 		r.failed(err)
@@ -51,6 +50,7 @@ func (r *Reader) failed(err error) {
 	r.mutex.Lock()
 	r.tried, r.failure = true, err
 	r.mutex.Unlock()
+	r.options.Gauges.Failed(r.partition, err)
 }
 
 func (r *Reader) isTried() bool {
@@ -142,17 +142,4 @@ func (r *Reader) pin(link bus.Link) error {
 		return err
 	}
 	return publisher.Close()
-}
-
-// prefixed writes each line after a text.
-type prefixed struct {
-	to     io.Writer
-	prefix string
-}
-
-func (p prefixed) Write(text []byte) (int, error) {
-	if _, err := p.to.Write(append([]byte(p.prefix), text...)); err != nil {
-		return 0, err
-	}
-	return len(text), nil
 }

@@ -14,6 +14,7 @@ import (
 	"gateway/rabbit/answer"
 	"gateway/rabbit/bus"
 	"gateway/rabbit/ledger"
+	"gateway/rabbit/logs"
 )
 
 // savePause is how often the place is written, where something came.
@@ -28,7 +29,8 @@ type Options struct {
 	Output   *os.File      // where answers go
 	File     bool          // whether Output is a file of its own, whose length belongs to the place
 	Idle     time.Duration // after so long without an answer it ends; 0 says never
-	Log      io.Writer
+	Log      *logs.Log
+	Gauges   *Gauges // new ones, where it is nil
 }
 
 // A Receiver writes the answers that it is handed.
@@ -128,6 +130,9 @@ func (r *Receiver) idled() bool {
 
 // New is a receiver that stands at the place in its file.
 func New(options Options) (*Receiver, error) {
+	if options.Gauges == nil {
+		options.Gauges = NewGauges()
+	}
 	r := &Receiver{options: options, output: bufio.NewWriterSize(options.Output, bus.MessageBytes), moved: time.Now()}
 	for partition := 0; partition < options.Settings.Partitions; partition++ {
 		r.streams = append(r.streams, -1)
@@ -165,7 +170,11 @@ func (r *Receiver) restore() error {
 			return err
 		}
 	}
-	r.dirty = !known
+	if r.dirty = !known; known {
+		r.options.Log.Info("goes on at the place in %s", r.options.Place)
+	} else {
+		r.options.Log.Info("begins at %v", r.options.From)
+	}
 	return r.Save()
 }
 
@@ -249,12 +258,18 @@ func (r *Receiver) lookForCut(partition int, part bus.Part) error {
 	if !isCut {
 		return nil
 	}
-	fmt.Fprintf(r.options.Log, "desk receive: partition %d: retention has cut the answers after line %v and up to line %v before "+
-		"they were received\n", partition, chain.Upto, begin)
+	r.options.Log.OfPartition(partition).Error("retention has cut the answers after line %v and up to line %v before they were received",
+		chain.Upto, begin)
 	text := answer.Unreceived(chain.Upto, begin)
 	chain.Reach(begin)
-	r.gaps++
+	r.lost()
 	return r.writeLine(partition, text)
+}
+
+// lost takes in that a line says what is lost.
+func (r *Receiver) lost() {
+	r.gaps++
+	r.options.Gauges.lost()
 }
 
 // writeLine writes a line of a partition's answers.
@@ -279,7 +294,7 @@ func (r *Receiver) writeAnswers(partition int, body []byte, chain *ledger.Chain,
 			continue
 		}
 		if record.Lost {
-			r.gaps++
+			r.lost()
 		}
 		if err := r.writeLine(partition, text); err != nil {
 			return err

@@ -13,6 +13,7 @@ import (
 	"gateway/rabbit/answer"
 	"gateway/rabbit/bus"
 	"gateway/rabbit/ledger"
+	"gateway/rabbit/logs"
 )
 
 // A file is a receiver that writes into a file and keeps its place, and what it told.
@@ -33,10 +34,11 @@ func opened(t *testing.T, folder string) file {
 	t.Cleanup(func() { output.Close() })
 	told := &bytes.Buffer{}
 	r, err := New(Options{Settings: bus.Settings{Partitions: 1}, From: bus.From{},
-		Place: filepath.Join(folder, "place"), Output: output, File: true, Log: told})
+		Place: filepath.Join(folder, "place"), Output: output, File: true, Log: logs.New(told, "test")})
 	if err != nil {
 		t.Fatal(err)
 	}
+	told.Reset() // it has said where it begins
 	return file{Receiver: r, path: path, told: told}
 }
 
@@ -253,7 +255,7 @@ func TestAPlaceOfOtherPartitions(t *testing.T) {
 func TestIdleTimeBeginsWithThePartitions(t *testing.T) {
 	f := opened(t, t.TempDir())
 	f.options.Idle = time.Nanosecond
-	f.readers = []*Reader{{}, {}}
+	f.readers = []*Reader{{options: f.options}, {options: f.options, partition: 1}}
 	f.readers[0].failed(nil)
 	f.moved = time.Time{}
 	if f.idled() {
@@ -263,5 +265,8 @@ func TestIdleTimeBeginsWithThePartitions(t *testing.T) {
 	f.moved = time.Time{}
 	if !f.idled() || f.readers[0].fault() != nil || f.readers[1].fault() == nil {
 		t.Error("it goes on")
+	}
+	if is, said := f.options.Gauges.Ready(); is || said != "partition 1 can't be reached: it can't be reached" {
+		t.Error(said)
 	}
 }

@@ -103,8 +103,7 @@ func (l *Lane) passBy() {
 	l.passed = true
 	reason := l.reason
 	l.mutex.Unlock()
-	fmt.Fprintf(l.sender.options.Log, "desk send: partition %d can't be reached, and its further lines are not sent: %v\n",
-		l.partition, reason)
+	l.sender.options.Log.OfPartition(l.partition).Error("it can't be reached, and its further lines are not sent: %v", reason)
 }
 
 // isStuck says whether nothing was confirmed for so long, though something is due.
@@ -142,21 +141,28 @@ func (l *Lane) failed(reason error) {
 	}
 	l.reason = reason
 	l.mutex.Unlock()
+	l.sender.options.Gauges.Failed(l.partition, reason)
 	l.sender.notice()
 }
 
 // reached takes in that there is a connection. Where nothing waits for a confirm, the lane is not stuck.
 func (l *Lane) reached() {
 	l.mutex.Lock()
+	defer l.mutex.Unlock()
 	if l.message == nil && len(l.pending) == 0 {
-		l.stuck = time.Time{}
+		l.goesOn()
 	}
-	l.mutex.Unlock()
+}
+
+// goesOn takes in that the partition is reached, and confirms what it is sent.
+func (l *Lane) goesOn() {
+	l.stuck = time.Time{}
+	l.sender.options.Gauges.Failed(l.partition, nil)
 }
 
 // work sends until all is sent, or the context ends.
 func (l *Lane) work(ctx context.Context) {
-	log := prefixed{l.sender.options.Log, fmt.Sprintf("partition %d: ", l.partition)}
+	log := l.sender.options.Log.OfPartition(l.partition)
 	err := bus.Again(ctx, l.sender.options.Bus, log, func(ctx context.Context) error {
 		err := l.run(ctx)
 		if err != nil {
@@ -377,7 +383,8 @@ func (l *Lane) confirmed() {
 			l.sent++
 		}
 	}
-	l.message, l.stuck = nil, time.Time{}
+	l.message = nil
+	l.goesOn()
 	signal(l.room)
 }
 
@@ -403,7 +410,8 @@ func (l *Lane) end() error {
 
 func (l *Lane) finish() {
 	l.mutex.Lock()
-	l.done, l.stuck = true, time.Time{}
+	l.done = true
+	l.goesOn()
 	l.mutex.Unlock()
 	l.sender.notice()
 }

@@ -7,12 +7,13 @@ import (
 	"testing"
 
 	"gateway/rabbit/bus"
+	"gateway/rabbit/logs"
 )
 
 // Models have messages of their own, each message says how many models of its batch came before, and lines that were taken
 // before count, too.
 func TestModelsHaveMessagesOfTheirOwn(t *testing.T) {
-	s := &Sender{options: Options{Settings: bus.Settings{Partitions: 1}, Named: true, Log: io.Discard}, changed: make(chan struct{}, 1)}
+	s := &Sender{options: Options{Settings: bus.Settings{Partitions: 1}, Named: true, Log: logs.New(io.Discard, "test"), Gauges: NewGauges()}, changed: make(chan struct{}, 1)}
 	l := newLane(s, 0)
 	l.known = known{batch: batchOf(false, "m", "r1")}
 	l.next = 2

@@ -13,6 +13,8 @@ import (
 	"gateway/rabbit/bus"
 	"gateway/rabbit/ledger"
 	"gateway/rabbit/line"
+	"gateway/rabbit/logs"
+	"gateway/rabbit/metrics"
 )
 
 // Options say what is sent, and as whom.
@@ -24,8 +26,9 @@ type Options struct {
 	Batch    string // the id of the batch that the input is; of a sender with a name of its own
 	GiveUp   time.Duration
 	Input    io.Reader
-	Log      io.Writer
+	Log      *logs.Log
 	Check    func(model []byte) error // refuses a faulty model
+	Gauges   *metrics.Partitions      // new ones, where it is nil
 }
 
 // A Tally counts lines of the input.
@@ -67,8 +70,14 @@ func (p pending) counts() (first bool) {
 	return first
 }
 
+// NewGauges are those of a sender that has sent nothing.
+func NewGauges() *metrics.Partitions { return metrics.NewPartitions("send") }
+
 // New makes a sender that has sent nothing.
 func New(options Options) *Sender {
+	if options.Gauges == nil {
+		options.Gauges = NewGauges()
+	}
 	s := &Sender{options: options, fault: make(chan error, 1), changed: make(chan struct{}, 1)}
 	for partition := 0; partition < options.Settings.Partitions; partition++ {
 		s.lanes = append(s.lanes, newLane(s, partition))
@@ -178,7 +187,7 @@ func (s *Sender) takeLine(ctx context.Context, text inputLine) error {
 	parsed, err := s.read(text)
 	if err != nil {
 		s.refused++
-		fmt.Fprintf(s.options.Log, "desk send: line %d is not sent: %v\n", s.count, err)
+		s.options.Log.Warning("line %d is not sent: %v", s.count, err)
 		return nil
 	}
 	if !parsed.IsModel() {
@@ -291,7 +300,7 @@ func (s *Sender) Ended(ctx context.Context, err error) (Tally, error) {
 	}
 	if err == nil && len(unreached) > 0 {
 		for _, fault := range unreached[1:] {
-			fmt.Fprintf(s.options.Log, "desk send: %v\n", fault)
+			s.options.Log.Error("%v", fault)
 		}
 		err = unreached[0]
 	}

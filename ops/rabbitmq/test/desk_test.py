@@ -161,7 +161,7 @@ class Cluster:
 
     def owners(self) -> list[tuple[str, str]]:
         """Which partition was owned by which process, one after the other."""
-        return re.findall(r"^partition (\d+): owned by process (\d+)$", self.told(), re.MULTILINE)
+        return re.findall(r"\bpartition (\d+): owned by process (\d+)$", self.told(), re.MULTILINE)
 
     def owner(self, partition: int) -> int:
         return int([process for other, process in self.owners() if int(other) == partition][-1])

@@ -1,4 +1,5 @@
-package partition
+// Package metrics shows at an address what a program of the partitions tells of itself.
+package metrics
 
 import (
 	"context"
@@ -13,14 +14,22 @@ import (
 
 const requestTimeout = 10 * time.Second
 
-// ServeMetrics shows the gauges at an address until the context ends: /metrics for Prometheus, /healthz, which has status 200
-// while the process is alive, and /readyz, which has 503 while it isn't ready. It tells where it listens.
-func ServeMetrics(ctx context.Context, address string, gauges *Gauges) (net.Addr, error) {
+// A Source is what is shown.
+type Source interface {
+	// Collectors are its metrics.
+	Collectors() []prometheus.Collector
+	// Ready tells whether the program does its work; and in words.
+	Ready() (bool, string)
+}
+
+// Serve shows a source at an address until the context ends: /metrics for Prometheus, /healthz, which has status 200 while the
+// process is alive, and /readyz, which has 503 while it isn't ready. It tells where it listens.
+func Serve(ctx context.Context, address string, of Source) (net.Addr, error) {
 	listener, err := net.Listen("tcp", address)
 	if err != nil {
 		return nil, fmt.Errorf("metrics: %w", err)
 	}
-	server := &http.Server{Handler: handler(gauges), ReadTimeout: requestTimeout, WriteTimeout: requestTimeout}
+	server := &http.Server{Handler: handler(of), ReadTimeout: requestTimeout, WriteTimeout: requestTimeout}
 	go server.Serve(listener)
 	go func() {
 		<-ctx.Done()
@@ -29,14 +38,14 @@ func ServeMetrics(ctx context.Context, address string, gauges *Gauges) (net.Addr
 	return listener.Addr(), nil
 }
 
-func handler(gauges *Gauges) http.Handler {
+func handler(of Source) http.Handler {
 	registry := prometheus.NewRegistry()
-	registry.MustRegister(gauges.Collectors()...)
+	registry.MustRegister(of.Collectors()...)
 	mux := http.NewServeMux()
 	mux.Handle("/metrics", promhttp.HandlerFor(registry, promhttp.HandlerOpts{}))
 	mux.HandleFunc("/healthz", func(w http.ResponseWriter, _ *http.Request) { fmt.Fprintln(w, "alive") })
 	mux.HandleFunc("/readyz", func(w http.ResponseWriter, _ *http.Request) {
-		ready, said := gauges.Ready()
+		ready, said := of.Ready()
 		if !ready {
 			w.WriteHeader(http.StatusServiceUnavailable)
 		}

@@ -1,0 +1,82 @@
+package broker
+
+import (
+	"context"
+	"crypto/x509"
+	"errors"
+	"io"
+	"log"
+	"net/http/httptest"
+	"strings"
+	"testing"
+
+	amqp "github.com/rabbitmq/amqp091-go"
+
+	"gateway/rabbit/brokertest"
+	"gateway/rabbit/bus"
+	"gateway/rabbit/logs"
+)
+
+// What can't pass is told from what may.
+func TestJudgements(t *testing.T) {
+	for _, c := range []struct {
+		failure error
+		is      bus.Judgement
+	}{
+		{errors.New("the connection was reset"), bus.Passing},
+		{&amqp.Error{Code: amqp.NotFound}, bus.Missing},
+		{&amqp.Error{Code: amqp.AccessRefused, Server: true}, bus.Refused},
+		{&amqp.Error{Code: amqp.AccessRefused}, bus.Doubted},
+		{&amqp.Error{Code: amqp.PreconditionFailed, Reason: "delivery acknowledgement on channel 1 timed out"}, bus.Passing},
+		{&amqp.Error{Code: amqp.PreconditionFailed, Reason: "inequivalent arg 'x-queue-type' for queue 'q'"}, bus.Wrong},
+		{&amqp.Error{Code: amqp.PreconditionFailed, Reason: "message size 9 is larger than configured max size 8"}, bus.Wrong},
+		{&amqp.Error{Code: amqp.NotImplemented}, bus.Wrong},
+		{&amqp.Error{Code: amqp.InternalError}, bus.Passing},
+		{&away{x509.UnknownAuthorityError{}}, bus.Untrusted},
+	} {
+		if is := (Broker{}).Judge(c.failure); is != c.is {
+			t.Errorf("%v: %d", c.failure, is)
+		}
+	}
+}
+
+// A certificate of a CA that isn't known is told, but not where another broker may come back.
+func TestACertificateThatIsNotTrusted(t *testing.T) {
+	server := httptest.NewUnstartedServer(nil)
+	server.Config.ErrorLog = log.New(io.Discard, "", 0)
+	server.StartTLS()
+	defer server.Close()
+	judge := func(addresses ...string) bus.Judgement {
+		b := Broker{Addresses: addresses}
+		_, err := b.Connect(context.Background(), "test", "")
+		return b.Judge(err)
+	}
+	address, away := "amqps://"+strings.TrimPrefix(server.URL, "https://"), "amqp://127.0.0.1:1"
+	for judge(address) != bus.Untrusted { // a machine with much to do may be too late for it
+	}
+	for range make([]int, 4) {
+		if is := judge(address, away); is != bus.Passing {
+			t.Errorf("beside a broker that is away: %d", is)
+		}
+	}
+}
+
+// Streams that are there with files of another length stay as they are. A queue with other arguments ends the declaring.
+func TestDeclaringBesideOtherQueues(t *testing.T) {
+	b := brokertest.Start(t)
+	on, silent := Broker{Addresses: []string{b.Address}}, logs.New(io.Discard, "test")
+	first := true
+	b.Other = func(queue string) bool {
+		is := first && brokertest.Is(queue, "lines", "1")
+		first = first && !is
+		return is
+	}
+	if err := on.Declare(context.Background(), bus.Settings{Partitions: 2}, silent); err != nil {
+		t.Error(err)
+	}
+	b.Other = func(queue string) bool { return brokertest.Is(queue, "lease", "1") }
+	var final *bus.Final
+	if err := on.Declare(context.Background(), bus.Settings{Partitions: 2}, silent); !errors.As(err, &final) {
+		t.Error(err)
+	}
+}

@@ -1,0 +1,62 @@
+package metrics
+
+import (
+	"fmt"
+	"sort"
+	"strings"
+	"sync"
+
+	"github.com/prometheus/client_golang/prometheus"
+)
+
+// Partitions are those that a program sends to or receives from, each over a connection of its own. They tell which of them can't
+// be reached. NewPartitions makes them.
+type Partitions struct {
+	program string // as the names of the metrics have it
+	mutex   sync.Mutex
+	failing map[int]error
+}
+
+// NewPartitions are those of a program: send or receive.
+func NewPartitions(program string) *Partitions {
+	return &Partitions{program: program, failing: make(map[int]error)}
+}
+
+// Failed takes in why a partition can't be reached, or nil once it is.
+func (p *Partitions) Failed(partition int, reason error) {
+	p.mutex.Lock()
+	defer p.mutex.Unlock()
+	if reason == nil {
+		delete(p.failing, partition)
+		return
+	}
+	p.failing[partition] = reason
+}
+
+// Ready tells whether each partition is reached, and which are not.
+func (p *Partitions) Ready() (bool, string) {
+	p.mutex.Lock()
+	defer p.mutex.Unlock()
+	if len(p.failing) == 0 {
+		return true, "each partition is reached"
+	}
+	var said []string
+	for partition, reason := range p.failing {
+		said = append(said, fmt.Sprintf("partition %d can't be reached: %v", partition, reason))
+	}
+	sort.Strings(said)
+	return false, strings.Join(said, "; ")
+}
+
+// Namespace begins the names of the program's metrics.
+func (p *Partitions) Namespace() string { return "desk_" + p.program }
+
+// Collectors are the metrics.
+func (p *Partitions) Collectors() []prometheus.Collector {
+	options := prometheus.GaugeOpts{Namespace: p.Namespace(), Name: "failing_partitions", Help: "Partitions that can't be reached."}
+	return []prometheus.Collector{prometheus.NewGaugeFunc(options, func() float64 {
+		p.mutex.Lock()
+		defer p.mutex.Unlock()
+		return float64(len(p.failing))
+	})}
+}

@@ -1,0 +1,145 @@
+package record
+
+import (
+	"context"
+	"crypto/sha256"
+	"encoding/json"
+	"errors"
+	"fmt"
+	"os/exec"
+	"strings"
+	"sync/atomic"
+	"time"
+	"unicode/utf8"
+
+	"gateway/engine"
+	"gateway/service"
+)
+
+const (
+	// mostText is how many bytes of an answer are kept, mostWhere how many of the rules by which answers differ.
+	mostText  = 4 << 10
+	mostWhere = 1000
+	// mostRules is how many rules of a table are named.
+	mostRules = 20
+	// mostGivenUp is for how many cases an engine is given up before the trial is.
+	mostGivenUp = 100
+	// DefaultPatience is how long an engine is waited for at one case, the reading of the model included.
+	DefaultPatience = 22 * time.Second
+)
+
+// An answer is what a case comes to under one model, as a trial keeps it: two of the same text are the same.
+type answer struct {
+	text string
+	// tables has the rules that decided, by their tables.
+	tables map[string]string
+}
+
+func answerOf(it *Decision) answer {
+	return answer{text: whole(it.String()), tables: tables(it.Rules)}
+}
+
+// whole is a text that is not too long, or else its beginning with what tells it from all others.
+func whole(text string) string {
+	if len(text) <= mostText {
+		return text
+	}
+	return fmt.Sprintf("%s .. (%d bytes, SHA-256 %x)", beginning(text, mostText), len(text), sha256.Sum256([]byte(text)))
+}
+
+// shortened is a text, or its beginning where it is too long.
+func shortened(text string, most int) string {
+	if len(text) <= most {
+		return text
+	}
+	return beginning(text, most) + " .."
+}
+
+// beginning is the first bytes of a text, up to a whole character.
+func beginning(text string, most int) string {
+	for most > 0 && !utf8.RuneStart(text[most]) {
+		most--
+	}
+	return text[:most]
+}
+
+// tables are the rules that decided, by their tables.
+func tables(text json.RawMessage) map[string]string {
+	var rules []Rule
+	if len(text) > 0 && json.Unmarshal(text, &rules) != nil {
+		return nil
+	}
+	counts, named := map[string]int{}, map[string][]string{}
+	for _, rule := range rules {
+		key := rule.Decision + rule.At
+		if counts[key]++; counts[key] > mostRules {
+			continue
+		}
+		text := fmt.Sprint(rule.Rule)
+		if rule.Default {
+			text = "its default"
+		} else if counts[key] == 1 {
+			text = "rule " + text
+		}
+		named[key] = append(named[key], text)
+	}
+	all := make(map[string]string, len(named))
+	for key, texts := range named {
+		all[key] = strings.Join(texts, ", ")
+		if left := counts[key] - mostRules; left > 0 {
+			all[key] += fmt.Sprintf(" and %d more", left)
+		}
+	}
+	return all
+}
+
+// errGivenUp ends a trial whose requests take too much.
+var errGivenUp = fmt.Errorf("an engine was given up %d times, since a request took too long or too much memory", mostGivenUp)
+
+// tell asks a model how its answers come about, and hands each to take. At the first request that takes too long, or for which
+// the engine dies, it gives what became of it; those after it were not asked.
+func (t *Trial) tell(ctx context.Context, model *engine.Model, jobs []*engine.Job, take func(*engine.Explanation) error) (*engine.Explanation, error) {
+	asking, stop := context.WithCancel(ctx)
+	defer stop()
+	patience := t.Patience
+	if patience == 0 {
+		patience = DefaultPatience
+	}
+	var isLate atomic.Bool
+	watch := time.AfterFunc(patience, func() {
+		isLate.Store(true)
+		stop()
+	})
+	defer watch.Stop()
+	explainer := &engine.Explainer{Path: t.Asker.Path, Memory: t.Asker.Memory}
+	err := explainer.Tell(asking, model, jobs, func(int) bool { return true }, func(it *engine.Explanation) error {
+		watch.Reset(patience)
+		return take(it)
+	})
+	var died *exec.ExitError
+	became := engine.Died
+	switch {
+	case err == nil || ctx.Err() != nil:
+		return nil, err
+	case isLate.Load():
+		became = engine.Late
+	case !errors.As(err, &died):
+		return nil, err
+	}
+	if t.givenUp.Add(1) > mostGivenUp {
+		return nil, errGivenUp
+	}
+	return &engine.Explanation{Outcome: engine.Outcome{Kind: became}}, nil
+}
+
+// decisionOf is what a model came to.
+func decisionOf(model *service.Asked, name string, told *engine.Explanation) *Decision {
+	it := &Decision{Refused: model.Refused(told.Outcome)}
+	if it.Refused == nil {
+		it.Result = model.Result(name, told.Outcome.Value)
+	}
+	if decided := engine.DecidedIn(told.Decisions); len(decided) > 0 {
+		it.Rules = model.Rules(decided)
+	}
+	return it
+}

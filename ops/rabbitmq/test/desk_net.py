@@ -1,0 +1,107 @@
+"""A cluster whose brokers have a network namespace and a small disk each, so that their network can be cut, each pair and each
+way, and their disks can be full. Programs reach each of them through a proxy, which can be slow."""
+import contextlib
+import os
+import pathlib
+import random
+import signal
+import socket
+import subprocess
+import threading
+import time
+
+from desk_test import Cluster, Proxy
+
+NETWORK = "10.78.0"
+BROKERS = (1, 2, 3)
+
+
+class SlowProxy(Proxy):
+    """Hands bytes on to an address, and as late as it is told."""
+
+    def __init__(self, port: int, address: str, late: "list[float]") -> None:
+        super().__init__(port, port)
+        self.address, self.late = address, late
+
+    def run(self) -> None:
+        while True:
+            near, _ = self.listener.accept()
+            threading.Thread(target=self.join_to, args=(near,), daemon=True).start()
+
+    def join_to(self, near: socket.socket) -> None:
+        try:
+            far = socket.create_connection((self.address, self.target), 5)
+            far.settimeout(None)
+        except OSError:
+            near.close()
+            return
+        self.open += [near, far]
+        for one, other in ((near, far), (far, near)):
+            threading.Thread(target=self.pump_late, args=(one, other), daemon=True).start()
+
+    def pump_late(self, one: socket.socket, other: socket.socket) -> None:
+        try:
+            while piece := one.recv(65536):
+                if self.late[0]:
+                    time.sleep(self.late[0])
+                other.sendall(piece)
+        except OSError:
+            pass
+        for end in (one, other):
+            with contextlib.suppress(OSError):
+                end.shutdown(socket.SHUT_RDWR)
+
+
+class NetCluster(Cluster):
+    def __init__(self, partitions: int, port: int, seconds: int, words: list[str]) -> None:
+        super().__init__(partitions, port, seconds, words)
+        self.environment.update(DESK_NETWORK=NETWORK, DESK_DISK="1500m", DESK_ERLANG="-kernel net_ticktime 15")
+        self.late = [0.0]  # seconds of delay, of each piece and way
+        for number in BROKERS:
+            SlowProxy(port + number, f"{NETWORK}.{number}", self.late).start()
+
+    def rule(self, what: str, number: int, *words: str) -> None:
+        subprocess.run(["ip", "netns", "exec", f"desk{number}", "iptables", "-w", what, *words, "-j", "DROP"], check=True)
+
+    def cut(self, one: int, other: int, both: bool, seconds: float) -> None:
+        """What the one broker sends the other gets lost for a while, or what each sends the other."""
+        rules = [("OUTPUT", "-d", f"{NETWORK}.{other}")] + ([("INPUT", "-s", f"{NETWORK}.{other}")] if both else [])
+        for words in rules:
+            self.rule("-A", one, *words)
+        time.sleep(seconds)
+        for words in rules:
+            self.rule("-D", one, *words)
+
+    def pid(self, number: int) -> int:
+        return int((self.folder / f"broker{number}.pid").read_text())
+
+    def still(self, number: int, seconds: float) -> None:
+        """A broker stands still for a while."""
+        os.kill(self.pid(number), signal.SIGSTOP)
+        time.sleep(seconds)
+        os.kill(self.pid(number), signal.SIGCONT)
+
+    def disk(self, number: int) -> pathlib.Path:
+        return self.folder / f"desk{number}@desk{number}"
+
+    def full(self, number: int, seconds: float) -> None:
+        """A broker's disk is full for a while."""
+        filler = self.disk(number) / "filler"
+        with contextlib.suppress(OSError), open(filler, "wb") as file:
+            while True:
+                file.write(bytes(1 << 20))
+                file.flush()
+        time.sleep(seconds)
+        filler.unlink()
+
+    def alarm(self, number: int, seconds: float) -> None:
+        """A broker says that it has no memory left, and takes nothing."""
+        self.run("ctl", str(number), "set_vm_memory_high_watermark", "absolute", "1")
+        time.sleep(seconds)
+        self.run("ctl", str(number), "set_vm_memory_high_watermark", "0.4")
+
+    def slow(self, seconds: float) -> None:
+        """All programs reach the brokers late, for a while."""
+        self.late[0] = random.uniform(0.05, 0.4)
+        time.sleep(seconds)
+        self.late[0] = 0.0
