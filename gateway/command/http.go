@@ -17,6 +17,7 @@ import (
 	"time"
 
 	"github.com/spf13/cobra"
+	"github.com/spf13/pflag"
 
 	"gateway/dmn"
 	"gateway/engine"
@@ -70,8 +71,7 @@ call.`,
 	flags.BoolVar(&options.open, "open", false, "Let anyone call who can reach the address, by any name, without a token")
 	options.tls.add(flags)
 	flags.IntVar(&options.service.AddressLimit, "address-limit", service.MaxConnections/2, "Allow this `NUMBER` of connections from one address")
-	flags.IntVar(&options.service.Processes, "processes", least(runtime.NumCPU(), maxProcesses), "Run this `NUMBER` of engines, 1 to 64")
-	flags.Lookup("processes").DefValue = "one per processor, at most 64"
+	processesFlag(flags, &options.service.Processes)
 	flags.Var(&options.deadline, "deadline", "Give one request this long, 10ms to 1h")
 	flags.Var(&options.memory, "memory", "Limit the address space of each engine, from 32MiB on; 0 for no limit")
 	flags.StringVar(&options.service.Tokens, "tokens", "", "Ask callers for one of the tokens in this `FILE`")
@@ -132,6 +132,15 @@ func turns() <-chan struct{} {
 
 // maxProcesses is the most engines.
 const maxProcesses = 64
+
+// processesFlag adds the option that says how many engines there are.
+func processesFlag(flags *pflag.FlagSet, count *int) {
+	flags.IntVar(count, "processes", enginesFor(runtime.NumCPU()), "Run this `NUMBER` of engines, 1 to 64")
+	flags.Lookup("processes").DefValue = "one per processor, at most 64"
+}
+
+// enginesFor is how many engines there are on a machine where nothing says it.
+func enginesFor(processors int) int { return least(processors, maxProcesses) }
 
 // maxTried is of how many pieces engines are asked at once at a trial.
 const maxTried = 2

@@ -115,7 +115,8 @@ func wholeImport(result *profile.Result) ([]byte, error) {
 		Required []string                   `json:"required,omitempty"`
 		Places   map[string]profile.Place   `json:"places"`
 		// Diagram stands where the file draws each input and decision.
-		Diagram map[string]dmn.Box `json:"diagram,omitempty"`
-	}{&result.Model, result.Names, result.Locals, result.Types, result.Required, result.Places, result.Diagram})
+		Diagram  map[string]dmn.Box `json:"diagram,omitempty"`
+		Language string             `json:"language,omitempty"`
+	}{&result.Model, result.Names, result.Locals, result.Types, result.Required, result.Places, result.Diagram, result.Language})
 	return bytes.TrimRight(text.Bytes(), "\n"), err
 }

@@ -8,6 +8,7 @@ import (
 	"path/filepath"
 	"strings"
 	"testing"
+	"time"
 
 	"gateway/profile"
 )
@@ -159,6 +160,14 @@ func TestHostileFiles(t *testing.T) {
 			`</knowledgeRequirement><literalExpression><text>f%[1]d()</text></literalExpression></decision>`, n)
 	}
 	invocation := "<invocation><literalExpression><text>f@</text></literalExpression></invocation>"
+	greatContexts := func(of, text, declared string) string {
+		return header + `<itemDefinition name="t">` + repeated(9900, `<itemComponent name="c#"><typeRef>`+of+`</typeRef></itemComponent>`) +
+			`</itemDefinition><inputData id="o" name="o"><variable name="o"` + declared + `/></inputData><businessKnowledgeModel id="f" name="f">` +
+			`<encapsulatedLogic><formalParameter name="x" typeRef="t"/><literalExpression><text>1</text></literalExpression></encapsulatedLogic>` +
+			`</businessKnowledgeModel><decision id="d" name="d"><informationRequirement><requiredInput href="#o"/></informationRequirement>` +
+			`<knowledgeRequirement><requiredKnowledge href="#f"/></knowledgeRequirement><literalExpression><text>[` + text +
+			strings.Repeat(",f(o)", 100_000) + `]</text></literalExpression></decision></definitions>`
+	}
 	// In the forms # stands for a number, so the sign of a reference is written as its entity.
 	knowledge = strings.ReplaceAll(knowledge, `href="#`, `href="&#35;`)
 	knowledge = strings.ReplaceAll(knowledge, "&#35;", "&hash;")
@@ -182,7 +191,12 @@ func TestHostileFiles(t *testing.T) {
 		"invocations that double":   header + first + build(fmt.Sprintf(knowledge, "<literalExpression><text>[f@(), f@()]</text></literalExpression>"), 64) + knows(63) + "</definitions>",
 		"boxed ones that double":    header + first + build(fmt.Sprintf(knowledge, "<list>"+invocation+invocation+"</list>"), 64) + knows(63) + "</definitions>",
 		"calls in a row":            header + first + build(fmt.Sprintf(knowledge, "<literalExpression><text>f@()</text></literalExpression>"), 5000) + knows(4999) + "</definitions>",
-		"calls of great contexts":   header + `<itemDefinition name="t">` + repeated(9900, `<itemComponent name="c#"><typeRef>number</typeRef></itemComponent>`) + `</itemDefinition><inputData id="o" name="o"><variable name="o" typeRef="t"/></inputData><businessKnowledgeModel id="f" name="f"><encapsulatedLogic><formalParameter name="x" typeRef="t"/><literalExpression><text>1</text></literalExpression></encapsulatedLogic></businessKnowledgeModel><decision id="d" name="d"><informationRequirement><requiredInput href="#o"/></informationRequirement><knowledgeRequirement><requiredKnowledge href="#f"/></knowledgeRequirement><literalExpression><text>[f(o)` + strings.Repeat(",f(o)", 100_000) + `]</text></literalExpression></decision></definitions>`,
+		"calls of great contexts":   greatContexts("number", "f(o)", ` typeRef="t"`),
+		"calls of counted contexts": greatContexts("number", "0.5", ` typeRef="t"`),
+		"calls of dated contexts":   greatContexts("date", "f(o)", ` typeRef="t"`),
+		"calls of open contexts":    greatContexts("number", "f(o)", ""),
+		"contexts beside numbers":   strings.ReplaceAll(greatContexts("number", "0.5", ` typeRef="t"`), ",f(o)", ",o,1,o,1,o,1"),
+		"a literal of a megabyte":   decided("a + 0." + strings.Repeat("0", 1<<20) + "1"),
 		"a long name":               header + `<inputData name="` + strings.Repeat("a ", 500_000) + `"/></definitions>`,
 		"services without inputs":   header + repeated(200, `<inputData id="i#" name="i#"/>`) + `<decision id="d" name="d">` + strings.ReplaceAll(repeated(200, `<informationRequirement><requiredInput href="&hash;i#"/></informationRequirement>`), "&hash;", "#") + `<literalExpression><text>1</text></literalExpression></decision>` + strings.ReplaceAll(repeated(10_000, `<decisionService id="s#" name="s#"><outputDecision href="&hash;d"/></decisionService>`), "&hash;", "#") + "</definitions>",
 		"values and literals":       header + `<decision id="d" name="d"><decisionTable><output name="r"><outputValues><text>0` + repeated(30_000, `,#`) + `</text></outputValues></output>` + strings.Repeat(`<rule><outputEntry><text>-1</text></outputEntry></rule>`, 30_000) + "</decisionTable></decision></definitions>",
@@ -191,10 +205,12 @@ func TestHostileFiles(t *testing.T) {
 	} {
 		t.Run(name, func(t *testing.T) {
 			path := file(t, text)
+			before := time.Now()
 			status, out, errs := imports(path)
 			if status != 3 || out != "" || !strings.HasPrefix(errs, path+":1:") {
 				t.Errorf("status %d, %d bytes, and %.300s", status, len(out), errs)
 			}
+			t.Logf("%d bytes took %v", len(text), time.Since(before))
 		})
 	}
 }

@@ -8,7 +8,6 @@ import (
 	"fmt"
 	"io"
 	"os"
-	"runtime"
 	"strings"
 	"time"
 
@@ -49,8 +48,7 @@ func (o *rowsOptions) add(flags *pflag.FlagSet) {
 	flags.StringVar(&o.separator, "separator", "", "The cells of CSV are separated by this `CHARACTER` (default: found in the header)")
 	flags.StringVar(&o.encoding, "encoding", "utf-8", "Read files without a byte order mark as utf-8 or windows-1252, by `NAME`")
 	flags.BoolVar(&o.files.Unknown, "unknown", false, "Leave alone columns and members that the model doesn't know")
-	flags.IntVar(&o.processes, "processes", runtime.NumCPU(), "Run this `NUMBER` of engines, 1 to 64")
-	flags.Lookup("processes").DefValue = "one per processor"
+	processesFlag(flags, &o.processes)
 	flags.Var(&o.deadline, "deadline", "Give one row this long, 10ms to 1h")
 	flags.Var(&o.memory, "memory", "Limit the address space of each engine, from 32MiB on; 0 for no limit")
 	translationFlags(flags, &o.reading)

@@ -78,6 +78,15 @@ func TestVersionsAndPrefixes(t *testing.T) {
 	}
 }
 
+func TestLanguage(t *testing.T) {
+	for attribute, due := range map[string]string{`xml:lang=" de "`: "de", `lang="de"`: "", `xmlns:x="urn:x" x:lang="de"`: "", "": ""} {
+		file := read(t, []byte("<definitions "+dmn13+" "+attribute+"/>"))
+		if got := file.Root.Language(); got != due {
+			t.Errorf("%s is the language %q", attribute, got)
+		}
+	}
+}
+
 func TestPlacesOfElements(t *testing.T) {
 	file := read(t, []byte("<?xml version=\"1.0\"?>\n<!-- ä\n -->\n<definitions "+dmn13+">\n  <inputData name=\"é\"/><inputData/>\n"+
 		"</definitions>"))

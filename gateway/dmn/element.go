@@ -41,6 +41,19 @@ func (e *Element) Attribute(name string) string {
 	return ""
 }
 
+// xmlSpace is the namespace of the prefix xml, which no file declares.
+const xmlSpace = "http://www.w3.org/XML/1998/namespace"
+
+// Language is the language that xml:lang says of the element, as "de"; empty where it says none.
+func (e *Element) Language() string {
+	for _, a := range e.Attributes {
+		if a.Name.Space == xmlSpace && a.Name.Local == "lang" {
+			return strings.TrimSpace(a.Value)
+		}
+	}
+	return ""
+}
+
 // ID is the element's id; empty where it has none.
 func (e *Element) ID() string { return e.Attribute("id") }
 

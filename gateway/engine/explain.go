@@ -91,23 +91,35 @@ func readExplanation(text []byte, cut bool, room func(size int) bool) (Explanati
 	if cut {
 		return Explanation{IsLong: true, Outcome: Outcome{Kind: Huge}}, nil
 	}
-	var line struct {
-		Decisions                 json.RawMessage
-		Result                    json.RawMessage
-		Explained, Fault, Refused string
+	if len(text) == 0 || text[0] != '{' || text[len(text)-1] != '}' {
+		return Explanation{}, fmt.Errorf("reading an explanation: it is no object: %.40q", text)
 	}
-	if err := json.Unmarshal(text, &line); err != nil {
-		return Explanation{}, fmt.Errorf("reading an explanation: %w", err)
-	}
-	it := Explanation{Decisions: line.Decisions, Outcome: Outcome{Value: line.Result}}
+	var it Explanation
+	var refused, fault, explained, decisions []byte
+	eachMember(text, func(key, value []byte) {
+		switch string(key) {
+		case "result":
+			it.Outcome.Value = append([]byte(nil), value...)
+		case "decisions":
+			decisions = value
+		case "refused":
+			refused = value
+		case "fault":
+			fault = value
+		case "explained":
+			explained = value
+		}
+	})
 	switch {
-	case line.Refused != "":
-		it.Outcome.Kind, it.Outcome.Word = Refused, line.Refused
-	case line.Fault != "":
+	case refused != nil:
+		it.Outcome.Kind, it.Outcome.Word = Refused, unquoted(refused)
+	case fault != nil:
 		it.Outcome.Kind = Limit
 	}
-	if line.Explained != "" || !room(len(line.Decisions)) {
-		it.Decisions, it.IsLong = nil, true
+	if explained != nil || !room(len(decisions)) {
+		it.IsLong = true
+	} else if decisions != nil {
+		it.Decisions = append(json.RawMessage(nil), decisions...)
 	}
 	return it, nil
 }

@@ -166,6 +166,70 @@ func TestChangesAreFound(t *testing.T) {
 	}
 }
 
+// Entries are checked in batches, one of them with a long entry: what is wrong is said in the order of the entries.
+func TestFaultsOfBatchesAreInOrder(t *testing.T) {
+	folder := filepath.Join(t.TempDir(), "journal")
+	j := open(t, folder, 1<<30)
+	a, entries := namedModel("a"), smallEntries(6000)
+	entries[3000].Asked = []byte("{\"long\":\"" + strings.Repeat("x", 6*batchBytes) + "\"}\n")
+	if err := j.Record(&a, entries); err != nil {
+		t.Fatal(err)
+	}
+	if err := j.Close(); err != nil {
+		t.Fatal(err)
+	}
+	if report := verified(t, folder, ""); len(report.Faults) > 0 || report.Last != 6001 {
+		t.Fatalf("%+v", report)
+	}
+	path := paths(t, folder)[0]
+	text, err := os.ReadFile(path)
+	if err != nil {
+		t.Fatal(err)
+	}
+	due := []string{}
+	for _, n := range []int{5, 1500, 2999, 3000, 3001, 5999} {
+		due = append(due, fmt.Sprintf("entry %d is not what was recorded, or the one before it is not", n+2))
+		id := fmt.Sprintf(`-b9a13761-%d"`, n)
+		text = bytes.Replace(text, []byte(id), []byte(strings.Replace(id, "b9a", "b8a", 1)), 1)
+	}
+	if err := os.WriteFile(path, text, 0o600); err != nil {
+		t.Fatal(err)
+	}
+	var said []string
+	for _, fault := range verified(t, folder, "").Faults {
+		said = append(said, fault.Text)
+	}
+	if strings.Join(said, "\n") != strings.Join(due, "\n") {
+		t.Errorf("it says %q, and %q is due", said, due)
+	}
+}
+
+// No more faults are listed than may be, also where each entry has one.
+func TestMostFaultsAreListed(t *testing.T) {
+	folder := filepath.Join(t.TempDir(), "journal")
+	j := open(t, folder, 1<<30)
+	a := namedModel("a")
+	if err := j.Record(&a, smallEntries(5000)); err != nil {
+		t.Fatal(err)
+	}
+	if err := j.Close(); err != nil {
+		t.Fatal(err)
+	}
+	path := paths(t, folder)[0]
+	text, err := os.ReadFile(path)
+	if err != nil {
+		t.Fatal(err)
+	}
+	text = bytes.ReplaceAll(text, []byte(`"result":950`), []byte(`"result":951`))
+	if err := os.WriteFile(path, text, 0o600); err != nil {
+		t.Fatal(err)
+	}
+	faults := verified(t, folder, "").Faults
+	if len(faults) != mostFaults || !strings.HasPrefix(faults[mostFaults-1].Text, fmt.Sprintf("entry %d ", mostFaults+1)) {
+		t.Errorf("%d faults, the last %v", len(faults), faults[len(faults)-1])
+	}
+}
+
 // What is deleted, replaced, cut or longer under the journal ends it, and nothing more is recorded.
 func TestChangesUnderneathEndIt(t *testing.T) {
 	for name, change := range map[string]func(path string) error{

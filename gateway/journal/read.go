@@ -51,7 +51,7 @@ func openFile(path string) (*cursor, error) {
 		opened.Close()
 		return nil, err
 	}
-	c.from = bufio.NewReaderSize(opened, 1<<20)
+	c.from = bufio.NewReaderSize(opened, 256<<10)
 	return c, nil
 }
 

@@ -9,6 +9,7 @@ import (
 	"io"
 	"os"
 	"path/filepath"
+	"runtime"
 	"syscall"
 )
 
@@ -50,7 +51,9 @@ const mostFaults = 100
 
 // A verifier goes over the entries of a folder.
 type verifier struct {
-	chain  *chainer
+	checker *checker
+	// at is the last entry.
+	at     link
 	report Report
 	head   [sha256.Size]byte
 	// path is that of the entry before, paths are all that were seen.
@@ -60,7 +63,7 @@ type verifier struct {
 
 // Verify reads a whole journal, and says what in it is not as it was recorded. With a head it says which entry has that sum.
 func Verify(folder, head string) (*Report, error) {
-	v := &verifier{chain: newChainer(link{}), paths: map[string]bool{}}
+	v := &verifier{paths: map[string]bool{}}
 	if head != "" {
 		is := false
 		if v.head, is = sumOf(head); !is {
@@ -73,18 +76,29 @@ func Verify(folder, head string) (*Report, error) {
 	}
 	defer r.Close()
 	v.report.IsOpen = isOpen(folder)
-	for {
-		it, err := r.Next()
-		if errors.Is(err, io.EOF) {
-			break
-		}
-		if err != nil {
-			return nil, err
-		}
-		v.take(it)
+	// One batch is read while each processor has one.
+	v.checker = newChecker(runtime.GOMAXPROCS(0) + 1)
+	err = v.read(r)
+	v.report.Faults = v.checker.end()
+	if err != nil {
+		return nil, err
 	}
 	v.end(r.Cut, head)
 	return &v.report, nil
+}
+
+// read takes all entries.
+func (v *verifier) read(r *Reader) error {
+	for {
+		it, err := r.Next()
+		if errors.Is(err, io.EOF) {
+			return nil
+		}
+		if err != nil {
+			return err
+		}
+		v.take(it)
+	}
 }
 
 // isOpen says whether a process has the journal open.
@@ -108,7 +122,7 @@ var (
 	prunedKey = []byte(`,"pruned":[`)
 )
 
-// take holds an entry against the chain.
+// take has an entry held against the chain.
 func (v *verifier) take(it *Read) {
 	if it.Path != v.path {
 		v.path, v.paths[it.Path] = it.Path, true
@@ -119,11 +133,9 @@ func (v *verifier) take(it *Read) {
 		return
 	}
 	v.report.Entries++
-	isKnown := v.follow(it)
-	if next := v.chain.next(it.text); isKnown && next.sum != it.at.sum {
-		v.fault(it.Path, it.Line, "entry %d is not what was recorded, or the one before it is not", it.N)
-	}
-	v.chain.at = it.at
+	before, misplaced := v.follow(it)
+	v.checker.add(it, before, misplaced)
+	v.at = it.at
 	if it.at.sum == v.head {
 		v.report.At = it.N
 	}
@@ -135,26 +147,26 @@ func (v *verifier) take(it *Read) {
 	}
 }
 
-// follow says whether the chain before an entry is known, and notes entries that are missing before it.
-func (v *verifier) follow(it *Read) bool {
-	due := v.chain.at.n + 1
+// follow gives the chain before an entry, or nil where it is not known, and what is wrong with the entry's place.
+func (v *verifier) follow(it *Read) (before *link, misplaced string) {
+	due := v.at.n + 1
 	switch {
 	case v.report.First == 0:
 		v.report.First = it.N
 		if it.N == 1 {
-			return true
+			return &v.at, ""
 		}
 	case it.N == due:
-		return true
+		return &v.at, ""
 	case it.N < due:
-		v.fault(it.Path, it.Line, "entry %d is there twice, or not in its place", it.N)
-		return false
+		return nil, fmt.Sprintf("entry %d is there twice, or not in its place", it.N)
 	default:
-		v.fault(it.Path, it.Line, "entries %d to %d are missing", due, it.N-1)
+		misplaced = fmt.Sprintf("entries %d to %d are missing", due, it.N-1)
 	}
-	before, is := beforeOf(it)
-	v.chain.at = link{it.N - 1, before}
-	return is
+	if sum, is := beforeOf(it); is {
+		before = &link{it.N - 1, sum}
+	}
+	return before, misplaced
 }
 
 // beforeOf is the chain before an entry that begins a file.
@@ -181,8 +193,8 @@ func (v *verifier) end(cut []string, head string) {
 	if r.First > 1 && r.Pruned < r.First-1 {
 		v.fault("", 0, "entries %d to %d are missing, and no entry says that they were removed", r.Pruned+1, r.First-1)
 	}
-	if r.Last = v.chain.at.n; r.Last > 0 {
-		r.Head = v.chain.at.String()
+	if r.Last = v.at.n; r.Last > 0 {
+		r.Head = v.at.String()
 	}
 	if head != "" && r.At == 0 {
 		v.fault("", 0, "no entry has the sum %s: the chain is not the one of which it was the head, or that entry was removed", head)

@@ -53,17 +53,22 @@ type assembler struct {
 	origins map[string]Origin
 	// counts tells that numbers are counted in units: then places have the texts of the files.
 	counts bool
+	// schemas are those of the types of places, which share them.
+	schemas map[*valueType]json.RawMessage
 }
 
 // assembled is the result of a graph that was translated without a refusal.
 func assembled(g *graph, services []service, counts bool) *Result {
 	a := &assembler{words: g.words, tick: g.offsets.tick, homes: g.refusals.homes, places: map[string]Place{}, origins: map[string]Origin{},
-		counts: counts}
+		counts: counts, schemas: map[*valueType]json.RawMessage{}}
 	if len(g.sources) > 0 {
 		a.origin("", g.sources[0].file.Root)
 	}
 	result := &Result{Names: g.words.names, Locals: g.words.locals, Types: map[string]json.RawMessage{}, Places: a.places,
 		Origins: a.origins, Diagram: drawn(g)}
+	if len(g.sources) > 0 {
+		result.Language = g.sources[0].file.Root.Language()
+	}
 	result.Model = model.Model{Inputs: []string{}, Decisions: []model.Decision{}, Services: []model.Service{}}
 	for i, n := range g.inputs {
 		result.Model.Inputs = append(result.Model.Inputs, n.word)
@@ -140,11 +145,21 @@ func (a *assembler) counted(pointer string, value phrase) {
 	case value.over != nil:
 		place.Over, place.Decimals = value.over.text, value.of.units.scale
 	case value.of.isCounted() || value.of.hasTemporal():
-		place.Type = schema(value.of, a.words, a.tick)
+		place.Type = a.schema(value.of)
 	default:
 		return
 	}
 	a.places[pointer] = place
+}
+
+// schema is the schema of a type, made once.
+func (a *assembler) schema(of *valueType) json.RawMessage {
+	made, found := a.schemas[of]
+	if !found {
+		made = schema(of, a.words, a.tick)
+		a.schemas[of] = made
+	}
+	return made
 }
 
 // box is the expression of a box at a pointer.

@@ -31,7 +31,6 @@ var builtins = map[string]builtin{
 
 // insteadOf tells what to write in place of functions that the engine has not.
 var insteadOf = map[string]string{
-	"mean":        "sum(l) divided by count(l), by a boxed context: see docs/MODEL.md, Division",
 	"day of week": "d.weekday, which is 1 for Monday", "month of year": "d.month",
 	"list contains": "a list of numbers, texts or booleans by its declared type, and a value of theirs",
 }

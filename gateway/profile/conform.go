@@ -27,7 +27,7 @@ func (t *translator) conform(b *box, of, due *valueType, refuse func(why, instea
 		return b, refusedType
 	case single:
 		refuse(fmt.Sprintf("it is a list, where %s is declared: the standard takes the member of a list of one, and null "+
-			"for others", due), "a list as the declared type")
+			"for others", due), insteadOfList(due))
 		return b, refusedType
 	}
 	switch due.kind {
@@ -41,6 +41,14 @@ func (t *translator) conform(b *box, of, due *valueType, refuse func(why, instea
 	refuse(fmt.Sprintf("it may be of another type than %s, which is declared: the standard makes null of that", due),
 		"a declared type for what it is made of")
 	return b, refusedType
+}
+
+// insteadOfList tells what to write for a list where a scalar is declared.
+func insteadOfList(due *valueType) string {
+	if due.kind == numberKind && len(due.allowed.all) == 0 {
+		return "if count(l) = 1 then sum(l) else null, of a list l of numbers; or a list as the declared type"
+	}
+	return "a list as the declared type"
 }
 
 // unfit tells why no value of a type is of a declared one.

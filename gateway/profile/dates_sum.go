@@ -107,7 +107,7 @@ func (t *translator) insteadOfOther(one, other kindOfType) string {
 	case other == anyKind:
 		return "a declared type for what has none"
 	case other == textKind:
-		return "a context or a list of the parts, which the caller joins"
+		return "a context of the parts, which the caller joins"
 	case one == offsetDateTimeKind:
 		return "a days and time duration, or a date and time without an offset"
 	case isPoint[one]:

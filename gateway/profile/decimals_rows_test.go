@@ -119,6 +119,13 @@ var decimalRows = []decimalRow{
 	{"a + 0." + strings.Repeat("0", 90) + "1", `{}`, "refused: decimals"}, {"a * 0." + strings.Repeat("0", 90) + "1", `{}`, "refused: decimals"},
 	{"a < 0." + strings.Repeat("0", 6175) + "1", `{"a":0}`, "true"}, {"a < 0." + strings.Repeat("0", 6176) + "1", `{}`, "refused: decimals"},
 	{"(a + 1.5) * (b + 0.25)", `{"a":0.5,"b":0.75}`, "2"},
+	// The standard rounds on the way, or a constant is past the range where it meets finer numbers.
+	{"0.0000000000000000000000000000000001 + 1000000000000000.5 - 1000000000000000.5", `{}`, "refused: with 34 decimals"},
+	{"0.000000007450580596923828125 * 0.000000007450580596923828125 * 18014398509481984", `{}`, "refused: with 54 decimals"},
+	{"a * b * 0.00000001 + 9223372036854.5", `{}`, "refused: with 12 decimals"}, {"[a * b * 0.00000001, 9223372036854.5]", `{}`, "refused: with 12 decimals"},
+	{"if f then a * b * 0.00000001 else 9223372036854.5", `{}`, "refused: with 12 decimals"},
+	{"9223372036854775807 + 0.5 - 0.5 = a", `{"a":5}`, "false"}, {"9223372036854775807 - 0.5 > a", `{"a":5}`, "true"},
+	{"9223372036854775807 - 0.5 + a", `{}`, "refused: past"}, {"0.1 + 0.2 - 0.3", `{}`, "0"}, {"1.5 * 2 * 0.5", `{}`, "1.5"},
 	// Comparisons: a literal moves to the unit of the value.
 	{"a < 1234567890123.4567890123", `{"a":1234567890123.45}`, "true"}, {"a < 1234567890123.4567890123", `{"a":1234567890123.46}`, "false"},
 	{"a < 99999999999999999999.5", `{"a":92233720368547758.07}`, "true"}, {"a > -99999999999999999999.5", `{"a":-92233720368547758.07}`, "true"},

@@ -164,3 +164,29 @@ func TestQuotientsByAVariableOverTheWholeRange(t *testing.T) {
 		}
 	}
 }
+
+// TestAWrongQuotientIsALimit has a model whose quotients by a variable are spoilt: multiplied back they are not the numerator, so that
+// each answer is a limit and none is another number.
+func TestAWrongQuotientIsALimit(t *testing.T) {
+	result := taken(t, definitions(input("x", "number"), input("y", "number"), decision("q", "number", literal("decimal(x / y, 0)"), "x", "y")))
+	line, err := profile.Line(&result.Model)
+	if err != nil {
+		t.Fatal(err)
+	}
+	const found = `"quotient_1","expr":"`
+	if strings.Count(string(line), found) != 1 {
+		t.Fatalf("no quotient is in %s", line)
+	}
+	d := startDesk(t)
+	for _, wrong := range []string{"1 + ", "-1 + ", "2 * "} {
+		d.tell(strings.Replace(string(line), found, found+wrong, 1))
+		for _, inputs := range []string{`{"x":7,"y":2}`, `{"x":-7,"y":2}`, `{"x":9,"y":-3}`, `{"x":2147483647,"y":2147483647}`, `{"x":9223372036854775807,"y":1}`} {
+			if answer := d.ask("q", inputs); !strings.Contains(answer, `"fault":"limit"`) {
+				t.Errorf("%s with a wrong quotient: %s came", inputs, answer)
+			}
+		}
+		if answer := d.ask("q", `{"x":7,"y":0}`); answer != "null" {
+			t.Errorf("of a divisor of 0 came %s", answer)
+		}
+	}
+}

@@ -37,6 +37,6 @@
 // is an input: see clock.go.
 //
 // An import makes two passes: the first finds the types of inputs that declare none, the last translates. Where the files ask
-// for fractions, others between find the scales of inputs: one what meets fractions, and then as many as make some scale
-// finer. Files that ask for none are counted in ones, and become the model that they became before.
+// for fractions, one between finds what meets them, and the last is made again where some scale has to be finer. Files that ask
+// for none are counted in ones, and become the model that they became before.
 package profile

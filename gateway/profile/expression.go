@@ -67,8 +67,12 @@ func (t *translator) branches(n *feel.If, s *scope) phrase {
 	return choice(condition, both[0], both[1])
 }
 
-// number translates a numeric literal: 1.0 is 1.
+// number translates a numeric literal: 1.0 is 1. Each text is read once.
 func (t *translator) number(n *feel.Number) phrase {
+	if known, is := t.constants[n.Text]; is {
+		t.fractions = t.fractions || !known.of.isPlain()
+		return known
+	}
 	whole := n.Text
 	if point := strings.IndexByte(whole, '.'); point >= 0 {
 		if strings.Trim(whole[point+1:], "0") != "" {
@@ -85,6 +89,7 @@ func (t *translator) number(n *feel.Number) phrase {
 	}
 	made := constant(whole, numberType)
 	made.number, _ = new(big.Rat).SetString(whole)
+	t.constants[n.Text] = made
 	return made
 }
 
@@ -124,15 +129,10 @@ func (t *translator) input(n *feel.Input) phrase {
 
 func (t *translator) list(n *feel.List, s *scope) phrase {
 	members := make([]phrase, len(n.Items))
-	of := nullType
 	for i, item := range n.Items {
 		members[i] = t.chosen(item, s)
-		of = joined(of, members[i].of)
 	}
-	if len(members) == 0 {
-		of = nullType
-	}
-	t.together(members, t.refusal(n))
+	of := t.together(members, t.refusal(n))
 	return listing(members, listOf(of))
 }
 

@@ -63,7 +63,7 @@ type graph struct {
 	clock *clock
 	// offsets say which times of inputs have an offset, and what they are counted in.
 	offsets *offsets
-	// constants are the numbers with decimals that texts have, by their digits.
+	// constants are the numbers that texts have, by their digits.
 	constants map[string]phrase
 }
 

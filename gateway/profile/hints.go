@@ -1,6 +1,8 @@
 package profile
 
 import (
+	"fmt"
+	"strings"
 	"unicode/utf8"
 
 	"gateway/feel"
@@ -13,7 +15,7 @@ func (t *translator) insteadOfCall(n *feel.Call, name string) string {
 		if len(n.Arguments) == 2 {
 			return t.insteadOfPrefix(n.Arguments[0].Value, n.Arguments[1].Value)
 		}
-	case "is defined", "get or else", "odd", "even":
+	case "is defined", "get or else", "odd", "even", "mean":
 		if made := t.insteadByArguments(n, name); made != "" {
 			return made
 		}
@@ -39,6 +41,10 @@ func (t *translator) insteadByArguments(n *feel.Call, name string) string {
 		return "modulo(" + texts[0] + ", 2) > 0"
 	case name == "even" && len(texts) == 1:
 		return "modulo(" + texts[0] + ", 2) < 1"
+	case name == "mean" && len(texts) == 1:
+		return fmt.Sprintf("sum(%[1]s) / count(%[1]s), compared or rounded", texts[0])
+	case name == "mean":
+		return fmt.Sprintf("sum(%s) / %d, compared or rounded", strings.Join(texts, ", "), len(texts))
 	}
 	return ""
 }

@@ -42,6 +42,31 @@ func TestHintsMeanTheSame(t *testing.T) {
 	}
 }
 
+// TestHintsOfMeans follows the hints of means, which are compared or rounded as the hint says.
+func TestHintsOfMeans(t *testing.T) {
+	list := `<itemDefinition name="tNumbers" isCollection="true"><typeRef>number</typeRef></itemDefinition>`
+	for _, c := range []struct {
+		text, hint, written string
+		due                 [][2]string
+	}{
+		{"mean(x) > 2", "sum(x) / count(x)", "sum(x) / count(x) > 2", [][2]string{{"[100,301]", "true"}, {"[100,300]", "false"}, {"[]", "null"},
+			{"null", "null"}, {"[500,null]", "null"}}},
+		{"decimal(mean(x), 2)", "sum(x) / count(x)", "decimal(sum(x) / count(x), 2)", [][2]string{{"[100,101]", "100"}, {"[100,103]", "102"},
+			{"[100,100,101]", "100"}, {"[]", "null"}, {"[null]", "null"}}},
+		{"mean(count(x), 4) > 2", "sum(count(x), 4) / 2", "sum(count(x), 4) / 2 > 2", [][2]string{{"[1]", "true"}, {"[]", "false"}, {"null", "null"}}},
+	} {
+		parts := []string{list, input("x", "tNumbers")}
+		refused := refusedWith(t, definitions(append(parts, decision("d", "", literal(c.text), "x"))...), "no function mean")
+		if refused.Instead != c.hint+", compared or rounded" {
+			t.Errorf("%s: instead: %s", c.text, refused.Instead)
+		}
+		for i := range c.due {
+			c.due[i][0] = `{"x":` + c.due[i][0] + `}`
+		}
+		answers(t, definitions(append(parts, decision("d", "", literal(c.written), "x"))...), "d", c.due)
+	}
+}
+
 // TestHintsThatNameNoForm has refusals for which no form of the same meaning is known: they name none.
 func TestHintsThatNameNoForm(t *testing.T) {
 	for text, hint := range map[string]string{

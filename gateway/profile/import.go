@@ -28,6 +28,8 @@ type Result struct {
 	// Diagram has the box of each input and decision in the diagram of the file, by its word: its corner, width and height.
 	// It is nil where there are several files, or one draws not all of them.
 	Diagram map[string]dmn.Box
+	// Language is what xml:lang says of the first file, as "de"; empty where it says none.
+	Language string
 	// LeftOut are the names of the decisions that got no service, for the model would be too long with them.
 	LeftOut []string
 	// Notes are places that are taken, where tools differ: what the model does there.
@@ -55,12 +57,8 @@ type Place struct {
 	Annotations []string `json:"annotations,omitempty"`
 }
 
-// mostPasses is how many passes look for units that fit: each makes some unit finer.
-const mostPasses = 20
-
-// findUnits finds how many decimals the numbers of inputs have: a pass finds what meets fractions, and others what has to be
-// counted alike.
-func findUnits(g *graph, trees map[*dmn.Text]*tree, said *Decimals) *cells {
+// countedInputs finds which inputs have decimals: a pass finds what meets fractions.
+func countedInputs(g *graph, trees map[*dmn.Text]*tree, said *Decimals) *cells {
 	if said == nil {
 		none := NoDecimals()
 		said = &none
@@ -69,12 +67,6 @@ func findUnits(g *graph, trees map[*dmn.Text]*tree, said *Decimals) *cells {
 	g.said = c
 	passOver(g, trees, true)
 	c.begin()
-	for pass := 0; pass < mostPasses; pass++ {
-		passOver(g, trees, true)
-		if !c.settle() {
-			break
-		}
-	}
 	return c
 }
 

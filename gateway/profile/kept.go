@@ -5,6 +5,8 @@ package profile
 type kept struct {
 	units   map[*valueType]keptUnits
 	counted map[[2]*valueType]keptContext
+	// alike are pairs of types whose values are counted alike.
+	alike map[[2]*valueType]bool
 }
 
 // keptUnits say how numbers in a context are counted, which had so many entries then.
@@ -21,7 +23,7 @@ type keptContext struct {
 }
 
 func newKept() *kept {
-	return &kept{units: map[*valueType]keptUnits{}, counted: map[[2]*valueType]keptContext{}}
+	return &kept{units: map[*valueType]keptUnits{}, counted: map[[2]*valueType]keptContext{}, alike: map[[2]*valueType]bool{}}
 }
 
 // unitsOf are those of a type.
@@ -49,6 +51,19 @@ func (k *kept) contextAs(due, of *valueType, make func(due, of *valueType) *valu
 		k.counted[[2]*valueType{due, of}] = keptContext{of.size(), made}
 	}
 	return made
+}
+
+// countedAlike tells why values of a type aren't counted as those of another one; empty where they are.
+func (k *kept) countedAlike(of, to *valueType) string {
+	pair := [2]*valueType{of, to}
+	if k.alike[pair] {
+		return ""
+	}
+	why := countedAlike(of, to)
+	if why == "" && of.kind == contextKind && of.isFixed() && to.isFixed() {
+		k.alike[pair] = true
+	}
+	return why
 }
 
 // within are the units of all numbers in values of a type.

@@ -19,12 +19,9 @@ const mostDecimals = 6176
 // quotientInstead is what to write in place of a calculation with a quotient.
 const quotientInstead = "the products first and the division last, as x * 0.05 / 12, or a rounding round the quotient: decimal(x / 3, 2)"
 
-// fraction translates a numeric literal with decimals: its digits, in the unit that they have. Each text is read once.
+// fraction translates a numeric literal with decimals: its digits, in the unit that they have.
 func (t *translator) fraction(n *feel.Number) phrase {
 	t.fractions = true
-	if known, is := t.constants[n.Text]; is {
-		return known
-	}
 	scale := decimalsOf(n.Text)
 	if scale > mostDecimals {
 		return t.refuse(n, fmt.Sprintf("the number has over %d decimals, which no number of the standard has", mostDecimals), "fewer decimals")
@@ -98,7 +95,7 @@ func (t *translator) exact(n feel.Node, p phrase) phrase {
 
 // bounded refuses a constant past the range.
 func (t *translator) bounded(n feel.Node, p phrase) phrase {
-	if p.number == nil || p.of.isPlain() {
+	if p.number == nil || p.of.isPlain() || len(p.text) < len(largestNumber) {
 		return p
 	}
 	if !isNumber(scaledBy(p.number, p.of.units.scale).Num()) {
@@ -120,6 +117,9 @@ func recounted(p phrase, to units) (made phrase, why string) {
 		return p, ""
 	}
 	if p.number != nil {
+		if !isNumber(inUnits(p.number, to).Num()) {
+			return p, fmt.Sprintf("the number is past %s where it is counted with %d decimals", largestNumber, to.scale)
+		}
 		return constantAt(p.number, to), ""
 	}
 	if to.scale < p.of.units.scale {
@@ -186,7 +186,7 @@ func (t *translator) aligned(p phrase, to *valueType, refuse func(why, instead s
 		}
 		return listing(members, listOf(to.element))
 	}
-	if why := countedAlike(p.of, to); why != "" {
+	if why := t.kept.countedAlike(p.of, to); why != "" {
 		refuse(why, "as many decimals for all of them, as by --decimals; or the type number")
 		return refused
 	}
@@ -195,8 +195,12 @@ func (t *translator) aligned(p phrase, to *valueType, refuse func(why, instead s
 
 // together aligns values that meet in a list, a branch or a column, and gives the type that all of them have.
 func (t *translator) together(values []phrase, refuse func(why, instead string)) *valueType {
-	of := nullType
+	of, seen := nullType, map[*valueType]bool{}
 	for _, value := range values {
+		if seen[value.of] {
+			continue
+		}
+		seen[value.of] = true
 		if refuseMixed(of, value.of, refuse) {
 			return refusedType
 		}
@@ -223,48 +227,53 @@ func unitsOf(operands []phrase) units {
 	return all
 }
 
-// folded gives a phrase the value of a calculation with constants; where it has decimals it becomes that constant.
-func folded(p phrase, operator string, operands []phrase, operators []string) phrase {
-	value := operands[0].number
-	if value == nil {
-		return p
-	}
-	value = new(big.Rat).Set(value)
-	for i, o := range operands[1:] {
+// folded is the value of a calculation with constants; nil where some operand is none, or the standard rounds on the way.
+func folded(operator string, operands []phrase, operators []string) *big.Rat {
+	value := new(big.Rat)
+	for i, o := range operands {
 		switch {
 		case o.number == nil:
-			return p
+			return nil
+		case i == 0:
+			value.Set(o.number)
 		case operator == "*":
 			value.Mul(value, o.number)
-		case operators[i] == "-":
+		case operators[i-1] == "-":
 			value.Sub(value, o.number)
 		default:
 			value.Add(value, o.number)
 		}
+		if !ends(value) {
+			return nil
+		}
 	}
-	switch {
-	case !ends(value):
-		return p
-	case !p.of.isPlain():
-		return constantNumber(value)
-	}
-	p.number = value
-	return p
+	return value
 }
+
+// shortPower is a power of ten that a number of 19 digits may be multiplied by without having more than 34.
+const shortPower = 1_000_000_000_000_000
 
 // ends tells whether a number has at most 34 digits.
 func ends(value *big.Rat) bool {
+	if value.Num().IsInt64() && value.Denom().IsInt64() && shortPower%value.Denom().Int64() == 0 {
+		return true
+	}
 	at := scaledBy(value, 2*mostScale)
 	return at.IsInt() && len(strings.Trim(at.Num().String(), "-0")) <= decimal.Digits
 }
 
-// counted is the sum of operands that are counted in units.
+// countedSum is the sum of operands that are counted in units.
 func (t *translator) countedSum(n *feel.Chain, operands []phrase) phrase {
-	u := unitsOf(operands)
+	u, value := unitsOf(operands), folded("+", operands, n.Operators)
+	if value != nil && !u.isPlain() {
+		return constantNumber(value)
+	}
 	for i, o := range operands {
 		operands[i] = t.recountedOr(n, o, u)
 	}
-	return folded(chained(operands, n.Operators, rankSum, numberOf(u)), "+", operands, n.Operators)
+	made := chained(operands, n.Operators, rankSum, numberOf(u))
+	made.number = value
+	return made
 }
 
 // countedProduct is the product of operands: their decimals add up.
@@ -288,12 +297,13 @@ func (t *translator) countedProduct(n feel.Node, operands []phrase) phrase {
 	if u.scale > mostScale {
 		return t.refuse(n, fmt.Sprintf("it would be counted with %d decimals", u.scale), "a rounding of what is calculated before")
 	}
-	return folded(withType(chained(all, operators, rankProduct, numberOf(u)), numberOf(u)), "*", operands, nil)
-}
-
-func withType(p phrase, of *valueType) phrase {
-	p.of, p.number = of, nil
-	return p
+	value := folded("*", operands, nil)
+	if value != nil && !u.isPlain() {
+		return constantNumber(value)
+	}
+	made := chained(all, operators, rankProduct, numberOf(u))
+	made.of, made.number = numberOf(u), value
+	return made
 }
 
 // hasNumber tells whether an operand is a number, and no constant: then the product is null where it is.

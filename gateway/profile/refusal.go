@@ -99,6 +99,19 @@ func newRefusals() *refusals {
 	return &refusals{seen: map[Refusal]bool{}, homes: map[*dmn.Element]home{}, spoiled: map[*dmn.Element]bool{}}
 }
 
+// copied are the refusals so far, to which a pass may go back.
+func (r *refusals) copied() refusals {
+	own := *r
+	own.spoiled, own.seen = map[*dmn.Element]bool{}, map[Refusal]bool{}
+	for e, is := range r.spoiled {
+		own.spoiled[e] = is
+	}
+	for refusal, is := range r.seen {
+		own.seen[refusal] = is
+	}
+	return own
+}
+
 // know notes where the elements of a file stand.
 func (r *refusals) know(file *dmn.File, order int) {
 	var walk func(e *dmn.Element, at home)

@@ -4,6 +4,7 @@ import (
 	"fmt"
 	"math/big"
 	"strconv"
+	"strings"
 
 	"gateway/decimal"
 	"gateway/feel"
@@ -91,6 +92,7 @@ func (t *translator) roundedCall(n *feel.Call, name string, s *scope) phrase {
 	if _, isFine := t.asScalars(n, name, arguments[:1]); !isFine {
 		return refused
 	}
+	t.noteVersion(name)
 	digits := 0
 	if len(arguments) == 2 {
 		scale := arguments[1].number
@@ -101,6 +103,13 @@ func (t *translator) roundedCall(n *feel.Call, name string, s *scope) phrase {
 		digits = int(scale.Num().Int64())
 	}
 	return t.rounded(n, name, arguments[0], digits)
+}
+
+// noteVersion notes a rounding that the version of the file's namespace may not have: once for each decision and each body.
+func (t *translator) noteVersion(name string) {
+	if strings.Contains(name, " ") {
+		t.refusals.note(t.near, name+" is of DMN 1.4 and rounds as there", "")
+	}
 }
 
 // rounded is a number rounded to some decimals, which may be below 0. Its unit is that of what is left.

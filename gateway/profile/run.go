@@ -105,7 +105,7 @@ func newRun(files []*dmn.File, options Options) *run {
 	return &run{files: files, options: options, refusals: r, graph: newGraph(files, r, newWords(), options)}
 }
 
-// translate makes the passes: those that find types are muted, the last translates.
+// translate makes the passes: those that find types are muted, the last ones translate.
 func (r *run) translate() {
 	trees := map[*dmn.Text]*tree{}
 	r.refusals.muted = true
@@ -118,7 +118,7 @@ func (r *run) translate() {
 		counts = passOver(r.graph, trees, false) || counts
 	}
 	if counts {
-		r.units = findUnits(r.graph, trees, r.options.Decimals)
+		r.units = countedInputs(r.graph, trees, r.options.Decimals)
 	}
 	r.refusals.muted = false
 	if r.units != nil && !r.options.Part && r.alone == nil {
@@ -127,12 +127,29 @@ func (r *run) translate() {
 	if !r.options.Part && r.alone == nil {
 		r.fault = r.graph.offsets.refuseUnused(r.graph) || r.fault
 	}
-	translate(r.graph, trees, counts)
+	r.pass(trees, counts)
 	r.graph.free.note(r.refusals)
 	r.graph.clock.note(r.refusals)
 	r.graph.checkNesting()
 	if len(r.graph.decisions) == 0 && len(r.files) > 0 {
 		r.refusals.refuse(r.files[0].Root, "", "there is no decision", "a decision")
+	}
+}
+
+// mostPasses is how many passes look for units that fit: each makes some unit finer.
+const mostPasses = 20
+
+// pass makes the pass whose texts are kept: the first one that needs no finer unit of an input.
+func (r *run) pass(trees map[*dmn.Text]*tree, counts bool) {
+	for pass := 0; ; pass++ {
+		before := r.refusals.copied()
+		translate(r.graph, trees, counts)
+		if r.units == nil || pass == mostPasses || !r.units.settle() {
+			return
+		}
+		*r.refusals = before
+		r.graph.words.forgetFresh()
+		r.graph.forgetTypes()
 	}
 }
 

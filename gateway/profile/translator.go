@@ -50,7 +50,7 @@ type translator struct {
 	guard *guard
 	// offsets say what times are counted in.
 	offsets *offsets
-	// constants are the numbers with decimals that were read, by their texts.
+	// constants are the numbers that were read, by their texts.
 	constants map[string]phrase
 	// kept has what was found of contexts.
 	kept *kept

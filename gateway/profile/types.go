@@ -149,17 +149,34 @@ func (t *valueType) fitOf(due *valueType) fit {
 	return fits
 }
 
-// contextFit tells how a context stands to a declared one; of each two it is found out once.
+// contextFit tells how a context stands to a declared one; of each two it is found out once, where that is final.
 func (t *valueType) contextFit(due *valueType) fit {
-	if known, found := due.fitting[t]; found && !t.open {
+	if known, found := due.fitting[t]; found {
 		return known
 	}
 	found := t.fieldsFit(due)
+	if t.open && !t.isFinal(due) {
+		return found
+	}
 	if due.fitting == nil {
 		due.fitting = map[*valueType]fit{}
 	}
 	due.fitting[t] = found
 	return found
+}
+
+// isFinal tells whether no entry of an open context that a declared one has may still take on a type.
+func (t *valueType) isFinal(due *valueType) bool {
+	for _, name := range due.order {
+		own := t.fields[name]
+		if own == nil || !own.open || own.isScalar() {
+			continue
+		}
+		if _, known := due.fields[name].fitting[own]; !known {
+			return false
+		}
+	}
+	return true
 }
 
 func (t *valueType) fieldsFit(due *valueType) fit {
@@ -228,7 +245,18 @@ func joined(a, b *valueType) *valueType {
 	case a.kind == contextKind:
 		return joinedContexts(a, b)
 	}
-	return &valueType{kind: a.kind, units: joinedUnits(a.units, b.units), common: commonValues(a.values(), b.values()), sort: either(a.sort, b.sort)}
+	made := valueType{kind: a.kind, units: joinedUnits(a.units, b.units), common: commonValues(a.values(), b.values()),
+		sort: either(a.sort, b.sort)}
+	if made.sort == nil && len(made.common.all) == 0 && a.isCalculated(made.units) {
+		return a
+	}
+	return &made
+}
+
+// isCalculated tells whether a type is that of calculated numbers of some units, of which no more is known.
+func (t *valueType) isCalculated(u units) bool {
+	isNarrow := len(t.values().all) > 0 || t.noted.text != nil || t.notedTwice
+	return t.kind == numberKind && t.units == u && u.cell == nil && !isNarrow && !t.told && !t.open
 }
 
 // mostJoined is how many entries two contexts may have that are joined entry by entry; of greater ones nothing is known.

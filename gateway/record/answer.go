@@ -31,12 +31,24 @@ const (
 // An answer is what a case comes to under one model, as a trial keeps it: two of the same text are the same.
 type answer struct {
 	text string
-	// tables has the rules that decided, by their tables.
+	// rules are those that decided; where they are many, tables has them in words, by their tables.
+	rules  json.RawMessage
 	tables map[string]string
 }
 
 func answerOf(it *Decision) answer {
-	return answer{text: whole(it.String()), tables: tables(it.Rules)}
+	if len(it.Rules) > mostText {
+		return answer{text: whole(it.String()), tables: tables(it.Rules)}
+	}
+	return answer{text: whole(it.String()), rules: it.Rules}
+}
+
+// byTable has the rules that decided in words, by their tables.
+func (a *answer) byTable() map[string]string {
+	if a.tables != nil {
+		return a.tables
+	}
+	return tables(a.rules)
 }
 
 // whole is a text that is not too long, or else its beginning with what tells it from all others.

@@ -252,7 +252,7 @@ func (t *Trial) answers(ctx context.Context, cases []*Case, inputs []json.RawMes
 
 // where says by which rules two answers differ.
 func where(old, new *answer) string {
-	before, after := old.tables, new.tables
+	before, after := old.byTable(), new.byTable()
 	var all []string
 	for _, key := range keys(before, after) {
 		if one, other := before[key], after[key]; one != other {

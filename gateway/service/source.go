@@ -26,6 +26,8 @@ type Source struct {
 	Places json.RawMessage
 	// Diagram has where the diagram of the file draws each input and decision, by its word; nil where it draws not all.
 	Diagram json.RawMessage
+	// Language is that of the file's names and texts, as "de"; empty where it says none.
+	Language string
 	// Release says which model it is; nil where nothing does.
 	Release *Release
 }
@@ -42,6 +44,7 @@ type imported struct {
 	Required []string                   `json:"required,omitempty"`
 	Places   json.RawMessage            `json:"places,omitempty"`
 	Diagram  json.RawMessage            `json:"diagram,omitempty"`
+	Language string                     `json:"language,omitempty"`
 	Release  *Release                   `json:"release,omitempty"`
 }
 
@@ -55,7 +58,7 @@ func ReadSource(text []byte) (*Source, error) {
 		return nil, fmt.Errorf("%w: %v", ErrNoModel, err)
 	}
 	source := &Source{Names: it.Names, Locals: it.Locals, Types: it.Types, Required: it.Required, Places: it.Places, Diagram: it.Diagram,
-		Release: it.Release}
+		Language: it.Language, Release: it.Release}
 	model := []byte(it.Model)
 	if model == nil {
 		model = text
@@ -74,7 +77,7 @@ func ReadSource(text []byte) (*Source, error) {
 
 func (s *Source) imported() imported {
 	return imported{Model: s.Text, Names: s.Names, Locals: s.Locals, Types: s.Types, Required: s.Required, Places: s.Places, Diagram: s.Diagram,
-		Release: s.Release}
+		Language: s.Language, Release: s.Release}
 }
 
 // Whole is the source as desk import writes it, with its release.

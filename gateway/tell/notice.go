@@ -78,6 +78,7 @@ var catalogue = map[string]noticeKind{
 	"fault-long":       {Error, "The model is too long for a line"},
 
 	"warning-repeated-key":             {Warning, "A key occurs twice in an object, and the last one counts"},
+	"warning-hidden-letter":            {Warning, "A text has letters that turn or hide what is seen"},
 	"warning-unbound":                  {Warning, "A name is not bound, so it is null"},
 	"warning-unneeded":                 {Warning, "No decision needs the input or decision"},
 	"warning-unreached":                {Warning, "No output of a service needs the decision"},

@@ -9,8 +9,8 @@ import (
 // TestCatalogue finds each fault and each warning among the kinds of notices.
 func TestCatalogue(t *testing.T) {
 	names := []string{
-		kindName(ofFault, "long"), kindName(ofWarning, repeatedKey), kindName(ofWarning, oddDefault), kindName(ofTable, otherKinds),
-		kindName(ofRequests, noteText), ImportRefused, ImportNote,
+		kindName(ofFault, "long"), kindName(ofWarning, repeatedKey), kindName(ofWarning, hiddenLetter), kindName(ofWarning, oddDefault),
+		kindName(ofTable, otherKinds), kindName(ofRequests, noteText), ImportRefused, ImportNote,
 	}
 	for _, kind := range oddKinds {
 		names = append(names, kindName(ofWarning, kind))

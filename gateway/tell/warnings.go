@@ -6,9 +6,10 @@ import (
 	"gateway/lines"
 )
 
-// warnings tells what is odd in a lawful model: keys that come twice, and then the rest.
+// warnings tells what is odd in a lawful model: keys that come twice, texts with letters that are not seen, and then the rest.
 func (r *report) warnings() {
 	r.repeatedKeys()
+	r.hiddenLetters()
 	found, counts := oddities(r.file.model)
 	told := r.toldByTables()
 	for _, it := range found {

@@ -35,6 +35,8 @@ def helps() -> Iterator[Row]:
     for name in COMMANDS:
         yield helped(f"help {name}", f"Usage: desk {name}", "Print help")
         yield helped(f"{name} --help", f"Usage: desk {name}", "Print help")
+    for name in ("http", "run", "test"):
+        yield helped(f"{name} -h", "at most 64)")
     yield helped("serve --workers 2 --help", "--capacity")
     yield Row("help that can't be written", ("--help",), 0, is_full=True)
 

@@ -50,6 +50,7 @@ class Decimals:
         """The logic is the file's: its texts, cells and columns, and nothing of the translation."""
         self.open({"my amount": 12.5, "rate": 4.25}, "the interest")
         assert self.browser.answer() == 0.53
+        self.browser.pick_all()
         shown = self.browser.text("decisions") + self.browser.text("way")
         for due in ("decimal(my amount * rate * 0.01, 2)", "my amount / rate", "<= 0.36", "(0.36..1000.5]", "rate * 0.5", "<= 2.25",
                     "decimal(my amount * 0.5, 1)", "a half + 0.25"):
@@ -61,7 +62,7 @@ class Decimals:
     def tables(self) -> str:
         """The rules of tables are lit, whose columns are quotients or whose values are tested; why a rule missed is said."""
         self.open({"my amount": 12.5, "rate": 4.25}, "the class")
-        self.browser.wait(lambda: json.loads(self.browser.text("result").removeprefix("The result is ")) == "high", "the class")
+        self.browser.wait(lambda: self.browser.answer() == "high", "the class")
         assert self.browser.lit()["the class"] == {"hits": [2], "decided": [2]}, self.browser.lit()
         assert "my amount / rate is 2.941176470588235294117647058823529" in self.browser.text("way"), self.browser.text("way")
         self.browser.js("document.querySelector('table.rules [data-at=\"0\"]').click()")

@@ -140,6 +140,7 @@ class Found:
     def several(self) -> str:
         """Rules that never decide, texts, and values that the form has no fields for."""
         self.browser.open(self.stood_in("several", SEVERAL, TOLD_OF_SEVERAL), {"a": {"b": 1, "c": 2}, "t": "old"})
+        self.browser.pick_all()
         self.browser.comes(self.verdicts, ["complete for the words that its rules ask for",
                                            "complete: some rule hits, whatever the values; no two rules overlap"], "what is found")
         assert self.listed() == ['no rule hits: a.b >= 5 or null, t any text but "x", "w"',

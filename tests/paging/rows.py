@@ -106,6 +106,7 @@ class Rows:
         left, top = min(box[0] for box in due.values()) - 10, min(box[1] for box in due.values()) - 10
         moved = {name: [box[0] - left, box[1] - top, box[2], box[3]] for name, box in due.items()}
         assert moved == boxes and len(boxes) == 8, f"{boxes}, and {moved} is due"
+        self.browser.pick_all()
         headings = js("return [...document.querySelectorAll('#decisions h3')].map((it) => it.textContent.trim())")
         assert headings == ["Application risk score", "Pre-bureau risk category", "Bureau call type", "Pre-bureau affordability",
                             "Eligibility", "Strategy"], headings
@@ -139,6 +140,7 @@ class Rows:
         for decision in told["decisions"]:
             for _, table in tables(decision, ""):
                 wanted.setdefault(decision["name"].replace("_", " "), []).append(table)
+        self.browser.pick_all()
         lit = {name.split(" of ")[-1].replace("-", " ").replace("_", " "): it for name, it in self.browser.lit().items()}
         for name, found in wanted.items():
             hits = [hit["rule"] for hit in found[-1]["hits"]]
@@ -159,6 +161,7 @@ class Rows:
             return "skipped, the engine does not tell misses"
         self.loan(DECLINED)
         self.browser.answer()
+        self.browser.pick_all()
         self.browser.js("""[...document.querySelectorAll("table.rules")].at(-2).querySelector("[data-at='2']").click()""")
         said = lambda: self.browser.js("return [...document.querySelectorAll('.why')].at(-2).textContent")
         self.browser.wait(lambda: "missed" in said(), "why the rule missed")
@@ -201,6 +204,7 @@ class Rows:
             assert int(row["hit"]) == hit[place], f"{row}, and {hit[place]} is due"
             if self.tells_decided:
                 assert int(row["decided"]) == decided[place], f"{row}, and {decided[place]} is due"
+        self.browser.pick("Strategy")
         shown = self.browser.js("""return [...document.querySelectorAll("table.rules")].at(-1).querySelectorAll("tbody .count")""")
         shown = [it.text for it in shown][::2]
         assert shown == [row["hit"] for row in rows[-3:]], shown
@@ -300,6 +304,11 @@ class Rows:
         self.browser.keys(Keys.ENTER)
         # With no defaults and 22 years, rules 3 and 4 hit, and MEDIUM stands first; 200 are left, which is tight: no rule, so the default.
         self.browser.wait(lambda: self.browser.answer() == {"answer": "refer", "rate": None}, "the result")
+        # The field that searches is come to by a key, and goes to the decision.
+        tab_to(lambda: where() == "decide")
+        self.browser.keys("/")
+        self.browser.keys("risk", Keys.ENTER)
+        assert focused().startswith("risk"), focused()
         tab_to(lambda: where() == "rule")
         at = lambda: self.browser.js("return document.activeElement.getAttribute('aria-label')")
         first = at()
@@ -326,11 +335,13 @@ class Rows:
             self.browser.resize(360, 740)
             self.browser.open(service, inputs)
             self.browser.answer()
-            wide = self.browser.js("return document.scrollingElement.scrollWidth")
-            assert wide <= 360, f"{name} is {wide} wide"
-            over = self.browser.js("""return [...document.querySelectorAll("main *")].filter((it) => !it.closest(".scroll") &&
-                it.getBoundingClientRect().right > 361 && !it.closest(".unseen")).map((it) => it.outerHTML.slice(0, 80))""")
-            assert not over, over[:3]
+            for tab in ("case", "open", "cases", "count", "try", "checks", "map"):
+                self.browser.tab(tab)
+                wide = self.browser.js("return document.scrollingElement.scrollWidth")
+                assert wide <= 360, f"{name} is {wide} wide"
+                over = self.browser.js("""return [...document.querySelectorAll("main *")].filter((it) => !it.closest(".scroll, svg") &&
+                    it.getBoundingClientRect().right > 361 && !it.closest(".unseen")).map((it) => it.outerHTML.slice(0, 80))""")
+                assert not over, (tab, over[:3])
         return ""
 
     def long(self) -> str:
@@ -387,6 +398,7 @@ class Rows:
         assert rows[0] == ["risk", '"MEDIUM"', '"LOW"'], rows
         new = self.browser.answer()
         assert new != old and rows[-1] == ["Result", json.dumps(old, separators=(",", ":")), json.dumps(new, separators=(",", ":"))], rows
+        self.browser.pick("risk")
         marked = self.browser.js("return [...document.querySelectorAll('tbody tr.differs .rule')].map((it) => it.dataset.at)")
         assert marked == ["2"], marked
         self.browser.js("document.querySelector('input[value=inForce]').click()")
@@ -402,6 +414,7 @@ class Rows:
         model["decisions"][0]["expr"]["table"]["rules"][1]["when"][0] = ">= 1 and <= 2"
         self.browser.drop("changed.json", json.dumps({"model": model}))
         self.browser.wait(lambda: "the model has a fault, expression" in self.browser.text("changed"), "the fault")
+        self.browser.pick("risk")
         mark = self.browser.js("""const it = document.querySelector("td .mark");
             return [it.closest("tr").querySelector("[data-at]").dataset.at, it.getAttribute("aria-label")]""")
         assert mark[0] == "1" and mark[1].startswith("fault: decisions[0] \"risk\", rule 2, input 1"), mark
@@ -501,20 +514,21 @@ class Rows:
 
     def shots(self) -> str:
         """The pictures of README.md and docs/HTTP.md."""
-        self.browser.resize(1080, 700)
+        self.browser.resize(1280, 800)
         self.loan(DECLINED)
         self.browser.answer()
-        self.browser.js("document.querySelectorAll('#decisions article')[4].scrollIntoView()")
         where = self.suite.pictures
-        self.browser.js("scrollTo(0, 0)")
-        self.browser.picture(where / "page.png", 1080, 640)
+        self.browser.drawn()
+        self.browser.picture(where / "page.png", 1280, 800)
         self.browser.drop("month.jsonl", lines(applicants(400)))
         self.browser.wait(lambda: "400 requests" in self.browser.text("counted"), "the counts")
         if self.tells_decided:
-            self.browser.js("""[...document.querySelectorAll("table.rules")].at(-2).querySelector("[data-at='0']").click()""")
-            self.browser.wait(lambda: "missed" in self.browser.js("return [...document.querySelectorAll('.why')].at(-2).textContent"), "why")
-        self.browser.js("document.querySelectorAll('#decisions article')[4].scrollIntoView(); document.activeElement.blur()")
-        self.browser.picture(where / "rules.png", 1080, 620)
+            self.browser.pick("Eligibility")
+            self.browser.js("""document.querySelector("article:not([hidden]) table.rules [data-at='0']").click()""")
+            self.browser.wait(lambda: "missed" in self.browser.js("return document.querySelector('article:not([hidden]) .why').textContent"), "why")
+        self.browser.js("document.activeElement.blur()")
+        self.browser.drawn()
+        self.browser.picture(where / "rules.png", 1280, 800)
         sizes = {it.name: it.stat().st_size for it in where.glob("*.png")}
         assert sizes and all(5_000 < size < 250_000 for size in sizes.values()), sizes
         return ", ".join(f"{name} {size // 1000} kB" for name, size in sizes.items())

@@ -26,8 +26,8 @@ class Walk:
         """Whether `./desk` runs what is there, and has nothing to build."""
         def is_of(name: str, *command: str) -> bool:
             due = subprocess.run([HERE / "tools" / command[0], *command[1:]], capture_output=True, text=True, check=True).stdout
-            places = (HERE / "dist" / f"{name}.sources", HERE / "gateway" / "out" / f"{name}.sources")
-            return any(it.exists() and it.read_text() == due for it in places[:1 if name == "desk" else 2])
+            place = HERE / "dist" / f"{name}.sources"
+            return place.exists() and place.read_text() == due
         return is_of("desk", "sources") and is_of("desk-gateway", "gateway", "--sources")
 
     def begin(self) -> str:
@@ -72,7 +72,7 @@ class Walk:
 
     def why(self) -> None:
         """From the result to what it came from. Worked out by hand in examples/dmn/README.md."""
-        self.seen('"Strategy": "DECLINE"', "#result")
+        self.seen('Strategy"DECLINE"', "#result")
         # "is" is read out, and not seen.
         self.seen('Strategy = is "DECLINE", rule 1 decided: Eligibility is "INELIGIBLE"', "#way")
         self.seen('Eligibility = is "INELIGIBLE", rule 2 decided: Pre-bureau Affordability is false', "#way")

@@ -182,7 +182,8 @@ def slow_callers(programs: list[str], folder: Path) -> None:
         # Callers are told apart by their tokens.
         tokens = {name: hashlib.sha256(name.encode()).hexdigest() for name in ("slow", "small")}
         (folder / "tokens").write_text("".join(f"{name} call {value}\n" for name, value in tokens.items()))
-        service = Service(programs, folder, slow(4000), "--processes", 2, "--deadline", "500ms", "--tokens", folder / "tokens")
+        # Some five seconds a request on a quiet machine, ten times the deadline.
+        service = Service(programs, folder, slow(4000, 10), "--processes", 2, "--deadline", "500ms", "--tokens", folder / "tokens")
         over, kinds = threading.Event(), set()
 
         def call(number: int) -> None:

@@ -217,3 +217,16 @@ def faulty_models(programs: list[str], folder: Path) -> None:
         ran = subprocess.run([programs[0], "http", *words], capture_output=True, timeout=PATIENCE,
                              env=dict(os.environ, DESK_ENGINE=programs[1]))
         assert ran.returncode == status, ran
+
+
+def engines_by_processors(programs: list[str], folder: Path) -> None:
+    """Where nothing says how many engines there are, there is one for each processor that it may use, at most 64."""
+    usable = sorted(os.sched_getaffinity(0))
+    for processors in sorted({1, len(usable)}):
+        os.sched_setaffinity(0, usable[:processors])
+        try:
+            service = Service(programs, folder, adding(1))
+        finally:
+            os.sched_setaffinity(0, usable)
+        assert service.metric("desk_http_engines") == min(processors, 64), f"{processors} processors: {service.said()}"
+        assert service.end() == 0

@@ -12,9 +12,10 @@ def adding(number: int) -> Json:
     return {"inputs": ["a"], "decisions": [decision], "services": [service]}
 
 
-def slow(rules: int) -> Json:
-    """A model of the service `s`, which takes the longer the longer the list `b` is: each rule forms one as long."""
-    table = {"hit": "F", "inputs": [], "outputs": [{"name": "o"}], "rules": [{"when": [], "then": ["b.x"]}] * rules}
+def slow(rules: int, lists: int = 1) -> Json:
+    """A model of the service `s`, which takes the longer the longer the list `b` is: each rule forms so many as long."""
+    then = "b.x" if lists == 1 else " + ".join(["count(b.x)"] * lists)
+    table = {"hit": "F", "inputs": [], "outputs": [{"name": "o"}], "rules": [{"when": [], "then": [then]}] * rules}
     return about_b({"table": table})
 
 

@@ -76,6 +76,11 @@ def tried(programs: list[str], folder: Path) -> None:
     assert status == 200 and service.end() == 0
     status, said = desk(programs, "release", "activate", "--require", "tried", kept, "parcel 2")
     assert status == 3 and "was not tried" in said, said
+    status, said = desk(programs, "release", "try", "--over", journal, "--from", "2999", kept, "parcel 2")
+    assert status == 0 and "0 requests asked, 0 get another answer" in said, said
+    assert desk(programs, "release", "activate", "--require", "tried", kept, "parcel 2")[0] == 3, "nothing was asked"
+    status, said = desk(programs, "release", "try", "--over", journal, "--over", journal, "--to", "2999", kept, "parcel 2")
+    assert status == 1 and "24 requests asked, 8 get another answer" in said, said
     status, said = desk(programs, "release", "try", "--over", journal, "--csv", folder / "differing.csv", kept, "parcel 2")
     assert status == 1 and "12 requests asked, 4 get another answer" in said, said
     assert "changed cell rule 3, weight: > 2 -> > 3" in said and "1  price: rule 3 -> none" in said, said

@@ -110,9 +110,9 @@ def ask(on: http.client.HTTPConnection, body: object, client: str = "", path: st
     return answer.status, json.loads(text) if kind in ("application/json", "application/problem+json") else text.decode()
 
 
-def desk(programs: list[str], *words: object) -> tuple[int, str]:
+def desk(programs: list[str], *words: object, patience: float = PATIENCE) -> tuple[int, str]:
     """A command of the program: its status and what it writes."""
-    ran = subprocess.run([programs[0], *map(str, words)], capture_output=True, text=True, timeout=PATIENCE,
+    ran = subprocess.run([programs[0], *map(str, words)], capture_output=True, text=True, timeout=patience,
                          env=dict(os.environ, DESK_ENGINE=programs[1]))
     return ran.returncode, ran.stdout + ran.stderr
 

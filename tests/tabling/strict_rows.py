@@ -26,6 +26,9 @@ def one(*when: str | list[str], hit: str = "U", outputs: list[Json] = NONE, then
     return row.model()
 
 
+# Each of a hundred numbers has 51 rules that give 7; behind them 200 has one that gives 8 besides 50 that give 7.
+MANY_OVERLAPS = one(*["-"] * 50, *[str(number) for number in range(100)], "200", hit="A", then=["7"] * 150 + ["8"])
+
 # Why; the model; and the status that is due with --strict.
 ROWS: list[tuple[str, object, int]] = [
     ("complete for what is asked, and unique", one("<= 2", "> 2"), 0),
@@ -46,6 +49,7 @@ ROWS: list[tuple[str, object, int]] = [
     ("an overlap under A of one output", one("<= 2", ">= 2", hit="A", then=["7", "7"]), 0),
     ("an overlap under A of outputs of one text", one("<= 2", ">= 2", hit="A", then=["a", "a"]), 0),
     ("an overlap under A of outputs that names decide", one("<= 2", ">= 2", hit="A", then=["a", "a + 1"]), 4),
+    ("under A more overlaps than are looked at, the last of them with other outputs", MANY_OVERLAPS, 4),
     ("an overlap under F, where each rule decides somewhere", one("<= 2", ">= 2", hit="F"), 0),
     ("an overlap under P, where each rule decides somewhere", one("<= 2", ">= 2", hit="P", outputs=LISTED, then=LOW_HIGH), 0),
     *((f"an overlap under {it}", one("<= 2", ">= 2", hit=it), 0) for it in ("C", "R", "C+", "C<", "C>", "C#")),

@@ -1,5 +1,5 @@
 -- The first fault of the model in a text.
-use Rattle.std.proofs.Common.{◌≡◌, ◌∙◌, ℕ, List, Option, None, Some, option_map, is_ok, IsUtf8, true, false, sym, ap, subst, refl}
+use Rattle.std.proofs.Common.{◌≡◌, ◌∙◌, ℕ, List, Option, None, Some, option_map, Err, IsUtf8, sym, ap, subst}
 use Rattle.serde_json.specs.Data.{Data}
 use Rattle.serde_json.specs.Read.{read}
 use Rattle.dmn_plan.specs.declared.fault.ModelFault.{ModelFault}
@@ -38,7 +38,7 @@ first_of_value s d e (Some (found.Model fault.Memory)) u r is h t = (u, of_text 
 pub none_of_text : (s : List ℕ) → (IsUtf8 s → read s ≡ None) → IsFirstFault s (Some (found.Model fault.Syntax))
 none_of_text s h = λ u. ap (λ o. fault_in (of_data (option_map subject o))) (h u)
 
--- a lawful model has the form of one
-pub no_form : (d : Data) → is_ok (read_model d) ≡ true → draft_of d ≡ None → ⊥
+-- what has not the form of a model
+pub no_form : (d : Data) → draft_of d ≡ None → read_model d ≡ Err fault.Shape
 unfolding read_model
-no_form d lawful none = let wrong : false ≡ true = subst (λ draft. is_ok (checked draft) ≡ true) none lawful in cc
+no_form d none = ap checked none

@@ -1,4 +1,11 @@
 pub mod FirstFaults
+pub mod Judging
+pub mod Lawful
 pub mod Lines
+pub mod Lookings
+pub mod Walks
 pub mod Requesting
+pub mod TableLines
 pub mod Telling
+pub mod SameValues
+pub mod Taking

@@ -124,3 +124,17 @@ seven t t1 t2 t3 t4 t5 t6 t7 a b c d e f g b' d' f' whole one two three four las
     five t5 t5 t5 t5 t6 t7 [] [] [] f g [] f' whole (sym (append-nil t5)) (sym (append-nil t5)) (sym (append-nil t5)) six end refl sixth
     (ap (λ s. ((((s ++ []) ++ []) ++ []) ++ f') ++ g) (five t t1 t2 t3 t4 t5 a b c d e b' d' (((((t ++ a) ++ b') ++ c) ++ d') ++ e) one two three four last second fourth refl)
     ∙ simp append-nil is)
+
+pub four : (t t1 t2 t3 t4 a b c d b' d' whole : List ℕ) → t1 ≡ t ++ a → t2 ≡ t1 ++ b → t3 ≡ t2 ++ c → t4 ≡ t3 ++ d → b ≡ b' → d ≡ d' → (((t ++ a) ++ b') ++ c) ++ d' ≡ whole → t4 ≡ whole
+four t t1 t2 t3 t4 a b c d b' d' whole one two three last second fourth is =
+    last ∙ ap (λ s. s ++ d) (three ∙ ap (λ s. s ++ c) (two ∙ ap (λ s. s ++ b) one ∙ ap (λ s. (t ++ a) ++ s) second)) ∙ ap (λ s. (((t ++ a) ++ b') ++ c) ++ s) fourth
+    ∙ is
+
+pub nine : (t t1 t2 t3 t4 t5 t6 t7 t8 t9 a b c d e f g h i b' d' f' h' whole : List ℕ) → t1 ≡ t ++ a → t2 ≡ t1 ++ b → t3 ≡ t2 ++ c → t4 ≡ t3 ++ d → t5 ≡ t4 ++ e → t6 ≡ t5 ++ f → t7 ≡ t6 ++ g → t8 ≡ t7 ++ h
+    → t9 ≡ t8 ++ i → b ≡ b' → d ≡ d' → f ≡ f' → h ≡ h' → ((((((((t ++ a) ++ b') ++ c) ++ d') ++ e) ++ f') ++ g) ++ h') ++ i ≡ whole → t9 ≡ whole
+nine t t1 t2 t3 t4 t5 t6 t7 t8 t9 a b c d e f g h i b' d' f' h' whole one two three four five six end eighth last second fourth sixth more is =
+    last ∙ ap (λ s. s ++ i)
+    (eighth
+    ∙ ap (λ s. s ++ h) (seven t t1 t2 t3 t4 t5 t6 t7 a b c d e f g b' d' f' (((((((t ++ a) ++ b') ++ c) ++ d') ++ e) ++ f') ++ g) one two three four five six end second fourth sixth refl)
+    ∙ ap (λ s. (((((((t ++ a) ++ b') ++ c) ++ d') ++ e) ++ f') ++ g) ++ s) more)
+    ∙ is

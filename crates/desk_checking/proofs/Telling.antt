@@ -1,5 +1,6 @@
 -- What is told of a value is what is due.
 use Rattle.std.proofs.Common.{◌≡◌, ◌≢◌, ◌<◌, ◌≤◌, ◌∙◌, ℕ, Bool, true, false, List, [], ◌∷◌, ◌++◌, append-nil, length, Option, None, Some, option_map, IfSome, Result, Ok, Err, is_ok, if◌then◌else◌, sym, ap, subst, refl}
+use Rattle.std.specs.Io.KnownBytes.{Appends}
 use Rattle.std.specs.List.{flat_map}
 use Rattle.serde_json.specs.Data.{Data}
 use Rattle.serde_json.specs.Read.{read}
@@ -16,11 +17,11 @@ use Rattle.desk_requests.specs.declared.refused.RefusedLine.{RefusedLine}
 use Rattle.desk_lines.specs.Device.{Reader, Writer}
 use Rattle.desk_lines.specs.declared.fault.FrontFault.{FrontFault}
 use Rattle.desk_lines.specs.declared.fault.FrontFault.TheVariants.{Write}
-use Rattle.desk_checking.specs.Checked.{Breaks, Checked}
+use Rattle.desk_checking.specs.Checked.{Breaks, Checked, Finds}
 use Rattle.desk_checking.specs.FirstFault.{IsTakenBy, fault_in, model_fault, model_line, subject}
 use Rattle.desk_checking.specs.Output.{TellsModel, TellsText, value_in}
 use Rattle.desk_checking.specs.Told.{fault_line, faulty_lines, lines_behind, long_line, place_lines}
-use Rattle.desk_checking.specs.Verdicts.{IsDueTo, TellsValue}
+use Rattle.desk_checking.specs.Verdicts.{IsDueTo, TellsValue, failure_of}
 use Rattle.desk_checking.specs.declared.findings.CheckFault.{CheckFault}
 use Rattle.desk_checking.specs.declared.findings.CheckFault.TheVariants as found
 use Rattle.desk_checking.specs.declared.findings.CheckFindings.{CheckFindings}
@@ -125,33 +126,33 @@ told_alone d f text form is h = told_with d f None text form (is ∙ sym (append
 
 -- ---- verdicts
 
-pub faulty_due : (d : Data) (requests : List (List ℕ)) (f : ModelFault) (v : Verdict) → read_model d ≡ Err f → v.fault ≡ Some (found.Model f) → v.refused.items ≡ []
-    → v.text.items ≡ flat_map ended (faulty_lines (Some d) (found.Model f)) → IsDueTo d requests v
-faulty_due d requests f v r is none text = record {
+pub faulty_due : (options : CheckOptions) (d : Data) (requests : List (List ℕ)) (f : ModelFault) (v : Verdict) → read_model d ≡ Err f → v.fault ≡ Some (found.Model f) → v.refused.items ≡ []
+    → v.text.items ≡ flat_map ended (faulty_lines (Some d) (found.Model f)) → IsDueTo options d requests v
+faulty_due options d requests f v r is none text = record {
   fault = ap model_fault is ∙ sym (ap fault_in r);
   taken = subst (λ o. IsTakenBy o d) (sym is) tt;
-  tells = subst (λ o. TellsValue d requests o v.refused.items v.text.items) (sym is) (none, text);
+  tells = subst (λ o. TellsValue options d requests o v.refused.items (failure_of options o v.are_tables_refused) v.text.items) (sym is) (none, refl, text);
 }
 
 lawful_fault : (r : Result (Model Expr Table) ModelFault) → is_ok r ≡ true → fault_in r ≡ None
 lawful_fault (Ok m) h = refl
 lawful_fault (Err f) h = cc
 
-pub long_due : (d : Data) (requests : List (List ℕ)) (v : Verdict) → is_ok (read_model d) ≡ true → max_line < length (model_line d) → v.fault ≡ Some found.Long → v.refused.items ≡ []
-    → v.text.items ≡ ended (fault_line found.Long) ++ ended (long_line (length (model_line d))) → IsDueTo d requests v
-long_due d requests v lawful long is none text = record {
+pub long_due : (options : CheckOptions) (d : Data) (requests : List (List ℕ)) (v : Verdict) → is_ok (read_model d) ≡ true → max_line < length (model_line d) → v.fault ≡ Some found.Long → v.refused.items ≡ []
+    → v.text.items ≡ ended (fault_line found.Long) ++ ended (long_line (length (model_line d))) → IsDueTo options d requests v
+long_due options d requests v lawful long is none text = record {
   fault = ap model_fault is ∙ sym (lawful_fault (read_model d) lawful);
   taken = subst (λ o. IsTakenBy o d) (sym is) long;
-  tells = subst (λ o. TellsValue d requests o v.refused.items v.text.items) (sym is)
-      (none, text ∙ ap (λ s. ended (fault_line found.Long) ++ s) (sym (append-nil (ended (long_line (length (model_line d)))))));
+  tells = subst (λ o. TellsValue options d requests o v.refused.items (failure_of options o v.are_tables_refused) v.text.items) (sym is)
+      (none, refl, text ∙ ap (λ s. ended (fault_line found.Long) ++ s) (sym (append-nil (ended (long_line (length (model_line d)))))));
 }
 
-pub lawful_due : (d : Data) (requests : List (List ℕ)) (v : Verdict) → is_ok (read_model d) ≡ true → length (model_line d) ≤ max_line → v.fault ≡ None
-    → TellsModel d requests v.refused.items v.text.items → IsDueTo d requests v
-lawful_due d requests v lawful short is tells = record {
+pub lawful_due : (options : CheckOptions) (d : Data) (requests : List (List ℕ)) (v : Verdict) → is_ok (read_model d) ≡ true → length (model_line d) ≤ max_line → v.fault ≡ None
+    → TellsModel options d requests v.refused.items (failure_of options None v.are_tables_refused) v.text.items → IsDueTo options d requests v
+lawful_due options d requests v lawful short is tells = record {
   fault = ap model_fault is ∙ sym (lawful_fault (read_model d) lawful);
   taken = subst (λ o. IsTakenBy o d) (sym is) short;
-  tells = subst (λ o. TellsValue d requests o v.refused.items v.text.items) (sym is) tells;
+  tells = subst (λ o. TellsValue options d requests o v.refused.items (failure_of options o v.are_tables_refused) v.text.items) (sym is) tells;
 }
 
 -- ---- texts
@@ -159,18 +160,19 @@ lawful_due d requests v lawful short is tells = record {
 same_value : (a b : Data) → Some a ≡ Some b → a ≡ b
 same_value a b e = cc
 
-pub text_told : (s : List ℕ) (d e : Data) (requests : List (List ℕ)) (f : Option CheckFault) (refused : List RefusedLine) (text : List ℕ) → read s ≡ Some d → e ≡ subject d
-    → TellsValue e requests f refused text → TellsText s requests f refused text
-text_told s d e requests None refused text r is h = λ x y.
-    subst (λ (v : Data). TellsModel v requests refused text) (is ∙ ap subject (same_value d x (sym r ∙ y))) h
-text_told s d e requests (Some f) refused text r is h =
-    (h.0, h.1 ∙ ap (λ (o : Option Data). flat_map ended (faulty_lines o f)) (ap (λ (v : Data). Some v) is ∙ sym (ap (option_map subject) r)))
+pub text_told : (options : CheckOptions) (s : List ℕ) (d e : Data) (requests : List (List ℕ)) (f : Option CheckFault) (refused : List RefusedLine) (is_failure : Bool) (text : List ℕ) → read s ≡ Some d → e ≡ subject d
+    → TellsValue options e requests f refused is_failure text → TellsText options s requests f refused is_failure text
+text_told options s d e requests None refused is_failure text r is h = λ x y.
+    subst (λ (v : Data). TellsModel options v requests refused is_failure text) (is ∙ ap subject (same_value d x (sym r ∙ y))) h
+text_told options s d e requests (Some f) refused is_failure text r is h =
+    (h.0, h.1, h.2 ∙ ap (λ (o : Option Data). flat_map ended (faulty_lines o f)) (ap (λ (v : Data). Some v) is ∙ sym (ap (option_map subject) r)))
 
 -- the same texts
-pub told_same : (s s' : List ℕ) (requests requests' : List (List ℕ)) (f : Option CheckFault) (refused : List RefusedLine) (text text' : List ℕ) → s ≡ s' → requests ≡ requests' → text ≡ text'
-    → TellsText s requests f refused text → TellsText s' requests' f refused text'
-told_same s s' requests requests' f refused text text' a b c h =
-    subst (λ t. TellsText s' requests' f refused t) c (subst (λ ls. TellsText s' ls f refused text) b (subst (λ x. TellsText x requests f refused text) a h))
+pub told_same : (options : CheckOptions) (s s' : List ℕ) (requests requests' : List (List ℕ)) (f : Option CheckFault) (refused : List RefusedLine) (is_failure is_failure' : Bool) (text text' : List ℕ) → s ≡ s' → requests ≡ requests'
+    → is_failure ≡ is_failure' → text ≡ text' → TellsText options s requests f refused is_failure text → TellsText options s' requests' f refused is_failure' text'
+told_same options s s' requests requests' f refused is_failure is_failure' text text' a b e c h =
+    subst (λ t. TellsText options s' requests' f refused is_failure' t) c
+    (subst (λ x. TellsText options s' requests' f refused x text) e (subst (λ ls. TellsText options s' ls f refused is_failure text) b (subst (λ x. TellsText options x requests f refused is_failure text) a h)))
 
 -- ---- runs
 
@@ -188,3 +190,19 @@ cut_short options reader reader' writer writer' r is breaks more same = subst (�
   write_told = λ other. absurd (other refl);
   read_told = λ _. same;
 })
+
+pub run_whole : (options : CheckOptions) (reader reader' : Reader) (writer writer' : Writer) (findings : CheckFindings) (told : List ℕ) → Finds options reader reader' findings told → Appends writer.contents writer'.contents told
+    → (findings.is_strict_failure ≡ true → (options.tables ≡ true) × (options.strict ≡ true) × (findings.fault ≡ None)) → writer'.faults ≡ writer.faults → reader'.faults ≡ reader.faults
+    → Checked options reader reader' writer writer' (Ok findings)
+run_whole options reader reader' writer writer' findings told finds written strict same same_read = record {
+  tells = record { told = told; finds = finds; written = written };
+  strict = strict;
+  long = λ e. let wrong : ⊥ = cc in absurd wrong;
+  cut = λ e. let wrong : ⊥ = cc in absurd wrong;
+  unwritten = tt;
+  read_only_at_fault = λ e. let wrong : ⊥ = cc in absurd wrong;
+  write_only_at_fault = λ e. let wrong : ⊥ = cc in absurd wrong;
+  ok_without_fault = (same_read, same);
+  write_told = λ _. same;
+  read_told = λ _. same_read;
+}

@@ -42,7 +42,7 @@ pub record Overflows (reader reader' : Reader) : Type 0 where
 -- A model was read from a reader and checked, and what is found was written. Or a fault ended this.
 pub record Checked (options : CheckOptions) (reader reader' : Reader) (writer writer' : Writer) (found : Result CheckFindings FrontFault) : Type 0 where
   pub tells : IfOk found (Tells options reader reader' writer writer')
-  -- Tables are refused only where the options ask for that, and the model is lawful. Which ones are is not said here.
+  -- Tables are refused only where the options ask for that, and the model is lawful; `tells` says which are.
   pub strict : IfOk found (λ findings. findings.is_strict_failure ≡ true → (options.tables ≡ true) × (options.strict ≡ true) × (findings.fault ≡ None))
   pub long : (found ≡ Err Long) → Overflows reader reader'
   pub cut : (found ≡ Err Write) → Breaks options reader reader' writer writer'

@@ -1,6 +1,17 @@
 pub mod Input
 pub mod FirstFault
 pub mod Told
+pub mod Tables
+pub mod TablesView
+pub mod Outputs
+pub mod Literals
+pub mod Answering
+pub mod Judged
+pub mod Strict
+pub mod TableTold
+pub mod TablePieces
+pub mod TablesTold
+pub mod Looking
 pub mod Requests
 pub mod Output
 pub mod Checked

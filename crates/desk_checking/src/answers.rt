@@ -1,12 +1,18 @@
 //! What is found of a decision table: the answers of `dmn_analysis`, and what of them is told.
+ghost use Rattle.std.specs.Prelude.{◌≡◌, [], None, IfOk, IfSome, OnOk, map, not, ◌||◌, nat_lt, unwrap_or};
+ghost use Rattle.std.specs.List.{All};
+ghost use Rattle.std.specs.Option.{is_some};
+ghost use Rattle.dmn_table.specs.Parts.{rule_view};
+ghost use Rattle.dmn_analysis.specs.Claims.{IsMaskedAmong, TellsGaps, TellsOverlaps};
+ghost use Rattle.desk_checking.specs.Answering.{AreAgainst, AreFaults, IsFound, IsJudged, TellsWords, counts_overlaps, gaps_of_kinds, gaps_of_words, has_order, is_complete, is_empty, is_refused, is_yes, lacks_rules, masks_fail, none_of, overlaps_fail};
+ghost use Rattle.desk_checking.specs.Judged.{with_open, with_place};
 
-use crate::cells::have_others;
 use crate::same_outputs::outputs_differ;
 use dmn_analysis::{
-    Asked, Gaps, Masks, Overlaps, Texts, every_value, find_gaps, find_masked, find_overlaps,
-    kinds_asked, never_met,
+    Asked, Gaps, Masks, Overlap, Overlaps, Texts, every_value, find_gaps, find_masked,
+    find_overlaps, kinds_asked, never_met,
 };
-use dmn_table::{HitPolicy, Table, has_no_default};
+use dmn_table::{HitPolicy, Rule, Table, has_no_default};
 use std::alloc::{AllocError, Global};
 
 /// The most findings of a kind that are told of a table.
@@ -26,40 +32,60 @@ const STEPS: u64 = 2_000_000;
 
 /// What is found of a table.
 #[derive(Drop)]
-pub(crate) struct Answers {
+pub struct Answers {
     /// The gaps among every value.
-    pub(crate) every: Gaps,
+    pub every: Gaps,
     /// Of each column the kinds of values that are asked in it.
-    pub(crate) kinds: Vec<Asked>,
+    pub kinds: Vec<Asked>,
     /// The gaps among these; none where those of every value say it: there is no gap, or the kinds are all.
-    pub(crate) of_kinds: Option<Gaps>,
+    pub of_kinds: Option<Gaps>,
     /// The gaps among the words that are asked; none where those of the kinds say it: there is no gap, or the words are all texts.
-    pub(crate) of_words: Option<Gaps>,
+    pub of_words: Option<Gaps>,
     /// The overlaps, under `U` and `A`.
-    pub(crate) overlaps: Option<Overlaps>,
+    pub overlaps: Option<Overlaps>,
     /// Which of these are told, by their places, and what of the others isn't known.
-    pub(crate) faults: Faults,
+    pub faults: Faults,
     /// The rules that never hit.
-    pub(crate) never: Vec<usize>,
+    pub never: Vec<usize>,
     /// The masked rules, under `F` and `P`.
-    pub(crate) masks: Option<Masks>,
+    pub masks: Option<Masks>,
 }
 
 /// Which overlaps are against the hit policy.
 #[derive(Drop)]
-pub(crate) struct Faults {
+pub struct Faults {
     /// Their places: under `U` each, under `A` where the rules are known to give other outputs.
-    pub(crate) places: Vec<usize>,
+    pub places: Vec<usize>,
     /// The place of the first of which it isn't known what the rules give.
-    pub(crate) open: Option<usize>,
+    pub open: Option<usize>,
+}
+
+/// That there is none of what was looked for, of which something was found or not, and all was looked at or not; None where that wasn't
+/// decided.
+pub(crate) fn none_of(is_some: bool, is_all: bool) -> Option<bool>
+    ensures { result ≡ none_of is_some is_all }
+{
+    if is_some {
+        return Some(false);
+    }
+    if is_all { Some(true) } else { None }
+}
+
+/// Whether there are others, or some that are told.
+pub(crate) fn has_any<T>(more: usize, found: &[T]) -> bool
+    ensures { result ≡ (nat_lt 0 more || not (is_empty found.now)) }
+{
+    if more > 0 {
+        return true;
+    }
+    !found.is_empty()
 }
 
 /// Whether there is none of these gaps; None where that wasn't decided.
-fn is_complete(gaps: &Gaps) -> Option<bool> {
-    if gaps.more > 0 || !gaps.found.is_empty() {
-        return Some(false);
-    }
-    if gaps.is_all { Some(true) } else { None }
+pub(crate) fn is_complete(gaps: &Gaps) -> Option<bool>
+    ensures { result ≡ is_complete gaps.now }
+{
+    none_of(has_any(gaps.more, &gaps.found), gaps.is_all)
 }
 
 /// The most findings of a kind that are looked for, of so many columns and in so many pieces.
@@ -91,8 +117,39 @@ fn have_words(asked: &[Asked]) -> bool {
     false
 }
 
-/// The gaps among the words that are asked, where these aren't all texts of their columns.
-fn gaps_of_words(alloc: Global, table: &Table, most: usize) -> Result<Option<Gaps>, AllocError> {
+/// The gaps among the kinds that are asked, where these aren't all values and it isn't known that there are none.
+fn gaps_among_kinds(
+    alloc: Global,
+    table: &Table,
+    every: &Gaps,
+    kinds: &[Asked],
+    most: usize,
+) -> Result<Option<Gaps>, AllocError>
+    ensures { IfOk result (λ found. IfSome found (TellsGaps table.now kinds.now)) }
+{
+    if is_complete(every) == Some(true) {
+        return Ok(None);
+    }
+    if !leave_out(kinds) {
+        return Ok(None);
+    }
+    let gaps = find_gaps(alloc, table, kinds, most, STEPS)?;
+    Ok(Some(gaps))
+}
+
+/// The gaps among the words that are asked, where these aren't all texts of their columns, and those of the kinds have some or that isn't
+/// known.
+fn gaps_among_words(
+    alloc: Global,
+    table: &Table,
+    gaps_of_kinds: &Gaps,
+    most: usize,
+) -> Result<Option<Gaps>, AllocError>
+    ensures { IfOk result (λ found. IfSome found (TellsWords table.now)) }
+{
+    if is_complete(gaps_of_kinds) == Some(true) {
+        return Ok(None);
+    }
     let words = kinds_asked(alloc, table, true)?;
     if !have_words(&words) {
         return Ok(None);
@@ -101,20 +158,112 @@ fn gaps_of_words(alloc: Global, table: &Table, most: usize) -> Result<Option<Gap
     Ok(Some(gaps))
 }
 
+/// Of two searches for gaps the narrower one, where there is one.
+fn narrower<'a>(every: &'a Gaps, narrow: &'a Option<Gaps>) -> &'a Gaps
+    ensures { result.now ≡ unwrap_or narrow.now every.now }
+{
+    match narrow {
+        Some(gaps) => gaps,
+        None => every,
+    }
+}
+
+/// The most overlaps that are looked for, where the hit policy is one under which they count.
+fn most_overlaps(policy: HitPolicy, columns: usize) -> Option<usize>
+    ensures { is_some result ≡ counts_overlaps policy }
+{
+    match policy {
+        HitPolicy::Unique => Some(most_of(columns, MOST_FINDINGS, MOST_CELLS)),
+        HitPolicy::Any => Some(most_of(columns, MOST_PAIRS, MOST_PAIR_CELLS)),
+        HitPolicy::Priority
+        | HitPolicy::First
+        | HitPolicy::OutputOrder
+        | HitPolicy::RuleOrder
+        | HitPolicy::Collect
+        | HitPolicy::Sum
+        | HitPolicy::Least
+        | HitPolicy::Greatest
+        | HitPolicy::Count => None,
+    }
+}
+
 /// The overlaps, where the hit policy is one under which they count.
-fn overlaps_of(
-    alloc: Global,
-    table: &Table,
-    all: &[Asked],
-) -> Result<Option<Overlaps>, AllocError> {
-    let columns = table.inputs().len();
-    let most = match table.policy() {
-        HitPolicy::Unique => most_of(columns, MOST_FINDINGS, MOST_CELLS),
-        HitPolicy::Any => most_of(columns, MOST_PAIRS, MOST_PAIR_CELLS),
-        _ => return Ok(None),
+fn overlaps_of(alloc: Global, table: &Table, all: &[Asked]) -> Result<Option<Overlaps>, AllocError>
+    ensures tells { IfOk result (λ found. IfSome found (TellsOverlaps table.now all.now)) }
+    ensures counted { IfOk result (λ found. is_some found ≡ counts_overlaps table.now.policy) }
+{
+    let Some(most) = most_overlaps(table.policy(), table.inputs().len()) else {
+        return Ok(None);
     };
     let overlaps = find_overlaps(alloc, table, all, most, STEPS)?;
     Ok(Some(overlaps))
+}
+
+/// Whether it is against the hit policy that these rules overlap; None where that isn't known.
+fn is_against(policy: HitPolicy, rules: &[Rule], overlap: &Overlap) -> Option<bool>
+    ensures { IsJudged policy (map rule_view rules.now) overlap.now result }
+{
+    match policy {
+        HitPolicy::Any => outputs_differ(rules, overlap.first, overlap.second),
+        HitPolicy::Unique => Some(true),
+        HitPolicy::Priority
+        | HitPolicy::First
+        | HitPolicy::OutputOrder
+        | HitPolicy::RuleOrder
+        | HitPolicy::Collect
+        | HitPolicy::Sum
+        | HitPolicy::Least
+        | HitPolicy::Greatest
+        | HitPolicy::Count => Some(true),
+    }
+}
+
+impl Faults {
+    /// None.
+    fn none(alloc: Global) -> Faults
+        ensures places { result.places.items ≡ [] }
+        ensures first { result.«open» ≡ None }
+    {
+        Faults {
+            places: Vec::new(alloc),
+            open: None,
+        }
+    }
+
+    /// Adds the overlap at a place, where it is one, or that isn't known.
+    fn add(&mut self, place: usize, answer: Option<bool>) -> Result<(), AllocError>
+        ensures places { OnOk result (self.new.places.items ≡ with_place self.old.places.items place answer) }
+        ensures first { OnOk result (self.new.«open» ≡ with_open self.old.«open» place answer) }
+    {
+        match answer {
+            Some(true) => {
+                self.places.push(place)?;
+                Ok(())
+            }
+            Some(false) => Ok(()),
+            None => {
+                self.open = self.open.or(Some(place));
+                Ok(())
+            }
+        }
+    }
+}
+
+/// Which of these overlaps are against the hit policy.
+fn faults_among(
+    alloc: Global,
+    policy: HitPolicy,
+    rules: &[Rule],
+    found: &[Overlap],
+) -> Result<Faults, AllocError>
+    ensures { IfOk result (AreAgainst policy (map rule_view rules.now) found.now) }
+{
+    let mut faults = Faults::none(alloc);
+    for place in 0..found.len() {
+        let answer = is_against(policy, rules, &found[place]);
+        faults.add(place, answer)?;
+    }
+    Ok(faults)
 }
 
 /// Which of the overlaps are against the hit policy.
@@ -122,42 +271,94 @@ fn faults_of(
     alloc: Global,
     table: &Table,
     overlaps: &Option<Overlaps>,
-) -> Result<Faults, AllocError> {
-    let mut places = Vec::new(alloc);
-    let mut open = None;
-    let is_any = matches!(table.policy(), HitPolicy::Any);
-    if let Some(overlaps) = overlaps {
-        for (place, overlap) in overlaps.found.iter().enumerate() {
-            let differ = if is_any {
-                outputs_differ(table.rules(), overlap.first, overlap.second)
-            } else {
-                Some(true)
-            };
-            match differ {
-                Some(true) => places.push(place)?,
-                Some(false) => {}
-                None => open = open.or(Some(place)),
-            }
-        }
+) -> Result<Faults, AllocError>
+    ensures { IfOk result (AreFaults table.now overlaps.now) }
+{
+    let Some(overlaps) = overlaps else {
+        return Ok(Faults::none(alloc));
+    };
+    let faults = faults_among(alloc, table.policy(), table.rules(), &overlaps.found)?;
+    Ok(faults)
+}
+
+/// Whether the hit policy is one under which one of several hits decides.
+fn has_order(policy: HitPolicy) -> bool
+    ensures { result ≡ has_order policy }
+{
+    match policy {
+        HitPolicy::First => true,
+        HitPolicy::Priority => true,
+        HitPolicy::Unique
+        | HitPolicy::Any
+        | HitPolicy::OutputOrder
+        | HitPolicy::RuleOrder
+        | HitPolicy::Collect
+        | HitPolicy::Sum
+        | HitPolicy::Least
+        | HitPolicy::Greatest
+        | HitPolicy::Count => false,
     }
-    Ok(Faults { places, open })
 }
 
 /// The masked rules, where the hit policy is one under which one of several hits decides.
-fn masks_of(alloc: Global, table: &Table, all: &[Asked]) -> Result<Option<Masks>, AllocError> {
-    match table.policy() {
-        HitPolicy::First | HitPolicy::Priority => {
-            let masks = find_masked(alloc, table, all, STEPS)?;
-            Ok(Some(masks))
-        }
-        _ => Ok(None),
+fn masks_of(alloc: Global, table: &Table, all: &[Asked]) -> Result<Option<Masks>, AllocError>
+    ensures tells { IfOk result (λ found. IfSome found (λ masks. All (λ m. IsMaskedAmong table.now all.now m.rule) masks.found.items)) }
+    ensures ordered { IfOk result (λ found. is_some found ≡ has_order table.now.policy) }
+{
+    if !has_order(table.policy()) {
+        return Ok(None);
+    }
+    let masks = find_masked(alloc, table, all, STEPS)?;
+    Ok(Some(masks))
+}
+
+/// Whether overlaps are against the hit policy, or that isn't known.
+fn overlaps_fail(overlaps: &Option<Overlaps>, faults: &Faults) -> bool
+    ensures { result ≡ overlaps_fail overlaps.now faults.now }
+{
+    let Some(overlaps) = overlaps else {
+        return false;
+    };
+    if faults.open.is_some() {
+        return true;
+    }
+    if overlaps.more > 0 {
+        return true;
+    }
+    if !overlaps.is_all {
+        return true;
+    }
+    !faults.places.is_empty()
+}
+
+/// Whether rules are masked, or that isn't known.
+fn masks_fail(masks: &Option<Masks>) -> bool
+    ensures { result ≡ masks_fail masks.now }
+{
+    let Some(masks) = masks else {
+        return false;
+    };
+    if !masks.is_all {
+        return true;
+    }
+    !masks.found.is_empty()
+}
+
+fn is_yes(answer: Option<bool>) -> bool
+    ensures { result ≡ is_yes answer }
+{
+    match answer {
+        Some(answer) => answer,
+        None => false,
     }
 }
 
 impl Answers {
     /// What is found of a table. Gaps are looked for among every value, then among the kinds and the words that are asked, as far as
     /// the wider search left that open.
-    pub(crate) fn of(alloc: Global, table: &Table) -> Result<Answers, AllocError> {
+    pub(crate) fn of(alloc: Global, table: &Table) -> Result<Answers, AllocError>
+        ensures { IfOk result (IsFound table.now) }
+    {
         let columns = table.inputs().len();
         let most = most_of(columns, MOST_FINDINGS, MOST_CELLS);
         let all = every_value(alloc, table)?;
@@ -167,53 +368,46 @@ impl Answers {
         let faults = faults_of(alloc, table, &overlaps)?;
         let never = never_met(alloc, table, &all)?;
         let masks = masks_of(alloc, table, &all)?;
-        let mut answers = Answers {
+        let of_kinds = gaps_among_kinds(alloc, table, &every, &kinds, most)?;
+        let of_words = gaps_among_words(alloc, table, narrower(&every, &of_kinds), most)?;
+        Ok(Answers {
             every,
             kinds,
-            of_kinds: None,
-            of_words: None,
+            of_kinds,
+            of_words,
             overlaps,
             faults,
             never,
             masks,
-        };
-        answers.narrow(alloc, table, most)?;
-        Ok(answers)
-    }
-
-    /// Looks for the gaps among the kinds and the words that are asked, where it isn't known that there are none.
-    fn narrow(&mut self, alloc: Global, table: &Table, most: usize) -> Result<(), AllocError> {
-        if self.complete() != Some(true) && leave_out(&self.kinds) {
-            let gaps = find_gaps(alloc, table, &self.kinds, most, STEPS)?;
-            self.of_kinds = Some(gaps);
-        }
-        if self.complete_for_kinds() != Some(true) {
-            self.of_words = gaps_of_words(alloc, table, most)?;
-        }
-        Ok(())
+        })
     }
 
     /// Whether a rule hits, whatever the values; None where that wasn't decided.
-    pub(crate) fn complete(&self) -> Option<bool> {
+    pub(crate) fn complete(&self) -> Option<bool>
+        ensures { result ≡ is_complete self.now.every }
+    {
         is_complete(&self.every)
     }
 
     /// The gaps among the kinds that are asked.
-    pub(crate) fn gaps_of_kinds(&self) -> &Gaps {
-        self.of_kinds.as_ref().unwrap_or(&self.every)
+    pub(crate) fn gaps_of_kinds(&self) -> &Gaps
+        ensures { result.now ≡ gaps_of_kinds self.now }
+    {
+        narrower(&self.every, &self.of_kinds)
     }
 
     /// The same of values of the kinds that are asked.
-    pub(crate) fn complete_for_kinds(&self) -> Option<bool> {
+    pub(crate) fn complete_for_kinds(&self) -> Option<bool>
+        ensures { result ≡ is_complete (gaps_of_kinds self.now) }
+    {
         is_complete(self.gaps_of_kinds())
     }
 
     /// The same where of texts only the words are meant that are asked.
-    pub(crate) fn complete_for_words(&self) -> Option<bool> {
-        match &self.of_words {
-            Some(gaps) => is_complete(gaps),
-            None => self.complete_for_kinds(),
-        }
+    pub(crate) fn complete_for_words(&self) -> Option<bool>
+        ensures { result ≡ is_complete (gaps_of_words self.now) }
+    {
+        is_complete(narrower(self.gaps_of_kinds(), &self.of_words))
     }
 
     /// The steps of all searches.
@@ -234,40 +428,30 @@ impl Answers {
         steps
     }
 
-    /// The places of the gaps among every value that don't lie among the kinds that are asked.
-    pub(crate) fn other_gaps(&self, alloc: Global) -> Result<Vec<usize>, AllocError> {
-        let mut places = Vec::new(alloc);
-        for (place, gap) in self.every.found.iter().enumerate() {
-            if have_others(&gap.cells, &self.kinds) {
-                places.push(place)?;
-            }
+    /// Whether values of the kinds that are asked may meet no rule, and there is no default.
+    fn lacks_rules(&self, table: &Table) -> bool
+        ensures { result ≡ lacks_rules table.now self.now }
+    {
+        if is_yes(self.complete_for_kinds()) {
+            return false;
         }
-        Ok(places)
-    }
-
-    /// Whether overlaps are against the hit policy, or that isn't known.
-    fn overlaps_fail(&self) -> bool {
-        match &self.overlaps {
-            Some(overlaps) => {
-                let is_open = self.faults.open.is_some() || overlaps.more > 0 || !overlaps.is_all;
-                is_open || !self.faults.places.is_empty()
-            }
-            None => false,
-        }
-    }
-
-    /// Whether rules are masked, or that isn't known.
-    fn masks_fail(&self) -> bool {
-        match &self.masks {
-            Some(masks) => !masks.is_all || !masks.found.is_empty(),
-            None => false,
-        }
+        has_no_default(table.outputs())
     }
 
     /// Whether `strict` refuses the table: among the kinds that are asked there is a gap and no default, overlaps are against the hit
     /// policy, a rule never hits or is masked, or one of these isn't known.
-    pub(crate) fn are_refused(&self, table: &Table) -> bool {
-        let has_gap = self.complete_for_kinds() != Some(true) && has_no_default(table.outputs());
-        has_gap || self.overlaps_fail() || !self.never.is_empty() || self.masks_fail()
+    pub(crate) fn are_refused(&self, table: &Table) -> bool
+        ensures { result ≡ is_refused table.now self.now }
+    {
+        if self.lacks_rules(table) {
+            return true;
+        }
+        if overlaps_fail(&self.overlaps, &self.faults) {
+            return true;
+        }
+        if !self.never.is_empty() {
+            return true;
+        }
+        masks_fail(&self.masks)
     }
 }

@@ -9,6 +9,7 @@ mod fault_lines;
 mod faults;
 mod findings;
 mod input;
+mod laws;
 mod long;
 mod model_check;
 mod model_line;
@@ -21,8 +22,10 @@ mod subject;
 mod table_lines;
 mod tables;
 mod undecided;
+mod walk;
 
 pub use findings::{CheckFault, CheckFindings};
+pub use laws::strict_takes;
 pub use model_check::check;
 pub use options::CheckOptions;
 // (what the findings are made of)

@@ -1,18 +1,25 @@
 //! Checks one model.
-ghost use Rattle.std.specs.Prelude.{◌≡◌, ◌≢◌, ◌++◌, ◌<◌, ◌-◌, ◌^◌, ℕ, List, [], None, Some, Err, OnOk, IfOk, IfErr, IsTrue, is_ok, true};
+ghost use Rattle.std.specs.Prelude.{◌≡◌, ◌≢◌, ◌&&◌, ◌++◌, ◌<◌, ◌-◌, ◌^◌, ℕ, List, [], None, Some, Ok, Err, OnOk, IfOk, IfErr, IsTrue, is_ok, true};
 ghost use Rattle.std.specs.List.{flat_map};
 ghost use Rattle.serde_json.specs.Data.{Data};
 ghost use Rattle.serde_json.specs.View.{view};
 ghost use Rattle.serde_json.specs.Written.{compact_text};
 ghost use Rattle.desk_lines.specs.Lines.{ended, lines_of};
+ghost use Rattle.desk_lines.specs.Told.{WritesAll};
 ghost use Rattle.dmn_form.specs.Draft.{draft_of};
 ghost use Rattle.dmn_form.specs.ModelView.{model_view};
-ghost use Rattle.dmn_plan.specs.ReadModel.{read_model};
+ghost use Rattle.feel_text.specs.Expr.{Expr as ExprSpec};
+ghost use Rattle.dmn_table.specs.Table.{Table as TableSpec};
+ghost use Rattle.dmn_form.specs.Model.{Model as ModelSpec};
+ghost use Rattle.dmn_plan.specs.ReadModel.{read_model, read_text};
 ghost use Rattle.desk_checking.specs.Checked.{Checked};
 ghost use Rattle.desk_checking.specs.FirstFault.{IsFirstFault, IsTakenBy, fault_in, model_fault};
 ghost use Rattle.desk_checking.specs.Output.{TellsModel, TellsText};
 ghost use Rattle.desk_checking.specs.Told.{fault_line, faulty_lines, long_line};
-ghost use Rattle.desk_checking.specs.Verdicts.{IsDueTo};
+ghost use Rattle.desk_checking.specs.Tables.{tables_of};
+ghost use Rattle.desk_checking.specs.TablesTold.{TellsIf};
+ghost use Rattle.desk_checking.specs.Verdicts.{IsDueTo, failure_of};
+ghost use Rattle.desk_checking.specs.declared.options.CheckOptions.{CheckOptions as OptionsSpec};
 ghost use Rattle.desk_checking.specs.declared.findings.CheckFault.TheVariants as found;
 
 use crate::cut::model_and_requests;
@@ -58,16 +65,17 @@ fn faulty(alloc: Global, fault: CheckFault, text: Vec<u8>) -> Verdict
     }
 }
 
-/// What is told of the model of a JSON value with this fault.
-fn text_of_fault(alloc: Global, json: &Value, fault: ModelFault) -> Result<Vec<u8>, AllocError>
-    ensures { IfOk result (λ text. fault ≢ ModelFault.Syntax → text.items ≡ flat_map ended (faulty_lines (Some (view json.now)) (found.Model fault))) }
+/// What is told of a model with this fault.
+fn text_of_fault(
+    alloc: Global,
+    model: &WrittenModel,
+    fault: ModelFault,
+) -> Result<Vec<u8>, AllocError>
+    ensures { IfOk result (λ text. (d : Data) → draft_of d ≡ Some (model_view model.now) → fault ≢ ModelFault.Syntax → text.items ≡ flat_map ended (faulty_lines (Some d) (found.Model fault))) }
 {
     let mut text = Vec::new(alloc);
     add_fault(alloc, CheckFault::Model(fault), &mut text)?;
-    let Some(model) = read_form(alloc, json)? else {
-        return Ok(text);
-    };
-    add_faults(alloc, &model, &mut text)?;
+    add_faults(alloc, model, &mut text)?;
     Ok(text)
 }
 
@@ -81,16 +89,16 @@ fn text_of_long(alloc: Global, length: usize) -> Result<Vec<u8>, AllocError>
     Ok(text)
 }
 
-/// What is told of the tables of a lawful model, where the options say so.
-fn tables_if(
-    alloc: Global,
-    options: CheckOptions,
-    model: &WrittenModel,
-) -> Result<ToldTables, AllocError> {
-    if options.tables {
-        return told_tables(alloc, model);
+/// What is told of the tables of the model with this plan, where the options say so.
+fn tables_if(alloc: Global, options: CheckOptions, plan: &Plan) -> Result<ToldTables, AllocError>
+    ensures { IfOk result (λ told. (m : ModelSpec ExprSpec TableSpec) → read_text plan.now ≡ Ok m → TellsIf options.tables options.strict (tables_of m) told.text.items (options.tables && (options.strict && told.are_refused))) }
+{
+    if !options.tables {
+        return Ok(ToldTables::none(alloc));
     }
-    Ok(ToldTables::none(alloc))
+    let logics = plan.logics(alloc)?;
+    let told = told_tables(alloc, &logics)?;
+    Ok(told)
 }
 
 /// What is found of a model without a fault, with these lines of requests behind it.
@@ -102,11 +110,11 @@ fn lawful_verdict(
     requests: &[u8],
 ) -> Result<Verdict, AllocError>
     ensures lawful { IfOk result (λ verdict. verdict.fault ≡ None) }
-    ensures tells { IfOk result (λ verdict. (d : Data) → is_ok (read_model d) ≡ true → plan ≡ compact_text d → draft_of d ≡ Some (model_view model.now) → TellsModel d (lines_of requests.now) verdict.refused.items verdict.text.items) }
+    ensures tells { IfOk result (λ verdict. (d : Data) → is_ok (read_model d) ≡ true → plan ≡ compact_text d → read_text plan ≡ read_model d → draft_of d ≡ Some (model_view model.now) → TellsModel options d (lines_of requests.now) verdict.refused.items (failure_of options None verdict.are_tables_refused) verdict.text.items) }
 {
     let mut text = Vec::new(alloc);
     add_model(alloc, model, &mut text)?;
-    let tables = tables_if(alloc, options, model)?;
+    let tables = tables_if(alloc, options, &plan)?;
     text.extend_from_slice(&tables.text)?;
     let refusals = refused_among(alloc, plan, requests)?;
     add_refusals(alloc, &refusals, &mut text)?;
@@ -126,7 +134,7 @@ fn readable_verdict(
     model: &WrittenModel,
     requests: &[u8],
 ) -> Result<Verdict, AllocError>
-    ensures { IfOk result (λ verdict. (d : Data) → is_ok (read_model d) ≡ true → plan ≡ compact_text d → draft_of d ≡ Some (model_view model.now) → IsDueTo d (lines_of requests.now) verdict) }
+    ensures { IfOk result (λ verdict. (d : Data) → is_ok (read_model d) ≡ true → plan ≡ compact_text d → read_text plan ≡ read_model d → draft_of d ≡ Some (model_view model.now) → IsDueTo options d (lines_of requests.now) verdict) }
 {
     let length = line_length(plan.text());
     if length > MOST_LINE {
@@ -137,6 +145,42 @@ fn readable_verdict(
     Ok(verdict)
 }
 
+/// What is told of a JSON value that isn't of the form of a model.
+fn no_form(alloc: Global) -> Result<Verdict, AllocError>
+    ensures { IfOk result (λ verdict. (options : OptionsSpec) (d : Data) (requests : List (List ℕ)) → draft_of d ≡ None → IsDueTo options d requests verdict) }
+{
+    let fault = CheckFault::Model(ModelFault::Shape);
+    let mut text = Vec::new(alloc);
+    add_fault(alloc, fault, &mut text)?;
+    Ok(faulty(alloc, fault, text))
+}
+
+/// What the model is whose form was read from a JSON value, with these lines of requests behind it.
+fn check_form(
+    alloc: Global,
+    options: CheckOptions,
+    json: &Value,
+    model: &WrittenModel,
+    requests: &[u8],
+) -> Result<Verdict, AllocError>
+    requires { draft_of (view json.now) ≡ Some (model_view model.now) }
+    ensures { IfOk result (λ verdict. IsDueTo options (view json.now) (lines_of requests.now) verdict) }
+{
+    match Plan::of_form(alloc, json, model) {
+        Ok(plan) => {
+            let verdict = readable_verdict(alloc, options, plan, model, requests)?;
+            Ok(verdict)
+        }
+        Err(fault) => match fault {
+            ModelFault::Memory => Err(AllocError),
+            fault => {
+                let text = text_of_fault(alloc, model, fault)?;
+                Ok(faulty(alloc, CheckFault::Model(fault), text))
+            }
+        },
+    }
+}
+
 /// What the model of a JSON value is, with these lines of requests behind it.
 fn check_json(
     alloc: Global,
@@ -144,30 +188,18 @@ fn check_json(
     json: &Value,
     requests: &[u8],
 ) -> Result<Verdict, AllocError>
-    ensures { IfOk result (λ verdict. IsDueTo (view json.now) (lines_of requests.now) verdict) }
+    ensures { IfOk result (λ verdict. IsDueTo options (view json.now) (lines_of requests.now) verdict) }
 {
-    match Plan::of(alloc, json) {
-        Ok(plan) => {
-            let Some(model) = read_form(alloc, json)? else {
-                unreachable!();
-            };
-            let verdict = readable_verdict(alloc, options, plan, &model, requests)?;
-            Ok(verdict)
-        }
-        Err(fault) => match fault {
-            ModelFault::Memory => Err(AllocError),
-            fault => {
-                let text = text_of_fault(alloc, json, fault)?;
-                Ok(faulty(alloc, CheckFault::Model(fault), text))
-            }
-        },
-    }
+    let Some(model) = read_form(alloc, json)? else {
+        return no_form(alloc);
+    };
+    check_form(alloc, options, json, &model, requests)
 }
 
 /// What is told of a text that is no JSON.
 fn no_json(alloc: Global) -> Result<Verdict, AllocError>
     ensures fault { IfOk result (λ verdict. verdict.fault ≡ Some (found.Model ModelFault.Syntax)) }
-    ensures tells { IfOk result (λ verdict. (s : List ℕ) (requests : List (List ℕ)) → TellsText s requests verdict.fault verdict.refused.items verdict.text.items) }
+    ensures tells { IfOk result (λ verdict. (options : OptionsSpec) (s : List ℕ) (requests : List (List ℕ)) → TellsText options s requests verdict.fault verdict.refused.items (failure_of options verdict.fault verdict.are_tables_refused) verdict.text.items) }
 {
     let fault = CheckFault::Model(ModelFault::Syntax);
     let mut text = Vec::new(alloc);
@@ -183,7 +215,7 @@ fn check_text(
     requests: &[u8],
 ) -> Result<Verdict, AllocError>
     ensures first { IfOk result (λ verdict. IsFirstFault text.now verdict.fault) }
-    ensures tells { IfOk result (λ verdict. TellsText text.now (lines_of requests.now) verdict.fault verdict.refused.items verdict.text.items) }
+    ensures tells { IfOk result (λ verdict. TellsText options text.now (lines_of requests.now) verdict.fault verdict.refused.items (failure_of options verdict.fault verdict.are_tables_refused) verdict.text.items) }
 {
     match Value::from_slice(alloc, text) {
         Ok(json) => check_json(alloc, options, subject(&json), requests),
@@ -192,9 +224,10 @@ fn check_text(
     }
 }
 
-/// Whether `strict` refuses a table of a lawful model.
-fn is_strict_failure(options: CheckOptions, verdict: &Verdict) -> bool
-    ensures { IsTrue result → (options.tables ≡ true) × (options.strict ≡ true) × (verdict.now.fault ≡ None) }
+/// Whether it is asked for that a table is refused, and one is.
+fn is_wanted(options: CheckOptions, are_refused: bool) -> bool
+    ensures only { IsTrue result → (options.tables ≡ true) × (options.strict ≡ true) }
+    ensures is { result ≡ (options.tables && (options.strict && are_refused)) }
 {
     if !options.tables {
         return false;
@@ -202,10 +235,26 @@ fn is_strict_failure(options: CheckOptions, verdict: &Verdict) -> bool
     if !options.strict {
         return false;
     }
-    if verdict.fault.is_some() {
-        return false;
+    are_refused
+}
+
+/// Whether `strict` refuses a table of a lawful model.
+fn is_strict_failure(options: CheckOptions, verdict: &Verdict) -> bool
+    ensures only { IsTrue result → (options.tables ≡ true) × (options.strict ≡ true) × (verdict.now.fault ≡ None) }
+    ensures is { result ≡ failure_of options verdict.now.fault verdict.now.are_tables_refused }
+{
+    match verdict.fault {
+        Some(_) => false,
+        None => is_wanted(options, verdict.are_tables_refused),
     }
-    verdict.are_tables_refused
+}
+
+/// Writes what is told.
+fn write_told<W: Sink>(writer: &mut W, verdict: &Verdict) -> Result<(), FrontFault>
+    requires { (W.seen writer.old).faults < 2 ^ 64 - 1 }
+    ensures { WritesAll (W.seen writer.old) (W.seen writer.new) verdict.now.text.items result }
+{
+    write_all(writer, &verdict.text)
 }
 
 /// Reads from the reader to its end, and checks the model that stands there as JSON: all of it, of any layout, or its first line
@@ -235,8 +284,8 @@ pub fn check<R: Source, W: Sink>(
     let text = read_whole(alloc, reader)?;
     let (model, requests) = model_and_requests(options, &text);
     let verdict = check_text(alloc, options, model, requests)?;
-    write_all(writer, &verdict.text)?;
     let is_strict_failure = is_strict_failure(options, &verdict);
+    write_told(writer, &verdict)?;
     Ok(CheckFindings {
         fault: verdict.fault,
         is_strict_failure,

@@ -1,6 +1,6 @@
 //! Parts of lines of JSON.
 ghost use Rattle.std.specs.Prelude.{◌≡◌, ◌++◌, OnOk, map, string_bytes};
-ghost use Rattle.serde_json.specs.Data.{array};
+ghost use Rattle.serde_json.specs.Data.{array, boolean};
 ghost use Rattle.serde_json.specs.Written.{comma_if, compact_text};
 ghost use Rattle.desk_checking.specs.Told.{numbers_told, texts_told};
 
@@ -15,6 +15,17 @@ pub(crate) fn add_comma(later: bool, text: &mut Vec<u8>) -> Result<(), AllocErro
         text.extend_from_slice(b",")
     } else {
         text.extend_from_slice(b"")
+    }
+}
+
+/// Adds true or false.
+pub(crate) fn add_bool(is: bool, text: &mut Vec<u8>) -> Result<(), AllocError>
+    ensures { OnOk result (text.new.items ≡ text.old.items ++ compact_text (boolean is)) }
+{
+    if is {
+        text.extend_from_slice(b"true")
+    } else {
+        text.extend_from_slice(b"false")
     }
 }
 

@@ -1,122 +1,84 @@
 //! The decision tables of a model, one after another, with what is found of each.
+ghost use Rattle.std.specs.Prelude.{◌≡◌, ◌<◌, ◌++◌, [], IfOk, OnOk, false, map};
+ghost use Rattle.std.specs.List.{flat_map};
+ghost use Rattle.desk_lines.specs.Lines.{ended};
+ghost use Rattle.dmn_logic.specs.LogicView.{logic_view};
+ghost use Rattle.desk_checking.specs.Looking.{IsTold, IsTurn, untold_lines};
+ghost use Rattle.desk_checking.specs.Tables.{logic_tables};
+ghost use Rattle.desk_checking.specs.TablesTold.{TellsTables};
+ghost use Rattle.desk_checking.specs.TablesView.{placed_view, placed_views};
 
 use crate::answers::Answers;
 use crate::table_lines::add_table;
-use dmn_check::{Key, Place, Step};
-use dmn_form::WrittenModel;
-use dmn_logic::{Logic, LogicFault, read_decision_logic};
-use dmn_table::Table;
+use crate::undecided::Undecided;
+use crate::walk::{PlacedTable, tables_of};
+use dmn_logic::Logic;
 use json_writer::add_number;
 use std::alloc::{AllocError, Global};
-use std::sync::ArcStr;
 
 /// Once so much is told of tables, 16 MiB, the others are told by their number.
-const MOST_TOLD: usize = 1 << 24;
+const MOST_TOLD: usize = 16_777_216;
 
-/// A walk through the tables of a model.
+/// What is told of tables, one after another.
 #[derive(Drop)]
-struct Walk {
-    alloc: Global,
-    /// Where it is.
-    place: Place,
+pub(crate) struct Telling {
     /// What was told.
-    text: Vec<u8>,
+    pub(crate) text: Vec<u8>,
     /// How many tables were not told.
-    untold: usize,
+    pub(crate) untold: usize,
     /// Whether `strict` refuses a table.
-    is_refused: bool,
+    pub(crate) is_refused: bool,
 }
 
-impl Walk {
-    /// Looks at a table, which lies under the key `table` of the place where the walk is.
-    fn look_at_table(&mut self, table: &Table) -> Result<(), AllocError> {
-        self.place.steps.push(Step::Key(Key::Table))?;
-        let pointer = self.place.pointer(self.alloc)?;
-        self.place.steps.pop();
-        let answers = Answers::of(self.alloc, table)?;
-        self.is_refused = self.is_refused || answers.are_refused(table);
+/// Adds the line of so many tables that were not told.
+#[tactic(auto, using(crate::proofs::Lookings::untold_pieces))]
+fn add_untold(untold: usize, text: &mut Vec<u8>) -> Result<(), AllocError>
+    requires { 0 < untold }
+    ensures { OnOk result (text.new.items ≡ text.old.items ++ flat_map ended (untold_lines untold)) }
+{
+    text.extend_from_slice(b"{\"table\":null,\"more\":")?;
+    add_number(untold as u64, text)?;
+    text.extend_from_slice(b"}\n")?;
+    Ok(())
+}
+
+impl Telling {
+    /// Looks at a table.
+    fn look_at(&mut self, alloc: Global, placed: &PlacedTable) -> Result<(), AllocError>
+        requires { self.old.untold < 18446744073709551615 }
+        ensures { OnOk result (IsTurn (placed_view placed.now) self.old self.new) }
+    {
+        let answers = Answers::of(alloc, placed.table)?;
+        let undecided = Undecided::of(alloc, &answers)?;
+        let is_refused = answers.are_refused(placed.table);
+        self.is_refused |= is_refused;
         if self.text.len() > MOST_TOLD {
-            self.untold = self.untold.saturating_add(1);
+            self.untold += 1;
             return Ok(());
         }
-        add_table(self.alloc, pointer.as_str(), &answers, &mut self.text)
-    }
-
-    /// Looks at each table of a boxed expression. It goes as deep as that is.
-    #[cycle(walk)]
-    fn look_at_logic(&mut self, logic: &Logic) -> Result<(), AllocError> {
-        match logic {
-            Logic::Expression(_) => Ok(()),
-            Logic::Table(table) => self.look_at_table(table),
-            Logic::List(members) => self.look_at_members(members),
-            Logic::Context(entries) => self.look_at_entries(entries),
-            Logic::ContextWith(entries, last) => {
-                self.look_at_entries(entries)?;
-                self.place.steps.push(Step::Key(Key::Result))?;
-                self.look_at_logic(last)?;
-                self.place.steps.pop();
-                Ok(())
-            }
-        }
-    }
-
-    #[cycle(walk)]
-    fn look_at_members(&mut self, members: &[Logic]) -> Result<(), AllocError> {
-        self.place.steps.push(Step::Key(Key::List))?;
-        for (index, member) in members.iter().enumerate() {
-            self.place.steps.push(Step::Index(index))?;
-            self.look_at_logic(member)?;
-            self.place.steps.pop();
-        }
-        self.place.steps.pop();
-        Ok(())
-    }
-
-    #[cycle(walk)]
-    fn look_at_entries(&mut self, entries: &[(ArcStr, Logic)]) -> Result<(), AllocError> {
-        self.place.steps.push(Step::Key(Key::Context))?;
-        for (index, (_, logic)) in entries.iter().enumerate() {
-            self.place.steps.push(Step::Index(index))?;
-            self.place.steps.push(Step::Key(Key::Expr))?;
-            self.look_at_logic(logic)?;
-            self.place.steps.pop();
-            self.place.steps.pop();
-        }
-        self.place.steps.pop();
-        Ok(())
-    }
-
-    /// Looks at each table of the decisions, which have this logic.
-    fn look_at_decisions(&mut self, logics: &[Logic]) -> Result<(), AllocError> {
-        self.place.steps.push(Step::Key(Key::Decisions))?;
-        for (index, logic) in logics.iter().enumerate() {
-            self.place.steps.push(Step::Index(index))?;
-            self.place.steps.push(Step::Key(Key::Expr))?;
-            self.look_at_logic(logic)?;
-            self.place.steps.pop();
-            self.place.steps.pop();
-        }
-        self.place.steps.pop();
+        let pointer = placed.place.pointer(alloc)?;
+        let steps = answers.steps();
+        add_table(
+            alloc,
+            pointer.as_str(),
+            &answers,
+            steps,
+            &undecided,
+            &mut self.text,
+        )?;
         Ok(())
     }
 
     /// Tells how many tables were not told.
-    fn tell_untold(&mut self) -> Result<(), AllocError> {
+    fn tell_untold(&mut self) -> Result<(), AllocError>
+        ensures text { OnOk result (self.new.text.items ≡ self.old.text.items ++ flat_map ended (untold_lines self.old.untold)) }
+        ensures refused { OnOk result (self.new.is_refused ≡ self.old.is_refused) }
+    {
         if self.untold == 0 {
             return Ok(());
         }
-        self.text.extend_from_slice(b"{\"table\":null,\"more\":")?;
-        add_number(self.untold as u64, &mut self.text)?;
-        self.text.extend_from_slice(b"}\n")
-    }
-}
-
-/// The logic of the decisions of a lawful model; of one that isn't, of none.
-fn logics_of(alloc: Global, model: &WrittenModel) -> Result<Vec<Logic>, AllocError> {
-    match read_decision_logic(alloc, &model.decisions, &[]) {
-        Ok(logics) => Ok(logics),
-        Err(LogicFault::Memory) => Err(AllocError),
-        Err(_) => Ok(Vec::new(alloc)),
+        add_untold(self.untold, &mut self.text)?;
+        Ok(())
     }
 }
 
@@ -129,7 +91,10 @@ pub(crate) struct ToldTables {
 
 impl ToldTables {
     /// Nothing.
-    pub(crate) fn none(alloc: Global) -> ToldTables {
+    pub(crate) fn none(alloc: Global) -> ToldTables
+        ensures text { result.text.items ≡ [] }
+        ensures refused { result.are_refused ≡ false }
+    {
         ToldTables {
             text: Vec::new(alloc),
             are_refused: false,
@@ -137,22 +102,30 @@ impl ToldTables {
     }
 }
 
-/// What is found of the decision tables of a lawful model, in their order in its text.
-pub(crate) fn told_tables(alloc: Global, model: &WrittenModel) -> Result<ToldTables, AllocError> {
-    let logics = logics_of(alloc, model)?;
-    let mut walk = Walk {
-        alloc,
-        place: Place {
-            steps: Vec::new(alloc),
-        },
+/// What is told of these tables.
+fn told_of(alloc: Global, tables: &[PlacedTable]) -> Result<Telling, AllocError>
+    ensures { IfOk result (IsTold (placed_views tables.now)) }
+{
+    let mut telling = Telling {
         text: Vec::new(alloc),
         untold: 0,
         is_refused: false,
     };
-    walk.look_at_decisions(&logics)?;
-    walk.tell_untold()?;
+    for place in 0..tables.len() {
+        telling.look_at(alloc, &tables[place])?;
+    }
+    Ok(telling)
+}
+
+/// What is found of the decision tables of decisions that have this logic, in their order.
+pub(crate) fn told_tables(alloc: Global, logics: &[&Logic]) -> Result<ToldTables, AllocError>
+    ensures { IfOk result (λ told. TellsTables (logic_tables 0 (map (λ l. logic_view l.now) logics.now)) told.text.items told.are_refused) }
+{
+    let tables = tables_of(alloc, logics)?;
+    let mut telling = told_of(alloc, &tables)?;
+    telling.tell_untold()?;
     Ok(ToldTables {
-        text: walk.text,
-        are_refused: walk.is_refused,
+        text: telling.text,
+        are_refused: telling.is_refused,
     })
 }

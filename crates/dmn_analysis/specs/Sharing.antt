@@ -1,5 +1,5 @@
 -- Internal: no public contract cites these words. A search for two rules that hit for the same values.
-use Rattle.std.specs.Prelude.{◌≡◌, ◌⊎◌, ◌<◌, ◌≤◌, ℕ, List, [], length, true, Some}
+use Rattle.std.specs.Prelude.{◌≡◌, ◌⊎◌, ◌<◌, ◌≤◌, ◌++◌, ℕ, List, [], length, true, Some}
 use Rattle.std.specs.List.{slice_get, All}
 use Rattle.feel_value.specs.Datum.{Datum}
 use Rattle.feel_value.specs.Limits.{is_value}
@@ -81,6 +81,24 @@ pub record IsPairOf (all : List Shared) (pair : Pair) : Type 0 where
   pub before : i < j
   pub first : slice_get shared.rules.items i ≡ Some pair.first
   pub second : slice_get shared.rules.items j ≡ Some pair.second
+
+-- the same pairs, and others behind them
+pub record HaveMore (old new : List Pair) : Type 0 where
+  pub others : List Pair
+  pub behind : new ≡ old ++ others
+
+-- the two rules are one of these pairs
+pub record IsPair (pairs : List Pair) (a b : ℕ) : Type 0 where
+  pub place : ℕ
+  pub pair : Pair
+  pub there : slice_get pairs place ≡ Some pair
+  pub first : pair.first ≡ a
+  pub second : pair.second ≡ b
+
+-- each two rules that share cells are
+abbrev pub HaveEachPair : List Shared → List Pair → Type 0
+HaveEachPair all pairs =
+    (k i j a b : ℕ) (shared : Shared) → slice_get all k ≡ Some shared → i < j → slice_get shared.rules.items i ≡ Some a → slice_get shared.rules.items j ≡ Some b → IsPair pairs a b
 
 -- both rules hit for all values of so many cells that have some
 pub record MustOverlap (words : List Words) (rules : List Rule) (count : ℕ) (cells : List Cell) (i j : ℕ) : Type 0 where

@@ -14,7 +14,7 @@ use crate::cell::{Cell, Words};
 use crate::found::{Overlap, Overlaps};
 use crate::gap_answers::{distinct, is_done, places};
 use crate::gaps::Pending;
-use crate::pairing::{MOST_PAIRS, Pair, pairs_of};
+use crate::pairing::{Pair, pairs_of};
 use crate::pairs::{PairSearch, Shared, find_shared};
 use crate::row::rows_of;
 use crate::whole::whole;
@@ -143,13 +143,15 @@ fn are_untold(found: &[Overlap]) -> bool
     found.is_empty()
 }
 
-// Whether it is known that there are no other pairs than those that are told; where none is told, none were found.
-fn are_all(search: &PairSearch, pairs: usize, found: &[Overlap]) -> bool
+// Whether it is known that there are no other pairs than those that are told, where these are all of those that share cells or
+// not; where none is told, none were found.
+fn are_all(search: &PairSearch, is_all: bool, found: &[Overlap]) -> bool
+    ensures pairs { IsTrue result → IsTrue is_all }
     ensures done { IsTrue result → (search.now.pending.items ≡ []) × (search.now.open.items ≡ []) }
     ensures none { IsTrue result → found.now ≡ [] → search.now.shared.items ≡ [] }
-    ensures all { pairs ≡ 0 → search.now.shared.items ≡ [] → search.now.pending.items ≡ [] → search.now.open.items ≡ [] → IsTrue result }
+    ensures all { IsTrue is_all → search.now.shared.items ≡ [] → search.now.pending.items ≡ [] → search.now.open.items ≡ [] → IsTrue result }
 {
-    if pairs >= MOST_PAIRS {
+    if !is_all {
         return false;
     }
     if are_untold(found) && !are_unshared(&search.shared) {
@@ -183,11 +185,19 @@ pub fn find_overlaps(
     let mut rest = steps;
     let search = find_shared(alloc, &words, &rows, first, MOST_SHARED, &mut rest)?;
     let pairs = pairs_of(alloc, &search.shared)?;
-    let found = tell(alloc, &words, rules, &search.shared, &pairs, count, most)?;
-    let is_all = are_all(&search, pairs.len(), &found);
+    let found = tell(
+        alloc,
+        &words,
+        rules,
+        &search.shared,
+        &pairs.found,
+        count,
+        most,
+    )?;
+    let is_all = are_all(&search, pairs.is_all, &found);
     Ok(Overlaps {
         words,
-        more: pairs.len().saturating_sub(found.len()),
+        more: pairs.found.len().saturating_sub(found.len()),
         found,
         is_all,
         open: distinct(search.open),

@@ -13,3 +13,4 @@ mod Alike
 mod Rising
 mod Floats
 pub mod Decided
+pub mod Logics

@@ -24,7 +24,7 @@ use Rattle.dmn_names.proofs.NamesBack.{distinct_values}
 use Rattle.dmn_plan.specs.Faults.{has_cycle, has_bad_service}
 use Rattle.dmn_plan.specs.Parts.{IsReadable, AreLogicsOf, AreRequirementsOf, reading_of}
 use Rattle.dmn_plan.specs.Items.{IsAfterInputs}
-use Rattle.dmn_plan.specs.Plans.{AreItemsOf, place_name, place_need, IsRouteOf, AreRoutesOf, ArePlansFor, IsPlanned}
+use Rattle.dmn_plan.specs.Plans.{AreItemsOf, place_logic, place_name, place_need, IsRouteOf, AreRoutesOf, ArePlansFor, HaveLogicOf, IsPlanned}
 use Rattle.dmn_plan.specs.ReadModel.{faults, first_among, first_fault, unless, found_or, with_decisions}
 use Rattle.dmn_plan.specs.declared.fault.ModelFault.{ModelFault}
 use Rattle.dmn_plan.specs.declared.fault.ModelFault.TheVariants as fault
@@ -158,3 +158,12 @@ planned m needs logics items plans once none read known below are routes =
     let inside : AreNeedsBelow (length items) needs = subst (λ n. AreNeedsBelow n needs) (ap length (sym are.needed) ∙ length-map items (λ x. x.needs.items)) below in
     subst (λ r. IsPlanned r items plans) (sym is)
     (plans_of_routes m needs (map (λ e. e.logic) es) items they model m.services plans once many (decisions_of_items m needs es items known found.1 they) inside routes)
+
+pub have_logic_of : (m : Draft) (needs : List (List ℕ)) (logics : List Read) (items : List Item) → first_fault m ≡ None → AreLogicsOf m logics → AreItemsOf m needs logics items
+    → HaveLogicOf (reading_of m) items
+have_logic_of m needs logics items none read are =
+    let found = read_by (read_decisions m.decisions) logics read in
+    let es = found.0 in
+    let model : Model Expr Table = record { inputs = m.inputs; decisions = es; services = m.services } in
+    let is : reading_of m ≡ Ok model = ap (λ o. unless o m) none ∙ ap (λ o. found_or fault.Expression (with_decisions m o)) found.1 in
+    subst (λ r. HaveLogicOf r items) (sym is) (are.logic ∙ ap (place_logic m.inputs) (sym found.2))

@@ -92,3 +92,8 @@ ArePlansFor m items (s ∷ ss) [] = ⊥
 abbrev pub IsPlanned : Result (Model Expr Table) ModelFault → List Item → List ServicePlan → Type 0
 IsPlanned (Ok m) items plans = ArePlansFor m items m.services plans
 IsPlanned (Err f) items plans = ⊥
+
+-- first the inputs, which have no logic, and then the logic of each decision
+abbrev pub HaveLogicOf : Result (Model Expr Table) ModelFault → List Item → Type 0
+HaveLogicOf (Ok m) items = map (λ x. option_map logic_view x.logic) items ≡ place_logic m.inputs (map (λ d. d.logic) m.decisions)
+HaveLogicOf (Err f) items = ⊥

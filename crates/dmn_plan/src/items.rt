@@ -1,5 +1,6 @@
 //! The inputs and decisions of a model, by places.
 ghost use Rattle.std.specs.Prelude.{◌≡◌, [], None, Some, IfOk, map, length, drop, option_map};
+ghost use Rattle.std.specs.List.{filter_map};
 ghost use Rattle.dmn_form.specs.ModelView.{model_view};
 ghost use Rattle.dmn_graph.specs.Needs.{needs_view};
 ghost use Rattle.dmn_logic.specs.LogicView.{logic_view};
@@ -132,4 +133,17 @@ pub(crate) fn items_of(
         })?;
     }
     Ok(items)
+}
+
+/// The logic of those that have some.
+pub(crate) fn logics_in<'a>(alloc: Global, items: &'a [Item]) -> Result<Vec<&'a Logic>, AllocError>
+    ensures { IfOk result (λ found. map (λ l. logic_view l.now) found.items ≡ filter_map (λ x. option_map logic_view x.logic) items.now) }
+{
+    let mut found = Vec::with_capacity(alloc, items.len())?;
+    for item in items {
+        if let Some(logic) = &item.logic {
+            found.push(logic)?;
+        }
+    }
+    Ok(found)
 }

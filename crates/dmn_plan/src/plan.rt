@@ -7,9 +7,11 @@ ghost use Rattle.dmn_plan.specs.Due.{IsReadDue};
 use crate::course::Course;
 use crate::fault::{ModelFault, TaskFault};
 use crate::index::plans_by_name;
+use crate::items::logics_in;
 use crate::planning::plan_of;
 use crate::values::{names_at, values_at};
-use dmn_form::read_form;
+use dmn_form::{WrittenModel, read_form};
+use dmn_logic::Logic;
 use dmn_service::{Item, ServicePlan, service_evaluation, service_outcome};
 use feel_value::{Feel, Outcome};
 use std::alloc::{AllocError, Global};
@@ -27,17 +29,24 @@ pub struct Plan {
 impl Model for Plan {
     ghost use Rattle.std.specs.Prelude.{List, ℕ, string_bytes};
     ghost use Rattle.dmn_plan.specs.Indexed.{IsIndexed};
+    ghost use Rattle.dmn_plan.specs.Plans.{HaveLogicOf};
     ghost use Rattle.dmn_plan.specs.ReadModel.{read_text};
 
     ghost Value = { List ℕ };
 
     ghost view = { λ p. string_bytes p.text };
 
-    ghost invariant = { λ p. IsIndexed (read_text (string_bytes p.text)) p.items.items p.services };
+    ghost invariant = { λ p. IsIndexed (read_text (string_bytes p.text)) p.items.items p.services × HaveLogicOf (read_text (string_bytes p.text)) p.items.items };
 }
 
 impl Plan {
     ghost use Rattle.std.specs.Prelude.{◌≡◌, Some, true, is_ok, option_map, IfOk, IfErr, IsUtf8};
+    ghost use Rattle.feel_text.specs.Expr.{Expr};
+    ghost use Rattle.dmn_table.specs.Table.{Table};
+    ghost use Rattle.dmn_form.specs.Draft.{draft_of};
+    ghost use Rattle.dmn_form.specs.Model.{Model};
+    ghost use Rattle.dmn_form.specs.ModelView.{model_view};
+    ghost use Rattle.dmn_logic.specs.LogicView.{logic_view};
     ghost use Rattle.serde_json.specs.Data.{Data};
     ghost use Rattle.serde_json.specs.Read.{read};
     ghost use Rattle.serde_json.specs.View.{view};
@@ -61,7 +70,24 @@ impl Plan {
         let Some(model) = read_form(alloc, json)? else {
             return Err(ModelFault::Shape);
         };
-        let plan = plan_of(alloc, &model)?;
+        let plan = Plan::of_form(alloc, json, &model)?;
+        Ok(plan)
+    }
+
+    /// The same of a model whose form was read: its first fault is none of Shape.
+    pub fn of_form(
+        alloc: Global,
+        json: &serde_json::Value,
+        model: &WrittenModel,
+    ) -> Result<Plan, ModelFault>
+        requires { draft_of (view json.now) ≡ Some (model_view model.now) }
+        ensures same { IfOk result (λ p. read p ≡ Some (view json.now)) }
+        ensures model { IfOk result (λ p. read_text p ≡ read_model (view json.now)) }
+        ensures read { IfOk result (λ _. is_ok (read_model (view json.now)) ≡ true) }
+        ensures compact { IfOk result (λ p. p ≡ compact_text (view json.now)) }
+        ensures err { IfErr result (IsDue (read_model (view json.now))) }
+    {
+        let plan = plan_of(alloc, model)?;
         let services = plans_by_name(alloc, plan.services)?;
         let text = json.to_string(alloc)?;
         Ok(Plan {
@@ -159,6 +185,14 @@ impl Plan {
         };
         let names = names_at(alloc, &self.items, &plan.parameters)?;
         Ok(Some(names))
+    }
+
+    /// The logic of each decision, in the order of the model.
+    pub fn logics<'a>(&'a self, alloc: Global) -> Result<Vec<&'a Logic>, AllocError>
+        ensures { IfOk result (λ found. (m : Model Expr Table) → read_text self.now ≡ Ok m → map (λ l. logic_view l.now) found.items ≡ map (λ d. d.logic) m.decisions) }
+    {
+        let found = logics_in(alloc, &self.items)?;
+        Ok(found)
     }
 
     /// The compact text of the model, with the keys of each object in the order of their bytes.

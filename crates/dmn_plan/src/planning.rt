@@ -8,7 +8,7 @@ ghost use Rattle.dmn_names.specs.Places.{needs_by_place};
 ghost use Rattle.dmn_names.specs.PlacedModel.{placed_model};
 ghost use Rattle.dmn_plan.specs.Due.{IsDue};
 ghost use Rattle.dmn_plan.specs.Parts.{reading_of, IsReadable, AreLogicsOf, AreRequirementsOf};
-ghost use Rattle.dmn_plan.specs.Plans.{IsPlanned};
+ghost use Rattle.dmn_plan.specs.Plans.{HaveLogicOf, IsPlanned};
 ghost use Rattle.dmn_plan.specs.ReadModel.{unless, first_fault};
 
 use crate::fault::ModelFault;
@@ -100,6 +100,7 @@ fn requirements_of(
 /// are read under this list, and evaluated over it.
 pub(crate) fn plan_of(alloc: Global, model: &WrittenModel) -> Result<ModelPlan, ModelFault>
     ensures ok { IfOk result (λ p. IsPlanned (unless (first_fault (model_view model.now)) (model_view model.now)) p.items.items p.services.items) }
+    ensures logic { IfOk result (λ p. HaveLogicOf (unless (first_fault (model_view model.now)) (model_view model.now)) p.items.items) }
     ensures err { IfErr result (IsDue (unless (first_fault (model_view model.now)) (model_view model.now))) }
 {
     check_names(alloc, model)?;

@@ -1,20 +1,20 @@
 -- Comparisons of values that lie in ranges.
-use Rattle.std.proofs.Common.{◌≡◌, refl, sym, ◌∙◌, ℤ, Bool, true, false, not, ◌&&◌, ◌||◌, Option, None, Some}
+use Rattle.std.proofs.Common.{◌≡◌, refl, ℤ, Bool, true, false, not, ◌&&◌, ◌||◌, Option, None, Some}
 use Rattle.std.specs.Prelude.{int_lt, is_some, bytes_eq, chars}
 use Rattle.std.specs.Ordering.{nat_cmp, int_cmp, is_lt, is_eq}
 use Rattle.std.specs.Cmp.Lexicographic.{slice_cmp}
 use Rattle.feel_value.proofs.Booleans.{both_true}
-use Rattle.feel_value.specs.Comparison.{equal, less, bool_eq, items_equal, values_equal, names_within}
+use Rattle.feel_value.specs.Comparison.{equal, less, bool_eq}
 use Rattle.feel_value.specs.Datum.{Datum, null, boolean, number, text, list, context}
 use Rattle.feel_value.specs.Logic.{decided}
 use Rattle.feel_value.specs.declared.logic.Truth.{Truth}
 use Rattle.feel_value.specs.declared.logic.Truth.TheVariants.{Yes, No, Unknown}
 use Rattle.dmn_ranges.specs.Numbers.{are_less, reach}
 use Rattle.dmn_ranges.specs.Ranges.{within, lies_in}
-use Rattle.dmn_ranges.specs.Steps.{is_other, is_other_than_text, less_truths, equal_truths, has_only, is_alike}
+use Rattle.dmn_ranges.specs.Steps.{is_other, is_other_than_text, less_truths, equal_truths, can_equal, can_differ, has_only, is_alike}
 use Rattle.dmn_ranges.specs.declared.interval.Interval.{Interval}
 use Rattle.dmn_ranges.specs.declared.range.Range.{Range}
-use Rattle.dmn_ranges.specs.declared.truths.Truths.{Truths}
+use Rattle.dmn_ranges.proofs.Equalities.{yes_told, no_told}
 use Rattle.dmn_ranges.proofs.Intervals.{less_in, reach_in}
 use Rattle.dmn_ranges.proofs.Joins.{or_left, or_right, and_both, or_cases, not_cases, is_number, is_text, other_in, no_text_in}
 use Rattle.dmn_ranges.proofs.TruthSets.{tells}
@@ -185,10 +185,10 @@ known a b d e h k u alike =
     (λ both. let is = kinds_of a b false true false d e h k both in numbers_known d e is.0 is.1 u)
     (λ both. let is = kinds_of a b false false true d e h k both in texts_known d e is.0 is.1 u)))
 
-equal_by : (a b : Range) (v : Truth) → (v ≡ Unknown → not (is_alike a b) ≡ true) → tells (equal_truths a b) v ≡ true
-equal_by a b Yes h = refl
-equal_by a b No h = refl
-equal_by a b Unknown h = h refl
+equal_by : (a b : Range) (v : Truth) → (v ≡ Yes → can_equal a b ≡ true) → (v ≡ No → can_differ a b ≡ true) → (v ≡ Unknown → not (is_alike a b) ≡ true) → tells (equal_truths a b) v ≡ true
+equal_by a b Yes f g h = f refl
+equal_by a b No f g h = g refl
+equal_by a b Unknown f g h = h refl
 
 pub equal_told : (a b : Range) (d e : Datum) → lies_in a d ≡ true → lies_in b e ≡ true → tells (equal_truths a b) (equal d e) ≡ true
-equal_told a b d e h k = equal_by a b (equal d e) (λ u. not_cases (is_alike a b) (known a b d e h k u))
+equal_told a b d e h k = equal_by a b (equal d e) (yes_told a b d e h k) (no_told a b d e h k) (λ u. not_cases (is_alike a b) (known a b d e h k u))

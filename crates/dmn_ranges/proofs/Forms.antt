@@ -1,8 +1,6 @@
 -- Each form of an expression, from what is told of its parts.
-use Rattle.std.proofs.Common.{◌≡◌, refl, ap, ◌∙◌, [], ℕ, ℤ, pos, negsuc, ◌+ℤ◌, ◌-ℤ◌, Bool, true, false, not, ◌&&◌, ◌||◌, Option, None, Some, List, length, unsigned_abs, if◌then◌else◌, arith}
-use Rattle.std.specs.Prelude.{◌*ℤ◌, int_le, nat_le}
-use Rattle.std.proofs.lemmas.Int.{ints}
-use Rattle.std.proofs.lemmas.Bool.Decides.{nat_tests}
+use Rattle.std.proofs.Common.{◌≡◌, refl, ap, subst, ◌∙◌, [], ℕ, ℤ, pos, negsuc, ◌+ℤ◌, ◌-ℤ◌, Bool, true, false, ◌&&◌, ◌||◌, Option, None, Some, List, length, unsigned_abs, if◌then◌else◌}
+use Rattle.std.specs.Prelude.{◌*ℤ◌, int_le}
 use Rattle.feel_value.specs.Datum.{Datum, null, boolean, number, text, list, context, Items, no_items, item, members_of}
 use Rattle.feel_value.specs.Limits.{in_range, is_value}
 use Rattle.feel_value.specs.Comparison.{equal, less}
@@ -19,22 +17,22 @@ use Rattle.feel_text.specs.declared.expr.Operator.{Operator}
 use Rattle.feel_text.specs.declared.expr.Operator.TheVariants as operator
 use Rattle.feel_text.specs.declared.expr.Function.{Function}
 use Rattle.feel_text.specs.declared.expr.Function.TheVariants as function
-use Rattle.dmn_ranges.specs.Numbers.{most_number, absolute}
+use Rattle.dmn_ranges.specs.Numbers.{most_number, absolute, remainder, has_divisor}
 use Rattle.dmn_ranges.specs.Ranges.{inside, within, lies_in, covers, null_alone}
-use Rattle.dmn_ranges.specs.Steps.{everything, numbers_or_null, anything, joined, is_other, given, limited, with_one, with_two, either_outcomes, when, numbers_given, worked_out, paired, arithmetic, negated, absolute_if, absolutes, some_number, remainders_of, remainders, truths, opposite, and_truths, or_truths, less_truths, equal_truths, told, operated, between, inverted, folded, counted, called, paths, listed, natural, branches, point, outcomes}
+use Rattle.dmn_ranges.specs.Steps.{numbers_or_null, anything, joined, is_other, given, limited, with_one, with_two, either_outcomes, when, numbers_given, worked_out, paired, arithmetic, negated, absolute_if, absolutes, some_number, divided, remainders, truths, opposite, and_truths, or_truths, less_truths, equal_truths, operated, between, inverted, folded, counted, called, paths, listed, natural, branches, point, outcomes}
 use Rattle.dmn_ranges.specs.declared.bounded.Bounded.{Bounded}
 use Rattle.dmn_ranges.specs.declared.interval.Interval.{Interval}
 use Rattle.dmn_ranges.specs.declared.outcomes.Outcomes.{Outcomes}
 use Rattle.dmn_ranges.specs.declared.range.Range.{Range}
 use Rattle.dmn_ranges.specs.declared.truths.Truths.{Truths}
 use Rattle.dmn_ranges.proofs.Comparisons.{others, less_told, equal_told}
-use Rattle.dmn_ranges.proofs.Intervals.{Met, le_same, number_in_all, zero_below, most_above, sum_met, difference_met, product_met, absolute_met, hull_one, hull_other}
-use Rattle.dmn_ranges.proofs.Joins.{or_left, or_right, and_both, is_number, other_in}
+use Rattle.dmn_ranges.proofs.Intervals.{Met, le_same, number_in_all, zero_below, most_above, sum_met, difference_met, product_met, absolute_met, zero_or_not, divisor_in, remainder_met, hull_one, hull_other}
+use Rattle.dmn_ranges.proofs.Joins.{or_left, or_right, and_both, other_in}
 use Rattle.dmn_ranges.proofs.TruthSets.{tells, opposite_told, and_told, or_told, truth_told, told_is, told_held}
 
 -- ---- outcomes
 
-limited_covers : (l : Bool) (o : Outcomes) (p : Outcome) → covers o p ≡ true → covers (limited l o) p ≡ true
+pub limited_covers : (l : Bool) (o : Outcomes) (p : Outcome) → covers o p ≡ true → covers (limited l o) p ≡ true
 limited_covers l o (Is d) h = h
 limited_covers l o Limit h = or_right l o.limit h
 
@@ -66,15 +64,15 @@ joined_other a b (text s) h = or_right a.texts b.texts h
 joined_other a b (list ds) h = or_right a.lists b.lists h
 joined_other a b (context es) h = or_right a.contexts b.contexts h
 
-either_one : (o p : Outcomes) (x : Outcome) → covers o x ≡ true → covers (either_outcomes o p) x ≡ true
+pub either_one : (o p : Outcomes) (x : Outcome) → covers o x ≡ true → covers (either_outcomes o p) x ≡ true
 either_one o p (Is d) h = joined_one o.range p.range d h
 either_one o p Limit h = or_left o.limit p.limit h
 
-either_other : (o p : Outcomes) (x : Outcome) → covers p x ≡ true → covers (either_outcomes o p) x ≡ true
+pub either_other : (o p : Outcomes) (x : Outcome) → covers p x ≡ true → covers (either_outcomes o p) x ≡ true
 either_other o p (Is d) h = joined_other o.range p.range d h
 either_other o p Limit h = or_right o.limit p.limit h
 
-when_covers : (b : Bool) (o : Outcomes) (x : Outcome) → b ≡ true → covers o x ≡ true → covers (when b o) x ≡ true
+pub when_covers : (b : Bool) (o : Outcomes) (x : Outcome) → b ≡ true → covers o x ≡ true → covers (when b o) x ≡ true
 when_covers true o x h k = k
 when_covers false o x h k = cc
 
@@ -89,13 +87,13 @@ held_by : (o : Outcomes) (z : ℤ) (t : Bool) → (t ≡ true → within o.range
 held_by o z true h k = h refl
 held_by o z false h k = k refl
 
-number_covers : (o : Outcomes) (z : ℤ) → (in_range z ≡ true → within o.range.numbers z ≡ true) → (in_range z ≡ false → o.limit ≡ true) → covers o (held (number z)) ≡ true
+pub number_covers : (o : Outcomes) (z : ℤ) → (in_range z ≡ true → within o.range.numbers z ≡ true) → (in_range z ≡ false → o.limit ≡ true) → covers o (held (number z)) ≡ true
 number_covers o z h k = held_by o z (in_range z) h k
 
-met_covers : (n : Bool) (b : Bounded) (z : ℤ) → Met b z → covers (numbers_given n (Some b)) (held (number z)) ≡ true
+pub met_covers : (n : Bool) (b : Bounded) (z : ℤ) → Met b z → covers (numbers_given n (Some b)) (held (number z)) ≡ true
 met_covers n b z met = number_covers (numbers_given n (Some b)) z met.0 met.1
 
-null_covers : (n : Bool) (o : Option Bounded) → n ≡ true → covers (numbers_given n o) (held null) ≡ true
+pub null_covers : (n : Bool) (o : Option Bounded) → n ≡ true → covers (numbers_given n o) (held null) ≡ true
 null_covers n None h = h
 null_covers n (Some b) h = h
 
@@ -127,23 +125,27 @@ absolutes_cover a d h = null_covers (is_other a) (absolute_if a.numbers) (other_
 some_number_covers : (z : ℤ) → covers some_number (held (number z)) ≡ true
 some_number_covers z = number_covers some_number z (number_in_all z) (λ p. refl)
 
-remainder_covers : (z : ℤ) (t : Bool) → covers some_number (held (if t then null else number z)) ≡ true
-remainder_covers z true = refl
-remainder_covers z false = some_number_covers z
+divided_covers : (n : Bool) (t : Bool) (b : Bounded) (z : ℤ) → t ≡ true → Met b z → covers (numbers_given n (if t then Some b else None)) (held (number z)) ≡ true
+divided_covers n true b z e met = met_covers n b z met
+divided_covers n false b z e met = cc
 
-null_remainder : (o p : Option Interval) → covers (remainders_of o p) (held null) ≡ true
-null_remainder None p = refl
-null_remainder (Some i) None = refl
-null_remainder (Some i) (Some j) = refl
+left_covers : (n : Bool) (o p : Option Interval) (x y : ℤ) → within o x ≡ true → within p y ≡ true → is_zero y ≡ false → covers (numbers_given n (divided o p)) (held (number (x -ℤ (y *ℤ meaning.floor_quotient x y)))) ≡ true
+left_covers n None p x y h k r = cc
+left_covers n (Some i) None x y h k r = cc
+left_covers n (Some i) (Some j) x y h k r = divided_covers n (has_divisor j) (remainder j) (x -ℤ (y *ℤ meaning.floor_quotient x y)) (divisor_in j y k r) (remainder_met j x y k r)
 
-two_numbers : (o p : Option Interval) (x y : ℤ) → within o x ≡ true → within p y ≡ true → covers (remainders_of o p) (held (modulo x y)) ≡ true
-two_numbers None p x y h k = cc
-two_numbers (Some i) None x y h k = cc
-two_numbers (Some i) (Some j) x y h k = remainder_covers (x -ℤ (y *ℤ meaning.floor_quotient x y)) (is_zero y)
+zero_within : (o : Option Interval) (y : ℤ) → within o y ≡ true → is_zero y ≡ true → within o (pos 0) ≡ true
+zero_within o y h r = let P : ℤ → Type 0 = λ z. within o z ≡ true in subst P (zero_or_not y r) h
+
+two_numbers : (l : Bool) (o p : Option Interval) (x y : ℤ) (t : Bool) → is_zero y ≡ t → within o x ≡ true → within p y ≡ true
+    → covers (numbers_given (l || within p (pos 0)) (divided o p)) (held (if t then null else number (x -ℤ (y *ℤ meaning.floor_quotient x y)))) ≡ true
+two_numbers l o p x y true r h k = null_covers (l || within p (pos 0)) (divided o p) (or_right l (within p (pos 0)) (zero_within p y k r))
+two_numbers l o p x y false r h k = left_covers (l || within p (pos 0)) o p x y h k r
 
 pub remainders_cover : (a b : Range) (d e : Datum) → lies_in a d ≡ true → lies_in b e ≡ true → covers (remainders a b) (held (modulo_of d e)) ≡ true
-remainders_cover a b (number x) (number y) h k = two_numbers a.numbers b.numbers x y h k
-remainders_cover a b d e h k = null_remainder a.numbers b.numbers
+remainders_cover a b (number x) (number y) h k = two_numbers (is_other a || is_other b) a.numbers b.numbers x y (is_zero y) refl h k
+remainders_cover a b d e h k =
+    null_covers ((is_other a || is_other b) || within b.numbers (pos 0)) (divided a.numbers b.numbers) (or_left (is_other a || is_other b) (within b.numbers (pos 0)) (others a b d e h k refl))
 
 natural_by : (n : ℕ) (t : Bool) → covers (if t then given (numbers_or_null false (Some (record { low = pos n; high = pos n }))) else record { range = numbers_or_null false None; limit = true }) (if (t && true) && true then Is (number (pos n)) else Limit) ≡ true
 natural_by n true = and_both (int_le (pos n) (pos n)) (int_le (pos n) (pos n)) (le_same (pos n)) (le_same (pos n))
@@ -248,7 +250,7 @@ paths_cover name a (list ds) h = if_lists (a.contexts || a.lists) whatever (held
 paths_cover name a (context es) h = if_lists (a.contexts || a.lists) whatever (held (path_of name (context es))) (or_left a.contexts a.lists h) (whatever_held (path_of name (context es)))
 paths_cover name a d h = if_null (a.contexts || a.lists) whatever refl
 
-listed_if : (ds : Items) (t : Bool) → covers listed (if t then Is (list ds) else Limit) ≡ true
+pub listed_if : (ds : Items) (t : Bool) → covers listed (if t then Is (list ds) else Limit) ≡ true
 listed_if ds true = refl
 listed_if ds false = refl
 

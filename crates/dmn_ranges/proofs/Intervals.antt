@@ -1,14 +1,15 @@
 -- Arithmetic on intervals.
-use Rattle.std.proofs.Common.{◌≡◌, refl, ap, ℕ, zero, suc, ◌+◌, ◌*◌, ◌≤◌, ℤ, pos, negsuc, neg_ℤ, ◌+ℤ◌, ◌-ℤ◌, Bool, true, false, ◌&&◌, ◌||◌, Option, None, Some, unsigned_abs, if◌then◌else◌, arith}
-use Rattle.std.specs.Prelude.{◌*ℤ◌, int_lt, int_le, nat_le}
+use Rattle.std.proofs.Common.{◌≡◌, refl, ap, ℕ, zero, suc, ◌*◌, ◌≤◌, ℤ, pos, negsuc, ◌+ℤ◌, ◌-ℤ◌, ◌≤ℤ◌, ◌<ℤ◌, Bool, true, false, ◌||◌, Option, None, Some, unsigned_abs, if◌then◌else◌, arith}
+use Rattle.std.specs.Prelude.{◌*ℤ◌, int_lt, int_le}
 use Rattle.std.proofs.Math.IntN.{*ℤ_comm}
 use Rattle.std.proofs.Math.Nat.{mul-le-mul_right}
 use Rattle.std.proofs.lemmas.Int.{ints}
 use Rattle.std.proofs.lemmas.Bool.Decides.{nat_tests}
 use Rattle.feel_value.proofs.Booleans.{both_true}
 use Rattle.feel_value.specs.Limits.{in_range}
-use Rattle.feel_text.specs.Meaning.{least, greatest}
-use Rattle.dmn_ranges.specs.Numbers.{least_number, most_number, clamped, is_past, bounded, sum, difference, least_times, greatest_times, least_product, greatest_product, product, nearest, furthest, absolute, hull, are_less, reach}
+use Rattle.feel_eval.proofs.Modulo.{floor_above, floor_below}
+use Rattle.feel_text.specs.Meaning.{least, greatest, is_zero, floor_quotient}
+use Rattle.dmn_ranges.specs.Numbers.{least_number, most_number, clamped, is_past, bounded, sum, difference, least_times, greatest_times, least_product, greatest_product, product, nearest, furthest, absolute, remainder, has_divisor, hull, are_less, reach}
 use Rattle.dmn_ranges.specs.Ranges.{inside, within}
 use Rattle.dmn_ranges.specs.Steps.{everything}
 use Rattle.dmn_ranges.specs.declared.bounded.Bounded.{Bounded}
@@ -42,28 +43,28 @@ least_one_by : (a b : ℤ) (t : Bool) → int_lt b a ≡ t → int_le (if t then
 least_one_by a b true h = lt_le b a h
 least_one_by a b false h = le_same a
 
-least_one : (a b : ℤ) → int_le (least a b) a ≡ true
+pub least_one : (a b : ℤ) → int_le (least a b) a ≡ true
 least_one a b = least_one_by a b (int_lt b a) refl
 
 least_other_by : (a b : ℤ) (t : Bool) → int_lt b a ≡ t → int_le (if t then b else a) b ≡ true
 least_other_by a b true h = le_same b
 least_other_by a b false h = not_lt b a h
 
-least_other : (a b : ℤ) → int_le (least a b) b ≡ true
+pub least_other : (a b : ℤ) → int_le (least a b) b ≡ true
 least_other a b = least_other_by a b (int_lt b a) refl
 
 greatest_one_by : (a b : ℤ) (t : Bool) → int_lt a b ≡ t → int_le a (if t then b else a) ≡ true
 greatest_one_by a b true h = lt_le a b h
 greatest_one_by a b false h = le_same a
 
-greatest_one : (a b : ℤ) → int_le a (greatest a b) ≡ true
+pub greatest_one : (a b : ℤ) → int_le a (greatest a b) ≡ true
 greatest_one a b = greatest_one_by a b (int_lt a b) refl
 
 greatest_other_by : (a b : ℤ) (t : Bool) → int_lt a b ≡ t → int_le b (if t then b else a) ≡ true
 greatest_other_by a b true h = le_same b
 greatest_other_by a b false h = not_lt a b h
 
-greatest_other : (a b : ℤ) → int_le b (greatest a b) ≡ true
+pub greatest_other : (a b : ℤ) → int_le b (greatest a b) ≡ true
 greatest_other a b = greatest_other_by a b (int_lt a b) refl
 
 -- ---- the range of numbers
@@ -108,7 +109,7 @@ past_by l u (pos n) h k r =
 past_by l u (negsuc n) h k r =
     or_left (is_past l) (is_past u) (or_left (int_lt l least_number) (int_lt most_number l) (le_lt_le l (negsuc n) least_number least_number h (below_range n r) (le_same least_number)))
 
-bounded_met : (l u z : ℤ) → int_le l z ≡ true → int_le z u ≡ true → Met (bounded l u) z
+pub bounded_met : (l u z : ℤ) → int_le l z ≡ true → int_le z u ≡ true → Met (bounded l u) z
 bounded_met l u z h k = (
   λ r. and_both (int_le (clamped l) z) (int_le z (clamped u)) (low_by l z (int_lt l least_number) (int_lt most_number l) refl h r) (high_by u z (int_lt u least_number) (int_lt most_number u) refl k r),
   past_by l u z h k,
@@ -116,10 +117,10 @@ bounded_met l u z h k = (
 
 -- ---- sums and differences
 
-low_of : (i : Interval) (x : ℤ) → inside i x ≡ true → int_le i.low x ≡ true
+pub low_of : (i : Interval) (x : ℤ) → inside i x ≡ true → int_le i.low x ≡ true
 low_of i x h = (both_true (int_le i.low x) (int_le x i.high) h).0
 
-high_of : (i : Interval) (x : ℤ) → inside i x ≡ true → int_le x i.high ≡ true
+pub high_of : (i : Interval) (x : ℤ) → inside i x ≡ true → int_le x i.high ≡ true
 high_of i x h = (both_true (int_le i.low x) (int_le x i.high) h).1
 
 pub sum_met : (i j : Interval) (x y : ℤ) → inside i x ≡ true → inside j y ≡ true → Met (sum i j) (x +ℤ y)
@@ -206,6 +207,54 @@ absolute_met i x h =
     bounded_met (nearest i) (furthest i) (pos (unsigned_abs x))
     (near_by i.low i.high x (int_lt (pos 0) i.low) (int_lt i.high (pos 0)) (low_of i x h) (high_of i x h))
     (far_by i.low i.high x (low_of i x h) (high_of i x h))
+
+-- ---- what is left by a number
+
+left_above_low : (x p : ℤ) → p ≤ℤ x → int_le (pos 0) (x -ℤ p) ≡ true
+left_above_low x p h = grind (arith, ints)
+
+left_above_high : (x p y u : ℤ) → x <ℤ (p +ℤ y) → int_le y u ≡ true → int_le (x -ℤ p) (u -ℤ pos 1) ≡ true
+left_above_high x p y u h k = grind (arith, ints)
+
+left_below_high : (x p : ℤ) → x ≤ℤ p → int_le (x -ℤ p) (pos 0) ≡ true
+left_below_high x p h = grind (arith, ints)
+
+left_below_low : (x p y l : ℤ) → (p +ℤ y) <ℤ x → int_le l y ≡ true → int_le (l +ℤ pos 1) (x -ℤ p) ≡ true
+left_below_low x p y l h k = grind (arith, ints)
+
+pub zero_or_not : (y : ℤ) → is_zero y ≡ true → y ≡ pos 0
+zero_or_not (pos n) h = let same : n ≡ 0 = grind (arith, nat_tests) in ap pos same
+zero_or_not (negsuc n) h = absurd (grind (arith, nat_tests))
+
+above_zero : (n : ℕ) → int_lt (pos 0) (pos (suc n)) ≡ true
+above_zero n = grind (arith, ints, nat_tests)
+
+lt_le_lt : (a b c : ℤ) → int_lt a b ≡ true → int_le b c ≡ true → int_lt a c ≡ true
+lt_le_lt a b c h k = grind (arith, ints)
+
+le_lt_lt : (a b c : ℤ) → int_le a b ≡ true → int_lt b c ≡ true → int_lt a c ≡ true
+le_lt_lt a b c h k = grind (arith, ints)
+
+pub divisor_in : (i : Interval) (y : ℤ) → inside i y ≡ true → is_zero y ≡ false → has_divisor i ≡ true
+divisor_in i (pos zero) h k = cc
+divisor_in i (pos (suc n)) h k = or_right (int_lt i.low (pos 0)) (int_lt (pos 0) i.high) (lt_le_lt (pos 0) (pos (suc n)) i.high (above_zero n) (high_of i (pos (suc n)) h))
+divisor_in i (negsuc n) h k = or_left (int_lt i.low (pos 0)) (int_lt (pos 0) i.high) (le_lt_lt i.low (negsuc n) (pos 0) (low_of i (negsuc n) h) refl)
+
+between_met : (i : Interval) (z : ℤ) → int_le (least (i.low +ℤ pos 1) (pos 0)) z ≡ true → int_le z (greatest (i.high -ℤ pos 1) (pos 0)) ≡ true → Met (remainder i) z
+between_met i z h k = bounded_met (least (i.low +ℤ pos 1) (pos 0)) (greatest (i.high -ℤ pos 1) (pos 0)) z h k
+
+pub remainder_met : (i : Interval) (x y : ℤ) → inside i y ≡ true → is_zero y ≡ false → Met (remainder i) (x -ℤ (y *ℤ floor_quotient x y))
+remainder_met i x (pos zero) h k = cc
+remainder_met i x (pos (suc b)) h k =
+    let p : ℤ = pos (suc b) *ℤ floor_quotient x (pos (suc b)) in
+    let low : int_le (pos 0) (x -ℤ p) ≡ true = left_above_low x p (floor_above x b).0 in
+    let high : int_le (x -ℤ p) (i.high -ℤ pos 1) ≡ true = left_above_high x p (pos (suc b)) i.high (floor_above x b).1 (high_of i (pos (suc b)) h) in
+    between_met i (x -ℤ p) (le_trans (least (i.low +ℤ pos 1) (pos 0)) (pos 0) (x -ℤ p) (least_other (i.low +ℤ pos 1) (pos 0)) low) (le_trans (x -ℤ p) (i.high -ℤ pos 1) (greatest (i.high -ℤ pos 1) (pos 0)) high (greatest_one (i.high -ℤ pos 1) (pos 0)))
+remainder_met i x (negsuc b) h k =
+    let p : ℤ = negsuc b *ℤ floor_quotient x (negsuc b) in
+    let low : int_le (i.low +ℤ pos 1) (x -ℤ p) ≡ true = left_below_low x p (negsuc b) i.low (floor_below x b).1 (low_of i (negsuc b) h) in
+    let high : int_le (x -ℤ p) (pos 0) ≡ true = left_below_high x p (floor_below x b).0 in
+    between_met i (x -ℤ p) (le_trans (least (i.low +ℤ pos 1) (pos 0)) (i.low +ℤ pos 1) (x -ℤ p) (least_one (i.low +ℤ pos 1) (pos 0)) low) (le_trans (x -ℤ p) (pos 0) (greatest (i.high -ℤ pos 1) (pos 0)) high (greatest_other (i.high -ℤ pos 1) (pos 0)))
 
 -- ---- two intervals
 

@@ -1,6 +1,16 @@
 pub mod Joins
 pub mod TruthSets
 pub mod Intervals
+pub mod Equalities
 pub mod Comparisons
 pub mod Forms
 pub mod Sound
+pub mod Walks
+pub mod SoundEntries
+pub mod SoundRules
+pub mod SoundTallies
+pub mod SoundTable
+pub mod SoundBoxes
+pub mod SoundServices
+pub mod SoundDecisions
+pub mod BoxForms

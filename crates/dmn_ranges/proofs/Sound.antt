@@ -1,20 +1,16 @@
 -- What is answered of an expression holds of its outcome.
-use Rattle.std.proofs.Common.{◌≡◌, refl, sym, ◌∙◌, ap, true, false, Bool, not, List, [], pos, negsuc, unwrap_or, if◌then◌else◌}
-use Rattle.feel_value.specs.Datum as datum
-use Rattle.feel_value.specs.Datum.{Datum}
-use Rattle.feel_value.specs.Limits.{in_range}
+use Rattle.std.proofs.Common.{◌≡◌, refl, true, false}
 use Rattle.feel_value.specs.Logic.{is_yes, truth_of, not_of, truth_datum}
 use Rattle.feel_value.specs.Outcome.{held}
-use Rattle.feel_value.specs.declared.feel.Outcome.TheVariants.{Is, Limit}
+use Rattle.feel_value.specs.declared.feel.Outcome.TheVariants.{Is}
 use Rattle.feel_text.specs.Expr.{Expr, Null, Boolean, Number, Text, Name, Group, Members, Call, Modulo, Not, Negate, Path, Binary, Between, If}
-use Rattle.feel_text.specs.Meaning.{Bindings, den, dens, with_values, of_number, modulo_of, call_of, path_of, operation, between_of, choice}
-use Rattle.dmn_ranges.specs.Ranges.{Fits, covers}
+use Rattle.feel_text.specs.Meaning.{Bindings, den, dens, with_values, modulo_of, call_of, path_of, operation, between_of, choice}
+use Rattle.dmn_ranges.specs.Ranges.{Scope, Fits, covers}
 use Rattle.dmn_ranges.specs.Steps.{outcomes, called, remainders, inverted, negated, paths, operated, between, branches, truths, with_two}
-use Rattle.dmn_ranges.specs.declared.range.NamedRange.{NamedRange}
 use Rattle.dmn_ranges.proofs.Forms.{with_one_covers, with_two_covers, branches_covers, negated_covers, remainders_cover, natural_covers, operated_covers, between_covers, inverted_covers, called_covers, paths_cover, listed_covers}
 use Rattle.dmn_ranges.proofs.TruthSets.{truth_told}
 
-pub sound : (e : Expr) (xs : List NamedRange) (m : Bindings) → Fits xs m → covers (outcomes e xs) (den e m) ≡ true
+pub sound : (e : Expr) (xs : Scope) (m : Bindings) → Fits xs m → covers (outcomes e xs) (den e m) ≡ true
 sound Null xs m h = refl
 sound (Boolean true) xs m h = refl
 sound (Boolean false) xs m h = refl

@@ -1,5 +1,5 @@
 -- Logic on sets of truth values.
-use Rattle.std.proofs.Common.{◌≡◌, refl, Bool, true, false, ◌&&◌, ◌||◌}
+use Rattle.std.proofs.Common.{◌≡◌, Bool, true, false, ◌&&◌, ◌||◌}
 use Rattle.feel_value.specs.Datum.{Datum, null, boolean, number, text, list, context}
 use Rattle.feel_value.specs.Logic.{and_of, or_of, not_of, truth_of, truth_datum}
 use Rattle.feel_value.specs.Outcome.{held}

@@ -1,5 +1,5 @@
 -- Arithmetic on intervals.
-use Rattle.std.specs.Prelude.{ℤ, pos, negsuc, int_lt, int_le, ◌+ℤ◌, ◌-ℤ◌, ◌*ℤ◌, Bool, true, false, ◌||◌, Option, Some, None, if◌then◌else◌}
+use Rattle.std.specs.Prelude.{ℤ, pos, negsuc, int_lt, int_le, ◌+ℤ◌, ◌-ℤ◌, ◌*ℤ◌, Bool, false, ◌||◌, Option, Some, None, if◌then◌else◌}
 use Rattle.feel_text.specs.Meaning.{least, greatest}
 use Rattle.dmn_ranges.specs.declared.bounded.Bounded.{Bounded}
 use Rattle.dmn_ranges.specs.declared.interval.Interval.{Interval}
@@ -53,6 +53,14 @@ furthest x = greatest (pos 0 -ℤ x.low) (pos 0 +ℤ x.high)
 
 abbrev pub absolute : Interval → Bounded
 absolute x = bounded (nearest x) (furthest x)
+
+-- What is left by a number of the interval: it lies between 0 and that number, which it isn't.
+abbrev pub remainder : Interval → Bounded
+remainder y = bounded (least (y.low +ℤ pos 1) (pos 0)) (greatest (y.high -ℤ pos 1) (pos 0))
+
+-- some number is not 0
+abbrev pub has_divisor : Interval → Bool
+has_divisor y = int_lt y.low (pos 0) || int_lt (pos 0) y.high
 
 abbrev pub hull : Option Interval → Option Interval → Option Interval
 hull None y = y

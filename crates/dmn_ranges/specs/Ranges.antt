@@ -1,5 +1,6 @@
--- Which values a range has, and what it says of names and of an evaluation.
-use Rattle.std.specs.Prelude.{◌≡◌, ℕ, ℤ, int_le, List, [], ◌∷◌, Bool, true, false, ◌&&◌, Option, Some, None, unwrap_or, bytes_eq, if◌then◌else◌}
+-- Which values a range has, and what it says of names, of parameters and of an evaluation: what the public contracts speak of. How
+-- ranges are worked out stands in the other files, which nobody has to believe: it is proved to be right.
+use Rattle.std.specs.Prelude.{◌≡◌, ℕ, ℤ, int_le, List, [], ◌∷◌, map, Bool, true, false, ◌&&◌, Option, Some, None, unwrap_or, bytes_eq, if◌then◌else◌}
 use Rattle.std.specs.Arc.{arc_str_bytes}
 use Rattle.feel_value.specs.Datum.{Datum, null, boolean, number, text, list, context}
 use Rattle.feel_value.specs.declared.feel.Outcome.{Outcome}
@@ -35,15 +36,29 @@ covers r Limit = r.limit
 abbrev pub null_alone : Range
 null_alone = record { nulls = true; trues = false; falses = false; numbers = None; texts = false; lists = false; contexts = false }
 
+-- what is said of names; of several of one name the last counts
+abbrev pub Scope : Type 0
+Scope = List (List ℕ × Range)
+
+abbrev pub scope : List NamedRange → Scope
+scope names = map (λ x. (arc_str_bytes x.name, x.range)) names
+
 -- the range of the last of that name; otherwise this one
-abbrev pub named_or : Range → List NamedRange → List ℕ → Range
+abbrev pub named_or : Range → Scope → List ℕ → Range
 named_or r [] name = r
-named_or r (x ∷ xs) name = named_or (if bytes_eq name (arc_str_bytes x.name) then x.range else r) xs name
+named_or r (x ∷ xs) name = named_or (if bytes_eq name x.0 then x.1 else r) xs name
 
 -- what is said of a name; of any other name that it stands for nothing, which is null
-abbrev pub range_named : List NamedRange → List ℕ → Range
+abbrev pub range_named : Scope → List ℕ → Range
 range_named xs name = named_or null_alone xs name
 
 -- the value of each name lies in its range
-abbrev pub Fits : List NamedRange → Bindings → Type 0
+abbrev pub Fits : Scope → Bindings → Type 0
 Fits xs m = (name : List ℕ) → lies_in (range_named xs name) (unwrap_or (bound name m) null) ≡ true
+
+-- each value lies in the domain of its parameter
+abbrev pub AreWithin : List Range → List Datum → Type 0
+AreWithin [] [] = Unit {0}
+AreWithin [] (v ∷ vs) = ⊥
+AreWithin (r ∷ rs) [] = ⊥
+AreWithin (r ∷ rs) (v ∷ vs) = (lies_in r v ≡ true) × AreWithin rs vs

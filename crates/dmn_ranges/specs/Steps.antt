@@ -1,6 +1,5 @@
 -- What each form of an expression can give, from what its parts can give.
-use Rattle.std.specs.Prelude.{ℕ, ℤ, pos, List, Bool, true, false, not, ◌&&◌, ◌||◌, Option, Some, None, is_some, if◌then◌else◌}
-use Rattle.std.specs.Option.{is_none}
+use Rattle.std.specs.Prelude.{ℕ, ℤ, pos, Bool, true, false, not, ◌&&◌, ◌||◌, Option, Some, None, is_some, if◌then◌else◌}
 use Rattle.feel_value.specs.Limits.{in_range}
 use Rattle.feel_text.specs.declared.expr.Operator.{Operator}
 use Rattle.feel_text.specs.declared.expr.Operator.TheVariants as operator
@@ -8,12 +7,11 @@ use Rattle.feel_text.specs.declared.expr.Function.{Function}
 use Rattle.feel_text.specs.declared.expr.Function.TheVariants as function
 use Rattle.feel_text.specs.Expr as expr
 use Rattle.feel_text.specs.Expr.{Expr}
-use Rattle.dmn_ranges.specs.Numbers.{least_number, most_number, sum, difference, product, absolute, hull, are_less, reach}
-use Rattle.dmn_ranges.specs.Ranges.{null_alone, range_named}
+use Rattle.dmn_ranges.specs.Numbers.{least_number, most_number, sum, difference, product, absolute, remainder, has_divisor, hull, are_less, reach}
+use Rattle.dmn_ranges.specs.Ranges.{Scope, null_alone, range_named, within}
 use Rattle.dmn_ranges.specs.declared.bounded.Bounded.{Bounded}
 use Rattle.dmn_ranges.specs.declared.interval.Interval.{Interval}
 use Rattle.dmn_ranges.specs.declared.outcomes.Outcomes.{Outcomes}
-use Rattle.dmn_ranges.specs.declared.range.NamedRange.{NamedRange}
 use Rattle.dmn_ranges.specs.declared.range.Range.{Range}
 use Rattle.dmn_ranges.specs.declared.truths.Truths.{Truths}
 
@@ -113,13 +111,17 @@ absolutes a = numbers_given (is_other a) (absolute_if a.numbers)
 abbrev pub some_number : Outcomes
 some_number = record { range = numbers_or_null true (Some everything); limit = true }
 
-abbrev pub remainders_of : Option Interval → Option Interval → Outcomes
-remainders_of None y = given null_alone
-remainders_of (Some x) None = given null_alone
-remainders_of (Some x) (Some y) = some_number
+abbrev pub left_by : Interval → Option Bounded
+left_by y = if has_divisor y then Some (remainder y) else None
 
+abbrev pub divided : Option Interval → Option Interval → Option Bounded
+divided None y = None
+divided (Some x) None = None
+divided (Some x) (Some y) = left_by y
+
+-- by 0 nothing is left
 abbrev pub remainders : Range → Range → Outcomes
-remainders a b = remainders_of a.numbers b.numbers
+remainders a b = numbers_given ((is_other a || is_other b) || within b.numbers (pos 0)) (divided a.numbers b.numbers)
 
 -- ---- truth values
 
@@ -159,8 +161,24 @@ is_alike a b =
     || ((has_only a true false false && has_only b true false false)
     || ((has_only a false true false && has_only b false true false) || (has_only a false false true && has_only b false false true)))
 
+-- some value is not null
+abbrev pub is_not_null : Range → Bool
+is_not_null r = (r.trues || r.falses) || (is_some r.numbers || (r.texts || (r.lists || r.contexts)))
+
+-- some value of the first is equal to one of the second
+abbrev pub can_equal : Range → Range → Bool
+can_equal a b =
+    ((a.nulls && b.nulls) || ((a.trues && b.trues) || (a.falses && b.falses)))
+    || ((reach a.numbers b.numbers && reach b.numbers a.numbers) || ((a.texts && b.texts) || ((a.lists && b.lists) || (a.contexts && b.contexts))))
+
+-- some value of the first is not equal to one of the second
+abbrev pub can_differ : Range → Range → Bool
+can_differ a b =
+    (((a.nulls && is_not_null b) || (b.nulls && is_not_null a)) || ((a.trues && b.falses) || (a.falses && b.trues)))
+    || ((are_less a.numbers b.numbers || are_less b.numbers a.numbers) || ((a.texts && b.texts) || ((a.lists && b.lists) || (a.contexts && b.contexts))))
+
 abbrev pub equal_truths : Range → Range → Truths
-equal_truths a b = record { yes = true; no = true; unknown = not (is_alike a b) }
+equal_truths a b = record { yes = can_equal a b; no = can_differ a b; unknown = not (is_alike a b) }
 
 abbrev pub operated : Operator → Range → Range → Outcomes
 operated operator.Or a b = told (or_truths (truths a) (truths b))
@@ -213,7 +231,7 @@ natural n = if in_range (pos n) then given (point (pos n)) else record { range =
 abbrev pub branches : Truths → Outcomes → Outcomes → Outcomes
 branches t o p = either_outcomes (when t.yes o) (when (t.no || t.unknown) p)
 
-abbrev pub outcomes : Expr → List NamedRange → Outcomes
+abbrev pub outcomes : Expr → Scope → Outcomes
 outcomes expr.Null xs = given null_alone
 outcomes (expr.Boolean b) xs = given (truth_values false b (not b))
 outcomes (expr.Number n) xs = natural n

@@ -1,6 +1,6 @@
 //! Numbers that are worked out, held against the range of numbers.
-ghost use Rattle.std.specs.Prelude.{◌≡◌, ◌+ℤ◌, ◌-ℤ◌, ◌*ℤ◌};
-ghost use Rattle.dmn_ranges.specs.Numbers.{clamped as clamped_of, is_past as is_past_of, bounded as bounded_of, sum as sum_of, difference as difference_of, product as product_of, absolute as absolute_of, nearest as nearest_of, furthest as furthest_of, least_times as least_times_of, greatest_times as greatest_times_of, least_product as least_product_of, greatest_product as greatest_product_of};
+ghost use Rattle.std.specs.Prelude.{◌≡◌, ◌+ℤ◌, ◌-ℤ◌, ◌*ℤ◌, pos};
+ghost use Rattle.dmn_ranges.specs.Numbers.{clamped as clamped_of, is_past as is_past_of, bounded as bounded_of, sum as sum_of, difference as difference_of, product as product_of, absolute as absolute_of, remainder as remainder_of, has_divisor as has_divisor_of, nearest as nearest_of, furthest as furthest_of, least_times as least_times_of, greatest_times as greatest_times_of, least_product as least_product_of, greatest_product as greatest_product_of};
 ghost use Rattle.feel_text.specs.Meaning.{least, greatest};
 
 use crate::interval::Interval;
@@ -144,4 +144,32 @@ pub(crate) fn absolute(x: Interval) -> Bounded
     ensures { result ≡ absolute_of x }
 {
     held_between(nearest(x), furthest(x))
+}
+
+/// What is left of a number by one of the interval.
+pub(crate) fn remainder(y: Interval) -> Bounded
+    ensures { result ≡ remainder_of y }
+{
+    held_between(lower(added(y.low, 1), 0), higher(less_by(y.high, 1), 0))
+}
+
+/// Whether some number is not 0.
+pub(crate) fn has_divisor(y: Interval) -> bool
+    ensures { result ≡ has_divisor_of y }
+{
+    y.low < 0 || 0 < y.high
+}
+
+/// The numbers of an interval, where the range of numbers holds them.
+pub(crate) fn between_bounds(x: Interval) -> Bounded
+    ensures { result ≡ bounded_of x.low x.high }
+{
+    held_between(i128::from(x.low), i128::from(x.high))
+}
+
+/// The numbers from 1 to this.
+pub(crate) fn counted_to(most: usize) -> Bounded
+    ensures { result ≡ bounded_of (pos 1) (pos most) }
+{
+    held_between(1, most as i128)
 }

@@ -1,6 +1,6 @@
 //! Comparisons and logic on sets of values.
-ghost use Rattle.std.specs.Prelude.{◌≡◌};
-ghost use Rattle.dmn_ranges.specs.Steps.{less_truths as less_truths_of, equal_truths as equal_truths_of, operated as operated_of, between as between_of, inverted as inverted_of, has_only as has_only_of, is_alike as is_alike_of};
+ghost use Rattle.std.specs.Prelude.{◌≡◌, ◌&&◌, ◌||◌};
+ghost use Rattle.dmn_ranges.specs.Steps.{less_truths as less_truths_of, equal_truths as equal_truths_of, operated as operated_of, between as between_of, inverted as inverted_of, has_only as has_only_of, is_alike as is_alike_of, is_not_null as is_not_null_of, can_equal as can_equal_of, can_differ as can_differ_of};
 
 use crate::interval::{are_less, reach};
 use crate::numbers::arithmetic;
@@ -9,8 +9,8 @@ use crate::range::{Range, both, either};
 use crate::truths::{Truths, and_truths, opposite, or_truths, told, truths_in};
 use feel_text::Operator;
 
-// Whether a value of the first is less than one of the second.
-fn less_truths(a: Range, b: Range) -> Truths
+/// Whether a value of the first is less than one of the second.
+pub(crate) fn less_truths(a: Range, b: Range) -> Truths
     ensures { result ≡ less_truths_of a b }
 {
     let texts = both(a.texts, b.texts);
@@ -65,13 +65,67 @@ fn is_alike(a: Range, b: Range) -> bool
     )
 }
 
-// Whether a value of the first is equal to one of the second.
-fn equal_truths(a: Range, b: Range) -> Truths
+// Whether some value is not null.
+fn is_not_null(range: Range) -> bool
+    ensures { result ≡ is_not_null_of range }
+{
+    either(
+        either(range.trues, range.falses),
+        either(
+            range.numbers.is_some(),
+            either(range.texts, either(range.lists, range.contexts)),
+        ),
+    )
+}
+
+// Whether both have texts, lists or contexts, of which nothing more is known.
+fn share_a_kind(a: Range, b: Range) -> bool
+    ensures { result ≡ ((a.texts && b.texts) || ((a.lists && b.lists) || (a.contexts && b.contexts))) }
+{
+    either(
+        both(a.texts, b.texts),
+        either(both(a.lists, b.lists), both(a.contexts, b.contexts)),
+    )
+}
+
+// Whether some value of the first is equal to one of the second.
+fn can_equal(a: Range, b: Range) -> bool
+    ensures { result ≡ can_equal_of a b }
+{
+    let meet = both(reach(a.numbers, b.numbers), reach(b.numbers, a.numbers));
+    either(
+        either(
+            both(a.nulls, b.nulls),
+            either(both(a.trues, b.trues), both(a.falses, b.falses)),
+        ),
+        either(meet, share_a_kind(a, b)),
+    )
+}
+
+// Whether some value of the first is not equal to one of the second.
+fn can_differ(a: Range, b: Range) -> bool
+    ensures { result ≡ can_differ_of a b }
+{
+    let part = either(
+        are_less(a.numbers, b.numbers),
+        are_less(b.numbers, a.numbers),
+    );
+    either(
+        either(
+            either(both(a.nulls, is_not_null(b)), both(b.nulls, is_not_null(a))),
+            either(both(a.trues, b.falses), both(a.falses, b.trues)),
+        ),
+        either(part, share_a_kind(a, b)),
+    )
+}
+
+/// Whether a value of the first is equal to one of the second.
+pub(crate) fn equal_truths(a: Range, b: Range) -> Truths
     ensures { result ≡ equal_truths_of a b }
 {
     Truths {
-        yes: true,
-        no: true,
+        yes: can_equal(a, b),
+        no: can_differ(a, b),
         unknown: !is_alike(a, b),
     }
 }

@@ -3,7 +3,7 @@ ghost use Rattle.std.specs.Prelude.{◌≡◌, true, []};
 ghost use Rattle.feel_text.specs.Constants.{expr_of_constant};
 ghost use Rattle.feel_text.specs.Meaning.{Bindings, den};
 ghost use Rattle.feel_text.specs.View.{view};
-ghost use Rattle.dmn_ranges.specs.Ranges.{Fits, covers};
+ghost use Rattle.dmn_ranges.specs.Ranges.{Fits, covers, scope};
 ghost use Rattle.dmn_ranges.specs.Steps.{natural as natural_of, outcomes as outcomes_of, point as point_of, branches as branches_of};
 
 use crate::calls::{called, listed, paths};
@@ -13,7 +13,7 @@ use crate::numbers::{negated, remainders};
 use crate::outcomes::{Outcomes, either_of, when};
 use crate::range::{NamedRange, Range, either, named};
 use crate::truths::{Truths, truths_in};
-use feel_text::{Constant, Tree};
+use feel_text::{Constant, Expr, Tree};
 use feel_value::Value;
 
 /// What an expression can give, where each name stands for a value of its range.
@@ -23,7 +23,7 @@ use feel_value::Value;
 /// expression, times the number of names.
 #[tactic(auto, using(crate::proofs::Sound::sound))]
 pub fn range_of_expression(expr: &Tree, names: &[NamedRange]) -> Outcomes
-    ensures { (m : Bindings) → Fits names.now m → covers result (den (view expr.now) m) ≡ true }
+    ensures { (m : Bindings) → Fits (scope names.now) m → covers result (den (view expr.now) m) ≡ true }
 {
     outcomes(expr, names)
 }
@@ -83,9 +83,16 @@ fn branches(test: Truths, a: Outcomes, b: Outcomes) -> Outcomes
     either_of(when(test.yes, a), when(either(test.no, test.unknown), b))
 }
 
+/// What an expression can give.
+pub(crate) fn expr_outcomes(expr: &Expr, names: &[NamedRange]) -> Outcomes
+    ensures { result ≡ outcomes_of expr.now (scope names.now) }
+{
+    outcomes(expr.tree(), names)
+}
+
 #[cycle(outcomes)]
-fn outcomes(expr: &Tree, names: &[NamedRange]) -> Outcomes
-    ensures { result ≡ outcomes_of (view expr.now) names.now }
+pub(crate) fn outcomes(expr: &Tree, names: &[NamedRange]) -> Outcomes
+    ensures { result ≡ outcomes_of (view expr.now) (scope names.now) }
 {
     match expr {
         Tree::Constant(literal) => constant(literal),

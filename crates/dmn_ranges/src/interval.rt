@@ -10,13 +10,13 @@ pub struct Interval {
     pub high: i64,
 }
 
-fn lower(x: i64, y: i64) -> i64
+pub(crate) fn lower(x: i64, y: i64) -> i64
     ensures { result ≡ least x y }
 {
     if y < x { y } else { x }
 }
 
-fn higher(x: i64, y: i64) -> i64
+pub(crate) fn higher(x: i64, y: i64) -> i64
     ensures { result ≡ greatest x y }
 {
     if x < y { y } else { x }

@@ -1,19 +1,33 @@
-//! What expressions can give, whatever values their names have in the sets that are said.
+//! What expressions, decision tables, boxed expressions and decision services can give, whatever values their names have in the
+//! sets that are said.
 #![tactic(auto)]
 
 mod bounded;
+mod boxed;
+#[cfg(test)]
+mod boxed_tests;
 mod calls;
 mod comparison;
+mod entries;
 mod expression;
 mod interval;
 mod numbers;
 mod outcomes;
 mod range;
+mod rule;
+mod service;
+mod table;
+#[cfg(test)]
+mod table_tests;
+mod tally;
 #[cfg(test)]
 mod tests;
 mod truths;
 
+pub use boxed::range_of_logic;
 pub use expression::range_of_expression;
 pub use interval::Interval;
 pub use outcomes::Outcomes;
 pub use range::{NamedRange, Range};
+pub use service::{range_of_service, ranges_of_decisions};
+pub use table::range_of_table;

@@ -1,11 +1,12 @@
 //! Arithmetic on sets of values.
-ghost use Rattle.std.specs.Prelude.{◌≡◌};
-ghost use Rattle.dmn_ranges.specs.Steps.{worked_out as worked_out_of, paired as paired_of, arithmetic as arithmetic_of, negated as negated_of, absolutes as absolutes_of, remainders as remainders_of};
+ghost use Rattle.std.specs.Prelude.{◌≡◌, pos};
+ghost use Rattle.dmn_ranges.specs.Ranges.{within};
+ghost use Rattle.dmn_ranges.specs.Steps.{worked_out as worked_out_of, paired as paired_of, arithmetic as arithmetic_of, negated as negated_of, absolutes as absolutes_of, left_by as left_by_of, divided as divided_of, remainders as remainders_of};
 
-use crate::bounded::{Bounded, absolute, difference, product, sum};
+use crate::bounded::{Bounded, absolute, difference, has_divisor, product, remainder, sum};
 use crate::interval::Interval;
 use crate::outcomes::{Outcomes, numbers_given};
-use crate::range::{Range, either, every_number};
+use crate::range::{Range, either};
 use feel_text::Operator;
 
 // What an operator makes of two numbers. It is asked of operators that work numbers out.
@@ -57,15 +58,39 @@ pub(crate) fn absolutes(a: Range) -> Outcomes
     }
 }
 
+fn has_zero(numbers: Option<Interval>) -> bool
+    ensures { result ≡ within numbers (pos 0) }
+{
+    match numbers {
+        Some(numbers) => numbers.low <= 0 && 0 <= numbers.high,
+        None => false,
+    }
+}
+
+// What is left by the numbers that are not 0.
+fn left_by(y: Interval) -> Option<Bounded>
+    ensures { result ≡ left_by_of y }
+{
+    if has_divisor(y) {
+        Some(remainder(y))
+    } else {
+        None
+    }
+}
+
+fn divided(x: Option<Interval>, y: Option<Interval>) -> Option<Bounded>
+    ensures { result ≡ divided_of x y }
+{
+    match (x, y) {
+        (Some(_), Some(y)) => left_by(y),
+        _ => None,
+    }
+}
+
 /// What is left of a number by another.
 pub(crate) fn remainders(a: Range, b: Range) -> Outcomes
     ensures { result ≡ remainders_of a b }
 {
-    match (a.numbers, b.numbers) {
-        (Some(_), Some(_)) => Outcomes {
-            range: Range::numbers_or_null(true, every_number()),
-            limit: true,
-        },
-        _ => Outcomes::given(Range::null()),
-    }
+    let nulls = either(either(a.is_other(), b.is_other()), has_zero(b.numbers));
+    numbers_given(nulls, divided(a.numbers, b.numbers))
 }

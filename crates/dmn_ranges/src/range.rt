@@ -1,7 +1,7 @@
 //! Sets of values.
 ghost use Rattle.std.specs.Prelude.{◌≡◌, ◌&&◌, ◌||◌, Some, None, bytes_eq, if◌then◌else◌};
 ghost use Rattle.std.specs.Arc.{arc_str_bytes};
-ghost use Rattle.dmn_ranges.specs.Ranges.{range_named, null_alone};
+ghost use Rattle.dmn_ranges.specs.Ranges.{range_named, null_alone, scope};
 ghost use Rattle.dmn_ranges.specs.Steps.{nothing as no_value, anything, everything, joined as joined_of, is_other as is_other_of, is_other_than_text as is_other_than_text_of, numbers_or_null as numbers_or_null_of};
 
 use crate::interval::{Interval, hull};
@@ -131,7 +131,7 @@ pub(crate) fn joined(a: Range, b: Range) -> Range
 
 /// What a name stands for: what the last of its name says; null where it has none.
 pub(crate) fn named(name: &str, names: &[NamedRange]) -> Range
-    ensures { result ≡ range_named names.now name.now }
+    ensures { result ≡ range_named (scope names.now) name.now }
 {
     let mut range = Range::null();
     for entry in names {

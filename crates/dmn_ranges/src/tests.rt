@@ -22,8 +22,8 @@ fn others(trues: bool, falses: bool, texts: bool, lists: bool, contexts: bool) -
     }
 }
 
-/// The names that the rows have. `missing` has none.
-fn names(alloc: Global) -> Result<Vec<NamedRange>, AllocError> {
+/// The names that the rows have. `missing` is none of them, and `none` has no value.
+pub(crate) fn names(alloc: Global) -> Result<Vec<NamedRange>, AllocError> {
     let maybe = Range::numbers_or_null(true, Some(Interval { low: 0, high: 5 }));
     let ranges = [
         ("small", numbers(7, 7)),
@@ -37,6 +37,7 @@ fn names(alloc: Global) -> Result<Vec<NamedRange>, AllocError> {
         ("items", others(false, false, false, true, false)),
         ("parts", others(false, false, false, false, true)),
         ("any", Range::any()),
+        ("none", Range::nothing()),
     ];
     let mut names = Vec::new(alloc);
     for (name, range) in ranges {
@@ -47,7 +48,7 @@ fn names(alloc: Global) -> Result<Vec<NamedRange>, AllocError> {
 }
 
 /// What can be given, in words.
-fn words(alloc: Global, told: Outcomes) -> Result<String, AllocError> {
+pub(crate) fn words(alloc: Global, told: Outcomes) -> Result<String, AllocError> {
     let range = told.range;
     let mut text = String::new(alloc);
     for (is_told, word) in [
@@ -109,6 +110,61 @@ const LITERALS: &[(&str, &str)] = &[
     ),
     ("word.a", "null "),
     ("missing.a", "null "),
+    ("word.a.b", "null "),
+    (
+        "-9223372036854775807",
+        "-9223372036854775807..-9223372036854775807 ",
+    ),
+];
+
+const EMPTY: &[(&str, &str)] = &[
+    ("none", ""),
+    ("none + 1", ""),
+    ("-none", ""),
+    ("abs(none)", ""),
+    ("modulo(none, 3)", ""),
+    ("none < 1", ""),
+    ("none = 1", ""),
+    ("none = null", ""),
+    ("none and sure", ""),
+    ("not(none)", ""),
+    ("none between 1 and 2", ""),
+    ("if none then 1 else 2", ""),
+    ("if yesno then none else 2", "2..2 "),
+    ("none + (full + 1)", "limit "),
+];
+
+const LISTS: &[(&str, &str)] = &[
+    ("[[1, 2], []]", "list limit "),
+    ("[none]", "list limit "),
+    ("[[1], [2]] = [[1], [2]]", "null true false limit "),
+    ("[[1]] = null", "false limit "),
+    ("items < items", "null "),
+    ("items + 1", "null "),
+    ("-items", "null "),
+    ("count([[1, 2], []])", "null 0..9223372036854775807 limit "),
+    ("abs(items)", "null "),
+    (
+        "sum([[1]])",
+        "null -9223372036854775807..9223372036854775807 limit ",
+    ),
+    (
+        "[[1], [2]].a",
+        "null true false -9223372036854775807..9223372036854775807 text list context limit ",
+    ),
+    (
+        "[parts].a",
+        "null true false -9223372036854775807..9223372036854775807 text list context limit ",
+    ),
+    (
+        "parts.a.b",
+        "null true false -9223372036854775807..9223372036854775807 text list context limit ",
+    ),
+    (
+        "parts.a + 1",
+        "null -9223372036854775806..9223372036854775807 limit ",
+    ),
+    ("if parts.a = 1 then 1 else 2", "1..2 limit "),
 ];
 
 const ARITHMETIC: &[(&str, &str)] = &[
@@ -149,10 +205,37 @@ const ARITHMETIC: &[(&str, &str)] = &[
         "null -9223372036854775806..9223372036854775807 limit ",
     ),
     (
-        "modulo(small, 3)",
-        "null -9223372036854775807..9223372036854775807 limit ",
+        "full - full",
+        "-9223372036854775807..9223372036854775807 limit ",
     ),
+    (
+        "-9223372036854775807 - 1",
+        "-9223372036854775807..-9223372036854775807 limit ",
+    ),
+    ("0 * -1", "0..0 "),
+];
+
+const REMAINDERS: &[(&str, &str)] = &[
+    ("modulo(small, 3)", "0..2 "),
+    ("modulo(small, -3)", "-2..0 "),
+    ("modulo(-7, 3)", "0..2 "),
+    ("modulo(small, 1)", "0..0 "),
+    ("modulo(small, -1)", "0..0 "),
+    ("modulo(small, 0)", "null "),
+    ("modulo(small, -0)", "null "),
+    ("modulo(missing, 0)", "null "),
+    ("modulo(small, small)", "0..9 "),
+    ("modulo(small, wide)", "null -2..9 "),
+    ("modulo(small, maybe)", "null 0..4 "),
+    ("modulo(maybe, 3)", "null 0..2 "),
+    ("modulo(any, 3)", "null 0..2 "),
+    (
+        "modulo(full, full)",
+        "null -9223372036854775806..9223372036854775806 ",
+    ),
+    ("modulo(full + 1, 3)", "0..2 limit "),
     ("modulo(word, 3)", "null "),
+    ("modulo(small, word)", "null "),
 ];
 
 const CALLS: &[(&str, &str)] = &[
@@ -162,6 +245,10 @@ const CALLS: &[(&str, &str)] = &[
     ("abs(small - 20)", "10..19 "),
     ("abs(maybe)", "null 0..5 "),
     ("abs(full)", "0..9223372036854775807 "),
+    (
+        "abs(-9223372036854775807)",
+        "9223372036854775807..9223372036854775807 ",
+    ),
     ("abs(word)", "null "),
     ("count(items)", "null 0..9223372036854775807 limit "),
     ("count(word)", "null "),
@@ -196,8 +283,18 @@ const COMPARISONS: &[(&str, &str)] = &[
     ("any = null", "true false "),
     ("word = \"a\"", "true false "),
     ("yesno = true", "true false "),
-    ("small = \"a\"", "null true false "),
-    ("small != \"a\"", "null true false "),
+    ("small = 20", "false "),
+    ("small != 20", "true "),
+    ("sure = true", "true "),
+    ("sure = false", "false "),
+    ("missing = null", "true "),
+    ("missing = 1", "false "),
+    ("7 = 7", "true "),
+    ("-0 = 0", "true "),
+    ("full < 9223372036854775807", "true false "),
+    ("full <= 9223372036854775807", "true "),
+    ("small = \"a\"", "null "),
+    ("small != \"a\"", "null "),
     ("items = items", "null true false "),
     ("small between 1 and 10", "true "),
     ("small between 11 and 12", "false "),
@@ -221,6 +318,10 @@ const LOGIC: &[(&str, &str)] = &[
     ("if yesno then 1 else 5", "1..5 "),
     ("if sure then 1 else \"a\"", "1..1 "),
     ("if missing then 1 else 2", "2..2 "),
+    ("if null then small else wide", "-3..10 "),
+    ("if 1 then 2 else 3", "3..3 "),
+    ("if word = 1 then 1 else 2", "2..2 "),
+    ("if maybe < 9 then 1 else 2", "1..2 "),
     ("if maybe > 1 then \"a\" else null", "null text "),
     ("if small < 20 then small else full", "1..10 "),
     ("if sure then 1 else full + 1", "1..1 "),
@@ -230,6 +331,21 @@ const LOGIC: &[(&str, &str)] = &[
 #[test]
 fn literals_names_and_paths(rt: HostRuntime) -> Result<(), Fail> {
     hold(&rt, rt.alloc(), LITERALS)
+}
+
+#[test]
+fn no_value(rt: HostRuntime) -> Result<(), Fail> {
+    hold(&rt, rt.alloc(), EMPTY)
+}
+
+#[test]
+fn lists(rt: HostRuntime) -> Result<(), Fail> {
+    hold(&rt, rt.alloc(), LISTS)
+}
+
+#[test]
+fn remainders(rt: HostRuntime) -> Result<(), Fail> {
+    hold(&rt, rt.alloc(), REMAINDERS)
 }
 
 #[test]

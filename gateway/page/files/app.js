@@ -1,10 +1,15 @@
 // What happens on the page when something is typed, clicked or dropped.
 import * as api from "./api.js";
-import { decide, fillFrom, readAddress } from "./case.js";
+import { takeBeside } from "./beside.js";
+import { clear, decide, fillFrom, readAddress, remember } from "./case.js";
+import { keepCase, saveCases, takeCases } from "./cases.js";
 import { takeModel } from "./changed.js";
 import { takeRequests } from "./counting.js";
 import { byID, readJSON } from "./dom.js";
-import { Model } from "./model.js";
+import { currentTab, listenTabs, listenWiden, showTab } from "./panes.js";
+import { findRecorded } from "./recorded.js";
+import { readInForce, watch } from "./release.js";
+import { listenSearch } from "./search.js";
 import { chooseService, showModel, showWhich } from "./show.js";
 import { state, tried } from "./state.js";
 
@@ -21,29 +26,56 @@ async function isModel(file) {
   }
 }
 
-function listen() {
-  byID("skip").addEventListener("click", () => byID("decisions-title").focus());
-  document.querySelector("nav").addEventListener("click", ({ target }) => byID(target.dataset.to)?.scrollIntoView());
+/** What is pressed to see another part. */
+function listenParts() {
+  byID("skip").addEventListener("click", () => {
+    showTab("open");
+    byID("decisions-title").focus();
+  });
+  listenTabs(remember);
+  listenWiden();
+  listenSearch();
+  byID("badge").addEventListener("click", () => {
+    showTab("checks");
+    remember();
+  });
+  byID("which").addEventListener("change", (event) => showWhich(event.target.value));
+  addEventListener("popstate", () => state.models.inForce && readAddress());
+}
+
+/** What is typed and pressed at a case. */
+function listenCase() {
   byID("service").addEventListener("change", (event) => {
     state.told = {};
     chooseService(event.target.value);
   });
   byID("ask").addEventListener("submit", (event) => {
     event.preventDefault();
-    decide();
+    decide(true);
   });
   byID("ask").addEventListener("change", () => decide());
   byID("clear").addEventListener("click", () => {
-    state.told = {};
-    fillFrom(null, {});
-    history.replaceState(null, "", location.pathname);
+    clear();
+    remember();
   });
   byID("json").addEventListener("change", (event) => tried(async () => {
     fillFrom(null, readJSON(event.target.value || "{}"));
     await decide();
   }));
-  byID("which").addEventListener("change", (event) => showWhich(event.target.value));
-  for (const [id, take] of [["changed-file", takeModel], ["coverage-file", takeRequests]]) {
+  byID("keep").addEventListener("click", keepCase);
+  byID("cases-save").addEventListener("click", saveCases);
+  byID("record").addEventListener("submit", (event) => {
+    event.preventDefault();
+    findRecorded(byID("record-file").files[0]);
+  });
+}
+
+/** The fields that take a file, by what takes it. */
+const TAKING = { "changed-file": takeModel, "coverage-file": takeRequests, "beside-file": takeBeside, "cases-file": takeCases };
+
+/** Files that are picked or dropped. */
+function listenFiles() {
+  for (const [id, take] of Object.entries(TAKING)) {
     byID(id).addEventListener("change", ({ target }) => {
       const [file] = target.files;
       // The same file can be taken again.
@@ -52,24 +84,31 @@ function listen() {
     });
   }
   byID("stop").addEventListener("click", () => state.coverage?.stop());
+  addEventListener("dragover", (event) => event.preventDefault());
+  addEventListener("drop", async (event) => {
+    event.preventDefault();
+    const [file] = event.dataTransfer.files;
+    if (!file) return;
+    if (await isModel(file)) await takeModel(file);
+    else await ({ cases: takeCases, try: state.models.changed && takeBeside }[currentTab()] || takeRequests)(file);
+  });
+}
+
+function listen() {
+  listenParts();
+  listenCase();
+  listenFiles();
   byID("guard").addEventListener("submit", (event) => {
     event.preventDefault();
     api.useToken(byID("token").value.trim());
     byID("guard").hidden = true;
     begin();
   });
-  addEventListener("hashchange", () => readAddress());
-  addEventListener("dragover", (event) => event.preventDefault());
-  addEventListener("drop", async (event) => {
-    event.preventDefault();
-    const [file] = event.dataTransfer.files;
-    if (file) await ((await isModel(file)) ? takeModel(file) : takeRequests(file));
-  });
 }
 
 async function begin() {
   await tried(async () => {
-    state.models.inForce = new Model(await api.inForce());
+    state.models.inForce = await readInForce();
     showModel();
     await readAddress();
     // Tests ask when all of it was there.
@@ -82,3 +121,4 @@ async function begin() {
 
 listen();
 begin();
+watch();

@@ -1,15 +1,18 @@
 // A case: the inputs of a request, what is told of them under each model, and the address that has them.
 import * as api from "./api.js";
 import { drawDifferences } from "./changed.js";
-import { button, byID, el, first, isObject, readJSON, show, unseen, writeJSON } from "./dom.js";
+import { drawKeep } from "./cases.js";
+import { broken, button, byID, el, first, isObject, put, readJSON, show, SIGNS, unseen, writeJSON } from "./dom.js";
 import { outcome } from "./logic.js";
 import { listOf } from "./model.js";
-import { chooseService, goTo } from "./show.js";
+import { currentTab, showTab } from "./panes.js";
+import { chooseService, goTo, openDecision } from "./show.js";
 import { alarm, model, state, tried } from "./state.js";
+import { drawn, limit } from "./values.js";
 
-/** Asks for what stands in the form, under each model. */
-export async function decide() {
-  const inputs = state.form?.value();
+/** Asks for what stands in the form, under each model. A wrong input gets the focus if it `isSent` by a person. */
+export async function decide(isSent) {
+  const inputs = state.form?.value(isSent === true);
   state.asked += 1;
   const asked = state.asked;
   if (!inputs || !model().isLawful || !state.service) {
@@ -20,8 +23,8 @@ export async function decide() {
   state.inputs = inputs;
   state.asking?.abort();
   state.asking = new AbortController();
-  writeAddress();
-  byID("json").value = writeJSON(inputs, 2);
+  remember();
+  byID("json").value = escaped(writeJSON(inputs, 2));
   await tried(async () => {
     try {
       const all = Object.entries(state.models).map(async ([which, it]) => [which, await answerOf(it, which)]);
@@ -33,13 +36,19 @@ export async function decide() {
       if (asked !== state.asked) return;
       state.told = {};
       tell();
-      if (fault.body?.pointer) state.form.refuse(fault.body.pointer, fault.body.detail);
+      if (fault.body?.pointer) state.form.refuse(fault.body.pointer, fault.body.detail, isSent === true);
       throw fault;
     }
   });
 }
 
-async function answerOf(it, which, misses) {
+/** How many letters of a value stand in the list of what it came from. */
+const MOST_LETTERS = 160;
+
+/** Of a model with more rules it is not told at once which test of each was not met. */
+const MOST_RULES = 4000;
+
+async function answerOf(it, which, misses = it.ruleCount <= MOST_RULES) {
   const name = model().name(state.service);
   const service = it.services.find((other) => it.name(other.name) === name);
   if (!it.isLawful || !service) return undefined;
@@ -70,6 +79,7 @@ export async function tryWitness(view, finding) {
     return;
   }
   fillFrom(it.name(service.name), merged(state.inputs, it.inputsInFile(finding.inputs)));
+  openDecision(it.decisions[Number(at)].name);
   await decide();
   const values = view.witness(finding).map((value, at) => `${view.column(at)} ${show(value)}`).join(", ");
   const isTaken = state.told[state.shown] !== undefined;
@@ -103,41 +113,43 @@ export function tell(isMore = false) {
   const it = model();
   const told = state.told[state.shown];
   const byWord = new Map(listOf(told?.decisions).map((part) => [it.word(part.name), part]));
-  for (const [word, { value, logic }] of state.views) {
-    const part = byWord.get(word);
-    logic.tell(part, isMore);
-    value.replaceChildren(...(part ? ["= ", ...outcome(part), part.given === undefined ? "" : " (given)"] : []));
-  }
+  for (const [word, view] of state.views) view.tell(byWord.get(word), isMore);
   const values = new Map();
   if (told) it.parameters(state.service).forEach((word) => values.set(word, { value: state.inputs[word] ?? null }));
   for (const [word, part] of byWord) values.set(word, { value: part.given ?? part.value, fault: part.fault });
   state.graph.tell(values);
   drawResult(told, byWord);
   drawDifferences();
+  drawKeep();
 }
 
 function drawResult(told, byWord) {
+  byID("json-result").hidden = !told || Boolean(told.problem);
   if (!told) {
-    byID("result").replaceChildren(el("p", { class: "quiet" }, "Nothing was asked yet."));
-    byID("way").replaceChildren();
+    put(byID("result"), el("p", { class: "quiet" }, "Nothing was asked yet."));
+    put(byID("way"));
     return;
   }
-  byID("result").replaceChildren(el("p", { class: "answer" }, unseen("The result is "),
-    told.problem ? told.problem.message : show(told.result, 2)));
+  put(byID("result"), el("div", { class: "answer" }, unseen("The result is "),
+    told.problem ? limit(told.problem.message) : drawn(told.result)));
+  put(byID("as-json"), told.problem ? "" : escaped(writeJSON(told.result, 2)));
   if (told.explained) {
-    byID("way").replaceChildren(el("p", {}, "How it came about is too long to be told."));
+    put(byID("way"), el("p", {}, "How it came about is too long to be told."));
     return;
   }
-  const steps = [...byWord].reverse().map(([word, part]) => {
-    return el("li", {}, button(model().name(word), () => goTo(word), { class: "link" }), " = ", el("code", {}, outcome(part)),
-      part.given === undefined ? whichRules(word, part) : ", given");
-  });
-  byID("way").replaceChildren(el("p", {}, "It came about by, last first:"), el("ol", { class: "way", reversed: true }, steps));
+  const steps = [...byWord].map(([word, part]) => el("li", {},
+    button(model().name(word), () => goTo(word), { class: "link" }), " = ", el("code", {}, outcome(part, MOST_LETTERS)),
+    el("span", { class: "by" }, part.given === undefined ? whichRules(word, part) : ", given")));
+  put(byID("way"), el("h3", {}, "Why"), el("ol", { class: "way" }, steps));
 }
+
+/** A JSON text in which characters that turn or hide text are written by their numbers. */
+const escaped = (text) => text.replace(SIGNS, (sign) =>
+  sign.split("").map((unit) => `\\u${unit.charCodeAt(0).toString(16).padStart(4, "0")}`).join(""));
 
 /** Which rules made the value of a decision, and by which values. */
 function whichRules(word, part) {
-  const at = model().decisions.findIndex((it) => it.name === word);
+  const at = model().numbers.get(word);
   const made = tableOf(model().decisions[at]?.expr, part, `/decisions/${at}/expr`);
   if (!made) return "";
   const hits = listOf(made.told.hits).map((hit) => hit.rule);
@@ -168,28 +180,58 @@ function byValues({ table, told, pointer }, rules) {
   return met.length > 0 ? `: ${met.join(" and ")}` : "";
 }
 
-function writeAddress() {
-  const words = new URLSearchParams({ service: model().name(state.service), inputs: writeJSON(state.inputs) });
-  history.replaceState(null, "", `#${words}`);
+/** The address of what is shown: the case, the decision that is open and the tab. */
+function address() {
+  const words = new URLSearchParams();
+  if (Object.keys(state.inputs).length > 0) {
+    words.set("service", model().name(state.service));
+    words.set("inputs", writeJSON(state.inputs));
+  }
+  if (state.open) words.set("decision", model().name(state.open));
+  if (currentTab() !== "case") words.set("tab", currentTab());
+  return `#${words}`;
 }
 
-/** Takes the service and the inputs from the address; false where it has none. */
+/** Keeps what is shown in the address; what was before is where Back goes, unless the address is being read. */
+export function remember() {
+  const text = address();
+  if (text === location.hash) return;
+  if (state.isReading) history.replaceState(null, "", text);
+  else history.pushState(null, "", text);
+}
+
+/** Shows what the address says, and asks. Nothing of it is a step that Back goes to. */
 export async function readAddress() {
   const words = new URLSearchParams(location.hash.slice(1));
-  if (!words.has("inputs")) return false;
+  let told;
+  state.isReading = true;
   try {
-    fillFrom(words.get("service"), readJSON(words.get("inputs")));
+    if (words.has("tab")) showTab(words.get("tab"));
+    else showTab("case");
+    if (words.has("inputs")) fillFrom(words.get("service"), readJSON(words.get("inputs")));
+    else clear();
+    if (words.has("decision")) openDecision(model().word(words.get("decision")));
+    if (words.has("inputs")) told = decide();
   } catch {
     alarm("The inputs in the address cannot be read.");
-    return false;
+    return;
+  } finally {
+    remember();
+    state.isReading = false;
   }
-  await decide();
-  return true;
+  await told;
+}
+
+/** Leaves the case. */
+export function clear() {
+  state.asked += 1;
+  state.told = {};
+  fillFrom(null, {});
 }
 
 export function fillFrom(service, inputs) {
   state.inputs = model().worded(inputs);
   const word = model().word(service ?? "");
   chooseService(model().service(word) ? word : state.service);
-  byID("json").value = writeJSON(state.inputs, 2);
+  byID("json").value = escaped(writeJSON(state.inputs, 2));
 }

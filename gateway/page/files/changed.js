@@ -1,14 +1,16 @@
 // A changed model beside the one in force: checked, tried with the same inputs, and what differs.
 import * as api from "./api.js";
 import { decide } from "./case.js";
-import { button, byID, counted, el, first, framed, heads, show } from "./dom.js";
+import { button, byID, counted, el, first, framed, heads, put, show } from "./dom.js";
+import { leaveBeside } from "./beside.js";
 import { differences, listOf, Model, sentence } from "./model.js";
+import { showTab } from "./panes.js";
 import { showWhich } from "./show.js";
 import { state, tried } from "./state.js";
 
 export async function takeModel(file) {
-  byID("changed").replaceChildren(el("p", {}, `${file.name} is being checked ..`));
-  byID("changed-title").scrollIntoView();
+  put(byID("changed"), el("p", {}, `${file.name} is being checked ..`));
+  showTab("try");
   const whole = await tried(() => api.check(file).catch((fault) => {
     drawRefused(file.name, fault);
     throw fault;
@@ -19,17 +21,18 @@ export async function takeModel(file) {
   const it = state.models.changed;
   const said = it.isLawful ? "the model has no fault" : `the model has a fault, ${it.fault}`;
   const same = it.sha256 === state.models.inForce.sha256 ? " It is the model in force." : "";
-  byID("changed").replaceChildren(
+  put(byID("changed"),
     el("p", {}, `${file.name}: ${said}, and ${counted(it.findings.length, "place")} to look at.${same}`),
     button("Leave it", () => leaveModel()));
   byID("which").hidden = false;
+  leaveBeside(it.isLawful);
   showWhich("changed");
   await decide();
   drawDifferences();
 }
 
 function drawRefused(name, fault) {
-  byID("changed").replaceChildren(el("p", { class: "fault" }, `${name}: ${fault.message}`),
+  put(byID("changed"), el("p", { class: "fault" }, `${name}: ${fault.message}`),
     el("ul", {}, listOf(fault.body?.errors).slice(0, 200).map((place) => el("li", {}, sentence(place),
       place.line ? ` at line ${place.line}, column ${place.column}` : "",
       place.element ? ` (${[place.element, place.name].filter(Boolean).join(" ")})` : ""))));
@@ -39,21 +42,22 @@ function leaveModel() {
   delete state.models.changed;
   delete state.told.changed;
   byID("which").hidden = true;
-  byID("changed").replaceChildren();
+  put(byID("changed"));
+  leaveBeside(false);
   showWhich("inForce");
 }
 
 export function drawDifferences() {
   const { inForce, changed } = state.models;
   if (!changed) {
-    byID("differences").replaceChildren();
+    put(byID("differences"));
     return;
   }
   const number = (place) => Number(place.split("/").at(-1)) + 1;
   const parts = differences(inForce, changed).map(({ name, how, places }) => el("li", {}, `${name}: ${how}`,
     places.length > 0 ? `, rule ${first(places.map(number))}` : ""));
-  byID("differences").replaceChildren(el("h3", {}, "What differs"),
-    parts.length > 0 ? el("ul", {}, parts) : el("p", {}, "No decision differs."), ...differingValues());
+  put(byID("differences"), el("h3", {}, "What differs"),
+    parts.length > 0 ? el("ul", {}, parts) : el("p", {}, "No decision differs."), differingValues());
 }
 
 /** A table of the values under both models. */

@@ -1,7 +1,8 @@
 // What was counted over a file of requests: rules that never decided, each answer, and both as CSV.
 import { decide, fillFrom } from "./case.js";
 import { Coverage } from "./coverage.js";
-import { button, byID, counted, el, framed, grouped, heads, readJSON, show } from "./dom.js";
+import { button, byID, counted, el, framed, grouped, heads, put, readJSON, save, show } from "./dom.js";
+import { showTab } from "./panes.js";
 import { Rows } from "./rows.js";
 import { reveal } from "./show.js";
 import { model, state, tried } from "./state.js";
@@ -18,46 +19,41 @@ export async function takeRequests(file) {
     if (performance.now() - told < PAUSE) return;
     told = performance.now();
     progress.value = part;
-    byID("counted").replaceChildren(`${file.name}: ${Math.floor(100 * part)} of 100 parts were counted.`);
+    put(byID("counted"), `${file.name}: ${Math.floor(100 * part)} of 100 parts were counted.`);
   });
   state.coverage = coverage;
   progress.value = 0;
   progress.hidden = byID("stop").hidden = false;
-  byID("counted").replaceChildren(`${file.name} is being counted ..`);
-  byID("coverage-title").scrollIntoView();
-  byID("coverage").replaceChildren();
+  put(byID("counted"), `${file.name} is being counted ..`);
+  showTab("count");
+  put(byID("coverage"));
   await tried(() => coverage.run());
   if (state.coverage !== coverage) return;
   progress.hidden = byID("stop").hidden = true;
   if (!coverage.records) {
-    byID("counted").replaceChildren();
+    put(byID("counted"));
     return;
   }
   drawCoverage(coverage);
 }
 
 function drawCoverage(coverage) {
-  for (const { logic } of state.views.values()) {
-    for (const table of logic.tables) table.count(coverage.of(table.pointer));
-  }
+  coverage.isDrawn = true;
+  for (const view of state.views.values()) view.count(coverage);
   const rules = [...coverage.rules()];
   const word = rules.every((it) => it.decided !== null) ? "decided" : "hit";
   const never = rules.filter((it) => (it.decided ?? it.hits) === 0);
   const count = coverage.answers.length;
   const refused = coverage.answers.filter((it) => it.problem !== undefined).length;
-  byID("coverage").replaceChildren(
+  put(byID("coverage"),
     el("p", {}, button("Rules as CSV", () => save("rules.csv", coverage.rulesCSV())), " ",
       button("Answers as CSV", () => save("answers.csv", coverage.answersCSV()))),
     ...neverList(never, `Rules that never ${word}`), ...answersOf(coverage));
   const seconds = (performance.now() - coverage.start) / 1000;
-  byID("counted").replaceChildren(el("p", {}, coverage.isWhole ? "" : "Stopped before the end. ",
+  put(byID("counted"), el("p", {}, coverage.isWhole ? "" : "Stopped before the end. ",
     `${counted(count, "request")}, ${grouped(count - refused)} with a result`,
     refused > 0 ? `, ${grouped(refused)} without` : "", `, in ${seconds.toFixed(1)} s. `,
     `${grouped(never.length)} of ${counted(rules.length, "rule")} never ${word}.`));
-  // What was counted comes into view, unless someone went elsewhere meanwhile.
-  const title = byID("coverage-title");
-  const { top } = title.getBoundingClientRect();
-  if (top >= 0 && top < innerHeight) title.scrollIntoView();
 }
 
 /** Rules that never decided, each with a way to it. */
@@ -106,20 +102,14 @@ function answersOf(coverage) {
   return [el("p", {}, el("label", { for: "only" }, "Answers"), " ", choice), scroller];
 }
 
-/** Fills the form with the inputs of a line, and asks. */
-async function openLine(coverage, answer) {
+/** Fills the form with the inputs that got an answer, and asks. */
+export async function openLine(coverage, answer) {
   await tried(async () => {
-    const line = readJSON(await coverage.request(answer.line));
+    const line = readJSON(await coverage.request(answer));
     if (line === null) return;
     const isRequest = typeof line.service === "string" && line.inputs !== undefined;
     fillFrom(isRequest ? line.service : coverage.service, isRequest ? line.inputs : line);
+    showTab("case");
     await decide();
-    byID("result-title").scrollIntoView();
   });
-}
-
-function save(name, text) {
-  const url = URL.createObjectURL(new Blob([text], { type: "text/csv" }));
-  el("a", { href: url, download: name }).click();
-  setTimeout(() => URL.revokeObjectURL(url), 10_000);
 }

@@ -1,6 +1,6 @@
 // Counts over a file of requests: it is read in pieces of whole records, a few of which are asked at once.
 import { cover, Problem } from "./api.js";
-import { writeJSON } from "./dom.js";
+import { csvRow, writeJSON } from "./dom.js";
 import { listOf, tablesOf } from "./model.js";
 import { bytesOf, openRecords } from "./records.js";
 
@@ -83,8 +83,10 @@ export class Coverage {
     const lines = made?.text ?? this.records.blob.slice(piece.start, piece.end);
     const told = made?.text === "" ? { answers: [], tables: {} } : await cover(this.model, this.service, lines, this.abort.signal);
     piece.answers = told.answers;
+    // Requests of a list may stand on one line.
+    for (const answer of piece.answers) Object.assign(answer, { piece, at: answer.line - 1 });
     if (made) {
-      for (const answer of piece.answers) answer.line = made.starts[answer.line - 1] + 1;
+      for (const answer of piece.answers) answer.line = made.starts[answer.at] + 1;
       for (const it of made.refused) piece.answers.push({ ...it, line: it.line + 1 });
       piece.answers.sort((one, other) => one.line - other.line);
     }
@@ -129,13 +131,12 @@ export class Coverage {
     }
   }
 
-  /** The service and the inputs of a line, as a JSON text. */
-  async request(line) {
-    const piece = this.pieces.findLast((it) => it.line <= line);
+  /** The service and the inputs that got an answer, as a JSON text. */
+  async request({ piece, at }) {
+    if (!piece) return "null";
     const made = await this.requestsOf(piece);
-    const at = made ? made.starts.indexOf(line - piece.line) : line - piece.line;
     const lines = made?.text ?? await this.records.blob.slice(piece.start, piece.end).text();
-    return at < 0 ? "null" : lines.split("\n")[at];
+    return lines.split("\n")[at];
   }
 
   rulesCSV() {
@@ -157,13 +158,4 @@ function newlines(bytes) {
   let count = 0;
   for (let at = bytes.indexOf(NEWLINE); at >= 0; at = bytes.indexOf(NEWLINE, at + 1)) count += 1;
   return count;
-}
-
-/** A row of CSV (RFC 4180). A text that a spreadsheet would take for a formula begins with a quote. */
-function csvRow(cells) {
-  return cells.map((cell) => {
-    let text = typeof cell === "string" ? cell : writeJSON(cell);
-    if (typeof cell === "string" && /^[=+@\t\r]|^-(?!\d+$)/.test(text)) text = `'${text}`;
-    return /[",\r\n]/.test(text) ? `"${text.replaceAll('"', '""')}"` : text;
-  }).join(",") + "\r\n";
 }

@@ -2,14 +2,52 @@
 
 const SVG = "http://www.w3.org/2000/svg";
 
+/** Characters that turn, hide or part text without being seen. */
+export const SIGNS = new RegExp("([\\0-\\x08\\x0b\\x0c\\x0e-\\x1f\\x7f-\\x9f\\u00ad\\u034f\\u061c\\u115f\\u1160\\u17b4\\u17b5\\u180b-\\u180f" +
+  "\\u200b-\\u200f\\u2028-\\u202e\\u2060-\\u206f\\u2800\\u3164\\ufe00-\\ufe0f\\ufeff\\uffa0\\ufff9-\\ufffb" +
+  "\\u{1d173}-\\u{1d17a}\\u{e0000}-\\u{e007f}\\u{e0100}-\\u{e01ef}])", "gu");
+const nameOf = (sign) => `U+${sign.codePointAt(0).toString(16).toUpperCase().padStart(4, "0")}`;
+
+/** A text with the names of such characters in their place. */
+export const plain = (text) => String(text).replace(SIGNS, nameOf);
+
+/** The same as nodes, in which the names are marked. */
+function signed(text) {
+  if (text.search(SIGNS) < 0) return [text];
+  return text.split(SIGNS).map((part, at) => (at % 2 ? el("span", { class: "sign" }, nameOf(part)) : part));
+}
+
+/** What is only text: no element can be inside. */
+const TEXT_ALONE = new Set(["option", "title", "text"]);
+
+const nodesOf = (children, isText) => children.flat(Infinity).filter((child) => child !== null && child !== undefined)
+  .flatMap((child) => (child instanceof Node ? [child] : isText ? [plain(child)] : signed(String(child))));
+
 function fill(element, attributes, children) {
   for (const [name, value] of Object.entries(attributes ?? {})) {
     if (name.startsWith("on")) element.addEventListener(name.slice(2), value);
     else if (value === true) element.setAttribute(name, "");
-    else if (value !== undefined && value !== null && value !== false) element.setAttribute(name, String(value));
+    else if (value !== undefined && value !== null && value !== false) {
+      element.setAttribute(name, /^(title|aria-label|placeholder)$/.test(name) ? plain(value) : String(value));
+    }
   }
-  element.append(...children.flat().filter((child) => child !== null && child !== undefined));
+  element.append(...nodesOf(children, TEXT_ALONE.has(element.localName)));
   return element;
+}
+
+/** Puts these in the place of what an element has. */
+export const put = (element, ...children) => element.replaceChildren(...nodesOf(children, TEXT_ALONE.has(element.localName)));
+
+/** A text that may be broken at its blanks alone. */
+export const whole = (text) => (/[^\w\s."']/.test(text) && /\s/.test(text.trim()) ?
+  el("span", {}, text.split(/(\s+)/).map((part, at) => (at % 2 ? part : el("span", { class: "whole" }, part)))) : text);
+
+/** A name that may be broken at its blanks and behind its underscores. */
+export function broken(name) {
+  const parts = String(name).split(/(\s+|(?<=_)(?=[^_\s]))/).filter((part) => part !== undefined);
+  const isPlain = parts.length === 1 || /^[\w\s]*$/.test(name);
+  const nodes = parts.map((part, at) => (at % 2 ? part || el("wbr") : isPlain ? part : el("span", { class: "whole" }, part)));
+  return el("span", {}, nodes);
 }
 
 /** An element of HTML with attributes, listeners (`onclick`) and children: elements, and texts as text nodes. */
@@ -107,6 +145,22 @@ export const counted = (number, word) => `${grouped(number)} ${word}${number ===
 
 /** The first of some numbers, on one line. */
 export const first = (numbers) => numbers.slice(0, 12).join(", ") + (numbers.length > 12 ? " .." : "");
+
+/** A row of CSV (RFC 4180). A text that a spreadsheet would take for a formula begins with a quote. */
+export function csvRow(cells) {
+  return cells.map((cell) => {
+    let text = typeof cell === "string" ? cell : writeJSON(cell);
+    if (typeof cell === "string" && /^[=+@\t\r]|^-(?!\d+$)/.test(text)) text = `'${text}`;
+    return /[",\r\n]/.test(text) ? `"${text.replaceAll('"', '""')}"` : text;
+  }).join(",") + "\r\n";
+}
+
+/** A file that the browser saves. */
+export function save(name, text, type = "text/csv") {
+  const url = URL.createObjectURL(new Blob([text], { type }));
+  el("a", { href: url, download: name }).click();
+  setTimeout(() => URL.revokeObjectURL(url), 10_000);
+}
 
 /** Something that may be larger than the page, in a frame in which it scrolls. */
 export const framed = (name, ...children) =>

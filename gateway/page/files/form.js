@@ -1,5 +1,5 @@
 // The form of a service's inputs, made from their types, or from how the model uses them where it has none.
-import { copied, el, isObject, readJSON, writeJSON } from "./dom.js";
+import { broken, copied, el, isObject, put as putInto, readJSON, writeJSON } from "./dom.js";
 import { listOf, tablesOf } from "./model.js";
 
 let count = 0;
@@ -22,7 +22,7 @@ export class Form {
     const name = this.model.name(path.at(-1));
     if (shape.members) {
       const parts = shape.members.map(([word, inner]) => this.part(inner, [...path, word]));
-      return el("fieldset", {}, el("legend", {}, name), parts);
+      return el("fieldset", {}, el("legend", {}, broken(name)), parts);
     }
     const id = `field-${count += 1}`;
     const error = el("span", { id: `${id}-error`, class: "error" });
@@ -34,20 +34,21 @@ export class Form {
       inputmode: shape.kind === "number" ? "numeric" : null, spellcheck: "false", list: list?.id });
     input.setAttribute("aria-describedby", error.id);
     this.fields.push({ path, shape, input, error });
-    return el("p", { class: "field" }, el("label", { for: id }, name), input, list, error);
+    return el("p", { class: "field" }, el("label", { for: id }, broken(name)), input, list, error);
   }
 
-  /** The inputs as they stand in the form, or null where a field has no value of its type. */
-  value() {
+  /** The inputs as they stand in the form; null where a field has no value of its type: the first such gets the focus if it is asked. */
+  value(isAsked) {
     const inputs = copied(this.base);
-    let isFine = true;
+    let wrong;
     for (const field of this.fields) {
       const read = readField(field);
       mark(field, read.fault);
-      isFine = isFine && !read.fault;
+      wrong ??= read.fault ? field : undefined;
       set(inputs, field.path, read.value);
     }
-    return isFine ? inputs : null;
+    if (wrong && isAsked) wrong.input.focus();
+    return wrong ? null : inputs;
   }
 
   /** Fills the form; members that it has no field for are kept. */
@@ -59,14 +60,14 @@ export class Form {
     }
   }
 
-  /** Marks the field of a value that is not taken, by its JSON Pointer. */
-  refuse(pointer, text) {
+  /** Marks the field of a value that is not taken, by its JSON Pointer; it gets the focus if it is asked. */
+  refuse(pointer, text, isAsked) {
     const tokens = pointer.split("/").slice(1).map((token) => token.replaceAll("~1", "/").replaceAll("~0", "~"));
     const path = tokens.map((token) => this.model.word(token));
     const field = this.fields.find((it) => it.path.every((key, at) => path[at] === key));
     if (!field) return;
     mark(field, text);
-    field.input.focus();
+    if (isAsked) field.input.focus();
   }
 }
 
@@ -84,7 +85,7 @@ function set(inputs, path, value) {
 }
 
 function mark({ input, error }, text) {
-  error.textContent = text ?? "";
+  putInto(error, text ?? "");
   if (text) input.setAttribute("aria-invalid", "true");
   else input.removeAttribute("aria-invalid");
 }

@@ -1,7 +1,8 @@
 // The logic of a decision: a text, a list, a context or a table, each with what it came to.
-import { el, show, unseen } from "./dom.js";
+import { broken, el, put, unseen } from "./dom.js";
 import { listOf, sentence } from "./model.js";
 import { TableView } from "./table.js";
+import { inLine, limit } from "./values.js";
 
 export class LogicView {
   constructor(model, whole, from, name, options) {
@@ -28,7 +29,7 @@ export class LogicView {
       this.parts = entries.map(({ entry, at }) =>
         part(entry?.expr, `/context/${at}/expr`, `${model.name(entry?.name)} of ${name}`));
       const rows = this.parts.map((view, at) => el("div", { class: "entry" },
-        el("dt", {}, model.name(entries[at].entry?.name)), el("dd", {}, view.element)));
+        el("dt", {}, broken(model.name(entries[at].entry?.name))), el("dd", {}, view.element)));
       if (expr.result !== undefined) {
         this.result = part(expr.result, "/result", name);
         rows.push(el("div", { class: "entry" }, el("dt", {}, "result"), el("dd", {}, this.result.element)));
@@ -44,14 +45,14 @@ export class LogicView {
     this.table?.tell(told?.table, isMore);
     this.parts.forEach((view, at) => view.tell((told?.entries ?? told?.members)?.[at], isMore));
     this.result?.tell(told?.result, isMore);
-    this.value.replaceChildren(...outcome(told));
+    put(this.value, outcome(told));
   }
 }
 
-/** What a part came to, as nodes. */
-export function outcome(told) {
+/** What a part came to, as nodes; of a longer value so many letters. */
+export function outcome(told, most) {
   if (told === undefined || told === null) return [];
-  if (told.fault) return [unseen("breaks a limit"), "limit"];
-  if (told.given !== undefined) return [unseen("is "), show(told.given)];
-  return told.value === undefined ? [] : [unseen("is "), show(told.value)];
+  if (told.fault) return [unseen("breaks a limit"), limit()];
+  if (told.given !== undefined) return [unseen("is "), inLine(told.given, most)];
+  return told.value === undefined ? [] : [unseen("is "), inLine(told.value, most)];
 }

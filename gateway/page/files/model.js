@@ -19,10 +19,14 @@ const POLICIES = {
 export const policyOf = (table) =>
   (Object.hasOwn(POLICIES, table.hit) ? POLICIES[table.hit] : ["Unknown", "it is no hit policy"]);
 
+const KEPT = ["model", "names", "locals", "types", "required", "places", "diagram", "language", "release"];
+
 export class Model {
   /** Of what `GET /v1/model?whole=true` and `POST /v1/check` give. */
   constructor(whole) {
     this.sha256 = whole.sha256;
+    // What desk import writes of it, by which the service can be told of it again.
+    this.source = Object.fromEntries(KEPT.flatMap((key) => (whole[key] === undefined ? [] : [[key, whole[key]]])));
     this.release = whole.release;
     this.isLawful = whole.lawful;
     this.fault = whole.fault;
@@ -37,6 +41,7 @@ export class Model {
     // The model counts in units, and has parts that the file doesn't have.
     this.isTranslated = texts.length > 0 || Object.values(this.types).some(isCounted);
     this.diagram = whole.diagram;
+    this.language = whole.language;
     this.findings = whole.findings;
     // What is found of the tables is asked for later, where it does not stand there.
     this.tables = whole.tables ?? undefined;
@@ -44,6 +49,9 @@ export class Model {
     this.inputs = listOf(written.inputs).filter((name) => typeof name === "string");
     this.decisions = listOf(written.decisions).filter((part) => typeof part?.name === "string");
     this.services = listOf(written.services).filter((part) => typeof part?.name === "string");
+    this.known = new Set([...this.inputs, ...this.decisions.map((decision) => decision.name)]);
+    this.numbers = new Map(this.decisions.map((decision, at) => [decision.name, at]));
+    this.ruleCount = tablesOf(this).reduce((sum, { table }) => sum + listOf(table.rules).length, 0);
   }
 
   /** The name in the file of a word, which may be one that stands within a decision alone. */
@@ -128,8 +136,7 @@ export class Model {
 
   /** The needs of a decision that are inputs or decisions of the model. */
   needs(decision) {
-    const known = new Set([...this.inputs, ...this.decisions.map((other) => other.name)]);
-    return listOf(decision.needs).filter((name) => known.has(name));
+    return listOf(decision.needs).filter((name) => this.known.has(name));
   }
 
   /** What was found just at a place, or in parts of it too. */
@@ -171,16 +178,17 @@ export function sentence(finding) {
   return `${place ? place + ": " : ""}${finding.said ?? finding.fault ?? ""}${text}${hint}`;
 }
 
-/** Each table of a model with its JSON Pointer and the decision that it stands in. */
+/** Each table of a model with its JSON Pointer, the decision that it stands in, and what it is a table of. */
 export function tablesOf(model) {
   const found = [];
-  const walk = (expr, pointer, decision) => {
-    if (expr?.table) found.push({ pointer: `${pointer}/table`, table: expr.table, decision });
-    listOf(expr?.list).forEach((member, at) => walk(member, `${pointer}/list/${at}`, decision));
-    listOf(expr?.context).forEach((entry, at) => walk(entry?.expr, `${pointer}/context/${at}/expr`, decision));
-    if (expr?.result !== undefined) walk(expr.result, `${pointer}/result`, decision);
+  const walk = (expr, pointer, decision, name) => {
+    if (expr?.table) found.push({ pointer: `${pointer}/table`, table: expr.table, decision, name });
+    listOf(expr?.list).forEach((member, at) => walk(member, `${pointer}/list/${at}`, decision, `member ${at + 1} of ${name}`));
+    listOf(expr?.context).forEach((entry, at) =>
+      walk(entry?.expr, `${pointer}/context/${at}/expr`, decision, `${model.name(entry?.name)} of ${name}`));
+    if (expr?.result !== undefined) walk(expr.result, `${pointer}/result`, decision, name);
   };
-  model.decisions.forEach((decision, at) => walk(decision.expr, `/decisions/${at}/expr`, decision.name));
+  model.decisions.forEach((decision, at) => walk(decision.expr, `/decisions/${at}/expr`, decision.name, model.name(decision.name)));
   return found;
 }
 

@@ -9,7 +9,7 @@ const AROUND = 12;
 export class Rows {
   /** `make` makes the row with a number, which has an element with its number under `data-at` that may have the focus. */
   constructor(scroller, body, make) {
-    Object.assign(this, { scroller, body, make, count: 0, first: -1, last: -1 });
+    Object.assign(this, { scroller, body, make, count: 0, first: -1, last: -1, size: 2 });
     scroller.addEventListener("scroll", () => this.draw(), { passive: true });
   }
 
@@ -20,9 +20,14 @@ export class Rows {
     this.draw();
   }
 
-  /** The height of a row where there are many: 2rem, as style.css has it. */
+  /** Of many rows, each has room for so many lines of letters, which may be small; in steps of 8 pixels, and 32 at least. */
+  setLines(lines, isSmall) {
+    this.size = Math.max(2, Math.ceil(2 * (lines * (isSmall ? 0.9375 : 1.09375) + 0.125)) / 2);
+  }
+
+  /** The height of a row where there are many, in pixels. */
   get height() {
-    return 2 * parseFloat(getComputedStyle(document.documentElement).fontSize);
+    return this.size * parseFloat(getComputedStyle(document.documentElement).fontSize);
   }
 
   draw() {

@@ -1,6 +1,6 @@
 // What the page knows at the moment, and how it says that something went wrong.
 import { Problem } from "./api.js";
-import { byID } from "./dom.js";
+import { byID, put } from "./dom.js";
 
 /** The models, what is shown, what was told of the inputs under each, the number and the abort of what is asked. */
 export const state = {
@@ -15,10 +15,14 @@ export const state = {
   graph: null,
   views: new Map(),
   coverage: null,
+  open: "",
+  found: null,
+  kept: [],
+  isReading: false,
 };
 
 export const model = () => state.models[state.shown];
-export const alarm = (text) => { byID("alert").textContent = text; };
+export const alarm = (text) => put(byID("alert"), text);
 
 /** Runs something that may be refused, and says where it is. */
 export async function tried(work) {

@@ -1,11 +1,22 @@
 // A decision table: its columns and rules, which rules hit and decided, why others missed, and what was found at cells.
-import { button, counted, el, show, unseen } from "./dom.js";
+import { widthsOf } from "./columns.js";
+import { broken, button, counted, el, put, show, unseen, whole } from "./dom.js";
+import { fitNames } from "./heads.js";
 import { listed, rowsOf, said, verdict } from "./findings.js";
 import { listOf, policyOf, sentence } from "./model.js";
 import { ALL_AT_ONCE, Rows } from "./rows.js";
+import { inLine } from "./values.js";
 
 /** How many findings a mark tells. */
 const MOST_SAID = 5;
+/** How much of the frame the columns that stay in view may take. */
+const MOST_STAYING = 0.75;
+/** The same with counts, which stay where there is more room. */
+const MOST_WITH_COUNTS = 0.6;
+/** A frame is narrow where it has fewer pixels across. */
+const NARROW = 560;
+
+const sumOf = (numbers) => numbers.reduce((sum, number) => sum + number, 0);
 
 export class TableView {
   /**
@@ -20,6 +31,7 @@ export class TableView {
     this.isVirtual = this.rules.length > ALL_AT_ONCE;
     this.found = this.findingsByRule();
     this.current = 0;
+    this.isNarrow = false;
     this.hits = new Map();
     this.decided = null;
     this.misses = null;
@@ -36,7 +48,28 @@ export class TableView {
     this.element = el("div", { class: "table" }, this.policy(), this.verdict, this.scroller, this.why, this.analysis);
     this.body.addEventListener("keydown", (event) => this.key(event));
     this.rows = new Rows(this.scroller, this.body, (at) => this.row(at));
+    this.scroller.addEventListener("scroll", () => this.scroller.scrollLeft !== this.across && this.fitNames(), { passive: true });
     this.draw();
+    // What is drawn then may change the size again.
+    new ResizeObserver(() => requestAnimationFrame(() => this.seen())).observe(this.element);
+  }
+
+  /** What is due once the table is in view, or has another size. */
+  seen() {
+    const { clientWidth } = this.element;
+    if (clientWidth === 0) return;
+    if (clientWidth !== this.width) {
+      this.width = clientWidth;
+      this.isNarrow = clientWidth < NARROW;
+      this.draw();
+      this.target ??= this.current;
+    }
+    const above = this.scroller.getBoundingClientRect().top - (this.element.closest("article") ?? this.element).getBoundingClientRect().top;
+    this.scroller.style.setProperty("--above", `${above}px`);
+    this.stay();
+    this.rows.draw();
+    if (this.target !== undefined) this.comeTo(this.target);
+    this.target = undefined;
   }
 
   column(at) {
@@ -62,20 +95,81 @@ export class TableView {
       this.marks(this.model.foundAt(`${this.pointer}/hit`).concat(this.model.foundAt(this.pointer))));
   }
 
-  /** Of a table whose rows come and go, columns have the width of their longest text, within reason. */
+  /** The columns of a table whose rows come and go. */
   columns() {
     if (!this.isVirtual) return [];
-    const longest = (head, texts) =>
-      Math.min(36, texts.reduce((most, text) => Math.max(most, String(text).length), String(head).length)) + 4;
-    const widths = [9, ...this.inputs.map((head, at) => longest(head, this.rules.map((_, rule) => this.cell(rule, "when", at)))),
-      ...this.outputs.map((output, at) => longest(output.name, this.rules.map((_, rule) => this.cell(rule, "then", at)))),
-      ...(this.counts ? [9, 11] : [])];
-    this.grid.style.width = `${widths.reduce((sum, width) => sum + width)}ch`;
-    return [el("colgroup", {}, widths.map((characters) => {
+    const { all, lines, isSmall } = this.sized(this.isNarrow);
+    this.rows.setLines(lines, isSmall);
+    this.grid.classList.toggle("several", lines > 1);
+    this.grid.style.setProperty("--row", `${this.rows.height}px`);
+    this.grid.style.width = `${sumOf(all)}ch`;
+    return [el("colgroup", {}, all.map((letters) => {
       const column = el("col");
-      column.style.width = `${characters}ch`;
+      column.style.width = `${letters}ch`;
       return column;
     }))];
+  }
+
+  /** How wide all columns are, in letters: small ones in a narrow frame, and where the frame has not all columns else. */
+  sized(isSmall) {
+    this.grid.classList.toggle("narrow", isSmall);
+    const isMarked = [...this.found.values()].flat().some(({ kind }) => kind === undefined);
+    const rule = String(this.rules.length).length + (isSmall ? 4.5 : 7) + (isMarked ? 4 : 0);
+    const frame = this.lettersInView();
+    const { widths, lines } = this.layout({ frame, rule, isSmall });
+    const all = [rule, ...widths, ...(this.counts ? [9, 11] : [])];
+    return isSmall || sumOf(all) <= frame ? { all, lines, isSmall } : this.sized(true);
+  }
+
+  /** Of few rules the columns are as wide as the browser makes them: letters are small where the frame has not all columns else. */
+  fit() {
+    if (this.isVirtual) return;
+    this.grid.classList.toggle("narrow", this.isNarrow);
+    if (!this.isNarrow) this.grid.classList.toggle("narrow", this.grid.offsetWidth > this.element.clientWidth);
+  }
+
+  /** Has the names of columns in what is seen of these. */
+  fitNames() {
+    this.across = this.scroller.scrollLeft;
+    fitNames(this.scroller, this.head);
+  }
+
+  /** The widths of what stands in each column, which are kept for a frame. */
+  layout(frame) {
+    const column = (kind, name, at) => ({ kind, name, texts: this.rules.map((_, rule) => this.cell(rule, kind, at)) });
+    this.texts ??= [...this.inputs.map((_, at) => column("when", this.column(at), at)),
+      ...this.outputs.map((output, at) => column("then", this.model.name(output.name), at))];
+    const marked = new Set([...this.found.values()].flat().map(({ kind, column: at }) => (kind === "then" ? at + this.inputs.length : at)));
+    const key = JSON.stringify([frame, [...marked]]);
+    if (this.laidOut?.key !== key) {
+      this.laidOut = { key, ...widthsOf(this.texts.map((it, at) => ({ ...it, isMarked: marked.has(at) })), frame) };
+    }
+    return this.laidOut;
+  }
+
+  /** How many letters of the cells are in view across. */
+  lettersInView() {
+    const letter = 0.6 * parseFloat(getComputedStyle(this.grid).fontSize);
+    return (this.width ?? Infinity) / (letter || 1);
+  }
+
+  /** Says to each output, and each count behind it, how far from the end it stays when the table is scrolled, if there is room. */
+  stay() {
+    const { clientWidth } = this.scroller;
+    if (clientWidth === 0) return;
+    let room = MOST_STAYING * clientWidth - (this.head.querySelector("th")?.offsetWidth ?? 0);
+    const cells = [...this.head.querySelectorAll("[data-stay]")];
+    const outputs = cells.slice(0, this.outputs.length);
+    const isLoose = sumOf(outputs.map((it) => it.offsetWidth)) > room;
+    const least = (at) => (at < outputs.length ? 0 : (MOST_STAYING - MOST_WITH_COUNTS) * clientWidth);
+    const staying = isLoose ? [] : cells.filter((it, at) => (room -= it.offsetWidth) >= least(at));
+    for (const it of cells) this.grid.style.setProperty(`--stay-${it.dataset.stay}`, "auto");
+    let right = 0;
+    for (const it of staying.reverse()) {
+      this.grid.style.setProperty(`--stay-${it.dataset.stay}`, `${right}px`);
+      right += it.offsetWidth;
+    }
+    this.fitNames();
   }
 
   findingsByRule() {
@@ -102,45 +196,62 @@ export class TableView {
   }
 
   say(...parts) {
-    this.why.replaceChildren(...parts);
+    put(this.why, parts);
   }
 
   draw() {
     this.grid.querySelector("colgroup")?.remove();
     this.grid.prepend(...this.columns());
-    this.head.replaceChildren(...this.headRows());
-    this.foot.replaceChildren(...this.footRows());
+    this.head.replaceChildren(...this.headRows().map((row) => this.placed(row)));
+    this.foot.replaceChildren(...this.footRows().map((row) => this.placed(row)));
     this.grid.setAttribute("aria-rowcount", this.rules.length + this.head.children.length + this.foot.children.length);
     this.rows.show(this.rules.length);
+    this.fit();
+    this.stay();
   }
 
   headRows() {
     const values = this.values;
-    const cell = (text, kind, at, more) => el("th", { role: "columnheader", scope: "col", class: kind },
-      text, more, this.marks(this.model.foundAt(`${this.pointer}/${kind}s/${at}`, true)));
-    const value = (at) =>
-      (values && at < values.length ? el("span", { class: "value" }, unseen("is "), show(values[at])) : null);
+    const cell = (name, text, kind, at, more) => el("th", { role: "columnheader", scope: "col", class: kind, title: name,
+      ...this.staying(kind, at) },
+      el("div", { class: "head" }, text, this.marks(this.model.foundAt(`${this.pointer}/${kind}s/${at}`, true)), more));
+    const value = (at) => (values && at < values.length ?
+      el("span", { class: "value", title: show(values[at]) }, unseen("is "), inLine(values[at])) : null);
     const asked = (at) => {
-      const [name, text] = [this.column(at), el("code", {}, this.model.text(this.inputs[at], `${this.pointer}/inputs/${at}`))];
-      return name === text.textContent ? text : [name, el("span", { class: "label" }, text)];
+      const [name, text] = [this.column(at), this.model.text(this.inputs[at], `${this.pointer}/inputs/${at}`)];
+      const code = el("code", {}, broken(text));
+      return name === text ? code : [broken(name), el("span", { class: "label" }, code)];
     };
     const listed = (output) => (listOf(output.values).length ?
       el("span", { class: "label" }, unseen("one of "), listOf(output.values).join(", ")) : null);
     return [el("tr", { role: "row", "aria-rowindex": 1 }, el("th", { role: "columnheader", scope: "col" }, "Rule"),
-      this.inputs.map((_, at) => cell(asked(at), "input", at, value(at))),
-      this.outputs.map((output, at) => cell(el("code", {}, this.model.name(output.name)), "output", at, listed(output))),
-      this.counts ? [el("th", { role: "columnheader", scope: "col" }, "Hit"),
-        el("th", { role: "columnheader", scope: "col" }, "Decided")] : null)];
+      this.inputs.map((_, at) => cell(this.column(at), asked(at), "input", at, value(at))),
+      this.outputs.map((output, at) => cell(this.model.name(output.name), el("code", {}, broken(this.model.name(output.name))), "output", at,
+        listed(output))),
+      this.counts ? ["Hit", "Decided"].map((text, at) =>
+        el("th", { role: "columnheader", scope: "col", class: "counts", ...this.staying("count", at) }, text)) : null)];
+  }
+
+  /** The attributes of a cell that stays in view at the end of the row. */
+  staying(kind, at) {
+    const place = { output: at, then: at, count: this.outputs.length + at }[kind];
+    return place === undefined ? {} : { "data-stay": place };
+  }
+
+  /** A row whose cells know how far from the end they stay. */
+  placed(row) {
+    for (const it of row.querySelectorAll("[data-stay]")) it.style.right = `var(--stay-${it.dataset.stay}, auto)`;
+    return row;
   }
 
   footRows() {
     if (!this.outputs.some((output) => output.default !== undefined)) return [];
-    const cell = (text, kind) => el("td", { role: "cell", class: kind }, text);
+    const cell = (text, kind, at) => el("td", { role: "cell", class: kind, ...this.staying(kind === "count" ? kind : "then", at) }, text);
     return [el("tr", { role: "row", class: this.defaults ? "decided" : "" },
       el("th", { role: "rowheader", scope: "row", colspan: this.inputs.length + 1 },
         this.defaults ? "▶ no rule hit: " : "", "otherwise"),
-      this.outputs.map((output, at) => cell(el("code", {}, this.model.text(output.default ?? "null", `${this.pointer}/outputs/${at}/default`)))),
-      this.counts ? [cell(""), cell(String(this.counts.defaults), "count")] : null)];
+      this.outputs.map((output, at) => cell(el("code", {}, this.model.text(output.default ?? "null", `${this.pointer}/outputs/${at}/default`)), "then", at)),
+      this.counts ? [cell("", "count", 0), cell(String(this.counts.defaults), "count", 1)] : null)];
   }
 
   row(at) {
@@ -153,8 +264,8 @@ export class TableView {
       const missed = kind === "when" && this.hasMissed(at, column, miss);
       const text = this.cell(at, kind, column);
       const title = this.isVirtual ? text : null;
-      return el("td", { role: "cell", class: missed ? `${kind} missed` : kind, title },
-        el("code", {}, text), missed ? unseen(" is not met") : null, marks(kind, column));
+      return el("td", { role: "cell", class: missed ? `${kind} missed` : kind, title, ...this.staying(kind, column) },
+        el("code", {}, whole(text)), missed ? unseen(" is not met") : null, marks(kind, column));
     });
     const [state, sign, said] = this.stateOf(at + 1);
     const hits = this.counts?.hits[at] ?? 0;
@@ -164,11 +275,11 @@ export class TableView {
     const tabindex = at === this.current ? 0 : -1;
     const number = button(`${sign}${at + 1}`, () => this.select(at),
       { class: "rule", "data-at": at, tabindex, "aria-label": `Rule ${at + 1}${said}` });
-    const count = (text) => el("td", { role: "cell", class: "count" }, String(text));
-    return el("tr", { role: "row", "aria-rowindex": at + 2, class: [state, differs, never].filter(Boolean).join(" ") },
+    const count = (text, at) => el("td", { role: "cell", class: "count", ...this.staying("count", at) }, String(text));
+    return this.placed(el("tr", { role: "row", "aria-rowindex": at + 2, class: [state, differs, never].filter(Boolean).join(" ") },
       el("th", { role: "rowheader", scope: "row" }, number, marks(undefined)),
       cells(listOf(rule.when).slice(0, this.inputs.length), "when"), cells(listOf(rule.then), "then"),
-      this.counts ? [count(hits), count(decided === null ? "" : decided || "never")] : null);
+      this.counts ? [count(hits, 0), count(decided === null ? "" : decided || "never", 1)] : null));
   }
 
   /** A cell of a rule as the file has it. */
@@ -249,7 +360,10 @@ export class TableView {
     if (!isMore) this.say();
     this.draw();
     const [rule] = this.decided?.size ? this.decided : this.hits.keys();
-    if (!isMore && rule) this.comeTo(rule - 1);
+    if (isMore || !rule) return;
+    // A table that is not in view comes to the rule once it is.
+    if (this.scroller.clientWidth > 0) this.comeTo(rule - 1);
+    else this.target = rule - 1;
   }
 
   /** Shows how often each rule hit and decided; nothing where that was not counted. */
@@ -262,8 +376,8 @@ export class TableView {
   analyse({ told, findings }) {
     const { text, isFine } = verdict(told, this.table);
     this.verdict.classList.toggle("finding", !isFine);
-    this.verdict.replaceChildren(text);
-    this.analysis.replaceChildren(...listed(this, findings, this.tryWitness));
+    put(this.verdict, text);
+    put(this.analysis, listed(this, findings, this.tryWitness));
     for (const finding of findings) {
       for (const at of rowsOf(finding)) {
         const found = this.found.get(at) ?? [];

@@ -20,12 +20,26 @@ import (
 // its setting consumer_timeout, of half an hour where it isn't set, and of a minute at least.
 const renewal = 15 * time.Second
 
+// How long a lease is left alone that could not be asked for, and one whose queue isn't there.
+const (
+	askPause     = 2 * time.Second
+	missingPause = 10 * time.Second
+)
+
+// gather is how long what is told of missing queues is gathered.
+const gather = time.Second
+
+// mostAsks is how often in a row a lease may not be asked for until another broker is tried.
+const mostAsks = 3
+
 // A held is the lease of one partition, once it is this process's.
 type held struct {
 	partition  int
 	route      bus.Route
 	link       *Link
 	channel    *amqp.Channel
+	closed     chan *amqp.Error // has the reason where the broker ends the channel
+	publisher  *Publisher       // on this channel
 	deliveries <-chan amqp.Delivery
 	message    amqp.Delivery
 }
@@ -33,201 +47,242 @@ type held struct {
 // Own waits until one of these partitions is free, and takes its lease. It is kept until the link fails, or the link fails
 // since it can't be kept. Missing is told, again and again, which of the partitions have no queues.
 func (l *Link) Own(ctx context.Context, settings bus.Settings, partitions []int, missing func([]int)) (int, error) {
-	publisher, err := l.publisher()
+	w := &waiting{link: l, settings: settings,
+		won: make(chan *held), asked: make(chan asked), over: make(chan struct{})}
+	defer close(w.over)
+	for _, at := range rand.Perm(len(partitions)) {
+		go w.seek(partitions[at])
+	}
+	won, err := w.wait(ctx, missing)
 	if err != nil {
 		return 0, err
 	}
-	w := &waiting{link: l, publisher: publisher, settings: settings, missing: missing, partitions: partitions,
-		won: make(chan *held, len(partitions)), enough: make(chan struct{}), asked: make(chan struct{}), faults: make(chan error, 1)}
-	go w.ask()
-	won, err := w.wait(ctx)
-	if err != nil {
-		return 0, err
-	}
+	go won.keep()
 	return won.partition, nil
 }
 
-// A waiting waits for the lease of any partition, of each on a channel of its own. It takes the first at once: a queue that does
-// not confirm, as one without a leader, does not hold up the lease of another, and nor does one that isn't there.
+// A waiting waits for the lease of any partition, of each on a channel of its own, and takes the first. What befalls the
+// queue of one, as that it has no leader, neither holds up another nor ends the link.
 type waiting struct {
-	link       *Link
-	publisher  *Publisher
-	settings   bus.Settings
-	missing    func([]int) // is told which partitions have no queues
-	partitions []int
-	leases     []*held // that were asked for; to be read once asked is closed
-	won        chan *held
-	enough     chan struct{} // is closed once a lease is won
-	asked      chan struct{} // is closed once no more are asked for
-	faults     chan error    // has a value where asking has failed
+	link     *Link
+	settings bus.Settings
+	won      chan *held
+	asked    chan asked
+	over     chan struct{} // is closed once a lease is won, or none is waited for any more
 }
 
-func (w *waiting) wait(ctx context.Context) (*held, error) {
-	select {
-	case lease := <-w.won:
-		close(w.enough)
-		go w.giveUp(lease)
-		go lease.keep()
-		return lease, nil
-	case err := <-w.faults:
-		return nil, err
-	case <-w.link.Done():
-		return nil, w.link.Err()
-	case <-ctx.Done():
-		return nil, ctx.Err()
-	}
+// An asked says of a partition's lease that was asked for why that failed, if it did, and how often in a row.
+type asked struct {
+	partition int
+	failure   error
+	failures  int
 }
 
-// missingPause is how long a lease whose queue isn't there is left alone.
-const missingPause = 10 * time.Second
-
-// ask asks for the leases, until one is won: again and again for those whose queues aren't there. It waits for the confirms of
-// the others, unless one is won: what one without a leader never confirms keeps no other lease from being given up.
-func (w *waiting) ask() {
-	defer close(w.asked)
-	missing, err := w.askAll(w.partitions)
-	if err == nil {
-		err = w.publisher.settleUnless(w.enough)
+// final is the failure, if asking again at this broker does not help.
+func (a asked) final() error {
+	is := (Broker{}).Judge(a.failure)
+	if isMissing(a.failure) || is == bus.Passing && a.failures < mostAsks {
+		return nil
 	}
-	for err == nil && !w.isEnough() {
-		if w.missing(missing); len(missing) == 0 || !w.pause() {
-			break
+	return fmt.Errorf("the lease of partition %d: %w", a.partition, a.failure)
+}
+
+func (w *waiting) wait(ctx context.Context, missing func([]int)) (*held, error) {
+	var gathered <-chan time.Time
+	missed := make(map[int]bool)
+	for {
+		select {
+		case lease := <-w.won:
+			return lease, nil
+		case asked := <-w.asked:
+			if err := asked.final(); err != nil {
+				return nil, err
+			}
+			missed[asked.partition] = isMissing(asked.failure)
+			if gathered == nil {
+				gathered = time.After(gather)
+			}
+		case <-gathered:
+			gathered = nil
+			missing(those(missed))
+		case <-w.link.Done():
+			return nil, w.link.Err()
+		case <-ctx.Done():
+			return nil, ctx.Err()
 		}
-		if missing, err = w.askAll(missing); err == nil {
-			err = w.publisher.settleUnless(w.enough)
-		}
-	}
-	if err != nil {
-		w.faults <- err
 	}
 }
 
-// pause waits for a while, and says whether no lease was won meanwhile.
-func (w *waiting) pause() bool {
-	while := time.NewTimer(missingPause)
+// those are the numbers for which it is so.
+func those(is map[int]bool) []int {
+	var numbers []int
+	for number, so := range is {
+		if so {
+			numbers = append(numbers, number)
+		}
+	}
+	return numbers
+}
+
+// seek asks for the lease of a partition, again and again, until some lease is won.
+func (w *waiting) seek(partition int) {
+	for failures := 0; ; {
+		route := w.settings.Route(bus.AnswersExchange, bus.TopicLease, partition)
+		lease := &held{partition: partition, link: w.link, route: route}
+		failure := w.ask(lease)
+		if failures++; failure == nil {
+			failures = 0
+		}
+		select {
+		case w.asked <- asked{partition, failure, failures}:
+		case <-w.over:
+		}
+		if failure == nil && w.handOver(lease) {
+			return
+		}
+		lease.giveUp()
+		if !w.pause(failure) {
+			return
+		}
+	}
+}
+
+// pause waits after a failure, and says whether a lease is still waited for.
+func (w *waiting) pause(failure error) bool {
+	pause := askPause
+	if isMissing(failure) {
+		pause = missingPause
+	}
+	while := time.NewTimer(pause)
 	defer while.Stop()
 	select {
 	case <-while.C:
 		return true
-	case <-w.enough:
+	case <-w.over:
 	case <-w.link.Done():
 	}
 	return false
 }
 
-// askAll asks for the leases of these partitions, and gives those whose queues aren't there.
-func (w *waiting) askAll(partitions []int) (missing []int, err error) {
-	for _, at := range rand.Perm(len(partitions)) {
-		if w.isEnough() {
-			return nil, nil
-		}
-		route := w.settings.Route(bus.AnswersExchange, bus.TopicLease, partitions[at])
-		lease := &held{partition: partitions[at], route: route, link: w.link}
-		err := w.askFor(lease)
-		if isMissing(err) {
-			missing = append(missing, lease.partition)
-			continue
-		}
-		if err != nil {
-			return nil, fmt.Errorf("the lease of partition %d: %w", lease.partition, err)
-		}
-		w.leases = append(w.leases, lease)
-	}
-	return missing, nil
-}
-
-// askFor asks for a lease; it is handed over through won once it is this process's.
-func (w *waiting) askFor(l *held) error {
-	channel, err := w.link.loose()
-	if err != nil {
+// ask asks for a lease, once its queue has confirmed a message and so has a leader: where a queue without one is asked
+// for its messages, RabbitMQ ends the whole connection, and with it the lease of another partition.
+func (w *waiting) ask(l *held) (err error) {
+	if l.channel, err = w.link.loose(); err != nil {
 		return err
 	}
-	if err := channel.Qos(1, 0, false); err != nil {
-		return w.link.Because(err)
+	l.closed = l.channel.NotifyClose(make(chan *amqp.Error, 1))
+	if l.publisher, err = w.link.publisherOn(l.channel); err != nil {
+		return err
+	}
+	if err := l.publisher.Append(l.route, nil, nil); err != nil { // a second message is dropped
+		return err
+	}
+	if err := l.publisher.settleUnless(w.over); err != nil || w.isOver() {
+		return l.because(err)
+	}
+	if err := l.channel.Qos(1, 0, false); err != nil {
+		return err
 	}
 	queue := w.settings.Queue(bus.Lease, l.partition)
-	if l.deliveries, err = channel.Consume(queue, strconv.Itoa(l.partition), false, false, false, false, nil); err != nil {
-		if isMissing(err) {
-			return err
-		}
-		return w.link.Because(err)
-	}
-	l.channel = channel
-	if err := w.publisher.Append(l.route, nil, nil); err != nil { // a second message is dropped
-		return err
-	}
-	go w.watch(l)
-	return nil
+	l.deliveries, err = l.channel.Consume(queue, strconv.Itoa(l.partition), false, false, false, false, nil)
+	return err
 }
 
-// watch waits until the lease is this process's. Where the broker ends the waiting, as for a queue that is deleted, all
-// is begun anew: otherwise the partition would be left to the others.
-func (w *waiting) watch(l *held) {
-	delivery, open := <-l.deliveries
-	if open {
-		l.message = delivery
-		w.won <- l
-		return
-	}
-	err := w.link.Because(fmt.Errorf("the lease of partition %d: the broker ended the waiting for it", l.partition))
-	if !w.isEnough() {
-		w.link.Fail(err)
-	}
-}
-
-func (w *waiting) isEnough() bool {
+// handOver waits until the lease is this process's, and hands it over if it is the first. It says whether it was.
+func (w *waiting) handOver(l *held) bool {
 	select {
-	case <-w.enough:
+	case delivery, open := <-l.deliveries:
+		if !open { // the broker has ended the waiting, as for a queue that is deleted
+			return false
+		}
+		l.message = delivery
+	case <-w.over:
+		return false
+	case <-w.link.Done():
+		return false
+	}
+	select {
+	case w.won <- l:
+		return true
+	case <-w.over:
+	case <-w.link.Done():
+	}
+	return false
+}
+
+func (w *waiting) isOver() bool {
+	select {
+	case <-w.over:
 		return true
 	default:
 		return false
 	}
 }
 
-// giveUp gives up the other partitions, once no more are asked for. What was won of them goes back with its channel.
-func (w *waiting) giveUp(kept *held) {
+// because is why the broker ended the channel, if it did, and otherwise the error.
+func (l *held) because(err error) error {
 	select {
-	case <-w.asked:
-	case <-w.link.Done():
+	case reason := <-l.closed:
+		if reason != nil {
+			return lost("a channel", reason)
+		}
+	default:
+	}
+	return err
+}
+
+// giveUp ends the channel, and the message goes back with it. The consumer isn't cancelled before: of a queue without a
+// leader, that would end the connection. A lease that doesn't go back is kept from all others, so the link fails then. A
+// channel without a consumer keeps nothing, and may stand still in the broker for a minute and more.
+func (l *held) giveUp() {
+	if l.channel == nil {
 		return
 	}
-	for _, other := range w.leases {
-		if other == kept {
-			continue
-		}
-		err := other.channel.Cancel(strconv.Itoa(other.partition), false)
-		if err == nil {
-			err = other.channel.Close()
-		}
-		if err != nil {
-			w.link.Fail(fmt.Errorf("giving up the lease of partition %d: %w", other.partition, err))
-			return
-		}
+	closed := make(chan struct{})
+	go func() {
+		l.channel.Close()
+		close(closed)
+	}()
+	if l.deliveries == nil {
+		return
+	}
+	late := time.NewTimer(bus.Patience)
+	defer late.Stop()
+	select {
+	case <-closed:
+	case <-l.link.Done():
+	case <-late.C:
+		l.link.Fail(fmt.Errorf("the lease of partition %d: it was not given back for %v", l.partition, bus.Patience))
 	}
 }
 
+// errTaken says that the broker has ended the lease.
+var errTaken = errors.New("it was taken away")
+
 // keep renews the lease until the link fails, or fails the link.
 func (l *held) keep() {
-	publisher, err := l.link.publisher()
+	var err error
 	for err == nil {
-		err = l.renew(publisher)
+		err = l.renew()
 	}
 	l.link.Fail(fmt.Errorf("the lease of partition %d: %w", l.partition, err))
 }
 
 // renew replaces the message by a new one, after a while.
-func (l *held) renew(publisher *Publisher) error {
+func (l *held) renew() error {
 	while := time.NewTimer(renewal)
 	defer while.Stop()
 	select {
 	case <-while.C:
+	case <-l.deliveries: // a second message does not come before the first is acknowledged
+		return l.because(errTaken)
 	case <-l.link.Done():
 		return l.link.Err()
 	}
-	if err := publisher.Append(l.route, nil, nil); err != nil {
+	if err := l.publisher.Append(l.route, nil, nil); err != nil {
 		return err
 	}
-	if err := publisher.Settle(); err != nil {
+	if err := l.publisher.Settle(); err != nil {
 		return err
 	}
 	if err := l.message.Ack(false); err != nil {
@@ -238,7 +293,7 @@ func (l *held) renew(publisher *Publisher) error {
 	select {
 	case delivery, open := <-l.deliveries:
 		if !open {
-			return errors.New("it was taken away")
+			return l.because(errTaken)
 		}
 		l.message = delivery
 		return nil
@@ -250,4 +305,6 @@ func (l *held) renew(publisher *Publisher) error {
 }
 
 // isMissing says of a failure whether a queue isn't there.
-func isMissing(failure error) bool { return (Broker{}).Judge(failure) == bus.Missing }
+func isMissing(failure error) bool {
+	return errors.Is(failure, bus.ErrMissing) || (Broker{}).Judge(failure) == bus.Missing
+}

@@ -2,9 +2,11 @@ package broker
 
 import (
 	"context"
-	"strings"
+	"errors"
 	"testing"
 	"time"
+
+	amqp "github.com/rabbitmq/amqp091-go"
 
 	"gateway/rabbit/brokertest"
 	"gateway/rabbit/bus"
@@ -26,7 +28,7 @@ func linked(t *testing.T, b *brokertest.Broker, partitions int) (*Link, bus.Sett
 func TestALeaseBesideQueuesThatDoNotConfirm(t *testing.T) {
 	b := brokertest.Start(t)
 	b.Confirms = func(queue string) bool { return brokertest.Is(queue, "lease", "3") }
-	b.Full = func(queue string) bool { return brokertest.Is(queue, "lease", "3") }
+	b.Full = b.Confirms
 	b.Counts = b.Confirms
 	link, settings := linked(t, b, 8)
 	held, err := link.Own(context.Background(), settings, settings.All(), func([]int) {})
@@ -40,10 +42,62 @@ func TestALeaseBesideQueuesThatDoNotConfirm(t *testing.T) {
 	}
 }
 
+// A queue without a leader confirms nothing, and who reads it has the connection ended: the lease of another is kept.
+func TestALeaseBesideQueuesWithoutALeader(t *testing.T) {
+	b := brokertest.Start(t)
+	b.Confirms = func(queue string) bool { return brokertest.Is(queue, "lease", "3") }
+	b.Full = b.Confirms
+	b.Dies = func(queue string) bool { return !b.Confirms(queue) }
+	b.Stands = b.Dies
+	link, settings := linked(t, b, 8)
+	held, err := link.Own(context.Background(), settings, settings.All(), func([]int) {})
+	if err != nil || held != 3 {
+		t.Fatalf("%+v, %v", held, err)
+	}
+	channel, err := link.channel()
+	if err != nil {
+		t.Fatal(err)
+	}
+	if err := link.end(channel); err != nil { // what was asked for before is answered
+		t.Error(err)
+	}
+	if consumed := b.Consumed(); len(consumed) != 1 {
+		t.Errorf("%v are read", consumed)
+	}
+}
+
+// A channel that stands still in the broker without a consumer keeps no lease, and ends no link.
+func TestGivingUpAChannelThatStands(t *testing.T) {
+	b := brokertest.Start(t)
+	b.Confirms = func(string) bool { return false }
+	b.Stands = func(string) bool { return true }
+	link, settings := linked(t, b, 1)
+	w := &waiting{link: link, settings: settings, over: make(chan struct{})}
+	lease := &held{link: link, route: settings.Route(bus.AnswersExchange, bus.TopicLease, 0)}
+	go func() {
+		for len(b.Published()) == 0 {
+			time.Sleep(time.Millisecond)
+		}
+		close(w.over)
+	}()
+	if err := w.ask(lease); err != nil {
+		t.Fatal(err)
+	}
+	begun := time.Now()
+	if lease.giveUp(); time.Since(begun) >= bus.Patience {
+		t.Error("it was waited for")
+	}
+	select {
+	case <-link.Done():
+		t.Error(link.Err())
+	default:
+	}
+}
+
 // givenUp waits until all leases that were asked for are given up, but for the one that is held.
 func givenUp(t *testing.T, b *brokertest.Broker) {
 	t.Helper()
-	for len(b.Cancelled()) != len(b.Consumed())-1 {
+	for len(b.GivenUp()) != len(b.Consumed())-1 {
 		time.Sleep(10 * time.Millisecond)
 	}
 }
@@ -82,12 +136,32 @@ func TestTheOthersAreGivenUp(t *testing.T) {
 	givenUp(t, b)
 }
 
-// Where the broker ends the waiting for a lease, all is begun anew.
+// Where the broker ends the waiting for a lease, it is asked for again.
 func TestAWaitingThatTheBrokerEnds(t *testing.T) {
 	b := brokertest.Start(t)
-	b.Ends = func(queue string) bool { return brokertest.Is(queue, "lease", "1") }
+	b.Ends = func(queue string) bool { return brokertest.Is(queue, "lease", "1") && len(b.GivenUp()) == 0 }
+	b.Full = func(queue string) bool { return brokertest.Is(queue, "lease", "1") && len(b.GivenUp()) > 0 }
 	link, settings := linked(t, b, 2)
-	if _, err := link.Own(context.Background(), settings, settings.All(), func([]int) {}); err == nil || !strings.Contains(err.Error(), "partition 1") {
-		t.Error(err)
+	if held, err := link.Own(context.Background(), settings, settings.All(), func([]int) {}); err != nil || held != 1 {
+		t.Errorf("%v, %v", held, err)
+	}
+}
+
+// A right that is missing ends the waiting, and so does a lease that can't be asked for again and again.
+func TestALeaseThatCanNotBeAskedFor(t *testing.T) {
+	silent := errors.New("no confirm")
+	for _, c := range []struct {
+		asked
+		isFinal bool
+	}{
+		{asked{0, nil, 0}, false},
+		{asked{0, silent, mostAsks - 1}, false},
+		{asked{0, silent, mostAsks}, true},
+		{asked{0, bus.ErrMissing, mostAsks}, false},
+		{asked{0, &amqp.Error{Code: amqp.AccessRefused, Server: true}, 1}, true},
+	} {
+		if is := c.final() != nil; is != c.isFinal {
+			t.Errorf("%+v: %v", c.asked, is)
+		}
 	}
 }

@@ -36,6 +36,11 @@ func (l *Link) publisher() (*Publisher, error) {
 	if err != nil {
 		return nil, err
 	}
+	return l.publisherOn(channel)
+}
+
+// publisherOn lets a channel publish.
+func (l *Link) publisherOn(channel *amqp.Channel) (*Publisher, error) {
 	if err := channel.Confirm(false); err != nil {
 		return nil, l.Because(fmt.Errorf("asking for confirms: %w", err))
 	}

@@ -23,6 +23,8 @@ type Broker struct {
 	Other func(queue string) bool
 	// Counts tells of a queue whether the broker knows how many messages it has; otherwise it tells nothing of it to who asks.
 	Counts func(queue string) bool
+	// Length is how many messages the broker says that a queue has.
+	Length func(queue string) uint32
 	// Refuses tells of a queue whether it can't be read, as a stream without a copy at this broker.
 	Refuses func(queue string) bool
 	// Ends tells of a queue whether its consumers are ended, as where it is deleted.
@@ -30,16 +32,22 @@ type Broker struct {
 
 	// Missing tells of a queue whether it isn't there.
 	Missing func(queue string) bool
+	// Dies tells of a queue whether who reads it has the connection ended, as where a quorum queue has no leader.
+	Dies func(queue string) bool
+	// Stands tells of a queue whether a channel that has published to it stands still, and isn't closed either.
+	Stands func(queue string) bool
 
 	mutex     sync.Mutex
+	published []string
 	consumed  []string
-	cancelled []string
+	givenUp   []string
 }
 
 // Start starts a broker that ends with the test.
 func Start(t *testing.T) *Broker {
 	always, never := func(string) bool { return true }, func(string) bool { return false }
-	b := &Broker{Confirms: always, Counts: always, Full: never, Refuses: never, Ends: never, Other: never, Missing: never}
+	b := &Broker{Confirms: always, Counts: always, Full: never, Refuses: never, Ends: never, Other: never, Missing: never, Dies: never,
+		Stands: never, Length: func(string) uint32 { return 0 }}
 	b.Address = "amqp://" + listen(t, b.serve)
 	return b
 }
@@ -71,11 +79,18 @@ func listen(t *testing.T, serve func(net.Conn)) string {
 	return listener.Addr().String()
 }
 
-// Cancelled are the tags of the consumers that were cancelled.
-func (b *Broker) Cancelled() []string {
+// GivenUp are the tags of the consumers whose channels were closed.
+func (b *Broker) GivenUp() []string {
 	b.mutex.Lock()
 	defer b.mutex.Unlock()
-	return append([]string(nil), b.cancelled...)
+	return append([]string(nil), b.givenUp...)
+}
+
+// Published are the queues to which messages were published.
+func (b *Broker) Published() []string {
+	b.mutex.Lock()
+	defer b.mutex.Unlock()
+	return append([]string(nil), b.published...)
 }
 
 // Consumed are the tags of the consumers that there were.
@@ -92,21 +107,25 @@ const (
 	frameMethod = 1
 	frameHeader = 2
 	frameEnd    = 0xCE
-	noWait      = 16 // of the bits of a queue's declaration
+	noWait      = 16   // of the bits of a queue's declaration
+	hasHeaders  = 0x20 // of the first bits of a message's properties
 )
 
 // A session is a connection.
 type session struct {
 	broker    *Broker
 	to        net.Conn
-	queue     string // of the message that comes
+	queues    map[uint16]string // of the message that comes on each channel
+	stands    map[uint16]bool   // the channels that stand still
 	published map[uint16]uint64
 	delivered map[uint16]uint64
+	tags      map[uint16]string // of the consumer of each channel
 }
 
 func (b *Broker) serve(connection net.Conn) {
 	from := bufio.NewReader(connection)
-	s := &session{broker: b, to: connection, published: map[uint16]uint64{}, delivered: map[uint16]uint64{}}
+	s := &session{broker: b, to: connection, queues: map[uint16]string{}, published: map[uint16]uint64{},
+		delivered: map[uint16]uint64{}, tags: map[uint16]string{}, stands: map[uint16]bool{}}
 	if _, err := io.ReadFull(from, make([]byte, 8)); err != nil { // AMQP and its version
 		return
 	}
@@ -125,11 +144,21 @@ func (b *Broker) serve(connection net.Conn) {
 		case frameMethod:
 			s.take(channel, method{binary.BigEndian.Uint16(body), binary.BigEndian.Uint16(body[2:])}, body[4:])
 		case frameHeader: // the messages of these tests are empty
-			s.published[channel]++
-			if b.Confirms(s.queue) {
-				s.send(channel, method{60, 80}, number(s.published[channel]), []byte{0})
-			}
+			s.publish(channel)
 		}
+	}
+}
+
+// publish takes in that a message has come.
+func (s *session) publish(channel uint16) {
+	queue := s.queues[channel]
+	s.published[channel]++
+	s.stands[channel] = s.broker.Stands(queue)
+	s.broker.mutex.Lock()
+	s.broker.published = append(s.broker.published, queue)
+	s.broker.mutex.Unlock()
+	if s.broker.Confirms(queue) {
+		s.send(channel, method{60, 80}, number(s.published[channel]), []byte{0})
 	}
 }
 
@@ -140,7 +169,14 @@ func (s *session) take(channel uint16, m method, rest []byte) {
 		s.send(0, method{10, 30}, []byte{0, 0, 0, 2, 0, 0, 0, 10})
 	case method{10, 40}, method{20, 10}: // a connection, a channel
 		s.send(channel, method{m.class, m.number + 1}, make([]byte, []int{1, 4}[m.class/10-1]))
-	case method{85, 10}, method{60, 10}, method{20, 40}, method{10, 50}: // confirms, a window, an end
+	case method{20, 40}: // the end of a channel, whose number may be used again
+		if s.stands[channel] {
+			return
+		}
+		s.close(channel)
+		s.published[channel], s.delivered[channel] = 0, 0
+		s.send(channel, method{20, 41})
+	case method{85, 10}, method{60, 10}, method{10, 50}: // confirms, a window, an end
 		s.send(channel, method{m.class, m.number + 1})
 	case method{50, 10}: // a queue
 		queue := text(rest[2:])
@@ -151,47 +187,68 @@ func (s *session) take(channel uint16, m method, rest []byte) {
 		if isWaiting := rest[3+len(queue)]&noWait == 0; isWaiting && !s.broker.Counts(queue) {
 			return
 		} else if isWaiting {
-			s.send(channel, method{50, 11}, short(queue), make([]byte, 8))
+			s.send(channel, method{50, 11}, short(queue), number(uint64(s.broker.Length(queue))<<32))
 		}
 	case method{60, 40}: // a message
 		exchange := text(rest[2:])
-		s.queue = text(rest[3+len(exchange):])
+		s.queues[channel] = text(rest[3+len(exchange):])
 		if exchange != "" { // the routing key is the queue's name without its prefix
-			s.queue = prefix + s.queue
+			s.queues[channel] = prefix + s.queues[channel]
 		}
 	case method{60, 20}: // a consumer
 		queue := text(rest[2:])
-		tag := text(rest[3+len(queue):])
-		if s.broker.Missing(queue) {
-			s.send(channel, method{20, 40}, []byte{404 >> 8, 404 & 255}, short("NOT_FOUND - no queue"), []byte{0, 60, 0, 20})
-			return
-		}
-		s.broker.mutex.Lock()
-		s.broker.consumed = append(s.broker.consumed, tag)
-		s.broker.mutex.Unlock()
-		if s.broker.Refuses(queue) {
-			s.send(channel, method{20, 40}, []byte{406 >> 8, 406 & 255}, short("no copy is here"), []byte{0, 60, 0, 20})
-			return
-		}
-		s.send(channel, method{60, 21}, short(tag))
-		if s.broker.Full(queue) {
-			s.deliver(channel, tag, queue)
-		}
-		if s.broker.Ends(queue) {
-			s.send(channel, method{60, 30}, short(tag), []byte{1})
-		}
-	case method{60, 30}:
-		s.broker.mutex.Lock()
-		s.broker.cancelled = append(s.broker.cancelled, text(rest))
-		s.broker.mutex.Unlock()
-		s.send(channel, method{60, 31}, short(text(rest)))
+		s.consume(channel, queue, text(rest[3+len(queue):]))
 	}
 }
+
+// consume lets a channel read a queue.
+func (s *session) consume(channel uint16, queue, tag string) {
+	b := s.broker
+	if b.Missing(queue) {
+		s.send(channel, method{20, 40}, []byte{404 >> 8, 404 & 255}, short("NOT_FOUND"), []byte{0, 60, 0, 20})
+		return
+	}
+	b.mutex.Lock()
+	b.consumed = append(b.consumed, tag)
+	s.tags[channel] = tag
+	b.mutex.Unlock()
+	if b.Refuses(queue) {
+		s.send(channel, method{20, 40}, []byte{406 >> 8, 406 & 255}, short("no copy is here"), []byte{0, 60, 0, 20})
+		return
+	}
+	s.send(channel, method{60, 21}, short(tag))
+	if b.Dies(queue) {
+		s.send(0, method{10, 50}, []byte{541 >> 8, 541 & 255}, short("INTERNAL_ERROR"), []byte{0, 0, 0, 0})
+		return
+	}
+	if b.Full(queue) {
+		s.deliver(channel, tag, queue)
+	}
+	if b.Ends(queue) {
+		s.send(channel, method{60, 30}, short(tag), []byte{1})
+	}
+}
+
+// close gives up the consumer of a channel.
+func (s *session) close(channel uint16) {
+	b := s.broker
+	b.mutex.Lock()
+	defer b.mutex.Unlock()
+	if tag, is := s.tags[channel]; is {
+		b.givenUp = append(b.givenUp, tag)
+		delete(s.tags, channel)
+	}
+}
+
+// FirstOffset is that of the message which a consumer is handed.
+const FirstOffset = 40
 
 func (s *session) deliver(channel uint16, tag, queue string) {
 	s.delivered[channel]++
 	s.send(channel, method{60, 60}, short(tag), number(s.delivered[channel]), []byte{0}, short(""), short(queue))
-	s.frame(frameHeader, channel, []byte{0, 60, 0, 0, 0, 0, 0, 0, 0, 0, 0, 0, 0, 0})
+	table := append(append(short("x-stream-offset"), 'l'), number(FirstOffset)...)
+	head := []byte{0, 60, 0, 0, 0, 0, 0, 0, 0, 0, 0, 0, hasHeaders, 0, 0, 0, 0, byte(len(table))}
+	s.frame(frameHeader, channel, append(head, table...))
 }
 
 func (s *session) send(channel uint16, m method, parts ...[]byte) {

@@ -144,6 +144,7 @@ func (t *taker) own(ctx context.Context) error {
 	options.Gauges.takeover(partition)
 	defer options.Gauges.left()
 	if err := o.run(); err != nil {
+		options.Log.OfPartition(partition).Info("owned no more: %v", err)
 		return t.failed(partition, err)
 	}
 	return nil

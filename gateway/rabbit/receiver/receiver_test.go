@@ -238,6 +238,25 @@ func TestMissingOffsetsAreNoCut(t *testing.T) {
 	}
 }
 
+// A receiver logs where it begins, and that it goes on at a place.
+func TestWhereItBeginsIsLogged(t *testing.T) {
+	folder := t.TempDir()
+	for from, due := range map[bus.From]string{{}: "begins at the first message that is left", {Place: bus.Next}: "begins at what comes from now on",
+		bus.FromOffset(1000): "begins at offset 1000, or the first one after it that is left"} {
+		var told bytes.Buffer
+		if _, err := New(Options{Settings: bus.Settings{Partitions: 1}, From: from, Log: logs.New(&told, "test")}); err != nil || !strings.HasSuffix(told.String(), due+"\n") {
+			t.Errorf("%v, %s", err, &told)
+		}
+	}
+	opened(t, folder).saved(t)
+	options := opened(t, folder).options
+	var told bytes.Buffer
+	options.Log = logs.New(&told, "test")
+	if _, err := New(options); err != nil || !strings.Contains(told.String(), "goes on at the place in "+options.Place) {
+		t.Errorf("%v, %s", err, &told)
+	}
+}
+
 func TestAPlaceOfOtherPartitions(t *testing.T) {
 	path := filepath.Join(t.TempDir(), "place")
 	if err := (&places{Partitions: []place{{Stream: 4}}}).write(path); err != nil {

@@ -165,7 +165,7 @@ func (l *Lane) work(ctx context.Context) {
 	log := l.sender.options.Log.OfPartition(l.partition)
 	err := bus.Again(ctx, l.sender.options.Bus, log, func(ctx context.Context) error {
 		err := l.run(ctx)
-		if err != nil {
+		if err != nil && ctx.Err() == nil { // at the end all connections are lost, which is no reason why lines were not sent
 			l.failed(err)
 		}
 		return err

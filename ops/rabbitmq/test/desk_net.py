@@ -13,6 +13,7 @@ import time
 from desk_test import Cluster, Proxy
 
 NETWORK = "10.78.0"
+NOBODY = "02:00:00:00:00:99"  # an address in that network
 BROKERS = (1, 2, 3)
 
 
@@ -60,17 +61,19 @@ class NetCluster(Cluster):
         for number in BROKERS:
             SlowProxy(port + number, f"{NETWORK}.{number}", self.late).start()
 
-    def rule(self, what: str, number: int, *words: str) -> None:
-        subprocess.run(["ip", "netns", "exec", f"desk{number}", "iptables", "-w", what, *words, "-j", "DROP"], check=True)
+    @staticmethod
+    def neighbour(one: int, what: str, other: int, *words: str) -> None:
+        """Changes where the one broker believes the other to be in their network."""
+        subprocess.run(["ip", "-n", f"desk{one}", "neigh", what, f"{NETWORK}.{other}", "dev", "eth0", *words], check=True)
 
     def cut(self, one: int, other: int, both: bool, seconds: float) -> None:
-        """What the one broker sends the other gets lost for a while, or what each sends the other."""
-        rules = [("OUTPUT", "-d", f"{NETWORK}.{other}")] + ([("INPUT", "-s", f"{NETWORK}.{other}")] if both else [])
-        for words in rules:
-            self.rule("-A", one, *words)
+        """What the one broker sends the other gets lost for a while, or what each sends the other: it goes to nobody."""
+        ways = [(one, other), (other, one)] if both else [(one, other)]
+        for near, far in ways:
+            self.neighbour(near, "replace", far, "lladdr", NOBODY, "nud", "permanent")
         time.sleep(seconds)
-        for words in rules:
-            self.rule("-D", one, *words)
+        for near, far in ways:
+            self.neighbour(near, "del", far)
 
     def pid(self, number: int) -> int:
         return int((self.folder / f"broker{number}.pid").read_text())

@@ -30,14 +30,14 @@ Place = tuple[int, int]
 
 
 def install() -> None:
-    """Installs what is missing from Debian, and builds the gateway's program."""
+    """Installs what is missing from Debian, and builds the gateway's program, unless DESK_PROGRAM is one."""
     there = os.path.exists("/usr/lib/rabbitmq/bin/rabbitmq-server") and not subprocess.run(
         ["/usr/bin/python3", "-c", "import pika"], stderr=subprocess.DEVNULL).returncode
     if not there:
         subprocess.run(["apt-get", "update"], check=True)
-        subprocess.run(["apt-get", "install", "-y", *PACKAGES], check=True, env={
-            **os.environ, "DEBIAN_FRONTEND": "noninteractive"})
-    subprocess.run([str(ROOT / "tools" / "gateway")], check=True)
+        subprocess.run(["apt-get", "install", "-y", *PACKAGES], check=True, env={**os.environ, "DEBIAN_FRONTEND": "noninteractive"})
+    if "DESK_PROGRAM" not in os.environ:
+        subprocess.run([str(ROOT / "tools" / "gateway")], check=True)
 
 
 def program(*words: str) -> list[str]:
@@ -115,7 +115,7 @@ class Cluster:
                             "DESK_ENGINE": str(ROOT / "dist" / "desk"),
                             "DESK_BROKERS": ",".join(f"amqp://127.0.0.1:{port + number}" for number in (1, 2, 3))}
         global PROGRAM
-        PROGRAM = shutil.copy(ROOT / "gateway" / "out" / "desk-gateway", self.folder)
+        PROGRAM = shutil.copy(os.environ.get("DESK_PROGRAM", ROOT / "gateway" / "out" / "desk-gateway"), self.folder)
         self.processes: list[subprocess.Popen[bytes]] = []
         self.ports: dict[int, int] = {}  # of each process, where its metrics are
         self.stopped: "subprocess.Popen[bytes] | None" = None

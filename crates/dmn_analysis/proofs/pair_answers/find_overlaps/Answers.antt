@@ -58,12 +58,12 @@ returns-clause-decides c = λ constant known positive less nothing.
     let shared : All (IsShared words seen count) all = subst (λ n. All (IsShared words seen n) all) long (subst (λ rs. All (IsShared words rs (length cells)) all) (sym rules) knows.shared) in
     let told = c.deref-6.result.now in
     let shared_there = subst (λ ws. All (IsShared ws seen count) told) (sym c.deref-5.ensures.value) (subst (All (IsShared words seen count)) (sym c.deref-6.ensures.value) shared) in
-    let pairs_there = subst (All (IsPairOf told)) (sym c.deref-7.ensures.value) (subst (λ ss. All (IsPairOf ss) c.in_ok-pairs.pairs.items) (c.deref-4.ensures.value ∙ sym c.deref-6.ensures.value) c.in_ok-pairs.ensures.each) in
+    let pairs_there = subst (All (IsPairOf told)) (sym c.deref-7.ensures.value) (subst (λ ss. All (IsPairOf ss) c.in_ok-pairs.pairs.found.items) (c.deref-4.ensures.value ∙ sym c.deref-6.ensures.value) c.in_ok-pairs.ensures.each) in
     let no_pairs = sym c.deref-7.ensures.value ∙ c.in_ok-found.ensures.some positive shared_there pairs_there nothing in
     let few = subst (All (λ (x : Shared). length x.rules.items < 2)) c.deref-4.ensures.value (c.in_ok-pairs.ensures.some no_pairs) in
     let unshared = none_shared words seen count all shared few in
     let left = steps_left c.args.steps c.find_shared.new.steps (subst (λ n. n < c.args.steps) c.saturating_sub-2.ensures less) in
-    c.are_all-is_all.ensures.all (omega (arith, c.len.ensures, ap length no_pairs)) unshared (c.in_ok-search.ensures.ended (omega arith) left unshared) (c.in_ok-search.ensures.decided (subst AreConstant in_rows constant))
+    c.are_all-is_all.ensures.all (c.in_ok-pairs.ensures.none no_pairs) unshared (c.in_ok-search.ensures.ended (omega arith) left unshared) (c.in_ok-search.ensures.decided (subst AreConstant in_rows constant))
 
 pub returns-in_default-clause-decides : goal.returns-in_default-clause-decides
 returns-in_default-clause-decides c = λ constant known positive less nothing.

@@ -5,7 +5,7 @@ use Rattle.dmn_graph.specs.Needs.{needs_view, AreNeedsBelow}
 use Rattle.dmn_logic.specs.LogicView.{logic_view}
 use Rattle.dmn_names.proofs.Within.{needs_inside}
 use Rattle.dmn_plan.specs.declared.fault.ModelFault.TheVariants.{Large}
-use Rattle.dmn_plan.proofs.Planned.{planned, at_most_large, as_many, after_inputs}
+use Rattle.dmn_plan.proofs.Planned.{planned, at_most_large, as_many, after_inputs, have_logic_of}
 use Rattle.dmn_plan.proofs.planning.plan_of.Goals as goal
 
 pub items_of-requires-clause-needs : goal.items_of-requires-clause-needs
@@ -27,3 +27,12 @@ returns-clause-ok c =
     c.in_ok-logics.ensures.logic met.needed
     (subst (λ n. AreNeedsBelow n needs) (sym (length-map r.needs.items (λ v. v.items))) (needs_inside m (Some r.needs) (sym met.needed)))
     c.in_ok-items.ensures met.routes
+
+pub returns-clause-logic : goal.returns-clause-logic
+returns-clause-logic c =
+    let m = model_view c.args.model.now in
+    let r = c.in_ok-requirements.requirements in
+    let needs = needs_view r.needs.items in
+    have_logic_of m needs (map logic_view c.in_ok-logics.logics.items) c.in_ok-items.items.items
+    (at_most_large m needs r.services.items c.in_ok-logics.ensures.readable c.in_ok-requirements.ensures.ok ∙ ap (λ b. if b then Some Large else None) (sym c.is_large.ensures ∙ c.if-is_large.false))
+    c.in_ok-logics.ensures.logic c.in_ok-items.ensures

@@ -12,7 +12,7 @@ returns c =
     let n = c.args.service.now in
     let values = c.args.values.now in
     let out = c.in_ok-outcome.outcome in
-    let told = asked (read_text t) items c.self.inside.services n (length values) c.self.invariant (subst (λ s. TakesValues s n (length values)) (sym c.self.view_is) c.requires) in
+    let told = asked (read_text t) items c.self.inside.services n (length values) c.self.invariant.0 (subst (λ s. TakesValues s n (length values)) (sym c.self.view_is) c.requires) in
     let same : Some c.in-Some.plan.now ≡ Some told.0 = c.in-Some.ensures.value ∙ told.1 in
     let is : c.in-Some.plan.now ≡ told.0 = cc in
     told.2.outcome values out

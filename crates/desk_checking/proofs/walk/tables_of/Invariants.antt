@@ -1,0 +1,9 @@
+use Rattle.std.proofs.Common.{◌≡◌, ◌++◌, drop, map}
+use Rattle.dmn_logic.specs.LogicView.{logic_view}
+use Rattle.desk_checking.specs.Tables.{logic_tables}
+use Rattle.desk_checking.specs.TablesView.{placed_views}
+use Rattle.desk_checking.proofs.walk.tables_of.Given as goal
+
+abbrev pub invariant-loop-index : goal.invariant-loop-index
+invariant-loop-index l =
+    placed_views l.tables.items ++ logic_tables l.index (map (λ x. logic_view x.now) (drop l.index l.logics)) ≡ logic_tables 0 (map (λ x. logic_view x.now) l.logics)

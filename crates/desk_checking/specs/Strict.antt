@@ -1,0 +1,30 @@
+-- What holds of a table that `--strict` takes.
+use Rattle.std.specs.Prelude.{◌≡◌, ◌⊎◌, List, false}
+use Rattle.std.specs.List.{list_all}
+use Rattle.std.specs.Option.{is_none}
+use Rattle.dmn_table.specs.Table.{Column, Table}
+use Rattle.dmn_table.specs.declared.hit_policy.HitPolicy.TheVariants.{Unique}
+use Rattle.dmn_analysis.specs.Claims.{IsComplete, IsUniqueAmong}
+use Rattle.dmn_analysis.specs.Kinds.{AskKinds}
+use Rattle.dmn_analysis.specs.declared.asked.Asked.{Asked}
+use Rattle.desk_checking.specs.Answering.{AskUtf8}
+
+-- Whatever the names stand for, some rule hits for all values of the kinds of the constants in its tests, or for every value whose texts
+-- are in UTF-8.
+pub record IsAnswered (t : Table) : Type 0 where
+  pub asked : List Asked
+  pub are : AskKinds false t asked ⊎ AskUtf8 asked
+  pub complete : IsComplete t asked
+
+abbrev pub HasDefault : Table → Type 0
+HasDefault t = list_all (λ (c : Column). is_none c.fallback) t.outputs ≡ false
+
+-- for no values whose texts are in UTF-8 two rules hit
+pub record HasOneHit (t : Table) : Type 0 where
+  pub asked : List Asked
+  pub are : AskUtf8 asked
+  pub unique : IsUniqueAmong t asked
+
+pub record IsTaken (t : Table) : Type 0 where
+  pub answered : IsAnswered t ⊎ HasDefault t
+  pub one_hit : t.policy ≡ Unique → HasOneHit t

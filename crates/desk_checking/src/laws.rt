@@ -1,0 +1,12 @@
+//! What it means that `strict` refuses no table. The function does nothing: what counts is what it ensures.
+ghost use Rattle.std.specs.Prelude.{◌≡◌, false};
+ghost use Rattle.dmn_table.specs.Table.{Table};
+ghost use Rattle.desk_checking.specs.Answering.{IsFound, is_refused};
+ghost use Rattle.desk_checking.specs.Strict.{IsTaken};
+ghost use Rattle.desk_checking.specs.declared.answers.Answers.{Answers};
+
+/// Where it doesn't refuse a table, the table has a default or some rule hits for all values of the kinds that are asked; and under `U`
+/// no two rules hit.
+pub fn strict_takes()
+    ensures { (t : Table) (a : Answers) → IsFound t a → is_refused t a ≡ false → IsTaken t }
+{}

@@ -1,0 +1,241 @@
+-- What is told of the places of a plan holds of what a run finds there.
+use Rattle.std.proofs.Common.{◌≡◌, ◌∙◌, refl, sym, ap, subst, ℕ, zero, suc, ◌+◌, ◌<◌, List, [], ◌∷◌, ◌++◌, length, get_or, drop, map, append_assoc, add-one, Bool, true, false, cond, ◌||◌, Option, None, Some, option_map, unwrap_or, if◌then◌else◌, inl, inr, ◌⊎◌, arith}
+use Rattle.std.specs.Prelude.{bytes_eq, nat_eq, slice_set, ◌≢◌}
+use Rattle.std.specs.List.{slice_get, zip, All}
+use Rattle.std.proofs.lemmas.Bool.Decides.{eqb_tells}
+use Rattle.std.proofs.lemmas.List.{at_drop_more, get_or-map}
+use Rattle.feel_value.specs.Datum.{Datum, null, context, entries_of, Entries}
+use Rattle.feel_value.specs.Found.{value_of, ◌>>=◌, each, outcome_from}
+use Rattle.feel_value.specs.Limits.{is_value}
+use Rattle.feel_value.specs.declared.feel.Outcome.{Outcome}
+use Rattle.feel_value.specs.declared.feel.Outcome.TheVariants.{Is, Limit}
+use Rattle.feel_text.specs.Expr.{Expr}
+use Rattle.feel_text.specs.Meaning.{Bindings, bound, first_some}
+use Rattle.dmn_table.specs.Hits.{one_or_context}
+use Rattle.dmn_table.specs.Table.{Table}
+use Rattle.dmn_form.specs.Model.{Name, Boxed}
+use Rattle.dmn_logic.specs.Boxed.{boxed}
+use Rattle.dmn_logic.specs.LogicView.{logic_view}
+use Rattle.dmn_service.specs.Places.{name_at, needs_at}
+use Rattle.dmn_service.specs.Run.{Found, nothing_found, kept_at, needed_at, outcome_at, filled_by, given_at, logic_at, outputs_at}
+use Rattle.dmn_service.specs.declared.plan.Item.{Item}
+use Rattle.dmn_ranges.specs.Ranges.{Scope, scope, Fits, lies_in, covers, null_alone, named_or, range_named, AreWithin}
+use Rattle.dmn_ranges.specs.Steps.{limited}
+use Rattle.dmn_ranges.specs.Tables.{some_context}
+use Rattle.dmn_ranges.specs.Boxes.{box_outcomes}
+use Rattle.dmn_ranges.specs.Services.{not_found, told_at, TellsFound, given_if, domain_at, given_told, needs_scope, needs_limit, place_outcomes, filled_told, outputs_outcomes}
+use Rattle.dmn_ranges.specs.declared.range.NamedRange.{NamedRange}
+use Rattle.dmn_ranges.specs.declared.outcomes.Outcomes.{Outcomes}
+use Rattle.dmn_ranges.specs.declared.range.Range.{Range}
+use Rattle.dmn_ranges.proofs.Forms.{limited_covers}
+use Rattle.dmn_ranges.proofs.Joins.{or_left, or_right}
+use Rattle.dmn_ranges.proofs.SoundBoxes.{box_sound}
+use Rattle.dmn_ranges.proofs.SoundRules.{context_if}
+
+-- ---- a place that is written
+
+get-set_here : {A : Type 0} (xs : List A) (k : ℕ) (a : A) → k < length xs → slice_get (slice_set xs k a) k ≡ Some a
+get-set_here [] k a inside = absurd (omega (arith, inside))
+get-set_here (x ∷ xs) zero a inside = refl
+get-set_here (x ∷ xs) (suc k) a inside = get-set_here xs k a (omega (arith, inside))
+
+get-set_apart : {A : Type 0} (xs : List A) (k q : ℕ) (a : A) → k ≢ q → slice_get (slice_set xs k a) q ≡ slice_get xs q
+get-set_apart [] k q a apart = refl
+get-set_apart (x ∷ xs) zero zero a apart = absurd (apart refl)
+get-set_apart (x ∷ xs) zero (suc q) a apart = refl
+get-set_apart (x ∷ xs) (suc k) zero a apart = refl
+get-set_apart (x ∷ xs) (suc k) (suc q) a apart = get-set_apart xs k q a (λ e. apart (ap suc e))
+
+get-set : {A : Type 0} (xs : List A) (k q : ℕ) (a : A) → k < length xs → slice_get (slice_set xs k a) q ≡ cond (nat_eq k q) (Some a) (slice_get xs q)
+get-set {A} xs k q a inside = go (eqb_tells k q)
+  where
+    go : ((nat_eq k q ≡ true) × (k ≡ q)) ⊎ ((nat_eq k q ≡ false) × (k ≢ q)) → slice_get (slice_set xs k a) q ≡ cond (nat_eq k q) (Some a) (slice_get xs q)
+    go (inl e) = ap (slice_get (slice_set xs k a)) (sym e.1) ∙ get-set_here xs k a inside ∙ sym (ap (λ b. cond b (Some a) (slice_get xs q)) e.0)
+    go (inr e) = get-set_apart xs k q a e.1 ∙ sym (ap (λ b. cond b (Some a) (slice_get xs q)) e.0)
+
+kept_by : (b : Bool) (o : Outcomes) (p : Outcome) (w : Option Outcomes) (f : Option Datum) → covers o p ≡ true → covers (unwrap_or w not_found) (outcome_from Is f) ≡ true
+    → covers (unwrap_or (cond b (Some o) w) not_found) (outcome_from Is (cond b (value_of p) f)) ≡ true
+kept_by true o (Is d) w f h k = h
+kept_by true o Limit w f h k = h
+kept_by false o p w f h k = k
+
+pub keep_told : (told : List Outcomes) (found : Found) (k : ℕ) (o : Outcomes) (p : Outcome) → k < length told → TellsFound told found → covers o p ≡ true → TellsFound (slice_set told k o) (kept_at found k p)
+keep_told told found k o p inside tells h q =
+    let P : Option Outcomes → Type 0 = λ w. covers (unwrap_or w not_found) (outcome_from Is (kept_at found k p q)) ≡ true in
+    subst P (sym (get-set told k q o inside)) (kept_by (nat_eq k q) o p (slice_get told q) (found q) h (tells q))
+
+pub none_told : (told : List Outcomes) → ((q : ℕ) → told_at told q ≡ not_found) → TellsFound told nothing_found
+none_told told none q = ap (λ (o : Outcomes). covers o Limit) (none q)
+
+pub none_more : (told : List Outcomes) → ((q : ℕ) → told_at told q ≡ not_found) → (q : ℕ) → told_at (told ++ not_found ∷ []) q ≡ not_found
+none_more [] none zero = refl
+none_more [] none (suc q) = refl
+none_more (o ∷ told) none zero = none 0
+none_more (o ∷ told) none (suc q) = none_more told (λ p. none (suc p)) q
+
+-- ---- the needs of a decision
+
+first_some_assoc : (o p q : Option Datum) → first_some (first_some o p) q ≡ first_some o (first_some p q)
+first_some_assoc None p q = refl
+first_some_assoc (Some d) p q = refl
+
+here_by : (t : Bool) (r s : Range) (v : Datum) (o : Option Datum) → lies_in s v ≡ true → lies_in r (unwrap_or o null) ≡ true → lies_in (if t then s else r) (unwrap_or (first_some (if t then Some v else None) o) null) ≡ true
+here_by true r s v o h k = h
+here_by false r s v o h k = k
+
+-- the same behind a name that was told before
+abbrev FitsBehind : Scope → Bindings → Type 0
+FitsBehind xs m = (name : Name) (r : Range) (o : Option Datum) → lies_in r (unwrap_or o null) ≡ true → lies_in (named_or r xs name) (unwrap_or (first_some (bound name m) o) null) ≡ true
+
+one_behind : (n : Name) (s : Range) (v : Datum) (xs : Scope) (m : Bindings) → lies_in s v ≡ true → FitsBehind xs m → FitsBehind ((n, s) ∷ xs) ((n, v) ∷ m)
+one_behind n s v xs m h fits name r o k =
+    let P : Option Datum → Type 0 = λ p. lies_in (named_or (if bytes_eq name n then s else r) xs name) (unwrap_or p null) ≡ true in
+    subst P (sym (first_some_assoc (bound name m) (if bytes_eq name n then Some v else None) o))
+    (fits name (if bytes_eq name n then s else r) (first_some (if bytes_eq name n then Some v else None) o) (here_by (bytes_eq name n) r s v o h k))
+
+first_some_none : (o : Option Datum) → first_some o None ≡ o
+first_some_none None = refl
+first_some_none (Some d) = refl
+
+fits_alone : (xs : Scope) (m : Bindings) → FitsBehind xs m → Fits xs m
+fits_alone xs m fits name =
+    let P : Option Datum → Type 0 = λ p. lies_in (range_named xs name) (unwrap_or p null) ≡ true in
+    subst P (first_some_none (bound name m)) (fits name null_alone None refl)
+
+abbrev NeedsTold : Bool → Scope → Option Bindings → Type 0
+NeedsTold l xs None = l ≡ true
+NeedsTold l xs (Some m) = FitsBehind xs m
+
+need_more : (n : Name) (o : Outcomes) (l : Bool) (xs : Scope) (f : Option Datum) (rest : Option Bindings) → covers o (outcome_from Is f) ≡ true → NeedsTold l xs rest
+    → NeedsTold (o.limit || l) ((n, o.range) ∷ xs) ((f >>= λ v. Some (n, v)) >>= λ y. rest >>= λ ys. Some (y ∷ ys))
+need_more n o l xs None rest h k = or_left o.limit l h
+need_more n o l xs (Some v) None h k = or_right o.limit l k
+need_more n o l xs (Some v) (Some m) h k = one_behind n o.range v xs m h k
+
+needs_told : (name : ℕ → Name) (told : List Outcomes) (found : Found) (qs : List ℕ) → TellsFound told found → NeedsTold (needs_limit told qs) (needs_scope name told qs) (needed_at name found qs)
+needs_told name told found [] tells = λ n r o h. h
+needs_told name told found (q ∷ qs) tells = need_more (name q) (told_at told q) (needs_limit told qs) (needs_scope name told qs) (found q) (needed_at name found qs) (tells q) (needs_told name told found qs tells)
+
+decision_by : (l : Bool) (xs : Scope) (b : Boxed Expr Table) (m : Option Bindings) → NeedsTold l xs m → covers (limited l (box_outcomes xs b)) (outcome_from (boxed b) m) ≡ true
+decision_by l xs b None told = or_left l (box_outcomes xs b).limit told
+decision_by l xs b (Some m) told = limited_covers l (box_outcomes xs b) (boxed b m) (box_sound b xs m (fits_alone xs m told))
+
+pub decision_told : (name : ℕ → Name) (told : List Outcomes) (found : Found) (qs : List ℕ) (b : Boxed Expr Table) → TellsFound told found
+    → covers (limited (needs_limit told qs) (box_outcomes (needs_scope name told qs) b)) (outcome_at name found qs (Some b)) ≡ true
+decision_told name told found qs b tells = decision_by (needs_limit told qs) (needs_scope name told qs) b (needed_at name found qs) (needs_told name told found qs tells)
+
+place_by : (name : ℕ → Name) (told : List Outcomes) (found : Found) (qs : List ℕ) (l : Option (Boxed Expr Table)) → TellsFound told found → covers (place_outcomes name told qs l) (outcome_at name found qs l) ≡ true
+place_by name told found qs None tells = refl
+place_by name told found qs (Some b) tells = decision_told name told found qs b tells
+
+-- ---- the places along
+
+pub length_set : {A : Type 0} (xs : List A) (k : ℕ) (a : A) → length (slice_set xs k a) ≡ length xs
+length_set [] k a = refl
+length_set (x ∷ xs) zero a = refl
+length_set (x ∷ xs) (suc k) a = ap suc (length_set xs k a)
+
+pub first_inside : (n q : ℕ) (qs : List ℕ) → All (λ p. p < n) (q ∷ qs) → q < n
+first_inside n q qs all = all 0 0 (omega arith)
+
+pub others_inside : (n q : ℕ) (qs : List ℕ) → All (λ p. p < n) (q ∷ qs) → All (λ p. p < n) qs
+others_inside n q qs all = λ i d h. all (suc i) d (omega (arith, h))
+
+next_drop : (xs : List Range) (i : ℕ) (r : Range) (rs : List Range) → drop i xs ≡ r ∷ rs → (slice_get xs i ≡ Some r) × (drop (suc i) xs ≡ rs)
+next_drop [] zero r rs e = cc
+next_drop [] (suc i) r rs e = cc
+next_drop (x ∷ xs) zero r rs e = ((cc), (cc))
+next_drop (x ∷ xs) (suc i) r rs e = next_drop xs i r rs e
+
+given_sound : (n : ℕ) (domains : List Range) (i : ℕ) (rs : List Range) (qs : List ℕ) (vs : List Datum) (told : List Outcomes) (found : Found) → drop i domains ≡ rs → AreWithin rs vs → All (λ p. p < n) qs → n ≡ length told → length qs ≡ length vs
+    → TellsFound told found → TellsFound (given_told domains i qs told) (given_at qs vs found)
+given_sound n domains i rs [] vs told found at within all count same tells = tells
+given_sound n domains i rs (q ∷ qs) [] told found at within all count same tells = absurd (omega (arith, same))
+given_sound n domains i [] (q ∷ qs) (v ∷ vs) told found at within all count same tells = absurd within
+given_sound n domains i (r ∷ rs) (q ∷ qs) (v ∷ vs) told found at within all count same tells =
+    let here = next_drop domains i r rs at in
+    let P : Option Range → Type 0 = λ o. covers (given_if o) (Is v) ≡ true in
+    given_sound n domains (suc i) rs qs vs (slice_set told q (domain_at domains i)) (kept_at found q (Is v)) here.1 within.1 (others_inside n q qs all) (count ∙ sym (length_set told q (domain_at domains i))) (omega (arith, same))
+    (keep_told told found q (domain_at domains i) (Is v) (omega (arith, count, first_inside n q qs all)) tells (subst P (sym here.0) within.0))
+
+filled_sound : (items : List Item) (qs : List ℕ) (told : List Outcomes) (found : Found) → All (λ p. p < length items) qs → length told ≡ length items → TellsFound told found → TellsFound (filled_told items qs told) (filled_by items qs found)
+filled_sound items [] told found all count tells = tells
+filled_sound items (q ∷ qs) told found all count tells =
+    let o : Outcomes = place_outcomes (name_at items) told (needs_at items q) (logic_at items q) in
+    let p : Outcome = outcome_at (name_at items) found (needs_at items q) (logic_at items q) in
+    filled_sound items qs (slice_set told q o) (kept_at found q p) (others_inside (length items) q qs all) (length_set told q o ∙ count)
+    (keep_told told found q o p (omega (arith, count, first_inside (length items) q qs all)) tells (place_by (name_at items) told found (needs_at items q) (logic_at items q) tells))
+
+pub within_length : (rs : List Range) (vs : List Datum) → AreWithin rs vs → length rs ≡ length vs
+within_length [] [] h = refl
+within_length [] (v ∷ vs) h = absurd h
+within_length (r ∷ rs) [] h = absurd h
+within_length (r ∷ rs) (v ∷ vs) h = ap suc (within_length rs vs h.1)
+
+pub along_sound : (items : List Item) (ps order : List ℕ) (domains : List Range) (start : List Outcomes) (vs : List Datum) → ((q : ℕ) → told_at start q ≡ not_found) → length start ≡ length items → All (λ p. p < length items) ps → All (λ p. p < length items) order
+    → length domains ≡ length ps → AreWithin domains vs → length (given_told domains 0 ps start) ≡ length start → TellsFound (filled_told items order (given_told domains 0 ps start)) (filled_by items order (given_at ps vs nothing_found))
+along_sound items ps order domains start vs none count inside ordered same within kept =
+    filled_sound items order (given_told domains 0 ps start) (given_at ps vs nothing_found) ordered (kept ∙ count)
+    (given_sound (length items) domains 0 domains ps vs start nothing_found refl within inside (sym count) (sym same ∙ within_length domains vs within) (none_told start none))
+
+pub length_filled : (items : List Item) (qs : List ℕ) (told : List Outcomes) → length (filled_told items qs told) ≡ length told
+length_filled items [] told = refl
+length_filled items (q ∷ qs) told =
+    let o : Outcomes = place_outcomes (name_at items) told (needs_at items q) (logic_at items q) in
+    length_filled items qs (slice_set told q o) ∙ length_set told q o
+
+-- ---- the outputs
+
+one_output : (n : Name) (o : Outcomes) (f : Option Datum) → covers o (outcome_from Is f) ≡ true → covers o (outcome_from (one_or_context (n ∷ [])) (f >>= λ y. Some (y ∷ []))) ≡ true
+one_output n o None h = h
+one_output n o (Some d) h = h
+
+many_outputs : (n k : Name) (ns : List Name) (vs : Option (List Datum)) → covers some_context (outcome_from (one_or_context (n ∷ k ∷ ns)) vs) ≡ true
+many_outputs n k ns None = refl
+many_outputs n k ns (Some vs) = let es : Entries = entries_of (zip (n ∷ k ∷ ns) vs) in context_if es (is_value (context es))
+
+pub outputs_told : (name : ℕ → Name) (told : List Outcomes) (found : Found) (qs : List ℕ) → TellsFound told found → covers (outputs_outcomes told qs) (outputs_at name found qs) ≡ true
+outputs_told name told found [] tells = refl
+outputs_told name told found (q ∷ []) tells = one_output (name q) (told_at told q) (found q) (tells q)
+outputs_told name told found (q ∷ p ∷ qs) tells = many_outputs (name q) (name p) (map name qs) (each found (q ∷ p ∷ qs))
+
+-- ---- the code's loops
+
+pub need_turn : (name : ℕ → Name) (told : List Outcomes) (whole : Scope) (old next : List NamedRange) (qs : List ℕ) (i : ℕ) → whole ≡ scope old ++ needs_scope name told (drop i qs) → i < length qs
+    → scope next ≡ scope old ++ (name (get_or qs i 0), (told_at told (get_or qs i 0)).range) ∷ [] → whole ≡ scope next ++ needs_scope name told (drop (i + 1) qs)
+need_turn name told whole old next qs i so_far more bound =
+    so_far ∙ at_drop_more (λ ps. scope old ++ needs_scope name told ps) qs i 0 more
+    ∙ sym (append_assoc (scope old) ((name (get_or qs i 0), (told_at told (get_or qs i 0)).range) ∷ []) (needs_scope name told (drop (i + 1) qs)))
+    ∙ ap (λ zs. zs ++ needs_scope name told (drop (i + 1) qs)) (sym bound)
+
+or_behind : (a b c : Bool) → (a || (b || c)) ≡ ((a || b) || c)
+or_behind true b c = refl
+or_behind false b c = refl
+
+pub limit_needed : (told : List Outcomes) (whole l k : Bool) (qs : List ℕ) (i : ℕ) → whole ≡ (l || needs_limit told (drop i qs)) → i < length qs → k ≡ (l || (told_at told (get_or qs i 0)).limit) → whole ≡ (k || needs_limit told (drop (i + 1) qs))
+limit_needed told whole l k qs i so_far more joined =
+    so_far ∙ at_drop_more (λ ps. l || needs_limit told ps) qs i 0 more
+    ∙ or_behind l (told_at told (get_or qs i 0)).limit (needs_limit told (drop (i + 1) qs))
+    ∙ ap (λ b. b || needs_limit told (drop (i + 1) qs)) (sym joined)
+
+pub give_turn : (domains : List Range) (whole old next : List Outcomes) (qs : List ℕ) (i : ℕ) (o : Outcomes) → whole ≡ given_told domains i (drop i qs) old → i < length qs → o ≡ domain_at domains i → next ≡ slice_set old (get_or qs i 0) o
+    → whole ≡ given_told domains (i + 1) (drop (i + 1) qs) next
+give_turn domains whole old next qs i o so_far more told kept =
+    so_far ∙ at_drop_more (λ ps. given_told domains i ps old) qs i 0 more
+    ∙ ap (λ (p : Outcomes). given_told domains (suc i) (drop (i + 1) qs) (slice_set old (get_or qs i 0) p)) (sym told)
+    ∙ ap (λ ts. given_told domains (suc i) (drop (i + 1) qs) ts) (sym kept)
+    ∙ ap (λ (n : ℕ). given_told domains n (drop (i + 1) qs) next) (sym (add-one i))
+
+place_here : (items : List Item) (q : ℕ) (x : Item) (told : List Outcomes) → q < length items → x ≡ get_or items q x
+    → place_outcomes (name_at items) told (needs_at items q) (logic_at items q) ≡ place_outcomes (name_at items) told x.needs.items (option_map logic_view x.logic)
+place_here items q x told inside here =
+    let needs : needs_at items q ≡ x.needs.items = get_or-map (λ (y : Item). y.needs.items) items q x _ inside ∙ ap (λ (y : Item). y.needs.items) (sym here) in
+    let logic : logic_at items q ≡ option_map logic_view x.logic = get_or-map (λ (y : Item). option_map logic_view y.logic) items q x None inside ∙ ap (λ (y : Item). option_map logic_view y.logic) (sym here) in
+    ap (λ qs. place_outcomes (name_at items) told qs (logic_at items q)) needs ∙ ap (place_outcomes (name_at items) told x.needs.items) logic
+
+pub fill_turn : (items : List Item) (whole old next : List Outcomes) (order : List ℕ) (i : ℕ) (x : Item) (o : Outcomes) → whole ≡ filled_told items (drop i order) old → i < length order → get_or order i 0 < length items → x ≡ get_or items (get_or order i 0) x
+    → o ≡ place_outcomes (name_at items) old x.needs.items (option_map logic_view x.logic) → next ≡ slice_set old (get_or order i 0) o → whole ≡ filled_told items (drop (i + 1) order) next
+fill_turn items whole old next order i x o so_far more inside here told kept =
+    so_far ∙ at_drop_more (λ ps. filled_told items ps old) order i 0 more
+    ∙ ap (λ (p : Outcomes). filled_told items (drop (i + 1) order) (slice_set old (get_or order i 0) p)) (place_here items (get_or order i 0) x old inside here ∙ sym told)
+    ∙ ap (filled_told items (drop (i + 1) order)) (sym kept)

@@ -1,0 +1,211 @@
+//! What the decisions of a service can give, and the service itself, for inputs within their domains.
+ghost use Rattle.std.specs.Prelude.{◌≡◌, ◌<◌, ℕ, IfOk, OnOk, List, length, true, option_map, slice_set};
+ghost use Rattle.std.specs.List.{All, zip};
+ghost use Rattle.feel_text.specs.Expr.{Expr as ExprData};
+ghost use Rattle.feel_value.specs.Datum.{Datum};
+ghost use Rattle.dmn_form.specs.Model.{Model, Service};
+ghost use Rattle.dmn_logic.specs.LogicView.{logic_view};
+ghost use Rattle.dmn_service.specs.Decision.{parameters_of, service_result};
+ghost use Rattle.dmn_service.specs.Places.{name_at};
+ghost use Rattle.dmn_service.specs.Plan.{HasPlacesWithin, IsPlanOf};
+ghost use Rattle.dmn_service.specs.Run.{nothing_found, filled_by, given_at};
+ghost use Rattle.dmn_table.specs.Table.{Table as TableData};
+ghost use Rattle.dmn_ranges.specs.Ranges.{AreWithin, covers, scope};
+ghost use Rattle.dmn_ranges.specs.Decisions.{AreRangesOf};
+ghost use Rattle.dmn_ranges.specs.Services.{TellsFound, told_at as told_at_of, not_found as nothing_told, needs_scope, needs_limit, outputs_outcomes as outputs_outcomes_of, domain_at as domain_at_of, given_told, filled_told, place_outcomes};
+
+use crate::boxed::{Bound, box_outcomes};
+use crate::outcomes::Outcomes;
+use crate::range::{NamedRange, Range, either};
+use crate::rule::some_context;
+use dmn_service::{Item, ServicePlan};
+use std::alloc::{AllocError, Global};
+
+/// What a decision service can give, where the values of its parameters lie in these domains.
+///
+/// For every request with such values the result lies in the range that is answered; and where a limit is broken, the answer says
+/// that it can be.
+pub fn range_of_service(
+    alloc: Global,
+    items: &[Item],
+    service: &ServicePlan,
+    domains: &[Range],
+) -> Result<Outcomes, AllocError>
+    requires places { HasPlacesWithin items.now service.now }
+    requires domains { length domains.now ≡ length service.now.parameters.items }
+    ensures { IfOk result (λ o. (m : Model ExprData TableData) (s : Service) (values : List Datum) → IsPlanOf m s items.now service.now → AreWithin domains.now values → covers o (service_result m s (zip (parameters_of s) values)) ≡ true) }
+{
+    let told = ranges_along(alloc, items, service, domains)?;
+    Ok(outputs_outcomes(&service.outputs, &told))
+}
+
+/// What the decisions of a service can give, each at its place, where the values of its parameters lie in these domains.
+///
+/// For every request with such values the outcome of each decision that the service needs is among what is answered at its place;
+/// of other places nothing is said.
+pub fn ranges_of_decisions(
+    alloc: Global,
+    items: &[Item],
+    service: &ServicePlan,
+    domains: &[Range],
+) -> Result<Vec<Outcomes>, AllocError>
+    requires places { HasPlacesWithin items.now service.now }
+    requires domains { length domains.now ≡ length service.now.parameters.items }
+    ensures { IfOk result (λ told. AreRangesOf items.now service.now domains.now told.items) }
+{
+    let told = ranges_along(alloc, items, service, domains)?;
+    Ok(told)
+}
+
+/// What the parameters and the decisions of a service can give, each at its place, where the values of its parameters lie in these
+/// domains.
+pub(crate) fn ranges_along(
+    alloc: Global,
+    items: &[Item],
+    service: &ServicePlan,
+    domains: &[Range],
+) -> Result<Vec<Outcomes>, AllocError>
+    requires places { HasPlacesWithin items.now service.now }
+    requires domains { length domains.now ≡ length service.now.parameters.items }
+    ensures told { IfOk result (λ told. (values : List Datum) → AreWithin domains.now values → TellsFound told.items (filled_by items.now service.now.order.items (given_at service.now.parameters.items values nothing_found))) }
+    ensures count { IfOk result (λ told. length told.items ≡ length items.now) }
+{
+    let mut told = nothing(alloc, items.len())?;
+    give(&service.parameters, domains, &mut told);
+    fill(alloc, items, &service.order, &mut told)?;
+    Ok(told)
+}
+
+fn not_found() -> Outcomes
+    ensures { result ≡ nothing_told }
+{
+    Outcomes {
+        range: Range::nothing(),
+        limit: true,
+    }
+}
+
+// Nothing told of so many places.
+fn nothing(alloc: Global, places: usize) -> Result<Vec<Outcomes>, AllocError>
+    ensures count { IfOk result (λ told. length told.items ≡ places) }
+    ensures nothing { IfOk result (λ told. (q : ℕ) → told_at_of told.items q ≡ nothing_told) }
+{
+    let mut told = Vec::with_capacity(alloc, places)?;
+    for _ in 0..places {
+        told.push(not_found())?;
+    }
+    Ok(told)
+}
+
+// Tells this of a place.
+fn keep(told: &mut Vec<Outcomes>, place: usize, outcomes: Outcomes)
+    requires { place < length told.old.items }
+    ensures kept { told.new.items ≡ slice_set told.old.items place outcomes }
+    ensures count { length told.new.items ≡ length told.old.items }
+{
+    told[place] = outcomes;
+}
+
+// The domain of a parameter.
+fn domain_at(domains: &[Range], place: usize) -> Outcomes
+    ensures { result ≡ domain_at_of domains.now place }
+{
+    match domains.get(place) {
+        Some(domain) => Outcomes::given(*domain),
+        None => not_found(),
+    }
+}
+
+// Tells of each parameter its domain.
+fn give(parameters: &[usize], domains: &[Range], told: &mut Vec<Outcomes>)
+    requires { All (λ q. q < length told.old.items) parameters.now }
+    ensures given { told.new.items ≡ given_told domains.now 0 parameters.now told.old.items }
+    ensures count { length told.new.items ≡ length told.old.items }
+{
+    for (i, place) in parameters.iter().enumerate() {
+        keep(told, *place, domain_at(domains, i));
+    }
+}
+
+// Tells of the items at these places, one after another, each from what was told before it.
+fn fill(
+    alloc: Global,
+    items: &[Item],
+    order: &[usize],
+    told: &mut Vec<Outcomes>,
+) -> Result<(), AllocError>
+    requires order { All (λ q. q < length items.now) order.now }
+    requires needs { All (λ x. All (λ q. q < length items.now) x.needs.items) items.now }
+    requires count { length told.old.items ≡ length items.now }
+    ensures { OnOk result (told.new.items ≡ filled_told items.now order.now told.old.items) }
+{
+    for place in order {
+        let outcomes = item_outcomes(alloc, items, &items[*place], told)?;
+        keep(told, *place, outcomes);
+    }
+    Ok(())
+}
+
+// What is told of a place.
+fn told_at(told: &[Outcomes], place: usize) -> Outcomes
+    ensures { result ≡ told_at_of told.now place }
+{
+    match told.get(place) {
+        Some(outcomes) => *outcomes,
+        None => not_found(),
+    }
+}
+
+// The names that are needed, with what was told of their places; and whether a limit can be broken at one of them.
+fn needed(
+    alloc: Global,
+    items: &[Item],
+    needs: &[usize],
+    told: &[Outcomes],
+) -> Result<Bound, AllocError>
+    requires { All (λ q. q < length items.now) needs.now }
+    ensures names { IfOk result (λ b. scope b.names.items ≡ needs_scope (name_at items.now) told.now needs.now) }
+    ensures limit { IfOk result (λ b. b.limit ≡ needs_limit told.now needs.now) }
+{
+    let mut names = Vec::with_capacity(alloc, needs.len())?;
+    let mut limit = false;
+    for place in needs {
+        let outcomes = told_at(told, *place);
+        limit = either(limit, outcomes.limit);
+        let name = items[*place].name.clone()?;
+        let range = outcomes.range;
+        names.push(NamedRange { name, range })?;
+    }
+    Ok(Bound { names, limit })
+}
+
+// What a decision's logic can give, from what was told of its needs; null for an input.
+fn item_outcomes(
+    alloc: Global,
+    items: &[Item],
+    item: &Item,
+    told: &[Outcomes],
+) -> Result<Outcomes, AllocError>
+    requires { All (λ q. q < length items.now) item.now.needs.items }
+    ensures { IfOk result (λ o. o ≡ place_outcomes (name_at items.now) told.now item.now.needs.items (option_map logic_view item.now.logic)) }
+{
+    let Some(logic) = &item.logic else {
+        return Ok(Outcomes::given(Range::null()));
+    };
+    let bound = needed(alloc, items, &item.needs, told)?;
+    let outcomes = box_outcomes(alloc, logic, &bound.names)?;
+    Ok(outcomes.limited(bound.limit))
+}
+
+// The value of the one output, or the context of all.
+fn outputs_outcomes(outputs: &[usize], told: &[Outcomes]) -> Outcomes
+    ensures { result ≡ outputs_outcomes_of told.now outputs.now }
+{
+    let Some((first, others)) = outputs.split_first() else {
+        return some_context();
+    };
+    match others.split_first() {
+        Some(_) => some_context(),
+        None => told_at(told, *first),
+    }
+}

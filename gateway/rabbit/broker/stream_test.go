@@ -1,0 +1,34 @@
+package broker
+
+import (
+	"sync/atomic"
+	"testing"
+
+	"gateway/rabbit/brokertest"
+	"gateway/rabbit/bus"
+)
+
+// The end of a stream is asked for without a reader, but for the first message's place: that is looked up once, and again where
+// there are fewer messages than before.
+func TestTheEndIsAskedForWithOneReader(t *testing.T) {
+	b := brokertest.Start(t)
+	b.Full = func(string) bool { return true }
+	length := uint32(7)
+	b.Length = func(string) uint32 { return atomic.LoadUint32(&length) }
+	link, settings := linked(t, b, 1)
+	end, err := link.End(settings.Queue(bus.Lines, 0))
+	if err != nil {
+		t.Fatal(err)
+	}
+	for at, messages := range []uint32{7, 5} {
+		atomic.StoreUint32(&length, messages)
+		for range make([]int, 20) {
+			if offset, err := end.Offset(); err != nil || offset != brokertest.FirstOffset+int64(messages)-1 {
+				t.Fatalf("of %d messages the last is at %d: %v", messages, offset, err)
+			}
+		}
+		if readers := len(b.Consumed()); readers != at+1 {
+			t.Errorf("%d readers", readers)
+		}
+	}
+}

@@ -1,0 +1,81 @@
+package tell
+
+import (
+	"fmt"
+	"strings"
+	"unicode"
+
+	"gateway/lines"
+)
+
+const hiddenLetter = "hidden letter"
+
+// A hiddenText is a text of the model with letters that turn the direction of what is seen, or that are not seen themselves.
+type hiddenText struct {
+	place   Place
+	letters []rune
+}
+
+// hiddenLetters tells the texts that show people something else than they are. Ends of lines and tabulators are seen.
+func (r *report) hiddenLetters() {
+	s := hiddenTexts{doc: r.file.doc}
+	s.look(r.file.root)
+	for _, it := range s.found {
+		names := make([]string, len(it.letters))
+		for at, letter := range it.letters {
+			names[at] = fmt.Sprintf("U+%04X", letter)
+		}
+		r.warning(hiddenLetter, it.place, r.file.position(it.place), "it has "+strings.Join(names, ", ")+", which isn't seen")
+	}
+	r.moreWarnings(hiddenLetter, s.count-len(s.found))
+}
+
+// A hiddenTexts is a search for such texts.
+type hiddenTexts struct {
+	doc   *lines.Document
+	place Place
+	found []hiddenText
+	count int
+}
+
+// look looks at a value, and at its parts in their order.
+func (s *hiddenTexts) look(part lines.Node) {
+	switch s.doc.Kind(part) {
+	case '"':
+		text, _ := s.doc.Text(part)
+		letters := hiddenIn(text)
+		if len(letters) == 0 {
+			return
+		}
+		s.count++
+		if len(s.found) < mostPlaces {
+			s.found = append(s.found, hiddenText{s.place.with(), letters})
+		}
+	case '[':
+		for at, item := range s.doc.Items(part) {
+			s.within(index(at), item)
+		}
+	case '{':
+		for _, member := range s.doc.InOrder(part) {
+			s.within(key(member.Key), member.Value)
+		}
+	}
+}
+
+func (s *hiddenTexts) within(step Step, part lines.Node) {
+	s.place = append(s.place, step)
+	s.look(part)
+	s.place = s.place[:len(s.place)-1]
+}
+
+// hiddenIn are the hidden letters of a text, each once, in the order in which they come.
+func hiddenIn(text string) []rune {
+	var letters []rune
+	for _, letter := range text {
+		isSeen := letter >= ' ' && letter < 0x7f || strings.ContainsRune("\t\n\r", letter)
+		if !isSeen && unicode.Is(hidden, letter) && !strings.ContainsRune(string(letters), letter) {
+			letters = append(letters, letter)
+		}
+	}
+	return letters
+}
