@@ -22,6 +22,9 @@ class Rows:
     """The rows of a script, the programs that they test, and how many passed and failed."""
 
     def __init__(self, words: list[str]) -> None:
+        if "--help" in words:
+            print(sys.modules["__main__"].__doc__)
+            sys.exit(0)
         plain = [it for it in words if not it.startswith("--")]
         self.options = [it for it in words if it.startswith("--")]
         engine, gateway, self.wanted = [*plain, "", "", ""][:3]

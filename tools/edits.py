@@ -39,6 +39,12 @@ class Function:
         """The folder of what is written of its proof."""
         return f"proofs/{self.name.replace('::', '/')}/"
 
+    def is_answered(self, file: str, said: str) -> bool:
+        """Whether this is said of its proof. What is written of functions that call each other lies in a folder of theirs, with `+`."""
+        module, _, own = self.name.rpartition("::")
+        in_cycle = file.startswith(f"proofs/{module.replace('::', '/')}/+") and f"`{own}-" in said
+        return in_cycle or file.startswith(self.proofs)
+
 
 @dataclass
 class Edit:

@@ -62,12 +62,12 @@ def verdict_on(crate: str, edit: Edit, said: str) -> str:
 
 def own_refusals(edit: Edit, lines: list[str]) -> list[str]:
     """What a check refuses of the functions that the edit changes."""
-    return [f"{file}:{line}:{text}" for file, line, text in refusals(lines) if is_of(edit, file, line)]
+    return [f"{file}:{line}:{text}" for file, line, text in refusals(lines) if is_of(edit, file, line, text)]
 
 
-def is_of(edit: Edit, file: str, line: int) -> bool:
+def is_of(edit: Edit, file: str, line: int, said: str) -> bool:
     """Whether something that is refused there is refused of a function that the edit changes."""
     if not edit.functions:
         return True
     is_inside = any(file == it.file and it.head <= line <= it.last for it in edit.functions)
-    return is_inside or any(file.startswith(it.proofs) for it in edit.functions)
+    return is_inside or any(it.is_answered(file, said) for it in edit.functions)

@@ -7,14 +7,37 @@ import "strings"
 type Scope struct {
 	parent *Scope
 	first  branch
+	// count is how many names were put into it, starts has the marks of their first tokens.
+	count  int
+	starts uint64
 }
+
+// mark is one of 64 bits for a token.
+func mark(token string) uint64 {
+	sum := uint(len(token))
+	for i := 0; i < len(token) && i < 8; i++ {
+		sum = 31*sum + uint(token[i])
+	}
+	return 1 << (sum % 64)
+}
+
+// mostTried is how many branches are looked through one by one; of more the table is asked.
+const mostTried = 4
 
 // branch is the names of a scope by their first token, then by the next.
 type branch struct {
+	// few are the first branches by their tokens, next has the others.
+	few  []fork
 	next map[string]*branch
 	// ends tells that a name ends here, and spelled how it was written where it was declared.
 	ends    bool
 	spelled string
+}
+
+// A fork is a token with the branch behind it.
+type fork struct {
+	token string
+	to    *branch
 }
 
 // NewScope is a scope inside another one, which may be nil.
@@ -34,16 +57,41 @@ func (s *Scope) Add(name string) {
 	}
 	at := &s.first
 	for _, t := range all {
-		spelled := name[t.start:t.end]
-		if at.next == nil {
-			at.next = map[string]*branch{}
-		}
-		if at.next[spelled] == nil {
-			at.next[spelled] = &branch{}
-		}
-		at = at.next[spelled]
+		at = at.grown(name[t.start:t.end])
 	}
 	at.ends, at.spelled = true, strings.Join(strings.Fields(name), " ")
+	s.count++
+	s.starts |= mark(name[all[0].start:all[0].end])
+}
+
+// behind is the branch behind a token; nil where there is none.
+func (b *branch) behind(token string) *branch {
+	for i := range b.few {
+		if b.few[i].token == token {
+			return b.few[i].to
+		}
+	}
+	if b.next == nil {
+		return nil
+	}
+	return b.next[token]
+}
+
+// grown is the branch behind a token, which is made where there is none.
+func (b *branch) grown(token string) *branch {
+	if found := b.behind(token); found != nil {
+		return found
+	}
+	made := &branch{}
+	if len(b.few) < mostTried {
+		b.few = append(b.few, fork{token, made})
+		return made
+	}
+	if b.next == nil {
+		b.next = map[string]*branch{}
+	}
+	b.next[token] = made
+	return made
 }
 
 // Canonical is the name as FEEL compares it: its tokens with one blank between them. Two names of one canonical form
@@ -76,10 +124,17 @@ func nameTokens(name string) []token {
 // where there is none.
 func (s *Scope) longest(source string, all []token) (int, string) {
 	best, spelled := 0, ""
+	if len(all) == 0 {
+		return best, spelled
+	}
+	first := mark(source[all[0].start:all[0].end])
 	for ; s != nil; s = s.parent {
+		if s.starts&first == 0 {
+			continue
+		}
 		at := &s.first
 		for i, t := range all {
-			at = at.next[source[t.start:t.end]]
+			at = at.behind(source[t.start:t.end])
 			if at == nil {
 				break
 			}

@@ -27,7 +27,7 @@ func (p *parser) loose() Node {
 
 // startsName tells whether a name in scope of more than one word begins here, which goes before a keyword.
 func (p *parser) startsName() bool {
-	taken, _ := p.scope.longest(p.source, p.all[p.at:])
+	taken, _ := p.longest()
 	return taken > 1
 }
 

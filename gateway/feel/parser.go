@@ -23,6 +23,28 @@ type parser struct {
 	ranges map[int32]bool
 	// inEnd tells that the end of a range is read, where "[" may close it.
 	inEnd bool
+	// found is the longest name at the place that was asked last.
+	found foundName
+}
+
+// A foundName is the longest name in a scope, of so many names, at a token: how many tokens it takes, and how it was declared.
+type foundName struct {
+	scope     *Scope
+	count, at int
+	taken     int
+	declared  string
+}
+
+// longest finds the longest name in scope at the token at hand. The same place is asked several times.
+func (p *parser) longest() (int, string) {
+	if p.scope == nil {
+		return 0, ""
+	}
+	if f := &p.found; f.scope != p.scope || f.at != p.at || f.count != p.scope.count {
+		taken, declared := p.scope.longest(p.source, p.all[p.at:])
+		p.found = foundName{p.scope, p.scope.count, p.at, taken, declared}
+	}
+	return p.found.taken, p.found.declared
 }
 
 // Expression reads a text as an expression over the names in scope.

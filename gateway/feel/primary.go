@@ -169,7 +169,7 @@ func (p *parser) isOne(spellings []string) bool {
 func (p *parser) worded() Node {
 	start := p.at
 	spelled := p.spell(p.current())
-	taken, _ := p.scope.longest(p.source, p.all[p.at:])
+	taken, _ := p.longest()
 	if taken <= 1 {
 		switch spelled {
 		case "true", "false":
@@ -193,7 +193,7 @@ func (p *parser) worded() Node {
 // name reads the longest name in scope, else the name of a function, else words that are no name in scope.
 func (p *parser) name() Node {
 	start := p.at
-	taken, declared := p.scope.longest(p.source, p.all[p.at:])
+	taken, declared := p.longest()
 	function, _ := builtins.longest(p.source, p.all[p.at:])
 	if function > taken && p.peekIs(function, "(") {
 		p.at += function
@@ -227,7 +227,7 @@ func (p *parser) unknownName() Node {
 
 // startsKnown tells whether a name in scope begins here.
 func (p *parser) startsKnown() bool {
-	taken, _ := p.scope.longest(p.source, p.all[p.at:])
+	taken, _ := p.longest()
 	return taken > 0
 }
 

@@ -304,6 +304,12 @@ func (t *valueType) hasAllowed() bool {
 	return false
 }
 
+// An implied is whether all values of a type are allowed by another one, when there were so many changes of open types.
+type implied struct {
+	all     bool
+	changes int
+}
+
 // implies tells whether all values of a type, which fits a declared one, are allowed by it.
 func implies(of, due *valueType) bool {
 	switch {
@@ -316,8 +322,8 @@ func implies(of, due *valueType) bool {
 	case due.kind != contextKind:
 		return true
 	}
-	if known, found := due.implying[of]; found && !of.open {
-		return known
+	if known, is := due.implying[of]; is && (!of.open || known.changes == of.changes.now()) {
+		return known.all
 	}
 	all := of.kind == contextKind
 	for _, name := range due.order {
@@ -325,9 +331,9 @@ func implies(of, due *valueType) bool {
 		all = all && own != nil && implies(own, due.fields[name])
 	}
 	if due.implying == nil {
-		due.implying = map[*valueType]bool{}
+		due.implying = map[*valueType]implied{}
 	}
-	due.implying[of] = all
+	due.implying[of] = implied{all, of.changes.now()}
 	return all
 }
 

@@ -55,12 +55,13 @@ type assembler struct {
 	counts bool
 	// schemas are those of the types of places, which share them.
 	schemas map[*valueType]json.RawMessage
+	kept    *kept
 }
 
 // assembled is the result of a graph that was translated without a refusal.
 func assembled(g *graph, services []service, counts bool) *Result {
 	a := &assembler{words: g.words, tick: g.offsets.tick, homes: g.refusals.homes, places: map[string]Place{}, origins: map[string]Origin{},
-		counts: counts, schemas: map[*valueType]json.RawMessage{}}
+		counts: counts, schemas: map[*valueType]json.RawMessage{}, kept: newKept()}
 	if len(g.sources) > 0 {
 		a.origin("", g.sources[0].file.Root)
 	}
@@ -144,7 +145,7 @@ func (a *assembler) counted(pointer string, value phrase) {
 	switch {
 	case value.over != nil:
 		place.Over, place.Decimals = value.over.text, value.of.units.scale
-	case value.of.isCounted() || value.of.hasTemporal():
+	case a.kept.isCounted(value.of) || value.of.hasTemporal():
 		place.Type = a.schema(value.of)
 	default:
 		return
@@ -187,7 +188,7 @@ func (a *assembler) context(b *box, pointer string) model.Expression {
 	for i, entry := range b.entries {
 		at := fmt.Sprintf("%s/context/%d", pointer, i)
 		a.place(at, entry.origin)
-		if entry.of != nil && (entry.of.isCounted() || entry.of.hasTemporal()) {
+		if entry.of != nil && (a.kept.isCounted(entry.of) || entry.of.hasTemporal()) {
 			a.counted(at, phrase{of: entry.of})
 		}
 		made.Entries[i] = model.Entry{Name: entry.word, Expr: a.box(entry.value, at+"/expr")}

@@ -62,7 +62,7 @@ func (c *cells) of(of *valueType, name string) *valueType {
 	case numberKind, anyKind:
 		own.units = c.unitsOf(&own, name)
 	case listKind:
-		own.element = c.of(of.element, name)
+		own.element, own.deepest = c.of(of.element, name), nil
 	case contextKind:
 		own.fields, own.order = map[string]*valueType{}, nil
 		for _, field := range of.order {

@@ -156,6 +156,9 @@ func (r *tableReader) hitTable(rules []int) *box {
 	if conditioned {
 		made.Inputs = append(made.Inputs, "true")
 	}
+	for _, input := range made.Inputs {
+		r.wrote(len(input) + 3)
+	}
 	for _, rule := range rules {
 		when := append([]string(nil), r.made.table.Rules[rule].When...)
 		if conditioned {

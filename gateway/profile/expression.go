@@ -64,7 +64,7 @@ func (t *translator) branches(n *feel.If, s *scope) phrase {
 		t.under(condition, false, func() phrase { return t.chosen(n.Else, s) }),
 	}
 	t.together(both, t.refusal(n))
-	return choice(condition, both[0], both[1])
+	return choiceOf(t.kept.joined(both[0].of, both[1].of), condition, both[0], both[1])
 }
 
 // number translates a numeric literal: 1.0 is 1. Each text is read once.

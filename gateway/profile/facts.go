@@ -2,11 +2,15 @@ package profile
 
 // facts are what is known of the scalars in values of a type.
 type facts struct {
-	// temporal, numbers and units tell whether one is a date or a duration, may be a number, and is known to be counted.
-	temporal, numbers, units bool
-	// loose tells that one is of an input without a declared type, which may still become another.
-	loose bool
+	// temporal, numbers, units and quotients tell whether one is a date or a duration, may be a number, is known to be counted, and is
+	// a quotient by a constant.
+	temporal, numbers, units, quotients bool
+	// loose counts how often a type became another, where one is of an input without a declared type; nil where none is.
+	loose *changes
 }
+
+// changes counts how often the type of an input that declares none became another, or got an entry: of all inputs of a run.
+type changes struct{ count int }
 
 // knownFacts are those of a context, which may have thousands of entries: they are found out once.
 type knownFacts struct {
@@ -14,27 +18,34 @@ type knownFacts struct {
 	// of is the context that they are of, size how many entries it had then: a copy of it finds its own.
 	of   *valueType
 	size int
+	// changes is how many there were then.
+	changes int
 }
 
 func (f facts) and(other facts) facts {
-	return facts{temporal: f.temporal || other.temporal, numbers: f.numbers || other.numbers, units: f.units || other.units,
-		loose: f.loose || other.loose}
+	both := facts{temporal: f.temporal || other.temporal, numbers: f.numbers || other.numbers, units: f.units || other.units,
+		quotients: f.quotients || other.quotients, loose: f.loose}
+	if both.loose == nil {
+		both.loose = other.loose
+	}
+	return both
 }
 
 // facts are those of a type.
 func (t *valueType) facts() facts {
-	switch t.kind {
-	case listKind:
-		return t.element.facts()
-	case contextKind:
+	if t = t.innermost(); t.kind == contextKind {
 		return t.contextFacts()
 	}
-	return facts{temporal: t.isTemporal(), numbers: t.kind == numberKind || t.kind == anyKind, units: t.units != (units{}),
-		loose: t.open && t.kind == anyKind}
+	found := facts{temporal: t.isTemporal(), numbers: t.kind == numberKind || t.kind == anyKind, units: t.units != (units{}),
+		quotients: t.units.per > 1}
+	if t.open && t.kind == anyKind {
+		found.loose = t.changes
+	}
+	return found
 }
 
 func (t *valueType) contextFacts() facts {
-	if t.known.of == t && t.known.size == t.size() {
+	if t.known.of == t && t.known.size == t.size() && t.known.changes == t.known.loose.now() {
 		return t.known.facts
 	}
 	var all facts
@@ -42,11 +53,27 @@ func (t *valueType) contextFacts() facts {
 		all = all.and(part.facts())
 		return true
 	})
-	if !all.loose {
-		t.known = knownFacts{facts: all, of: t, size: t.size()}
-	}
+	t.known = knownFacts{facts: all, of: t, size: t.size(), changes: all.loose.now()}
 	return all
 }
+
+// now is how many changes there were by now; 0 where there can't be any.
+func (c *changes) now() int {
+	if c == nil {
+		return 0
+	}
+	return 1 + c.count
+}
+
+// add counts one more.
+func (c *changes) add() {
+	if c != nil {
+		c.count++
+	}
+}
+
+// changed is how many changes there were by now that may concern a type; 0 where none can.
+func (t *valueType) changed() int { return t.facts().loose.now() }
 
 // size is how many entries a context has.
 func (t *valueType) size() int { return len(t.fields) + len(t.more) }
@@ -80,9 +107,6 @@ func (t *valueType) some(is func(*valueType) bool) bool {
 	}
 	return is(t)
 }
-
-// isFixed tells whether a type can't become another one. An open context gets entries.
-func (t *valueType) isFixed() bool { return !t.facts().loose }
 
 // hasTemporal tells whether values of a type are dates or durations, or have such in them.
 func (t *valueType) hasTemporal() bool { return t.facts().temporal }

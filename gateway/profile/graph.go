@@ -65,17 +65,19 @@ type graph struct {
 	offsets *offsets
 	// constants are the numbers that texts have, by their digits.
 	constants map[string]phrase
+	// changes counts those of the types of inputs that declare none.
+	changes *changes
 }
 
 func newGraph(files []*dmn.File, r *refusals, w *words, options Options) *graph {
-	g := &graph{refusals: r, words: w, byID: map[string]interface{}{}, constants: map[string]phrase{}}
+	g := &graph{refusals: r, words: w, byID: map[string]interface{}{}, constants: map[string]phrase{}, changes: &changes{}}
 	g.clock = newClock(g, options.Clock)
 	for i, file := range files {
 		r.know(file, i)
 	}
 	w.declare(namesOf(files))
 	for _, file := range files {
-		s := &source{file: file, types: newTypes(r, file)}
+		s := &source{file: file, types: newTypes(r, file, g.changes)}
 		g.sources = append(g.sources, s)
 		g.faults(file)
 		g.parts(s)
@@ -198,7 +200,7 @@ func (t *types) inputType(input *dmn.InputData) *valueType {
 			return &own
 		}
 	}
-	return &valueType{kind: anyKind, open: true}
+	return &valueType{kind: anyKind, open: true, changes: t.changes}
 }
 
 // referred finds the part that a reference means; nil where there is none, which is told.

@@ -59,12 +59,6 @@ func TestHintsOfBoxedFormsAreFollowed(t *testing.T) {
 	a, twice := literal("a"), literal("a * 2")
 	function := "<functionDefinition><formalParameter name=\"x\"/>" + literal("x + 1") + "</functionDefinition>"
 	filter := "<filter><in>" + literal("[a, 1]") + "</in><match>" + literal("item > 1") + "</match></filter>"
-	ofA := func(pairs ...string) (due [][2]string) {
-		for i := 0; i < len(pairs); i += 2 {
-			due = append(due, [2]string{`{"a":` + pairs[i] + `}`, pairs[i+1]})
-		}
-		return due
-	}
 	holdFiledHints(t, []filedHint{
 		{name: "a function as an entry", refused: overNumber(boxedContext("f", function, "", literal("f(a) * 2"))), hint: "a business knowledge model",
 			written: overNumber(literal("f(a) * 2"), knowledge("f", []string{"x"}, literal("x + 1")), "k:f"), due: ofA("2", "6", "-1", "0", "null", "null")},

@@ -89,7 +89,8 @@ func translate(g *graph, trees map[*dmn.Text]*tree, counts bool) (fractions bool
 		files[i] = s.file
 	}
 	t := &translator{words: g.words, refusals: g.refusals, members: membersOf(files), trees: trees, frame: &frame{},
-		active: map[*knowledge]bool{}, free: g.free, clock: g.clock, offsets: g.offsets, counts: counts, said: g.said, constants: g.constants, kept: newKept()}
+		active: map[*knowledge]bool{}, free: g.free, clock: g.clock, offsets: g.offsets, counts: counts, said: g.said, constants: g.constants, folds: map[*feel.Chain]fold{},
+		kept: newKept()}
 	for _, n := range g.ordered {
 		t.decision(n)
 		if t.full {
@@ -184,7 +185,7 @@ func (t *translator) unused(k *knowledge) {
 	for i, p := range k.Logic.Parameters {
 		of := k.types.resolve(p.Element, p.TypeRef)
 		if of == nil {
-			of = &valueType{kind: anyKind, open: true, unasked: true}
+			of = &valueType{kind: anyKind, open: true, unasked: true, changes: k.types.changes}
 		}
 		arguments[i] = argument{value: boxOf(constant("null", nullType)), of: of}
 	}

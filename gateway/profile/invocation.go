@@ -94,11 +94,13 @@ func (t *translator) bound(k *knowledge, placed []argument, refuse func(why, ins
 
 // scope is what a body sees beside its parameters: the business knowledge that it requires.
 func (k *knowledge) scope() *scope {
-	s := newScope(nil)
-	for _, known := range k.known {
-		s.bind(known.name, &binding{function: known})
+	if k.names == nil {
+		k.names = newScope(nil)
+		for _, known := range k.known {
+			k.names.bind(known.name, &binding{function: known})
+		}
 	}
-	return s
+	return newScope(k.names)
 }
 
 // placedArguments puts arguments in the order of the parameters. It tells what is wrong with their number or names.

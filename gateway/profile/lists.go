@@ -12,6 +12,8 @@ const (
 	mostUnrolled = 100
 	// mostGone is how many members of all lists are gone through in a pass: more take more than a line.
 	mostGone = 50_000
+	// mostWrittenOut is how many bytes are written out for members in a pass, in the innermost lists.
+	mostWrittenOut = MostLine
 )
 
 // listForm translates the forms over lists that can be had exactly. The others are refused.
@@ -223,7 +225,9 @@ func (t *translator) each(n feel.Node, iterators []feel.Iterator, s *scope, coun
 		if *count > mostUnrolled || t.gone > mostGone {
 			return false
 		}
-		do(s)
+		if !t.full {
+			do(s)
+		}
 		return true
 	}
 	members, is := t.iterated(iterators[0], s)
@@ -235,6 +239,19 @@ func (t *translator) each(n feel.Node, iterators []feel.Iterator, s *scope, coun
 		}
 	}
 	return is
+}
+
+// unrolled translates what is written out for each member, as long as the model may still fit in a line.
+func (t *translator) unrolled(n feel.Node, s *scope) phrase {
+	before := t.writtenOut
+	made := t.operand(n, s)
+	if t.writtenOut == before {
+		t.writtenOut += len(made.text)
+	}
+	if t.writtenOut > mostWrittenOut {
+		t.wrote(t.writtenOut)
+	}
+	return made
 }
 
 // iterated are the values of an iterator.
@@ -274,7 +291,7 @@ func (t *translator) wholeNumber(at feel.Span, value int64) phrase {
 func (t *translator) unrolledFor(n *feel.For, s *scope) (phrase, bool) {
 	var results []phrase
 	count := 0
-	if !t.each(n, n.Iterators, s, &count, func(inside *scope) { results = append(results, t.operand(n.Result, inside)) }) {
+	if !t.each(n, n.Iterators, s, &count, func(inside *scope) { results = append(results, t.unrolled(n.Result, inside)) }) {
 		return phrase{}, false
 	}
 	of := t.together(results, t.refusal(n))
@@ -285,7 +302,7 @@ func (t *translator) unrolledFor(n *feel.For, s *scope) (phrase, bool) {
 func (t *translator) unrolledQuantified(n *feel.Quantified, s *scope) (phrase, bool) {
 	var conditions []phrase
 	count := 0
-	if !t.each(n, n.Iterators, s, &count, func(inside *scope) { conditions = append(conditions, t.operand(n.Condition, inside)) }) {
+	if !t.each(n, n.Iterators, s, &count, func(inside *scope) { conditions = append(conditions, t.unrolled(n.Condition, inside)) }) {
 		return phrase{}, false
 	}
 	end, join := "false", anyOf

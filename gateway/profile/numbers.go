@@ -54,7 +54,7 @@ func constantNumber(value *big.Rat) phrase {
 // scaledBy is a number times 10^scale.
 func scaledBy(value *big.Rat, scale int) *big.Rat {
 	switch {
-	case scale == 0:
+	case scale == 0 || value.Sign() == 0:
 		return new(big.Rat).Set(value)
 	case scale < 0:
 		return new(big.Rat).Quo(value, new(big.Rat).SetInt(decimal.Power(-scale)))
@@ -116,8 +116,10 @@ func recounted(p phrase, to units) (made phrase, why string) {
 	if p.of.units.isAs(to) || p.of.kind == nullKind || p.of.kind == refusedKind {
 		return p, ""
 	}
+	finer := to.scale - p.of.units.scale
 	if p.number != nil {
-		if !isNumber(inUnits(p.number, to).Num()) {
+		// In its own unit it is a whole number.
+		if p.number.Sign() != 0 && finer >= len(largestNumber) || !isNumber(inUnits(p.number, to).Num()) {
 			return p, fmt.Sprintf("the number is past %s where it is counted with %d decimals", largestNumber, to.scale)
 		}
 		return constantAt(p.number, to), ""
@@ -125,7 +127,10 @@ func recounted(p phrase, to units) (made phrase, why string) {
 	if to.scale < p.of.units.scale {
 		return p, "its unit can't be made coarser"
 	}
-	factor := new(big.Int).Mul(decimal.Power(to.scale-p.of.units.scale), big.NewInt(to.parts()/p.of.units.parts()))
+	if finer >= len(largestNumber) {
+		return p, fmt.Sprintf("it would be counted with %d decimals", to.scale)
+	}
+	factor := new(big.Int).Mul(decimal.Power(finer), big.NewInt(to.parts()/p.of.units.parts()))
 	if !isNumber(factor) {
 		return p, fmt.Sprintf("it would be counted with %d decimals", to.scale)
 	}
@@ -180,6 +185,9 @@ func (t *translator) aligned(p phrase, to *valueType, refuse func(why, instead s
 		return t.shallow(made)
 	}
 	if p.members != nil && to.kind == listKind {
+		if isCountedAs(p.of, to) {
+			return p
+		}
 		members := make([]phrase, len(p.members))
 		for i, member := range p.members {
 			members[i] = t.aligned(member, to.element, refuse)
@@ -193,6 +201,14 @@ func (t *translator) aligned(p phrase, to *valueType, refuse func(why, instead s
 	return p
 }
 
+// isCountedAs tells whether values of a type, a scalar or lists of such, are surely counted as those of another one.
+func isCountedAs(of, to *valueType) bool {
+	for of != to && of.kind == listKind && to.kind == listKind {
+		of, to = of.element, to.element
+	}
+	return of == to || of.kind == numberKind && to.kind == numberKind && of.units.isAs(to.units)
+}
+
 // together aligns values that meet in a list, a branch or a column, and gives the type that all of them have.
 func (t *translator) together(values []phrase, refuse func(why, instead string)) *valueType {
 	of, seen := nullType, map[*valueType]bool{}
@@ -201,10 +217,14 @@ func (t *translator) together(values []phrase, refuse func(why, instead string))
 			continue
 		}
 		seen[value.of] = true
+		if known := t.kept.wasJoined(of, value.of); known != nil {
+			of = known
+			continue
+		}
 		if refuseMixed(of, value.of, refuse) {
 			return refusedType
 		}
-		of = joined(of, value.of)
+		of = t.kept.joined(of, value.of)
 	}
 	for i := range values {
 		values[i] = t.aligned(values[i], of, refuse)
@@ -212,9 +232,15 @@ func (t *translator) together(values []phrase, refuse func(why, instead string))
 	return of
 }
 
-// refusal refuses a form with a reason that comes later.
+// refusal refuses a form with a reason that comes later. What is refused of each member of a list is refused once.
 func (t *translator) refusal(n feel.Node) func(why, instead string) {
-	return func(why, instead string) { t.refuse(n, why, instead) }
+	told := ""
+	return func(why, instead string) {
+		if why != told {
+			t.refuse(n, why, instead)
+		}
+		told = why
+	}
 }
 
 // units are those of the sum of operands.
@@ -356,13 +382,21 @@ func powerOfTen(value *big.Rat) (int, bool) {
 	if value == nil || value.Sign() <= 0 {
 		return 0, false
 	}
-	for power := -decimal.Digits; power <= decimal.Digits; power++ {
-		if scaledBy(value, -power).Cmp(big.NewRat(1, 1)) == 0 {
-			return power, true
-		}
+	digits, sign := value.Num(), 1
+	if !value.IsInt() {
+		digits, sign = value.Denom(), -1
 	}
-	return 0, false
+	if digits.BitLen() > mostBits || !value.IsInt() && !value.Num().IsInt64() {
+		return 0, false
+	}
+	rest := new(big.Int).Set(digits)
+	power := removed(rest, 10)
+	is := rest.IsInt64() && rest.Int64() == 1 && (value.IsInt() || value.Num().Int64() == 1)
+	return sign * power, is && power <= decimal.Digits
 }
+
+// mostBits is how many a whole number of 34 digits and one more has.
+const mostBits = 117
 
 // shifted is a quotient times 10^power.
 func (t *translator) shifted(n feel.Node, p phrase, power int) phrase {

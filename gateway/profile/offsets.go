@@ -114,7 +114,7 @@ func (o *offsets) of(of *valueType, name string) *valueType {
 			own.sort.take()
 		}
 	case of.kind == listKind:
-		own.element = o.of(of.element, name)
+		own.element, own.deepest = o.of(of.element, name), nil
 	case of.kind == contextKind:
 		own.fields, own.order = map[string]*valueType{}, nil
 		for _, field := range of.order {

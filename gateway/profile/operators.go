@@ -4,8 +4,46 @@ import (
 	"gateway/feel"
 )
 
-// chain translates operands with operators of one rank between them.
+// chain translates operands with operators of one rank between them. What has literals alone is calculated once.
 func (t *translator) chain(n *feel.Chain, s *scope) phrase {
+	if known, is := t.folds[n]; is {
+		t.finest = maximum(t.finest, known.finest)
+		return known.value
+	}
+	before := t.finest
+	t.finest = 0
+	made := t.chained(n, s)
+	if made.number != nil && t.isFolded(n) {
+		t.folds[n] = fold{made, t.finest}
+	}
+	t.finest = maximum(t.finest, before)
+	return made
+}
+
+// A fold is the value of a chain of literals, with the most decimals on the way to it.
+type fold struct {
+	value  phrase
+	finest int
+}
+
+// isFolded tells whether each operand is a literal, or such a chain itself.
+func (t *translator) isFolded(n *feel.Chain) bool {
+	for _, operand := range n.Operands {
+		switch operand := operand.(type) {
+		case *feel.Number:
+		case *feel.Chain:
+			if _, is := t.folds[operand]; !is {
+				return false
+			}
+		default:
+			return false
+		}
+	}
+	return true
+}
+
+// chained translates a chain anew.
+func (t *translator) chained(n *feel.Chain, s *scope) phrase {
 	operands := make([]phrase, len(n.Operands))
 	isProduct := n.Operators[0] == "*" || n.Operators[0] == "/"
 	for i, operand := range n.Operands {

@@ -104,9 +104,13 @@ func listing(members []phrase, of *valueType) phrase {
 
 // choice is an if.
 func choice(condition, then, otherwise phrase) phrase {
+	return choiceOf(joined(then.of, otherwise.of), condition, then, otherwise)
+}
+
+// choiceOf is an if with the type that its branches have in common.
+func choiceOf(of *valueType, condition, then, otherwise phrase) phrase {
 	return phrase{text: "if " + condition.text + " then " + then.text + " else " + otherwise.text, rank: rankIf,
-		depth: 1 + deepest(condition, then, otherwise), of: joined(then.of, otherwise.of),
-		branches: &branches{condition, then, otherwise}}
+		depth: 1 + deepest(condition, then, otherwise), of: of, branches: &branches{condition, then, otherwise}}
 }
 
 // negated is the not of a phrase.

@@ -65,11 +65,22 @@ func colon(line *strings.Builder) string {
 }
 
 func shortened(text string) string {
-	runes := []rune(strings.TrimSpace(text))
-	if len(runes) > mostText {
-		return string(runes[:mostText]) + ".."
+	text, count := strings.TrimSpace(text), 0
+	for i := range text {
+		if count == mostText {
+			return text[:i] + ".."
+		}
+		count++
 	}
-	return string(runes)
+	return text
+}
+
+// A sameRefusal is what two refusals of one place have in common. Texts of one length that begin alike are one: a text may be as
+// long as a file.
+type sameRefusal struct {
+	element              *dmn.Element
+	length               int
+	begins, why, instead string
 }
 
 // refusals collects the places of one run, none twice.
@@ -80,7 +91,7 @@ type refusals struct {
 	spoiled map[*dmn.Element]bool
 	// notes are of places that are taken, with something to be told.
 	notes []Refusal
-	seen  map[Refusal]bool
+	seen  map[sameRefusal]bool
 	// muted lets all go, in the pass that finds types.
 	muted bool
 	// elements tells the file and the parent of each element.
@@ -96,13 +107,13 @@ type home struct {
 }
 
 func newRefusals() *refusals {
-	return &refusals{seen: map[Refusal]bool{}, homes: map[*dmn.Element]home{}, spoiled: map[*dmn.Element]bool{}}
+	return &refusals{seen: map[sameRefusal]bool{}, homes: map[*dmn.Element]home{}, spoiled: map[*dmn.Element]bool{}}
 }
 
 // copied are the refusals so far, to which a pass may go back.
 func (r *refusals) copied() refusals {
 	own := *r
-	own.spoiled, own.seen = map[*dmn.Element]bool{}, map[Refusal]bool{}
+	own.spoiled, own.seen = map[*dmn.Element]bool{}, map[sameRefusal]bool{}
 	for e, is := range r.spoiled {
 		own.spoiled[e] = is
 	}
@@ -188,13 +199,16 @@ func (r *refusals) made(e *dmn.Element, text, why, instead string) (made Refusal
 	if r.muted {
 		return made, false
 	}
+	same := sameRefusal{e, len(text), shortened(text), why, instead}
+	if r.seen[same] {
+		return made, false
+	}
+	r.seen[same] = true
 	made = Refusal{File: r.homes[e].path, Line: e.Place.Line, Column: e.Place.Column, Element: e.Tag, Text: text,
 		Why: why, Instead: instead}
 	made.Name, made.ID = r.called(e)
 	made.Where = r.where(e)
-	fresh = !r.seen[made]
-	r.seen[made] = true
-	return made, fresh
+	return made, true
 }
 
 // called is the name and the id by which people find an element.

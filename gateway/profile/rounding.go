@@ -175,6 +175,9 @@ func atDigits(x, divisor phrase, digits int) (numerator, by phrase, why string) 
 
 // roundedAt is x / p rounded to a whole number, times 10^-digits where these are below 0.
 func (t *translator) roundedAt(how rounding, x, p phrase, digits int, u units) phrase {
+	if t.full {
+		return constant("null", numberOf(u))
+	}
 	x, p = t.short(x), t.short(p)
 	size := t.step("part", fmt.Sprintf("abs(%s)", x.text), numberType)
 	rest := t.step("rest", fmt.Sprintf("modulo(%s, %s)", size.text, p.text), numberType)

@@ -194,7 +194,7 @@ func (r *run) report() *Report {
 	}
 	result := assembled(g, services, r.units != nil)
 	result.Required = requiredInputs(g, r.options.Nullable)
-	if r.options.Service == "" && len(services) == 0 {
+	if r.options.Service == "" && len(services) == 0 && len(g.decisions) <= mostDecisions {
 		defaultServices(g, result)
 	}
 	r.renamed(result)

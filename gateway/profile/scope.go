@@ -67,4 +67,6 @@ type knowledge struct {
 	// known is what it may invoke.
 	known []*knowledge
 	used  bool
+	// names are those of what it may invoke; nil until it is invoked.
+	names *scope
 }

@@ -59,6 +59,9 @@ func (t *translator) entryIn(f *frame, base string, b *box) string {
 
 // step makes a text an entry in front of the expression, under the condition of its branch.
 func (t *translator) step(base, text string, of *valueType) phrase {
+	if t.full {
+		return constant("null", of)
+	}
 	p := phrase{text: text, rank: rankIf, depth: depthOfStep, of: of}
 	return t.hoisted(base, t.boxed(t.conditioned(p)), of)
 }
@@ -68,7 +71,7 @@ const depthOfStep = 16
 
 // conditioned is a phrase that is null where its branch isn't taken.
 func (t *translator) conditioned(p phrase) phrase {
-	if !t.counts {
+	if !t.counts || t.full {
 		return p
 	}
 	word := t.guardWord(t.guard)

@@ -38,14 +38,16 @@ type tableReader struct {
 	scope   *scope
 	columns []column
 	outputs []output
-	made    *box
+	// named are the words of the outputs.
+	named map[string]bool
+	made  *box
 	// conditions are of the further column: for each rule the condition that stands there, or empty.
 	conditions []string
 }
 
 // table translates a decision table.
 func (t *translator) table(x *dmn.Table, s *scope) (*box, *valueType) {
-	r := &tableReader{translator: t, source: x, scope: s, made: &box{kind: tableBox, table: &model.Table{
+	r := &tableReader{translator: t, source: x, scope: s, named: map[string]bool{}, made: &box{kind: tableBox, table: &model.Table{
 		Inputs: []string{}, Outputs: []model.Output{}, Rules: []model.Rule{}}}}
 	hit := r.hitPolicy()
 	if hit == "" || !r.isWhole() {
@@ -211,11 +213,10 @@ func (r *tableReader) outputColumn(clause *dmn.OutputClause, i int) {
 		}
 	}
 	made := model.Output{Name: r.words.of(name)}
-	for _, other := range r.made.table.Outputs {
-		if other.Name == made.Name {
-			r.refusals.refuse(clause.Element, name, "the output's name stands twice", "another name")
-		}
+	if r.named[made.Name] {
+		r.refusals.refuse(clause.Element, name, "the output's name stands twice", "another name")
 	}
+	r.named[made.Name] = true
 	if clause.Values != nil {
 		of := o.of
 		if of == nil {

@@ -2,6 +2,7 @@ package profile
 
 import (
 	"fmt"
+	"unicode/utf8"
 
 	"gateway/dmn"
 	"gateway/feel"
@@ -33,8 +34,8 @@ type translator struct {
 	node *node
 	// clock has the inputs that a clock fills.
 	clock *clock
-	// gone counts the members of lists that were gone through.
-	gone int
+	// gone counts the members of lists that were gone through, writtenOut the bytes of what was written out for them.
+	gone, writtenOut int
 	// inCell tells that an output entry is held against its types: what it needs goes in front of the table.
 	inCell bool
 	// active is the business knowledge that is being invoked, one in the other.
@@ -52,6 +53,8 @@ type translator struct {
 	offsets *offsets
 	// constants are the numbers that were read, by their texts.
 	constants map[string]phrase
+	// folds are the sums and products of literals alone: business knowledge may have long ones, and be invoked many times.
+	folds map[*feel.Chain]fold
 	// kept has what was found of contexts.
 	kept *kept
 	// civils are the parts of dates that were asked for.
@@ -65,6 +68,8 @@ type translator struct {
 type tree struct {
 	nodes []feel.Node
 	fault *feel.Fault
+	// why is what the fault is and where; empty without one.
+	why string
 }
 
 // framed translates with a frame of its own, and puts the entries that come of it in front.
@@ -81,8 +86,11 @@ func (t *translator) hoisted(base string, b *box, of *valueType) phrase {
 	return t.inFront(t.words.fresh(base), b, of)
 }
 
-// inFront makes a box the entry of a word in front of the expression.
+// inFront makes a box the entry of a word in front of the expression. A model that is longer than a line gets no more of them.
 func (t *translator) inFront(word string, b *box, of *valueType) phrase {
+	if t.full {
+		return constant(word, of)
+	}
 	t.frame.entries = append(t.frame.entries, boxEntry{word: word, value: b})
 	t.wrote(len(word) + bytesOfEntry)
 	return constant(word, of)
@@ -151,8 +159,7 @@ func (t *translator) read(text *dmn.Text, s *scope, asTests bool) []feel.Node {
 		t.trees[text] = kept
 	}
 	if kept.fault != nil {
-		t.refusals.refuse(text.Element, text.Text, fmt.Sprintf("at character %d %s",
-			1+len([]rune(text.Text[:kept.fault.Offset])), kept.fault.Why), kept.fault.Instead)
+		t.refusals.refuse(text.Element, text.Text, kept.why, kept.fault.Instead)
 		return nil
 	}
 	return kept.nodes
@@ -162,10 +169,13 @@ func readTree(text *dmn.Text, s *scope, members *feel.Scope, asTests bool) *tree
 	made := &tree{}
 	if asTests {
 		made.nodes, made.fault = feel.Tests(text.Text, s.reads, members)
-		return made
+	} else {
+		node, fault := feel.Expression(text.Text, s.reads, members)
+		made.nodes, made.fault = []feel.Node{node}, fault
 	}
-	node, fault := feel.Expression(text.Text, s.reads, members)
-	made.nodes, made.fault = []feel.Node{node}, fault
+	if made.fault != nil {
+		made.why = fmt.Sprintf("at character %d %s", 1+utf8.RuneCountInString(text.Text[:made.fault.Offset]), made.fault.Why)
+	}
 	return made
 }
 

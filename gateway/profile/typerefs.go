@@ -17,6 +17,8 @@ type types struct {
 	active map[*dmn.ItemDefinition]bool
 	// fractions tells that some allowed value has decimals.
 	fractions bool
+	// changes counts those of the types of inputs that declare none.
+	changes *changes
 }
 
 // isFraction tells whether a form is a number with decimals.
@@ -25,8 +27,8 @@ func isFraction(n feel.Node) bool {
 	return is && strings.Contains(strings.TrimRight(number.Text, "0"), ".") && !strings.HasSuffix(strings.TrimRight(number.Text, "0"), ".")
 }
 
-func newTypes(r *refusals, file *dmn.File) *types {
-	t := &types{refusals: r, items: map[string]*dmn.ItemDefinition{}, resolved: map[*dmn.ItemDefinition]*valueType{},
+func newTypes(r *refusals, file *dmn.File, changes *changes) *types {
+	t := &types{refusals: r, changes: changes, items: map[string]*dmn.ItemDefinition{}, resolved: map[*dmn.ItemDefinition]*valueType{},
 		active: map[*dmn.ItemDefinition]bool{}}
 	for _, item := range file.Types {
 		name := feel.Canonical(item.Name())

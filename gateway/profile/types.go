@@ -28,6 +28,8 @@ type valueType struct {
 	kind kindOfType
 	// element is the type of a list's members; never nil for a list.
 	element *valueType
+	// deepest is a type within lists of lists, of which it may be asked often; nil where it isn't kept.
+	deepest *valueType
 	// fields are the types of a context's entries by their canonical names, order their order.
 	fields map[string]*valueType
 	order  []string
@@ -38,7 +40,7 @@ type valueType struct {
 
 	// narrow is whether the type or a part of it has allowed values, implying keeps of which types all values are allowed.
 	narrow   narrowness
-	implying map[*valueType]bool
+	implying map[*valueType]implied
 
 	// common are values that all those of a type are among which was joined of two.
 	common valueList
@@ -63,14 +65,15 @@ type valueType struct {
 
 	// open tells that it is of an input without a declared type: what it is given to may tell its type. For an entry of
 	// such an input, parent and field tell which.
-	open   bool
-	parent *valueType
+	open    bool
+	parent  *valueType
+	changes *changes
 	// unasked tells that it is of a parameter without a declared type of business knowledge that nothing invokes.
 	unasked bool
 	// known are the facts of a context that were found.
 	known knownFacts
 	// fitting keeps how other contexts stand to this one, which may have many entries.
-	fitting map[*valueType]fit
+	fitting map[*valueType]fitted
 	field   string
 }
 
@@ -83,7 +86,25 @@ var (
 	refusedType = &valueType{kind: refusedKind}
 )
 
-func listOf(element *valueType) *valueType { return &valueType{kind: listKind, element: element} }
+func listOf(element *valueType) *valueType {
+	made := &valueType{kind: listKind, element: element}
+	if element.kind == listKind {
+		made.deepest = element.innermost()
+	}
+	return made
+}
+
+// innermost is what is no list in a list, in lists of lists too; of others, the type itself.
+func (t *valueType) innermost() *valueType {
+	for t.kind == listKind {
+		if t.deepest != nil {
+			t = t.deepest
+		} else {
+			t = t.element
+		}
+	}
+	return t
+}
 
 // String is the type in the words of DMN.
 func (t *valueType) String() string {
@@ -149,34 +170,27 @@ func (t *valueType) fitOf(due *valueType) fit {
 	return fits
 }
 
-// contextFit tells how a context stands to a declared one; of each two it is found out once, where that is final.
+// A fitted is how a context stood to a declared one, when there were so many changes that may concern an open one.
+type fitted struct {
+	fit     fit
+	changes int
+}
+
+// contextFit tells how a context stands to a declared one; of each two it is found out once while nothing changes.
 func (t *valueType) contextFit(due *valueType) fit {
-	if known, found := due.fitting[t]; found {
-		return known
+	if known, is := due.fitting[t]; is && (!t.open || known.changes == t.changes.now()) {
+		return known.fit
 	}
+	before := t.changes.now()
 	found := t.fieldsFit(due)
-	if t.open && !t.isFinal(due) {
+	if t.open && t.changes.now() != before {
 		return found
 	}
 	if due.fitting == nil {
-		due.fitting = map[*valueType]fit{}
+		due.fitting = map[*valueType]fitted{}
 	}
-	due.fitting[t] = found
+	due.fitting[t] = fitted{found, before}
 	return found
-}
-
-// isFinal tells whether no entry of an open context that a declared one has may still take on a type.
-func (t *valueType) isFinal(due *valueType) bool {
-	for _, name := range due.order {
-		own := t.fields[name]
-		if own == nil || !own.open || own.isScalar() {
-			continue
-		}
-		if _, known := due.fields[name].fitting[own]; !known {
-			return false
-		}
-	}
-	return true
 }
 
 func (t *valueType) fieldsFit(due *valueType) fit {
@@ -187,6 +201,7 @@ func (t *valueType) fieldsFit(due *valueType) fit {
 		if !found {
 			if t.open {
 				t.setField(name, field)
+				t.changes.add()
 				continue
 			}
 			return never
@@ -200,6 +215,7 @@ func (t *valueType) fieldsFit(due *valueType) fit {
 
 // becomes makes an open type a declared one.
 func (t *valueType) becomes(due *valueType) {
+	t.changes.add()
 	if t.parent != nil {
 		if t.parent.kind == anyKind {
 			t.parent.becomes(&valueType{kind: contextKind, fields: map[string]*valueType{}})
@@ -211,7 +227,7 @@ func (t *valueType) becomes(due *valueType) {
 			t.parent.setField(t.field, t)
 		}
 	}
-	t.kind, t.element, t.allowed, t.narrow, t.implying = due.kind, due.element, due.allowed, unknown, nil
+	t.kind, t.element, t.deepest, t.allowed, t.narrow, t.implying = due.kind, due.element, nil, due.allowed, unknown, nil
 	if due.isTemporal() {
 		t.units = units{}
 	}
@@ -283,7 +299,7 @@ func (t *valueType) member(name string) *valueType {
 	switch t.kind {
 	case anyKind:
 		if t.open {
-			return &valueType{kind: anyKind, open: true, parent: t, field: name, units: t.units, unasked: t.unasked}
+			return &valueType{kind: anyKind, open: true, parent: t, field: name, units: t.units, unasked: t.unasked, changes: t.changes}
 		}
 		if t.units != (units{}) {
 			return &valueType{kind: anyKind, units: t.units}
@@ -300,7 +316,7 @@ func (t *valueType) member(name string) *valueType {
 			return field
 		}
 		if t.open {
-			return &valueType{kind: anyKind, open: true, parent: t, field: name}
+			return &valueType{kind: anyKind, open: true, parent: t, field: name, changes: t.changes}
 		}
 	}
 	return nil

@@ -146,10 +146,7 @@ func anyOfUnits(a, b *valueType) *valueType {
 
 // within are the units of all numbers in values of a type, where these are one; else the finest.
 func (t *valueType) within() units {
-	switch t.kind {
-	case listKind:
-		return t.element.within()
-	case contextKind:
+	if t = t.innermost(); t.kind == contextKind {
 		var all units
 		first := true
 		t.eachEntry(func(part *valueType) bool {
@@ -172,9 +169,7 @@ func (t *valueType) isCounted() bool {
 }
 
 // hasQuotient tells whether some number in values of a type is a quotient.
-func (t *valueType) hasQuotient() bool {
-	return t.some(func(part *valueType) bool { return part.units.per > 1 })
-}
+func (t *valueType) hasQuotient() bool { return t.facts().quotients }
 
 // countedAs gives a declared type the units of the values that it is declared for.
 func (t *translator) countedAs(due, of *valueType) *valueType {
@@ -198,7 +193,7 @@ func (t *translator) countedAs(due, of *valueType) *valueType {
 		return &own
 	case due.kind == listKind && of.kind == listKind:
 		own := *due
-		own.element = t.countedAs(due.element, of.element)
+		own.element, own.deepest = t.countedAs(due.element, of.element), nil
 		return &own
 	case due.kind == contextKind && of.kind == contextKind:
 		return t.kept.contextAs(due, of, t.countedContext)

@@ -80,8 +80,13 @@ func (w *words) free(word string) string {
 		if len(stem)+len(suffix) > mostWord {
 			stem = stem[:mostWord-len(suffix)]
 		}
+		if tried := w.next[stem]; tried > n {
+			// Longer words that are cut to the same stem took what lies between.
+			n = tried - 1
+			continue
+		}
 		candidate = stem + suffix
-		w.next[base] = n + 1
+		w.next[base], w.next[stem] = n+1, n+1
 	}
 	w.taken[candidate] = true
 	return candidate

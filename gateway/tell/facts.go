@@ -87,10 +87,12 @@ func (l *ruleList) UnmarshalJSON(text []byte) error {
 // An undecided says why something about a table is not known.
 type undecided struct {
 	// Rules have tests that names or lists decide, Outputs are two rules that both apply and of which names decide what they give,
-	// and Ranks are rules of which it is not known which go before them.
+	// Ranks are rules of which it is not known which go before them, and Idle are rules for which no values were found for which they
+	// decide.
 	Rules   ruleList `json:"rules,omitempty"`
 	Outputs ruleList `json:"outputs,omitempty"`
 	Ranks   ruleList `json:"ranks,omitempty"`
+	Idle    ruleList `json:"idle,omitempty"`
 	// Steps says that the steps of a search ran out.
 	Steps bool `json:"steps,omitempty"`
 }

@@ -15,6 +15,9 @@ func (t *tableReport) notDecided() {
 		give := oneOrMore(why.Ranks, "gives", "give")
 		t.undecided("names decide what %s %s, and so which rules go before others", ruleNumbers(why.Ranks), give)
 	}
+	if len(why.Idle) > 0 {
+		t.undecided("no values were found for which %s %s", ruleNumbers(why.Idle), oneOrMore(why.Idle, "decides", "decide"))
+	}
 	if why.Steps {
 		t.undecided("2,000,000 steps were not enough")
 	}

@@ -17,7 +17,7 @@ esac
 """
 LEAST, GREATEST = -9223372036854775807, 9223372036854775807
 # Of a table nothing is undecided.
-DECIDED = {"rules": [], "outputs": [], "ranks": [], "steps": False}
+DECIDED = {"rules": [], "outputs": [], "ranks": [], "idle": [], "steps": False}
 
 
 def cell(low: int | None = None, high: int = GREATEST, *, texts: tuple[str, ...] = (), but: tuple[str, ...] | None = None,

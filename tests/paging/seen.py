@@ -22,6 +22,7 @@ class Seen:
 
     def columns(self) -> str:
         """Many of 12 columns are seen, and more where the decision is widened, which is remembered."""
+        self.wide()
         self.browser.js("localStorage.clear()")
         self.wide()
         first = self.browser.js(WHOLE)
@@ -69,6 +70,140 @@ class Seen:
         return ", ".join(f"{size:.1f} pixels at {width}" for width, size in least.items())
 
 
+    def values(self) -> str:
+        """Values in the graph stand in their boxes; a context is the number of its entries, and all of it is shown where it is pointed at."""
+        for width, height in ((1280, 800), (390, 844)):
+            self.browser.resize(width, height)
+            self.browser.open(self.suite.service("dmn/loan.dmn"), rows.DECLINED, rows.SERVICE)
+            self.browser.answer()
+            self.browser.tab("map")
+            self.browser.drawn()
+            out = self.browser.js(OUTSIDE)
+            assert not out, (width, out)
+            told = self.browser.js("""return Object.fromEntries([...document.querySelectorAll(".node")].map((it) =>
+                [it.querySelector("title").textContent, [it.querySelector(".worth").textContent, it.querySelector("rect title").textContent]]))""")
+            assert told["Required monthly installment"] == ["200", "Required monthly installment\n200"], told
+            assert told["Applicant data"][0] == "5 entries", told
+            assert set(told["Applicant data"][1].splitlines()) == PARTS_OF_IT, told
+        return ""
+
+    def wide_letters(self) -> str:
+        """Letters in the graph of 12 inputs can be read as it is first seen, also where the decision is widened and the graph is low."""
+        least = {}
+        try:
+            for width, height, is_widened in ((1280, 800, False), (1280, 800, True), (390, 844, False)):
+                self.wide()
+                self.browser.resize(width, height)
+                self.browser.tab("map")
+                if is_widened:
+                    self.browser.js("document.getElementById('widen').click()")
+                self.browser.wait(lambda: self.browser.js(LEAST) >= LETTERS, f"letters of {LETTERS} pixels")
+                assert not self.browser.js(OUTSIDE), (width, self.browser.js(OUTSIDE))
+                least[f"{width}{' widened' if is_widened else ''}"] = self.browser.js(LEAST)
+        finally:
+            self.browser.js("localStorage.clear()")
+        return ", ".join(f"{size:.1f} pixels at {name}" for name, size in least.items())
+
+    def words(self) -> str:
+        """Of a column that is partly covered the name is seen with all its words, or dots stand for it."""
+        dots = 0
+        for width, height in ((1280, 800), (390, 844)):
+            self.browser.resize(width, height)
+            self.browser.open(self.suite.service("dmn/loan.dmn"), rows.DECLINED, rows.SERVICE)
+            self.browser.answer()
+            self.browser.drop("some.jsonl", rows.lines(rows.applicants(20)))
+            self.browser.wait(lambda: "20 requests" in self.browser.text("counted"), "the counts")
+            self.browser.pick("Eligibility")
+            self.browser.tab("open")
+            dots += self.whole_words()
+            self.wide()
+            self.browser.resize(width, height)
+            self.browser.tab("open")
+            dots += self.whole_words()
+        return f"dots at {dots} of the places"
+
+    def whole_words(self) -> int:
+        """Scrolls the open table across; gives how many names were dots."""
+        dots = 0
+        for across in (0, 30, 60, 100, 200, 400, 1e6):
+            self.browser.js("document.querySelector('article:not([hidden]) .table .scroll').scrollTo(arguments[0], 0)", across)
+            self.browser.drawn()
+            self.browser.comes(lambda: self.browser.js(WORDS)[0], [], f"names with all their words, {across} across")
+            dots += self.browser.js(WORDS)[1]
+        return dots
+
+    def narrow(self) -> str:
+        """At 390 pixels a column of the wide table is whole beside the rule and the outputs, as it is opened and as it is scrolled on."""
+        self.wide()
+        self.browser.resize(390, 844)
+        self.browser.tab("open")
+        self.browser.comes(lambda: self.browser.js(WHOLE) >= 1, True, "a column that is whole")
+        across = self.browser.js("return [...document.querySelectorAll('.rules thead .input')].map((it) => it.offsetLeft)")
+        for at in (1, 2, 5):
+            # Where a person lets go beside the start of a column, the table goes there.
+            self.browser.js("document.querySelector('.table .scroll').scrollTo(arguments[0] - arguments[1] - 20, 0)", across[at], across[0])
+            self.browser.comes(lambda: self.browser.js(WHOLE) >= 1, True, f"that column {at + 1} is whole")
+        return ""
+
+    def marks(self) -> str:
+        """Marks at the head of the wide table take no line of it."""
+        for width, height in ((1280, 800), (390, 844)):
+            self.wide()
+            self.browser.resize(width, height)
+            self.browser.tab("open")
+            self.browser.wait(lambda: "under way" not in self.browser.text("badge"), "the end of the check")
+            self.browser.drawn()
+            high = lambda: self.browser.js("return document.querySelector('article:not([hidden]) .rules thead tr').offsetHeight")
+            count, with_marks = self.browser.js("return document.querySelectorAll('.rules thead .mark').length"), high()
+            self.browser.js("for (const it of document.querySelectorAll('.rules thead .mark')) it.remove()")
+            assert count > 0 and with_marks == high(), (width, count, with_marks, high())
+        return ""
+
+
+# All of the applicant's data, each entry with the way to it.
+PARTS_OF_IT = {"Applicant data", "Age: 20", 'Marital Status: "S"', 'Employment Status: "STUDENT"', "Existing Customer: false", "Monthly.Income: 1000",
+               "Monthly.Repayments: 0", "Monthly.Expenses: 700"}
+
+# Texts in the graph that are not within their boxes.
+OUTSIDE = """return [...document.querySelectorAll(".node")].flatMap((node) => {
+  const box = node.querySelector("rect").getBoundingClientRect();
+  return [...node.querySelectorAll("text")].filter((it) => it.textContent).filter((it) => {
+    const own = it.getBoundingClientRect();
+    return own.left < box.left - 1 || own.right > box.right + 1 || own.top < box.top - 2 || own.bottom > box.bottom + 2;
+  }).map((it) => it.textContent);
+});"""
+
+# Of the names of columns that are partly covered: the words that are not seen, and how many names are dots.
+WORDS = """const heads = [...document.querySelectorAll("article:not([hidden]) .scroll thead th")].map((it) => [it, it.getBoundingClientRect()]);
+const start = heads[0][1].right - 1;
+const stays = heads.filter(([it]) => it.dataset.stay && getComputedStyle(it).right !== "auto").map(([, box]) => box.left);
+const frame = heads[0][0].closest(".scroll").getBoundingClientRect();
+const end = Math.min(frame.right, ...stays) + 1;
+const cut = [];
+let dots = 0;
+for (const [it, box] of heads) {
+  if (!it.matches(".input") || box.right <= start + 2 || box.left >= end - 2) continue;
+  const name = it.querySelector(".head");
+  if (getComputedStyle(name).visibility === "hidden") {
+    dots += getComputedStyle(it, "::after").content.includes("…") ? 1 : 0;
+    if (!it.title) cut.push(it.textContent);
+    continue;
+  }
+  const walker = document.createTreeWalker(name, NodeFilter.SHOW_TEXT);
+  while (walker.nextNode()) {
+    const text = walker.currentNode;
+    if (text.parentElement.closest(".value, .mark, .unseen")) continue;
+    for (const {0: word, index} of text.data.matchAll(/[^\\s_]+/g)) {
+      const range = document.createRange();
+      range.setStart(text, index);
+      range.setEnd(text, index + word.length);
+      const boxes = [...range.getClientRects()];
+      if (boxes.length !== 1 || boxes.some((one) => one.left < start || one.right > end)) cut.push(word);
+    }
+  }
+}
+return [cut, dots];"""
+
 # How many input columns are whole between the number of the rule and what stays in view.
 WHOLE = """const heads = [...document.querySelectorAll("article:not([hidden]) .scroll thead th")].map((it) => [it, it.getBoundingClientRect()]);
 const start = heads[0][1].right - 1;
@@ -101,3 +236,8 @@ def run(suite) -> None:
     suite.row("how many columns are seen", seen.columns)
     suite.row("names that are whole or end in dots", seen.names)
     suite.row("letters in the graph", seen.letters)
+    suite.row("values in the graph", seen.values)
+    suite.row("a graph of 12 inputs", seen.wide_letters)
+    suite.row("words of names that are partly covered", seen.words)
+    suite.row("a wide table at 390 pixels", seen.narrow)
+    suite.row("marks at the head", seen.marks)

@@ -135,6 +135,11 @@ ROWS: list[tuple[str, object, list[str]]] = [
         ['table: decisions[0] "d": 2 rules, U: complete, overlaps not decided', "  not decided: rule 1 has tests that names or lists decide"],
     ),
     (
+        "a test that breaks a limit for all values",
+        one("-", "> 9223372036854775807 + 1", hit="C"),
+        ['table: decisions[0] "d": 2 rules, C: complete', "  not decided: no values were found for which rule 2 decides"],
+    ),
+    (
         "a test that compares texts by order",
         one('< "m"', "-"),
         ['table: decisions[0] "d": 2 rules, U: complete, rules overlap', '  rules 1 and 2 both apply: a before "m"    U gives null'],

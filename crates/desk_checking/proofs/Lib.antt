@@ -9,3 +9,5 @@ pub mod TableLines
 pub mod Telling
 pub mod SameValues
 pub mod Taking
+pub mod Grouping
+pub mod Deciders

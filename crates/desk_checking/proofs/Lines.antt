@@ -138,3 +138,14 @@ nine t t1 t2 t3 t4 t5 t6 t7 t8 t9 a b c d e f g h i b' d' f' h' whole one two th
     ∙ ap (λ s. s ++ h) (seven t t1 t2 t3 t4 t5 t6 t7 a b c d e f g b' d' f' (((((((t ++ a) ++ b') ++ c) ++ d') ++ e) ++ f') ++ g) one two three four five six end second fourth sixth refl)
     ∙ ap (λ s. (((((((t ++ a) ++ b') ++ c) ++ d') ++ e) ++ f') ++ g) ++ s) more)
     ∙ is
+
+pub eleven : (t t1 t2 t3 t4 t5 t6 t7 t8 t9 t10 t11 a b c d e f g h i j k b' d' f' h' j' whole : List ℕ) → t1 ≡ t ++ a → t2 ≡ t1 ++ b → t3 ≡ t2 ++ c → t4 ≡ t3 ++ d → t5 ≡ t4 ++ e → t6 ≡ t5 ++ f → t7 ≡ t6 ++ g
+    → t8 ≡ t7 ++ h → t9 ≡ t8 ++ i → t10 ≡ t9 ++ j → t11 ≡ t10 ++ k → b ≡ b' → d ≡ d' → f ≡ f' → h ≡ h' → j ≡ j'
+    → ((((((((((t ++ a) ++ b') ++ c) ++ d') ++ e) ++ f') ++ g) ++ h') ++ i) ++ j') ++ k ≡ whole → t11 ≡ whole
+eleven t t1 t2 t3 t4 t5 t6 t7 t8 t9 t10 t11 a b c d e f g h i j k b' d' f' h' j' whole one two three four five six end eighth ninth tenth last second fourth sixth more most is =
+    last ∙ ap (λ s. s ++ k)
+    (tenth
+    ∙ ap (λ s. s ++ j)
+    (nine t t1 t2 t3 t4 t5 t6 t7 t8 t9 a b c d e f g h i b' d' f' h' (((((((((t ++ a) ++ b') ++ c) ++ d') ++ e) ++ f') ++ g) ++ h') ++ i) one two three four five six end eighth ninth second fourth sixth more refl)
+    ∙ ap (λ s. (((((((((t ++ a) ++ b') ++ c) ++ d') ++ e) ++ f') ++ g) ++ h') ++ i) ++ s) most)
+    ∙ is

@@ -1,16 +1,15 @@
 -- The lines of tables that are put together of pieces.
-use Rattle.std.proofs.Common.{◌≡◌, ◌∙◌, ◌+◌, ◌<◌, ℕ, suc, zero, Bool, true, false, List, [], ◌∷◌, ◌++◌, append_assoc, append-nil, arith, codes, decimal, refl, sym, ap, if◌then◌else◌, Option, Some, None}
+use Rattle.std.proofs.Common.{◌≡◌, ◌∙◌, ◌+◌, ◌<◌, ℕ, suc, zero, Bool, true, false, List, [], ◌∷◌, ◌++◌, append_assoc, arith, codes, decimal, refl, ap, if◌then◌else◌, Option, Some, None}
 use Rattle.std.specs.Prelude.{int_le}
 use Rattle.std.specs.Arc.{arc_str_bytes}
 use Rattle.std.specs.List.{flat_map, slice_get}
 use Rattle.std.specs.declared.alloc.Global.{Global}
 use Rattle.std.specs.declared.sync.ArcStr.{ArcStr}
 use Rattle.json.specs.Print.{escape_byte, quoted}
-use Rattle.serde_json.specs.Data.{Data, array, boolean, number, object, string, Members, no_members, member}
+use Rattle.serde_json.specs.Data.{Data, array, boolean, number, Members, no_members, member}
 use Rattle.serde_json.specs.Find.{of_integer}
-use Rattle.serde_json.specs.Written.{comma_if, compact_text, items_text, members_text}
+use Rattle.serde_json.specs.Written.{compact_text, members_text}
 use Rattle.desk_lines.specs.Lines.{ended}
-use Rattle.feel_value.specs.Datum.{Datum}
 use Rattle.dmn_analysis.specs.Cells.{words_within}
 use Rattle.dmn_analysis.specs.declared.cell.Cell.{Cell}
 use Rattle.dmn_analysis.specs.declared.cell.Others.{Others}
@@ -44,18 +43,19 @@ eight t a b c d e f g h = simp append_assoc
 
 -- ---- the line of a table
 
-undecided_shape : (t r o k s : List ℕ)
-    → ((((((((t ++ codes "{\"rules\":") ++ r) ++ codes ",\"outputs\":") ++ o) ++ codes ",\"ranks\":") ++ k) ++ codes ",\"steps\":") ++ s) ++ codes "}"
-    ≡ t ++ 123 ∷ (quoted (codes "rules") ++ 58 ∷ (r ++ 44 ∷ (quoted (codes "outputs") ++ 58 ∷ (o ++ 44 ∷ (quoted (codes "ranks") ++ 58 ∷ (k ++ 44 ∷ (quoted (codes "steps") ++ 58 ∷ (s ++ 125 ∷ []))))))))
+undecided_shape : (t r o k i s : List ℕ)
+    → ((((((((((t ++ codes "{\"rules\":") ++ r) ++ codes ",\"outputs\":") ++ o) ++ codes ",\"ranks\":") ++ k) ++ codes ",\"idle\":") ++ i) ++ codes ",\"steps\":") ++ s) ++ codes "}"
+    ≡ t ++ 123 ∷ (quoted (codes "rules") ++ 58 ∷ (r ++ 44 ∷ (quoted (codes "outputs") ++ 58 ∷ (o ++ 44 ∷ (quoted (codes "ranks") ++ 58 ∷ (k ++ 44 ∷ (quoted (codes "idle") ++ 58 ∷ (i ++ 44 ∷ (quoted (codes "steps") ++ 58 ∷ (s ++ 125 ∷ []))))))))))
 unfolding escape_byte
-undecided_shape t r o k s = simp append_assoc
+undecided_shape t r o k i s = simp append_assoc
 
 pub undecided_pieces : (t : List ℕ) (u : Undecided)
-    → ((((((((t ++ codes "{\"rules\":") ++ compact_text (array (numbers_told u.rules.items))) ++ codes ",\"outputs\":") ++ compact_text (array (numbers_told u.outputs.items))) ++ codes ",\"ranks\":")
-    ++ compact_text (array (numbers_told u.ranks.items))) ++ codes ",\"steps\":") ++ compact_text (boolean u.steps)) ++ codes "}"
+    → ((((((((((t ++ codes "{\"rules\":") ++ compact_text (array (numbers_told u.rules.items))) ++ codes ",\"outputs\":") ++ compact_text (array (numbers_told u.outputs.items))) ++ codes ",\"ranks\":")
+    ++ compact_text (array (numbers_told u.ranks.items))) ++ codes ",\"idle\":") ++ compact_text (array (numbers_told u.idle.items))) ++ codes ",\"steps\":") ++ compact_text (boolean u.steps)) ++ codes "}"
     ≡ t ++ compact_text (undecided_told u)
 undecided_pieces t u =
-    undecided_shape t (compact_text (array (numbers_told u.rules.items))) (compact_text (array (numbers_told u.outputs.items))) (compact_text (array (numbers_told u.ranks.items))) (compact_text (boolean u.steps))
+    undecided_shape t (compact_text (array (numbers_told u.rules.items))) (compact_text (array (numbers_told u.outputs.items))) (compact_text (array (numbers_told u.ranks.items)))
+    (compact_text (array (numbers_told u.idle.items))) (compact_text (boolean u.steps))
 
 line_shape : (t p c a w m : List ℕ)
     → (t ++ (((((((codes "{\"table\":" ++ p) ++ codes ",\"complete\":") ++ c) ++ codes ",\"asked\":") ++ a) ++ codes ",\"words\":") ++ w)) ++ (m ++ codes "\n")

@@ -1,20 +1,21 @@
 -- A table that isn't refused is one that `--strict` takes.
-use Rattle.std.proofs.Common.{◌≡◌, ◌∙◌, ◌⊎◌, inl, inr, ℕ, List, [], ◌∷◌, ap, arith, refl, subst, sym, Bool, true, false, not, ◌&&◌, ◌||◌, Option, None, Some, IfSome, unwrap_or}
+use Rattle.std.proofs.Common.{◌≡◌, ◌∙◌, ◌⊎◌, inl, inr, ℕ, List, [], ◌∷◌, ap, arith, refl, subst, sym, Bool, true, false, not, ◌&&◌, ◌||◌, Option, None, Some, IfSome, unwrap_or, Vec}
 use Rattle.std.specs.Prelude.{nat_lt}
 use Rattle.std.specs.List.{list_all}
 use Rattle.std.specs.Option.{is_none, is_some}
+use Rattle.std.specs.declared.alloc.Global.{Global}
 use Rattle.std.proofs.lemmas.Bool.Decides.{nat_tests}
 use Rattle.dmn_table.specs.Table.{Column, Rule, Table}
 use Rattle.dmn_table.specs.declared.hit_policy.HitPolicy.{HitPolicy}
-use Rattle.dmn_table.specs.declared.hit_policy.HitPolicy.TheVariants.{Unique}
+use Rattle.dmn_table.specs.declared.hit_policy.HitPolicy.TheVariants.{Any, Unique}
 use Rattle.dmn_analysis.specs.Claims.{IsComplete, IsUniqueAmong, TellsGaps, TellsOverlaps}
-use Rattle.dmn_analysis.specs.Kinds.{AskKinds}
 use Rattle.dmn_analysis.specs.declared.asked.Asked.{Asked}
 use Rattle.dmn_analysis.specs.declared.found.Gaps.{Gaps}
 use Rattle.dmn_analysis.specs.declared.found.Overlap.{Overlap}
 use Rattle.dmn_analysis.specs.declared.found.Overlaps.{Overlaps}
-use Rattle.desk_checking.specs.Answering.{AreAgainst, AreFaults, AreJudged, IsFound, counts_overlaps, gaps_of_kinds, is_complete, is_empty, is_refused, is_yes, lacks_rules, masks_fail, none_of, overlaps_fail, places_against}
-use Rattle.desk_checking.specs.Strict.{HasDefault, HasOneHit, IsAnswered, IsTaken}
+use Rattle.desk_checking.specs.Answering.{AreFaults, AreJudged, IsFound, counts_overlaps, gaps_of_kinds, idle_fail, is_complete, is_empty, is_faulty, is_refused, is_yes, lacks_rules, masks_fail, none_of, outputs_fail, overlaps_fail, places_against}
+use Rattle.desk_checking.specs.Deciding.{EachCanDecide}
+use Rattle.desk_checking.specs.Strict.{IsAnswered, IsTaken}
 use Rattle.desk_checking.specs.declared.answers.Answers.{Answers}
 use Rattle.desk_checking.specs.declared.answers.Faults.{Faults}
 
@@ -74,11 +75,29 @@ one_hit t all (Some o) faults is counted tells against taken =
     (none_against t.rules o.found.items against.answers 0 (subst (λ p. AreJudged p t.rules o.found.items against.answers) is against.judged)
     (sym against.places ∙ is_nothing faults.places.items outer.1))
 
--- ---- both
+-- ---- under `A` all rules that hit give the same
+
+yes_is : (o : Option Bool) → not (is_yes o) ≡ false → o ≡ Some true
+yes_is (Some true) e = refl
+yes_is (Some false) e = let wrong : true ≡ false = e in let no : ⊥ = cc in absurd no
+yes_is None e = let wrong : true ≡ false = e in let no : ⊥ = cc in absurd no
+
+known_same : (p : HitPolicy) (same : Option Bool) → p ≡ Any → outputs_fail p same ≡ false → same ≡ Some true
+known_same p same is passes = yes_is same (ap (λ q. outputs_fail q same) (sym is) ∙ passes)
+
+-- ---- each rule can decide
+
+all_decide : (t : Table) (idle : Option (Vec ℕ Global)) → IfSome idle (λ (is : Vec ℕ Global). is.items ≡ [] → EachCanDecide t) → idle_fail idle ≡ false → EachCanDecide t
+all_decide t None h e = let wrong : true ≡ false = e in let no : ⊥ = cc in absurd no
+all_decide t (Some is) h e = h (is_nothing is.items e)
+
+-- ---- all of it
 
 pub taken : (t : Table) (a : Answers) → IsFound t a → is_refused t a ≡ false → IsTaken t
 taken t a found passes =
-    let rules = neither (lacks_rules t a) (overlaps_fail a.overlaps a.faults || (not (is_empty a.never.items) || masks_fail a.masks)) passes in
+    let both = neither (is_faulty t a) (outputs_fail t.policy a.same || idle_fail a.idle) passes in
+    let rest = neither (outputs_fail t.policy a.same) (idle_fail a.idle) both.1 in
+    let rules = neither (lacks_rules t a) (overlaps_fail a.overlaps a.faults || (not (is_empty a.never.items) || masks_fail a.masks)) both.0 in
     let overlaps = neither (overlaps_fail a.overlaps a.faults) (not (is_empty a.never.items) || masks_fail a.masks) rules.1 in
     record {
       answered =
@@ -86,5 +105,7 @@ taken t a found passes =
             | inl h ↦ inl (answered_by t a a.of_kinds found found.of_kinds h)
             | inr h ↦ inr h
           ];
+      decide = all_decide t a.idle found.idle rest.1;
+      same_hits = λ is. record { asked = found.all; are = found.all_are; same = found.same (known_same t.policy a.same is rest.0) };
       one_hit = λ is. record { asked = found.all; are = found.all_are; unique = one_hit t found.all a.overlaps a.faults is found.counted found.overlaps found.faults overlaps.0 };
     }

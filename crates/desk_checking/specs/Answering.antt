@@ -1,7 +1,8 @@
 -- What is found of a decision table: what `dmn_analysis` answers, and when `--strict` refuses the table.
-use Rattle.std.specs.Prelude.{◌≡◌, ◌+◌, ℕ, List, [], ◌∷◌, Bool, true, false, not, ◌&&◌, ◌||◌, nat_lt, Option, None, Some, IfSome, unwrap_or}
+use Rattle.std.specs.Prelude.{◌≡◌, ◌+◌, ℕ, List, [], ◌∷◌, Bool, true, false, not, ◌&&◌, ◌||◌, nat_lt, Option, None, Some, IfSome, unwrap_or, Vec}
 use Rattle.std.specs.List.{All, list_all}
 use Rattle.std.specs.Option.{is_none, is_some}
+use Rattle.std.specs.declared.alloc.Global.{Global}
 use Rattle.feel_value.specs.Datum.{Datum}
 use Rattle.dmn_table.specs.Table.{Column, Rule, Table}
 use Rattle.dmn_table.specs.declared.hit_policy.HitPolicy.{HitPolicy}
@@ -14,7 +15,8 @@ use Rattle.dmn_analysis.specs.declared.found.Gaps.{Gaps}
 use Rattle.dmn_analysis.specs.declared.found.Masks.{Masks}
 use Rattle.dmn_analysis.specs.declared.found.Overlap.{Overlap}
 use Rattle.dmn_analysis.specs.declared.found.Overlaps.{Overlaps}
-use Rattle.desk_checking.specs.Outputs.{TellsOutputs}
+use Rattle.desk_checking.specs.Deciding.{EachCanDecide}
+use Rattle.desk_checking.specs.Outputs.{HitsGiveSame, TellsOutputs}
 use Rattle.desk_checking.specs.declared.answers.Answers.{Answers}
 use Rattle.desk_checking.specs.declared.answers.Faults.{Faults}
 
@@ -108,7 +110,8 @@ AreFaults t None faults = (faults.places.items ≡ []) × (faults.«open» ≡ N
 AreFaults t (Some o) faults = AreAgainst t.policy t.rules o.found.items faults
 
 -- What is found of a table: gaps among every value, and among the kinds of the constants in its tests; overlaps, where they count; rules
--- that never hit; and masked ones, where one of several hits decides. Each is what it says it is.
+-- that never hit; masked ones, where one of several hits decides; under `A` whether all that hit give the same; and rules of which it
+-- isn't known that they can decide. Each is what it says it is.
 pub record IsFound (t : Table) (a : Answers) : Type 0 where
   pub all : List Asked
   pub all_are : AskUtf8 all
@@ -122,6 +125,8 @@ pub record IsFound (t : Table) (a : Answers) : Type 0 where
   pub never : All (IsNeverMetAmong t all) a.never.items
   pub ordered : is_some a.masks ≡ has_order t.policy
   pub masks : IfSome a.masks (λ (ms : Masks). All (λ m. IsMaskedAmong t all m.rule) ms.found.items)
+  pub same : a.same ≡ Some true → HitsGiveSame t all
+  pub idle : IfSome a.idle (λ (is : Vec ℕ Global). is.items ≡ [] → EachCanDecide t)
 
 -- ---- what `--strict` refuses
 
@@ -143,5 +148,19 @@ abbrev pub masks_fail : Option Masks → Bool
 masks_fail None = false
 masks_fail (Some m) = not m.is_all || not (is_empty m.found.items)
 
+-- it isn't known that under `A` all rules that hit give the same
+abbrev pub outputs_fail : HitPolicy → Option Bool → Bool
+outputs_fail Any same = not (is_yes same)
+outputs_fail p same = false
+
+-- there is a rule of which it isn't known that it can decide, or none was looked at
+abbrev pub idle_fail : Option (Vec ℕ Global) → Bool
+idle_fail None = true
+idle_fail (Some is) = not (is_empty is.items)
+
+-- what the searches found is against the table, or wasn't decided
+abbrev pub is_faulty : Table → Answers → Bool
+is_faulty t a = lacks_rules t a || (overlaps_fail a.overlaps a.faults || (not (is_empty a.never.items) || masks_fail a.masks))
+
 abbrev pub is_refused : Table → Answers → Bool
-is_refused t a = lacks_rules t a || (overlaps_fail a.overlaps a.faults || (not (is_empty a.never.items) || masks_fail a.masks))
+is_refused t a = is_faulty t a || (outputs_fail t.policy a.same || idle_fail a.idle)

@@ -5,6 +5,7 @@ pub mod Tables
 pub mod TablesView
 pub mod Outputs
 pub mod Literals
+pub mod Deciding
 pub mod Answering
 pub mod Judged
 pub mod Strict

@@ -3,11 +3,13 @@ use Rattle.std.specs.Prelude.{◌≡◌, ◌⊎◌, List, false}
 use Rattle.std.specs.List.{list_all}
 use Rattle.std.specs.Option.{is_none}
 use Rattle.dmn_table.specs.Table.{Column, Table}
-use Rattle.dmn_table.specs.declared.hit_policy.HitPolicy.TheVariants.{Unique}
+use Rattle.dmn_table.specs.declared.hit_policy.HitPolicy.TheVariants.{Any, Unique}
 use Rattle.dmn_analysis.specs.Claims.{IsComplete, IsUniqueAmong}
 use Rattle.dmn_analysis.specs.Kinds.{AskKinds}
 use Rattle.dmn_analysis.specs.declared.asked.Asked.{Asked}
 use Rattle.desk_checking.specs.Answering.{AskUtf8}
+use Rattle.desk_checking.specs.Deciding.{EachCanDecide}
+use Rattle.desk_checking.specs.Outputs.{HitsGiveSame}
 
 -- Whatever the names stand for, some rule hits for all values of the kinds of the constants in its tests, or for every value whose texts
 -- are in UTF-8.
@@ -25,6 +27,15 @@ pub record HasOneHit (t : Table) : Type 0 where
   pub are : AskUtf8 asked
   pub unique : IsUniqueAmong t asked
 
+-- for all such values two rules that hit give the same
+pub record HasSameHits (t : Table) : Type 0 where
+  pub asked : List Asked
+  pub are : AskUtf8 asked
+  pub same : HitsGiveSame t asked
+
+-- Every request of what is asked meets a rule or has a default, no two rules hit against the policy, and each rule can decide.
 pub record IsTaken (t : Table) : Type 0 where
   pub answered : IsAnswered t ⊎ HasDefault t
   pub one_hit : t.policy ≡ Unique → HasOneHit t
+  pub same_hits : t.policy ≡ Any → HasSameHits t
+  pub decide : EachCanDecide t

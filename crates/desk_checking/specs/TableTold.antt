@@ -46,7 +46,8 @@ unique_told (Some o) ms = member (codes "unique") (answer_told (is_unique o)) ms
 abbrev pub undecided_told : Undecided → Data
 undecided_told u =
     object (member (codes "rules") (array (numbers_told u.rules.items)) (member (codes "outputs") (array (numbers_told u.outputs.items))
-    (member (codes "ranks") (array (numbers_told u.ranks.items)) (member (codes "steps") (boolean u.steps) no_members))))
+    (member (codes "ranks") (array (numbers_told u.ranks.items)) (member (codes "idle") (array (numbers_told u.idle.items))
+    (member (codes "steps") (boolean u.steps) no_members)))))
 
 -- what wasn't decided, behind the steps that were taken
 abbrev pub behind_unique : ℕ → Undecided → Members

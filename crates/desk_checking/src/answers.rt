@@ -1,16 +1,20 @@
 //! What is found of a decision table: the answers of `dmn_analysis`, and what of them is told.
-ghost use Rattle.std.specs.Prelude.{◌≡◌, [], None, IfOk, IfSome, OnOk, map, not, ◌||◌, nat_lt, unwrap_or};
+ghost use Rattle.std.specs.Prelude.{◌≡◌, [], None, Some, true, IfOk, IfSome, OnOk, map, not, ◌||◌, nat_lt, unwrap_or};
 ghost use Rattle.std.specs.List.{All};
 ghost use Rattle.std.specs.Option.{is_some};
 ghost use Rattle.dmn_table.specs.Parts.{rule_view};
 ghost use Rattle.dmn_analysis.specs.Claims.{IsMaskedAmong, TellsGaps, TellsOverlaps};
-ghost use Rattle.desk_checking.specs.Answering.{AreAgainst, AreFaults, IsFound, IsJudged, TellsWords, counts_overlaps, gaps_of_kinds, gaps_of_words, has_order, is_complete, is_empty, is_refused, is_yes, lacks_rules, masks_fail, none_of, overlaps_fail};
+ghost use Rattle.desk_checking.specs.Answering.{AreAgainst, AreFaults, IsFound, IsJudged, TellsWords, counts_overlaps, gaps_of_kinds, gaps_of_words, has_order, idle_fail, is_complete, is_empty, is_faulty, is_refused, is_yes, lacks_rules, masks_fail, none_of, outputs_fail, overlaps_fail};
+ghost use Rattle.desk_checking.specs.Deciding.{EachCanDecide};
 ghost use Rattle.desk_checking.specs.Judged.{with_open, with_place};
+ghost use Rattle.desk_checking.specs.Outputs.{HitsGiveSame};
 
+use crate::deciding::find_idle;
+use crate::groups::groups_of;
 use crate::same_outputs::outputs_differ;
 use dmn_analysis::{
     Asked, Gaps, Masks, Overlap, Overlaps, Texts, every_value, find_gaps, find_masked,
-    find_overlaps, kinds_asked, never_met,
+    find_overlaps, hit_in_one_group, kinds_asked, never_met,
 };
 use dmn_table::{HitPolicy, Rule, Table, has_no_default};
 use std::alloc::{AllocError, Global};
@@ -29,6 +33,9 @@ const MOST_PAIR_CELLS: usize = 200_000;
 
 /// The steps that each search is given.
 const STEPS: u64 = 2_000_000;
+
+/// Those of the search for values for which rules decide, which are smaller.
+const SMALL_STEPS: u64 = 20_000_000;
 
 /// What is found of a table.
 #[derive(Drop)]
@@ -49,6 +56,11 @@ pub struct Answers {
     pub never: Vec<usize>,
     /// The masked rules, under `F` and `P`.
     pub masks: Option<Masks>,
+    /// Whether it is known, under `A`, that all rules that hit give the same; none where that was not looked for: the table is refused
+    /// without.
+    pub same: Option<bool>,
+    /// The rules of which it isn't known that they can decide; none where these were not looked for: the table is refused without.
+    pub idle: Option<Vec<usize>>,
 }
 
 /// Which overlaps are against the hit policy.
@@ -344,6 +356,73 @@ fn masks_fail(masks: &Option<Masks>) -> bool
     !masks.found.is_empty()
 }
 
+/// Whether it isn't known that all rules that hit give the same, where that counts.
+fn outputs_fail(policy: HitPolicy, same: Option<bool>) -> bool
+    ensures { result ≡ outputs_fail policy same }
+{
+    match policy {
+        HitPolicy::Any => !is_yes(same),
+        HitPolicy::Unique
+        | HitPolicy::Priority
+        | HitPolicy::First
+        | HitPolicy::OutputOrder
+        | HitPolicy::RuleOrder
+        | HitPolicy::Collect
+        | HitPolicy::Sum
+        | HitPolicy::Least
+        | HitPolicy::Greatest
+        | HitPolicy::Count => false,
+    }
+}
+
+/// Whether it is known, under `A`, that all rules that hit give the same, of a table that isn't refused without.
+fn give_same(
+    alloc: Global,
+    table: &Table,
+    all: &[Asked],
+    answers: &Answers,
+) -> Result<Option<bool>, AllocError>
+    ensures { IfOk result (λ same. same ≡ Some true → HitsGiveSame table.now all.now) }
+{
+    let HitPolicy::Any = table.policy() else {
+        return Ok(None);
+    };
+    if answers.is_faulty(table) {
+        return Ok(None);
+    }
+    let groups = groups_of(alloc, table.rules())?;
+    let same = hit_in_one_group(alloc, table, all, &groups, STEPS)?;
+    Ok(Some(same))
+}
+
+/// Whether there is a rule of which it isn't known that it can decide, or none was looked at.
+fn idle_fail(idle: &Option<Vec<usize>>) -> bool
+    ensures { result ≡ idle_fail idle.now }
+{
+    match idle {
+        Some(idle) => !idle.is_empty(),
+        None => true,
+    }
+}
+
+/// The rules of which it isn't known that they can decide, of a table that isn't refused without.
+fn idle_of(
+    alloc: Global,
+    table: &Table,
+    answers: &Answers,
+) -> Result<Option<Vec<usize>>, AllocError>
+    ensures { IfOk result (λ found. IfSome found (λ idle. idle.items ≡ [] → EachCanDecide table.now)) }
+{
+    if answers.is_faulty(table) {
+        return Ok(None);
+    }
+    if outputs_fail(table.policy(), answers.same) {
+        return Ok(None);
+    }
+    let idle = find_idle(alloc, table, SMALL_STEPS)?;
+    Ok(Some(idle))
+}
+
 fn is_yes(answer: Option<bool>) -> bool
     ensures { result ≡ is_yes answer }
 {
@@ -370,7 +449,7 @@ impl Answers {
         let masks = masks_of(alloc, table, &all)?;
         let of_kinds = gaps_among_kinds(alloc, table, &every, &kinds, most)?;
         let of_words = gaps_among_words(alloc, table, narrower(&every, &of_kinds), most)?;
-        Ok(Answers {
+        let mut answers = Answers {
             every,
             kinds,
             of_kinds,
@@ -379,7 +458,14 @@ impl Answers {
             faults,
             never,
             masks,
-        })
+            same: None,
+            idle: None,
+        };
+        let same = give_same(alloc, table, &all, &answers)?;
+        answers.same = same;
+        let idle = idle_of(alloc, table, &answers)?;
+        answers.idle = idle;
+        Ok(answers)
     }
 
     /// Whether a rule hits, whatever the values; None where that wasn't decided.
@@ -438,10 +524,10 @@ impl Answers {
         has_no_default(table.outputs())
     }
 
-    /// Whether `strict` refuses the table: among the kinds that are asked there is a gap and no default, overlaps are against the hit
-    /// policy, a rule never hits or is masked, or one of these isn't known.
-    pub(crate) fn are_refused(&self, table: &Table) -> bool
-        ensures { result ≡ is_refused table.now self.now }
+    /// Whether among the kinds that are asked there is a gap and no default, overlaps are against the hit policy, a rule never hits or is
+    /// masked, or one of these isn't known.
+    fn is_faulty(&self, table: &Table) -> bool
+        ensures { result ≡ is_faulty table.now self.now }
     {
         if self.lacks_rules(table) {
             return true;
@@ -453,5 +539,19 @@ impl Answers {
             return true;
         }
         masks_fail(&self.masks)
+    }
+
+    /// Whether `strict` refuses the table: for one of these, or since it isn't known that each rule can decide, or under `A` that all rules
+    /// that hit give the same.
+    pub(crate) fn are_refused(&self, table: &Table) -> bool
+        ensures { result ≡ is_refused table.now self.now }
+    {
+        if self.is_faulty(table) {
+            return true;
+        }
+        if outputs_fail(table.policy(), self.same) {
+            return true;
+        }
+        idle_fail(&self.idle)
     }
 }

@@ -5,8 +5,8 @@ ghost use Rattle.desk_checking.specs.Answering.{IsFound, is_refused};
 ghost use Rattle.desk_checking.specs.Strict.{IsTaken};
 ghost use Rattle.desk_checking.specs.declared.answers.Answers.{Answers};
 
-/// Where it doesn't refuse a table, the table has a default or some rule hits for all values of the kinds that are asked; and under `U`
-/// no two rules hit.
+/// Where it doesn't refuse a table, the table has a default or some rule hits for all values of the kinds that are asked; under `U` no
+/// two rules hit; under `A` all that hit give the same; and each rule can decide.
 pub fn strict_takes()
     ensures { (t : Table) (a : Answers) → IsFound t a → is_refused t a ≡ false → IsTaken t }
 {}

@@ -4,10 +4,13 @@
 
 mod answers;
 mod cells;
+mod cost;
 mod cut;
+mod deciding;
 mod fault_lines;
 mod faults;
 mod findings;
+mod groups;
 mod input;
 mod laws;
 mod long;
@@ -21,6 +24,7 @@ mod same_tree;
 mod subject;
 mod table_lines;
 mod tables;
+mod trying;
 mod undecided;
 mod walk;
 

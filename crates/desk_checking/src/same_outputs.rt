@@ -36,7 +36,7 @@ fn opposite(tree: &Tree) -> Option<i64>
 }
 
 /// The number that an expression is, where it is a literal with a `-`.
-fn negative(tree: &Tree) -> Option<i64>
+pub(crate) fn negative(tree: &Tree) -> Option<i64>
     ensures { IfSome result (λ z. HasValue (view tree.now) (number z)) }
 {
     match tree {

@@ -57,6 +57,8 @@ fn add_undecided(undecided: &Undecided, text: &mut Vec<u8>) -> Result<(), AllocE
     add_rules(&undecided.outputs, text)?;
     text.extend_from_slice(b",\"ranks\":")?;
     add_rules(&undecided.ranks, text)?;
+    text.extend_from_slice(b",\"idle\":")?;
+    add_rules(&undecided.idle, text)?;
     text.extend_from_slice(b",\"steps\":")?;
     add_bool(undecided.steps, text)?;
     text.extend_from_slice(b"}")?;

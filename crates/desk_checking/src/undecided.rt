@@ -13,6 +13,8 @@ pub(crate) struct Undecided {
     pub(crate) outputs: Vec<usize>,
     /// Rules of which it isn't known which go before them.
     pub(crate) ranks: Vec<usize>,
+    /// Rules of which it isn't known that they can decide, where these were looked for.
+    pub(crate) idle: Vec<usize>,
     /// Whether the steps of a search ran out.
     pub(crate) steps: bool,
 }
@@ -84,6 +86,13 @@ fn open_ranks(alloc: Global, answers: &Answers) -> Result<Vec<usize>, AllocError
     }
 }
 
+fn open_idle(alloc: Global, answers: &Answers) -> Result<Vec<usize>, AllocError> {
+    match &answers.idle {
+        Some(idle) => Vec::from_slice(alloc, idle),
+        None => Ok(Vec::new(alloc)),
+    }
+}
+
 impl Undecided {
     /// What of a table wasn't decided.
     pub(crate) fn of(alloc: Global, answers: &Answers) -> Result<Undecided, AllocError> {
@@ -94,7 +103,11 @@ impl Undecided {
             rules: open_rules(alloc, answers)?,
             outputs: open_outputs(alloc, answers)?,
             ranks: open_ranks(alloc, answers)?,
-            steps: of_gaps || overlaps_ran_out(&answers.overlaps) || masks_ran_out(answers),
+            idle: open_idle(alloc, answers)?,
+            steps: of_gaps
+                || overlaps_ran_out(&answers.overlaps)
+                || masks_ran_out(answers)
+                || answers.same == Some(false),
         })
     }
 }

@@ -1,5 +1,6 @@
 mod Answering
 mod Constants
+mod GroupSearches
 mod Halves
 mod HitRules
 mod Joins

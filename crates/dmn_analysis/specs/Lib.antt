@@ -8,6 +8,7 @@ pub mod Claims
 pub mod Searching
 pub mod Sharing
 pub mod Telling
+pub mod Grouping
 pub mod Joining
 pub mod Ranking
 pub mod Listing

@@ -116,7 +116,7 @@ fn tell(
 }
 
 // Whether nothing is pending.
-fn are_none(pending: &[Pending]) -> bool
+pub(crate) fn are_none(pending: &[Pending]) -> bool
     ensures none { IsTrue result → pending.now ≡ [] }
     ensures all { pending.now ≡ [] → IsTrue result }
 {

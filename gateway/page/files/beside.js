@@ -45,17 +45,18 @@ function drawBeside(name, [before, after]) {
   }
   const most = [...kinds].sort((one, other) => other[1] - one[1]).slice(0, 12);
   const body = el("tbody");
-  const scroller = framed("Requests with another answer",
-    el("table", { class: "virtual answers beside" }, heads("Line", "Client", "In force", "Changed"), body));
+  const hasClients = differing.some(({ client }) => client);
+  const scroller = framed("Requests with another answer", el("table", { class: `virtual answers beside ${hasClients ? "clients" : ""}` },
+    heads("Line", hasClients && "Client", "In force", "Changed"), body));
   const table = new Rows(scroller, body, (at) => {
     const row = differing[at];
     const attributes = { class: "rule", "data-at": at, "aria-label": `Line ${row.line}: look at it` };
     return el("tr", {}, el("th", { scope: "row" }, button(String(row.line), () => openLine(before, row), attributes)),
-      el("td", { title: row.client }, row.client ?? ""), el("td", { title: row.before }, el("code", {}, row.before)),
+      hasClients ? el("td", { title: row.client }, row.client ?? "") : null, el("td", { title: row.before }, el("code", {}, row.before)),
       el("td", { title: row.after }, el("code", {}, row.after)));
   });
   put(byID("beside-rows"), el("ul", {}, most.map(([kind, times]) => el("li", {}, `${grouped(times)}: `, el("code", {}, kind)))),
-    el("p", {}, button("What differs as CSV", () => save("differences.csv", asCSV(differing)))), scroller);
+    el("p", { class: "row" }, button("What differs as CSV", () => save("differences.csv", asCSV(differing)))), scroller);
   table.show(differing.length);
 }
 

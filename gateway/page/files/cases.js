@@ -4,7 +4,10 @@ import { decide, fillFrom, remember } from "./case.js";
 import { button, byID, counted, el, first, isObject, put, readJSON, save, show, writeJSON } from "./dom.js";
 import { showTab } from "./panes.js";
 import { alarm, model, state, tried } from "./state.js";
-import { inLine, limit } from "./values.js";
+import { commas, inLine, limit } from "./values.js";
+
+/** How many letters of the inputs of a case are shown. */
+const MOST_LETTERS = 240;
 
 /** Whether the case that is shown can be kept. */
 export function drawKeep() {
@@ -80,7 +83,7 @@ function item(it, at) {
     el("p", { class: "field" }, el("label", { for: name.id }, "Name"), name),
     el("p", { class: "field" }, el("label", { for: id }, "Due"), due),
     el("p", {}, isFine ? "✓ it comes. " : ["✗ what comes is ", it.fault ? limit(it.fault) : inLine(it.got), ". "]),
-    el("p", { class: "quiet" }, show(it.inputs).slice(0, 200)),
+    el("p", { class: "quiet" }, commas(show(model().named(it.inputs)).slice(0, MOST_LETTERS))),
     el("p", { class: "row" }, button("Open", () => openCase(it), { "aria-label": `Open ${it.name}` }), " ",
       button("Remove", remove, { "aria-label": `Remove ${it.name}` })));
 }

@@ -23,7 +23,7 @@ export async function takeModel(file) {
   const same = it.sha256 === state.models.inForce.sha256 ? " It is the model in force." : "";
   put(byID("changed"),
     el("p", {}, `${file.name}: ${said}, and ${counted(it.findings.length, "place")} to look at.${same}`),
-    button("Leave it", () => leaveModel()));
+    el("p", { class: "row" }, button("Leave it", () => leaveModel())));
   byID("which").hidden = false;
   leaveBeside(it.isLawful);
   showWhich("changed");

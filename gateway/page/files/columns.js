@@ -5,10 +5,11 @@ const MOST = 48;
 const MOST_WRAPPED = 16;
 const MOST_LINES = 4;
 const MOST_HEAD_LINES = { whole: 3, wrapped: 4 };
-/** The letters that the space around a text takes, also where letters are small, and those of a mark. */
+/** The letters that the space around a text takes, also where letters are small, and those of a mark, also of one at the head. */
 const AROUND = 2.25;
 const AROUND_SMALL = 2.5;
 const MARK = 4;
+const HEAD_MARK = 0.6;
 /** What the border before the outputs takes. */
 const EDGE = 0.3;
 /** How much of the frame what stays in view may take before texts get several lines. */
@@ -53,11 +54,12 @@ const single = ({ name, texts }) => forName(name, Math.max(3, Math.min(MOST, lon
 
 /**
  * The widths of columns in letters, and how many lines their cells have. A column has its `kind` (when or then), `name`, `texts`
- * and whether cells have marks. `frame` is how many letters are in view, `rule` how many the number of the rule takes. Small are
+ * and whether cells or the head have marks. `frame` is how many letters are in view, `rule` how many the number of the rule takes. Small are
  * letters where the frame is narrow, or has not all columns.
  */
 export function widthsOf(columns, { frame, rule, isSmall }) {
-  const around = (it) => (isSmall ? AROUND_SMALL : AROUND) + (it.kind === "then" ? EDGE : 0) + (it.isMarked ? MARK : 0);
+  const mark = (it) => (it.isMarked ? MARK : it.isHeadMarked ? HEAD_MARK : 0);
+  const around = (it) => (isSmall ? AROUND_SMALL : AROUND) + (it.kind === "then" ? EDGE : 0) + mark(it);
   const width = (of) => columns.map((it) => of(it) + around(it));
   const widths = width(single);
   const staying = columns.reduce((sum, { kind }, at) => sum + (kind === "then" ? widths[at] : 0), rule);

@@ -46,7 +46,7 @@ function drawCoverage(coverage) {
   const count = coverage.answers.length;
   const refused = coverage.answers.filter((it) => it.problem !== undefined).length;
   put(byID("coverage"),
-    el("p", {}, button("Rules as CSV", () => save("rules.csv", coverage.rulesCSV())), " ",
+    el("p", { class: "row" }, button("Rules as CSV", () => save("rules.csv", coverage.rulesCSV())), " ",
       button("Answers as CSV", () => save("answers.csv", coverage.answersCSV()))),
     ...neverList(never, `Rules that never ${word}`), ...answersOf(coverage));
   const seconds = (performance.now() - coverage.start) / 1000;
@@ -81,13 +81,14 @@ function answersOf(coverage) {
   }
   let shown = coverage.answers;
   const body = el("tbody");
-  const scroller = framed("The answers",
-    el("table", { class: "virtual answers" }, heads("Line", "Client", "Answer"), body));
+  const hasClients = coverage.answers.some(({ client }) => client);
+  const scroller = framed("The answers", el("table", { class: `virtual answers ${hasClients ? "clients" : ""}` },
+    heads("Line", hasClients && "Client", "Answer"), body));
   const rows = new Rows(scroller, body, (at) => {
     const it = shown[at];
     const attributes = { class: "rule", "data-at": at, "aria-label": `Line ${it.line}: look at it` };
     return el("tr", {}, el("th", { scope: "row" }, button(`${it.line}`, () => openLine(coverage, it), attributes)),
-      el("td", { title: it.client }, it.client ?? ""), el("td", { title: said(it) }, el("code", {}, said(it))));
+      hasClients ? el("td", { title: it.client }, it.client ?? "") : null, el("td", { title: said(it) }, el("code", {}, said(it))));
   });
   const only = (kind) => {
     shown = kind === "" ? coverage.answers : coverage.answers.filter((it) => kindOf(it) === kind);
@@ -99,7 +100,7 @@ function answersOf(coverage) {
   const choice = el("select", { id: "only", onchange: (event) => only(event.target.value) },
     el("option", { value: "" }, "all"), options);
   queueMicrotask(() => only(""));
-  return [el("p", {}, el("label", { for: "only" }, "Answers"), " ", choice), scroller];
+  return [el("p", { class: "row" }, el("label", { for: "only" }, "Answers"), " ", choice), scroller];
 }
 
 /** Fills the form with the inputs that got an answer, and asks. */

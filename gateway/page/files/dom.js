@@ -167,4 +167,4 @@ export const framed = (name, ...children) =>
   el("div", { class: "scroll", role: "region", tabindex: 0, "aria-label": `${name}, which scrolls` }, ...children);
 
 /** The head of a table. */
-export const heads = (...texts) => el("thead", {}, el("tr", {}, texts.map((text) => el("th", { scope: "col" }, text))));
+export const heads = (...texts) => el("thead", {}, el("tr", {}, texts.filter(Boolean).map((text) => el("th", { scope: "col" }, text))));

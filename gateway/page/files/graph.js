@@ -1,67 +1,79 @@
-// The graph of what needs what as a map: laid out here in layers, or as the file draws it; whole at first, with zoom.
-import { button, plain, show, svg } from "./dom.js";
+// The graph of what needs what as a map: laid out here, or as the file draws it; whole at first, with zoom.
+import { button, isObject, plain, show, svg } from "./dom.js";
+import { fits, GREAT, Label, LARGE, SMALL } from "./label.js";
+import { asDrawn, layersOf, mostAcross, placed } from "./layers.js";
 import { MapView } from "./map.js";
 
-const WIDTH = 168;
-const HEIGHT = 62;
-const ACROSS = 20;
-const DOWN = 40;
-const MARGIN = 10;
-/** The frame that a graph of many inputs is laid out for, and how many boxes stand in a row at most. */
-const FRAME = { width: 620, height: 290 };
-const MOST_ACROSS = 48;
 /** How much is seen around the boxes. */
 const AROUND = 2;
 /** A drawing is tall that is so many times as high as wide: it stands beside the decision, not below. */
 const TALL = 1.2;
-/**
- * How names and values are written in a box: in letters of 20 pixels in large boxes of a file, of 14, or of 12. Where a box has no
- * room for its value, the value is below it.
- */
-const GREAT = { kind: "node great", letter: 11, mono: 12, row: 22, top: 24, bottom: 9, rows: 2 };
-const LARGE = { kind: "node", letter: 8, mono: 8.5, row: 16, top: 19, bottom: 8, rows: 2 };
-const FULL = { kind: "node", letter: 8, mono: 8.5, row: 14, top: 13, bottom: -15, rows: 3 };
-const SMALL = { kind: "node small", letter: 7, mono: 7.3, row: 13, top: 14, bottom: 5, rows: 2 };
-/** The least width of a box whose letters are no small ones. */
-const BROAD = 100;
+/** How round the corners of decisions and of inputs are. */
+const ROUND = { decision: 2, input: 12 };
+/** So many parts of a value are listed where it is pointed at. */
+const MOST_PARTS = 32;
 
 export class GraphView {
   /** `onpick` is called with the word of a decision or an input. */
   constructor(model, onpick) {
-    this.model = model;
-    this.nodes = new Map();
-    const drawn = asDrawn(model);
-    const boxes = drawn ?? laidOut(model);
-    const isGreat = ({ name }) => fits(model.name(name), drawn.get(name), GREAT);
-    this.types = drawn && model.decisions.every(isGreat) ? [GREAT, LARGE, FULL, SMALL] : [LARGE, FULL, SMALL];
-    this.edges = new Map([...boxes.keys()].map((word) => [word, []]));
-    const lines = model.decisions.flatMap((decision) => model.needs(decision).map((need) => {
-      const line = edge(boxes.get(need), boxes.get(decision.name));
-      for (const word of [need, decision.name]) this.edges.get(word).push(line);
-      return line;
-    }));
-    const nodes = [...boxes].map(([word, box]) => this.node(word, box, onpick));
-    this.boxes = boxes;
+    Object.assign(this, { model, onpick, told: new Map() });
+    this.element = svg("svg", { role: "group", "aria-label": "The decisions, and what each needs" });
+    this.drawn = asDrawn(model);
+    this.layers = this.drawn ? null : layersOf(model);
+    this.draw(this.drawn ?? placed(this.layers, this.most = mostAcross(this.layers)));
     const around = this.around();
     this.isTall = around.height > TALL * around.width;
-    this.element = svg("svg", { role: "group", "aria-label": "The decisions, and what each needs" }, arrow(), ...lines, ...nodes);
+    this.width = around.width;
     this.view = new MapView(this.element, around);
     const of = (text, label, work) => button(text, work, { "aria-label": label, title: label });
     this.buttons = [of("+", "Zoom in", () => this.view.zoom(0.7)), of("\u2212", "Zoom out", () => this.view.zoom(1 / 0.7)),
       of("All", "Show the whole graph", () => this.view.whole()),
       of("Here", "Show the decision that is open", () => this.come(this.current))];
     this.element.addEventListener("keydown", (event) => this.key(event));
-    this.stop([...boxes.keys()][0]);
+    this.stop([...this.boxes.keys()][0]);
+    if (this.layers) new ResizeObserver(() => this.layOut()).observe(this.element);
   }
 
-  /** What is around all boxes, and the values below them. */
+  /** Draws all boxes, and the lines between them. */
+  draw(boxes) {
+    const { model } = this;
+    const radius = (word) => (model.numbers.has(word) ? ROUND.decision : ROUND.input);
+    this.boxes = new Map([...boxes].map(([word, box]) => [word, { ...box, radius: Math.min(radius(word), box.height / 2) }]));
+    const isGreat = ({ name }) => fits(model.name(name), this.boxes.get(name), GREAT);
+    this.sizes = this.drawn && model.decisions.every(isGreat) ? [GREAT, LARGE, SMALL] : [LARGE, SMALL];
+    this.edges = new Map([...boxes.keys()].map((word) => [word, []]));
+    this.nodes = new Map();
+    const lines = model.decisions.flatMap((decision) => model.needs(decision).map((need) => {
+      const line = edge(this.boxes.get(need), this.boxes.get(decision.name));
+      for (const word of [need, decision.name]) this.edges.get(word).push(line);
+      return line;
+    }));
+    this.element.replaceChildren(arrow(), ...lines, ...[...this.boxes].map(([word, box]) => this.node(word, box)));
+  }
+
+  /** Lays the boxes out for the frame as it is now, where letters get larger by that. */
+  layOut() {
+    const { clientWidth: width, clientHeight: height } = this.element;
+    const most = width > 0 && height > 0 ? mostAcross(this.layers, { width, height }) : this.most;
+    if (most === this.most) return;
+    this.most = most;
+    const hasFocus = this.element.contains(document.activeElement);
+    this.draw(placed(this.layers, most));
+    this.tell(this.told);
+    this.stop(this.stopped);
+    this.mark(true);
+    this.view.take(this.around());
+    if (hasFocus) this.nodes.get(this.stopped)?.group.focus({ preventScroll: true });
+  }
+
+  /** What is around all boxes. */
   around() {
-    const all = [...this.boxes].map(([word, box]) => ({ ...box, below: this.nodes.get(word).below }));
+    const all = [...this.boxes.values()];
     if (all.length === 0) return { x: 0, y: 0, width: 1, height: 1 };
     const x = Math.min(...all.map((box) => box.x)) - AROUND;
     const y = Math.min(...all.map((box) => box.y)) - AROUND;
     const right = Math.max(...all.map((box) => box.x + box.width)) + AROUND;
-    const bottom = Math.max(...all.map((box) => box.y + box.height + box.below)) + AROUND;
+    const bottom = Math.max(...all.map((box) => box.y + box.height)) + AROUND;
     return { x, y, width: right - x, height: bottom - y };
   }
 
@@ -93,16 +105,18 @@ export class GraphView {
 
   /** Marks the decision that is open, and has it in view. */
   open(word) {
-    const mark = (is) => {
-      this.nodes.get(this.current)?.group.classList.toggle("current", is);
-      for (const line of this.edges.get(this.current) ?? []) line.classList.toggle("near", is);
-    };
-    mark(false);
+    this.mark(false);
     this.current = word;
-    mark(true);
+    this.mark(true);
     if (!this.nodes.has(word)) return;
     this.stop(word);
     this.view.reach(this.boxes.get(word));
+  }
+
+  /** Marks the decision that is open and the lines to it, or no longer. */
+  mark(is) {
+    this.nodes.get(this.current)?.group.classList.toggle("current", is);
+    for (const line of this.edges.get(this.current) ?? []) line.classList.toggle("near", is);
   }
 
   /** Shows a decision so near that it can be read. */
@@ -110,15 +124,11 @@ export class GraphView {
     if (this.boxes.has(word)) this.view.near(this.boxes.get(word));
   }
 
-  node(word, box, onpick) {
+  node(word, box) {
     const decision = this.model.decisions[this.model.numbers.get(word)];
     const name = this.model.name(word);
-    const types = decision ? this.types : [LARGE, FULL, SMALL];
-    const type = types.find((it) => fits(name, box, it)) ?? (box.width < BROAD ? SMALL : LARGE);
-    const rows = written(name, box, type);
-    const letters = Math.max(6, Math.floor((box.width - 12) / type.mono));
-    const value = svg("text", { class: "worth", x: box.x + box.width / 2, y: box.y + box.height - type.bottom });
-    const pick = () => onpick(word);
+    const label = new Label(name, box, decision ? this.sizes : [LARGE, SMALL]);
+    const pick = () => this.onpick(word);
     const needs = decision ? this.model.needs(decision).map((need) => this.model.name(need)).join(", ") : "";
     const said = decision ? `decision ${name}${needs ? `, needs ${needs}` : ""}` : `input ${name}`;
     const onkeydown = (event) => {
@@ -126,143 +136,45 @@ export class GraphView {
       event.preventDefault();
       pick();
     };
-    const attributes = { class: type.kind, role: "button", tabindex: -1, "aria-label": said };
-    const group = svg("g", { ...attributes, onclick: pick, onkeydown },
-      svg("title", {}, name),
-      svg("rect", { ...box, rx: decision ? 2 : Math.min(box.height / 2, 22) }),
-      ...rows.map((row, at) => svg("text", { x: box.x + box.width / 2, y: box.y + type.top + at * type.row }, row)), value);
-    this.nodes.set(word, { group, value, letters, said, below: Math.max(0, 4 - type.bottom) });
+    const attributes = { class: label.size.kind, role: "button", tabindex: -1, "aria-label": said };
+    const title = svg("title", {}, name);
+    const { x, y, width, height, radius } = box;
+    const group = svg("g", { ...attributes, onclick: pick, onkeydown }, svg("title", {}, name),
+      svg("rect", { x, y, width, height, rx: radius }, title), ...label.texts);
+    this.nodes.set(word, { group, label, name, said, title });
     return group;
   }
 
   /** Shows the value of each decision and input: a map from words to what was told. */
   tell(values) {
-    for (const [word, { group, value, letters, said }] of this.nodes) {
+    this.told = values;
+    for (const [word, { group, label, name, said, title }] of this.nodes) {
       const it = values.get(word);
+      label.tell(it);
       const text = it === undefined ? "" : it.fault ?? show(it.value);
-      value.textContent = cut(plain(text), letters);
       group.classList.toggle("told", it !== undefined);
       group.classList.toggle("limit", Boolean(it?.fault));
       group.classList.toggle("null", it !== undefined && !it.fault && it.value === null);
       group.setAttribute("aria-label", plain(text ? `${said}; its value is ${text}` : said));
+      title.textContent = plain([name, ...(it === undefined || it.fault ? [text] : this.parts(it.value))].join("\n").trim());
     }
   }
-}
 
-const cut = (text, letters) => (text.length > letters ? text.slice(0, letters - 2) + ".." : text);
-
-/** The rows of a name in a box; above its value, where that is in the box. */
-function written(name, { width, height }, type) {
-  const most = type.bottom < 0 ? Math.floor(height / type.row) : Math.floor((height - type.top - type.bottom) / type.row);
-  return wrapped(name, Math.max(6, Math.floor((width - 12) / type.letter)), Math.max(1, Math.min(type.rows, most)));
-}
-
-/** Whether a name is whole in a box, in letters of a size. */
-function fits(name, box, type) {
-  const bare = (text) => text.replaceAll(/\s/g, "");
-  return bare(written(name, box, type).join("")) === bare(name);
-}
-
-/** A name in rows of so many letters. */
-function wrapped(name, letters, most) {
-  const rows = [""];
-  for (const word of name.split(/(?<=[ _])/)) {
-    if (rows.at(-1) && (rows.at(-1) + word).trimEnd().length > letters && rows.length < most) rows.push("");
-    rows[rows.length - 1] += word;
+  /** A value in lines: each part of a context or a list has one, with the way to it. */
+  parts(value) {
+    const lines = [];
+    const walk = (part, way) => {
+      const inner = Array.isArray(part) ? part.map((it, at) => [at + 1, it]) : isObject(part) ? Object.entries(part) : [];
+      if (inner.length === 0) lines.push([way.join("."), show(part)].filter(Boolean).join(": "));
+      for (const [key, it] of inner) if (lines.length <= MOST_PARTS) walk(it, [...way, this.model.name(key)]);
+    };
+    walk(value, []);
+    return lines.length <= MOST_PARTS ? lines : [...lines.slice(0, MOST_PARTS), ".."];
   }
-  return rows.map((row) => cut(row.trimEnd(), letters));
-}
-
-/** The boxes of the file's own diagram; null where it has none. */
-function asDrawn(model) {
-  const words = [...model.inputs, ...model.decisions.map((decision) => decision.name)];
-  if (!model.diagram || !words.every((word) => model.diagram[word])) return null;
-  const left = Math.min(...words.map((word) => model.diagram[word][0])) - MARGIN;
-  const top = Math.min(...words.map((word) => model.diagram[word][1])) - MARGIN;
-  return new Map(words.map((word) => {
-    const [x, y, width, height] = model.diagram[word];
-    return [word, { x: x - left, y: y - top, width, height }];
-  }));
-}
-
-/** Boxes in layers: inputs at the bottom, each decision above all that it needs. */
-function laidOut(model) {
-  const needs = new Map(model.decisions.map((decision) => [decision.name, model.needs(decision)]));
-  const layers = layersOf(model, needs);
-  const places = new Map();
-  const put = (layer) => layer.forEach((word, at) => places.set(word, at - (layer.length - 1) / 2));
-  const sort = (layer, near) => {
-    const middles = new Map(layer.map((word) => {
-      const others = near(word).filter((other) => places.has(other));
-      const sum = others.reduce((all, other) => all + places.get(other), 0);
-      return [word, others.length > 0 ? sum / others.length : places.get(word) ?? 0];
-    }));
-    layer.sort((one, other) => middles.get(one) - middles.get(other));
-    put(layer);
-  };
-  const users = new Map();
-  for (const [word, needed] of needs) needed.forEach((need) => (users.has(need) ? users.get(need).push(word) : users.set(need, [word])));
-  layers.forEach(put);
-  for (let times = 0; times < 3; times += 1) {
-    layers.slice(1).forEach((layer) => sort(layer, (word) => needs.get(word) ?? []));
-    layers.slice(0, -1).reverse().forEach((layer) => sort(layer, (word) => users.get(word) ?? []));
-  }
-  return placed(largest(layers));
-}
-
-/** The rows of layers: those that are wide have several, so many that letters are largest where the whole is seen. */
-function largest(layers) {
-  let [best, scale] = [[], 0];
-  for (let most = MOST_ACROSS; most >= 3; most -= 1) {
-    const rows = layers.flatMap((layer) => rowsOf(layer, most));
-    const across = Math.max(...rows.map((row) => row.length)) * (WIDTH + ACROSS);
-    const got = Math.min(1, FRAME.width / across, FRAME.height / (rows.length * (HEIGHT + DOWN)));
-    if (got > scale) [best, scale] = [rows, got];
-  }
-  return best;
-}
-
-function rowsOf(layer, most) {
-  const rows = Math.ceil(layer.length / most);
-  const length = Math.ceil(layer.length / rows);
-  return Array.from({ length: rows }, (_, at) => layer.slice(at * length, (at + 1) * length));
-}
-
-function placed(rows) {
-  const widest = Math.max(1, ...rows.map((row) => row.length));
-  const boxes = new Map();
-  rows.forEach((row, depth) => row.forEach((word, at) => boxes.set(word, {
-    x: MARGIN + (at + (widest - row.length) / 2) * (WIDTH + ACROSS),
-    y: MARGIN + (rows.length - 1 - depth) * (HEIGHT + DOWN),
-    width: WIDTH,
-    height: HEIGHT,
-  })));
-  return boxes;
-}
-
-/** Words by how long the longest way down from each is. A model with a fault may go round. */
-function layersOf(model, needs) {
-  const depths = new Map(model.inputs.map((word) => [word, 0]));
-  const depth = (word, above) => {
-    if (depths.has(word)) return depths.get(word);
-    if (above.has(word)) return 0;
-    above.add(word);
-    const deepest = Math.max(0, ...(needs.get(word) ?? []).map((need) => depth(need, above)));
-    above.delete(word);
-    depths.set(word, deepest + 1);
-    return deepest + 1;
-  };
-  const layers = [[...new Set(model.inputs)]];
-  for (const word of needs.keys()) {
-    const at = depth(word, new Set());
-    while (layers.length <= at) layers.push([]);
-    layers[at].push(word);
-  }
-  return layers;
 }
 
 const arrow = () => svg("defs", {}, svg("marker", { id: "arrow", viewBox: "0 0 8 8", refX: 7, refY: 4, markerWidth: 8,
-  markerHeight: 8, orient: "auto" }, svg("path", { d: "M0 0 8 4 0 8z" })));
+  markerHeight: 8, markerUnits: "userSpaceOnUse", orient: "auto" }, svg("path", { d: "M0 0 8 4 0 8z" })));
 
 /** A line between two boxes, from border to border. */
 function edge(from, to) {

@@ -14,6 +14,12 @@ export class MapView {
     new ResizeObserver(() => this.isWhole && this.whole()).observe(element);
   }
 
+  /** Takes a drawing that was made anew, and shows all of it. */
+  take(drawing) {
+    this.drawing = drawing;
+    this.whole();
+  }
+
   set(view) {
     this.view = view;
     this.isWhole = false;

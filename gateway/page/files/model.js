@@ -145,12 +145,21 @@ export class Model {
       (at === pointer || (inside && at.startsWith(pointer + "/"))));
   }
 
-  /** Values with the words of the model as their keys. */
+  /** Values with the words of the model as their keys, or with the names of the file. */
   worded(value) {
-    if (Array.isArray(value)) return value.map((part) => this.worded(part));
-    if (!isObject(value)) return value;
-    return Object.fromEntries(Object.entries(value).map(([name, part]) => [this.word(name), this.worded(part)]));
+    return withKeys(value, (name) => this.word(name));
   }
+
+  named(value) {
+    return withKeys(value, (word) => this.name(word));
+  }
+}
+
+/** A value whose contexts have other keys: `keyOf` gives them. */
+function withKeys(value, keyOf) {
+  if (Array.isArray(value)) return value.map((part) => withKeys(part, keyOf));
+  if (!isObject(value)) return value;
+  return Object.fromEntries(Object.entries(value).map(([key, part]) => [keyOf(key), withKeys(part, keyOf)]));
 }
 
 /** Whether numbers of a type are counted in a unit. */

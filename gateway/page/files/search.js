@@ -1,5 +1,5 @@
 // The search over decisions, inputs and texts of the model, as one types.
-import { byID, el, put } from "./dom.js";
+import { broken, byID, el, put } from "./dom.js";
 import { listOf, tablesOf } from "./model.js";
 import { goTo, reveal } from "./show.js";
 
@@ -58,7 +58,8 @@ function draw() {
   hits = all.slice(0, MOST);
   const cut = (text) => (text.length > LETTERS ? `${text.slice(0, LETTERS)} ..` : text);
   const items = hits.map((it, at) => el("li", { role: "option", id: `hit-${at}`, "aria-selected": "false", "data-at": at },
-    el("span", { class: "kind" }, it.kind), " ", cut(it.text), it.of ? el("span", { class: "quiet" }, ` in ${it.of}`) : null));
+    el("span", { class: "kind" }, it.kind), " ", el("span", { class: "hit" }, it.of ? cut(it.text) : broken(it.text),
+      it.of ? el("span", { class: "quiet" }, " in ", broken(it.of)) : null)));
   const more = all.length > MOST ? el("li", { class: "quiet", role: "presentation" }, `and ${all.length - MOST} more: type on`) : null;
   const isTyped = byID("search").value.trim() !== "";
   put(byID("hits"), items, more, isTyped && hits.length === 0 ? el("li", { class: "quiet", role: "presentation" }, "nothing has this") : null);

@@ -14,12 +14,16 @@ import { model, state, tried } from "./state.js";
 import { DecisionView } from "./decision.js";
 import { differences } from "./model.js";
 
+/** How small the graph is at least, for its letters of 12 pixels to have 10 of them. */
+const LEAST_SCALE = 10.2 / 12;
+
 export function showModel() {
   const it = model();
   drawHead();
   state.graph = new GraphView(it, (word) => goTo(word));
   put(byID("graph"), state.graph.element);
   byID("main").classList.toggle("tall", state.graph.isTall);
+  byID("main").style.setProperty("--map", `${state.graph.width * LEAST_SCALE}px`);
   put(byID("zoom"), state.graph.buttons);
   put(byID("service"), it.services.map((service) => el("option", { value: service.name }, it.name(service.name))));
   byID("service-line").hidden = it.services.length < 2;

@@ -1,22 +1,11 @@
-// A decision table: its columns and rules, which rules hit and decided, why others missed, and what was found at cells.
-import { widthsOf } from "./columns.js";
-import { broken, button, counted, el, put, show, unseen, whole } from "./dom.js";
-import { fitNames } from "./heads.js";
+// A decision table: which of its rules hit and decided, why others missed, and what was found of it.
+import { el, put, show } from "./dom.js";
 import { listed, rowsOf, said, verdict } from "./findings.js";
+import { byRule, mark, put as putFound } from "./marks.js";
 import { listOf, policyOf, sentence } from "./model.js";
 import { ALL_AT_ONCE, Rows } from "./rows.js";
-import { inLine } from "./values.js";
-
-/** How many findings a mark tells. */
-const MOST_SAID = 5;
-/** How much of the frame the columns that stay in view may take. */
-const MOST_STAYING = 0.75;
-/** The same with counts, which stay where there is more room. */
-const MOST_WITH_COUNTS = 0.6;
-/** A frame is narrow where it has fewer pixels across. */
-const NARROW = 560;
-
-const sumOf = (numbers) => numbers.reduce((sum, number) => sum + number, 0);
+import { TableFit } from "./tablefit.js";
+import { footRow, headRow, ruleRow } from "./tableparts.js";
 
 export class TableView {
   /**
@@ -29,9 +18,8 @@ export class TableView {
     this.inputs = model.inputsOf(pointer, table);
     this.outputs = listOf(table.outputs);
     this.isVirtual = this.rules.length > ALL_AT_ONCE;
-    this.found = this.findingsByRule();
+    this.found = byRule(model, pointer);
     this.current = 0;
-    this.isNarrow = false;
     this.hits = new Map();
     this.decided = null;
     this.misses = null;
@@ -47,8 +35,8 @@ export class TableView {
       "aria-label": `Table of ${name}, which scrolls` }, this.grid);
     this.element = el("div", { class: "table" }, this.policy(), this.verdict, this.scroller, this.why, this.analysis);
     this.body.addEventListener("keydown", (event) => this.key(event));
-    this.rows = new Rows(this.scroller, this.body, (at) => this.row(at));
-    this.scroller.addEventListener("scroll", () => this.scroller.scrollLeft !== this.across && this.fitNames(), { passive: true });
+    this.rows = new Rows(this.scroller, this.body, (at) => ruleRow(this, at));
+    this.fit = new TableFit(this);
     this.draw();
     // What is drawn then may change the size again.
     new ResizeObserver(() => requestAnimationFrame(() => this.seen())).observe(this.element);
@@ -56,17 +44,14 @@ export class TableView {
 
   /** What is due once the table is in view, or has another size. */
   seen() {
-    const { clientWidth } = this.element;
-    if (clientWidth === 0) return;
-    if (clientWidth !== this.width) {
-      this.width = clientWidth;
-      this.isNarrow = clientWidth < NARROW;
+    if (this.element.clientWidth === 0) return;
+    if (this.fit.isOther()) {
       this.draw();
       this.target ??= this.current;
     }
     const above = this.scroller.getBoundingClientRect().top - (this.element.closest("article") ?? this.element).getBoundingClientRect().top;
     this.scroller.style.setProperty("--above", `${above}px`);
-    this.stay();
+    this.fit.stay();
     this.rows.draw();
     if (this.target !== undefined) this.comeTo(this.target);
     this.target = undefined;
@@ -92,107 +77,7 @@ export class TableView {
   policy() {
     const [name, said] = policyOf(this.table);
     return el("p", { class: "policy" }, el("strong", {}, `${this.table.hit} `), `${name}: ${said}`,
-      this.marks(this.model.foundAt(`${this.pointer}/hit`).concat(this.model.foundAt(this.pointer))));
-  }
-
-  /** The columns of a table whose rows come and go. */
-  columns() {
-    if (!this.isVirtual) return [];
-    const { all, lines, isSmall } = this.sized(this.isNarrow);
-    this.rows.setLines(lines, isSmall);
-    this.grid.classList.toggle("several", lines > 1);
-    this.grid.style.setProperty("--row", `${this.rows.height}px`);
-    this.grid.style.width = `${sumOf(all)}ch`;
-    return [el("colgroup", {}, all.map((letters) => {
-      const column = el("col");
-      column.style.width = `${letters}ch`;
-      return column;
-    }))];
-  }
-
-  /** How wide all columns are, in letters: small ones in a narrow frame, and where the frame has not all columns else. */
-  sized(isSmall) {
-    this.grid.classList.toggle("narrow", isSmall);
-    const isMarked = [...this.found.values()].flat().some(({ kind }) => kind === undefined);
-    const rule = String(this.rules.length).length + (isSmall ? 4.5 : 7) + (isMarked ? 4 : 0);
-    const frame = this.lettersInView();
-    const { widths, lines } = this.layout({ frame, rule, isSmall });
-    const all = [rule, ...widths, ...(this.counts ? [9, 11] : [])];
-    return isSmall || sumOf(all) <= frame ? { all, lines, isSmall } : this.sized(true);
-  }
-
-  /** Of few rules the columns are as wide as the browser makes them: letters are small where the frame has not all columns else. */
-  fit() {
-    if (this.isVirtual) return;
-    this.grid.classList.toggle("narrow", this.isNarrow);
-    if (!this.isNarrow) this.grid.classList.toggle("narrow", this.grid.offsetWidth > this.element.clientWidth);
-  }
-
-  /** Has the names of columns in what is seen of these. */
-  fitNames() {
-    this.across = this.scroller.scrollLeft;
-    fitNames(this.scroller, this.head);
-  }
-
-  /** The widths of what stands in each column, which are kept for a frame. */
-  layout(frame) {
-    const column = (kind, name, at) => ({ kind, name, texts: this.rules.map((_, rule) => this.cell(rule, kind, at)) });
-    this.texts ??= [...this.inputs.map((_, at) => column("when", this.column(at), at)),
-      ...this.outputs.map((output, at) => column("then", this.model.name(output.name), at))];
-    const marked = new Set([...this.found.values()].flat().map(({ kind, column: at }) => (kind === "then" ? at + this.inputs.length : at)));
-    const key = JSON.stringify([frame, [...marked]]);
-    if (this.laidOut?.key !== key) {
-      this.laidOut = { key, ...widthsOf(this.texts.map((it, at) => ({ ...it, isMarked: marked.has(at) })), frame) };
-    }
-    return this.laidOut;
-  }
-
-  /** How many letters of the cells are in view across. */
-  lettersInView() {
-    const letter = 0.6 * parseFloat(getComputedStyle(this.grid).fontSize);
-    return (this.width ?? Infinity) / (letter || 1);
-  }
-
-  /** Says to each output, and each count behind it, how far from the end it stays when the table is scrolled, if there is room. */
-  stay() {
-    const { clientWidth } = this.scroller;
-    if (clientWidth === 0) return;
-    let room = MOST_STAYING * clientWidth - (this.head.querySelector("th")?.offsetWidth ?? 0);
-    const cells = [...this.head.querySelectorAll("[data-stay]")];
-    const outputs = cells.slice(0, this.outputs.length);
-    const isLoose = sumOf(outputs.map((it) => it.offsetWidth)) > room;
-    const least = (at) => (at < outputs.length ? 0 : (MOST_STAYING - MOST_WITH_COUNTS) * clientWidth);
-    const staying = isLoose ? [] : cells.filter((it, at) => (room -= it.offsetWidth) >= least(at));
-    for (const it of cells) this.grid.style.setProperty(`--stay-${it.dataset.stay}`, "auto");
-    let right = 0;
-    for (const it of staying.reverse()) {
-      this.grid.style.setProperty(`--stay-${it.dataset.stay}`, `${right}px`);
-      right += it.offsetWidth;
-    }
-    this.fitNames();
-  }
-
-  findingsByRule() {
-    const start = `${this.pointer}/rules/`;
-    const found = new Map();
-    for (const finding of this.model.findings) {
-      if (!finding.pointer?.startsWith(start)) continue;
-      const [rule, kind, column] = finding.pointer.slice(start.length).split("/");
-      const all = found.get(Number(rule)) ?? [];
-      all.push({ finding, kind, column: Number(column) });
-      found.set(Number(rule), all);
-    }
-    return found;
-  }
-
-  /** A button that tells what was found at a place. */
-  marks(findings) {
-    if (findings.length === 0) return null;
-    const more = findings.length > MOST_SAID ? `; and ${counted(findings.length - MOST_SAID, "other")}` : "";
-    const text = findings.slice(0, MOST_SAID).map(sentence).join("; ") + more;
-    const word = findings.some((finding) => finding.fault) ? "fault" : "warning";
-    const said = `${word}: ${text}`;
-    return button("!", () => this.say(said), { class: `mark ${word}`, title: text, "aria-label": said });
+      mark(this.model.foundAt(`${this.pointer}/hit`).concat(this.model.foundAt(this.pointer)), (text) => this.say(text)));
   }
 
   say(...parts) {
@@ -201,85 +86,13 @@ export class TableView {
 
   draw() {
     this.grid.querySelector("colgroup")?.remove();
-    this.grid.prepend(...this.columns());
-    this.head.replaceChildren(...this.headRows().map((row) => this.placed(row)));
-    this.foot.replaceChildren(...this.footRows().map((row) => this.placed(row)));
+    this.grid.prepend(...this.fit.columns());
+    put(this.head, headRow(this));
+    put(this.foot, footRow(this));
     this.grid.setAttribute("aria-rowcount", this.rules.length + this.head.children.length + this.foot.children.length);
     this.rows.show(this.rules.length);
-    this.fit();
-    this.stay();
-  }
-
-  headRows() {
-    const values = this.values;
-    const cell = (name, text, kind, at, more) => el("th", { role: "columnheader", scope: "col", class: kind, title: name,
-      ...this.staying(kind, at) },
-      el("div", { class: "head" }, text, this.marks(this.model.foundAt(`${this.pointer}/${kind}s/${at}`, true)), more));
-    const value = (at) => (values && at < values.length ?
-      el("span", { class: "value", title: show(values[at]) }, unseen("is "), inLine(values[at])) : null);
-    const asked = (at) => {
-      const [name, text] = [this.column(at), this.model.text(this.inputs[at], `${this.pointer}/inputs/${at}`)];
-      const code = el("code", {}, broken(text));
-      return name === text ? code : [broken(name), el("span", { class: "label" }, code)];
-    };
-    const listed = (output) => (listOf(output.values).length ?
-      el("span", { class: "label" }, unseen("one of "), listOf(output.values).join(", ")) : null);
-    return [el("tr", { role: "row", "aria-rowindex": 1 }, el("th", { role: "columnheader", scope: "col" }, "Rule"),
-      this.inputs.map((_, at) => cell(this.column(at), asked(at), "input", at, value(at))),
-      this.outputs.map((output, at) => cell(this.model.name(output.name), el("code", {}, broken(this.model.name(output.name))), "output", at,
-        listed(output))),
-      this.counts ? ["Hit", "Decided"].map((text, at) =>
-        el("th", { role: "columnheader", scope: "col", class: "counts", ...this.staying("count", at) }, text)) : null)];
-  }
-
-  /** The attributes of a cell that stays in view at the end of the row. */
-  staying(kind, at) {
-    const place = { output: at, then: at, count: this.outputs.length + at }[kind];
-    return place === undefined ? {} : { "data-stay": place };
-  }
-
-  /** A row whose cells know how far from the end they stay. */
-  placed(row) {
-    for (const it of row.querySelectorAll("[data-stay]")) it.style.right = `var(--stay-${it.dataset.stay}, auto)`;
-    return row;
-  }
-
-  footRows() {
-    if (!this.outputs.some((output) => output.default !== undefined)) return [];
-    const cell = (text, kind, at) => el("td", { role: "cell", class: kind, ...this.staying(kind === "count" ? kind : "then", at) }, text);
-    return [el("tr", { role: "row", class: this.defaults ? "decided" : "" },
-      el("th", { role: "rowheader", scope: "row", colspan: this.inputs.length + 1 },
-        this.defaults ? "▶ no rule hit: " : "", "otherwise"),
-      this.outputs.map((output, at) => cell(el("code", {}, this.model.text(output.default ?? "null", `${this.pointer}/outputs/${at}/default`)), "then", at)),
-      this.counts ? [cell("", "count", 0), cell(String(this.counts.defaults), "count", 1)] : null)];
-  }
-
-  row(at) {
-    const rule = this.rules[at];
-    const found = this.found.get(at) ?? [];
-    const isAt = (it, kind, column) => it.kind === kind && (column === undefined || it.column === column);
-    const marks = (kind, column) => this.marks(found.filter((it) => isAt(it, kind, column)).map((it) => it.finding));
-    const miss = this.misses?.get(at + 1);
-    const cells = (texts, kind) => texts.map((_, column) => {
-      const missed = kind === "when" && this.hasMissed(at, column, miss);
-      const text = this.cell(at, kind, column);
-      const title = this.isVirtual ? text : null;
-      return el("td", { role: "cell", class: missed ? `${kind} missed` : kind, title, ...this.staying(kind, column) },
-        el("code", {}, whole(text)), missed ? unseen(" is not met") : null, marks(kind, column));
-    });
-    const [state, sign, said] = this.stateOf(at + 1);
-    const hits = this.counts?.hits[at] ?? 0;
-    const decided = this.counts?.decided ? this.counts.decided[at] ?? 0 : null;
-    const differs = this.differing?.has(`${this.pointer}/rules/${at}`) ? "differs" : "";
-    const never = this.counts && (decided ?? hits) === 0 ? "never" : "";
-    const tabindex = at === this.current ? 0 : -1;
-    const number = button(`${sign}${at + 1}`, () => this.select(at),
-      { class: "rule", "data-at": at, tabindex, "aria-label": `Rule ${at + 1}${said}` });
-    const count = (text, at) => el("td", { role: "cell", class: "count", ...this.staying("count", at) }, String(text));
-    return this.placed(el("tr", { role: "row", "aria-rowindex": at + 2, class: [state, differs, never].filter(Boolean).join(" ") },
-      el("th", { role: "rowheader", scope: "row" }, number, marks(undefined)),
-      cells(listOf(rule.when).slice(0, this.inputs.length), "when"), cells(listOf(rule.then), "then"),
-      this.counts ? [count(hits, 0), count(decided === null ? "" : decided || "never", 1)] : null));
+    this.fit.letters();
+    this.fit.stay();
   }
 
   /** A cell of a rule as the file has it. */
@@ -291,12 +104,6 @@ export class TableView {
   hasMissed(at, column, miss) {
     const isMoved = this.rules[at].when?.[column] === "-" && this.cell(at, "when", column) !== "-";
     return miss === column + 1 || (isMoved && miss > this.inputs.length);
-  }
-
-  stateOf(number) {
-    if (this.decided?.has(number)) return ["decided", "▶ ", ", hit and decided"];
-    if (this.hits.has(number)) return ["hit", "● ", this.decided ? ", hit and did not decide" : ", hit"];
-    return ["", "", this.values ? ", missed" : ""];
   }
 
   key(event) {
@@ -379,11 +186,7 @@ export class TableView {
     put(this.verdict, text);
     put(this.analysis, listed(this, findings, this.tryWitness));
     for (const finding of findings) {
-      for (const at of rowsOf(finding)) {
-        const found = this.found.get(at) ?? [];
-        found.push({ finding: { said: said(this, finding) } });
-        this.found.set(at, found);
-      }
+      for (const at of rowsOf(finding)) putFound(this.found, at, { finding: { said: said(this, finding) } });
     }
     this.draw();
   }

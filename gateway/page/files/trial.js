@@ -36,7 +36,7 @@ function section() {
     el("summary", {}, "What would change for the requests in the journal"),
     el("form", { id: "trial-form", novalidate: true, onsubmit: ask },
       field("Under", models), FILTER.map(([, label], at) => field(label, fields[at])),
-      el("p", {}, el("button", { id: "trial-ask" }, "Ask both models"), " ", stop, " ",
+      el("p", { class: "row" }, el("button", { id: "trial-ask" }, "Ask both models"), " ", stop, " ",
         button("Save all as CSV", saveCSV, { id: "trial-csv" }))),
     progress, said, found);
 }
@@ -152,6 +152,10 @@ function changesOf(changes) {
   return [el("h3", {}, counted(changes.length, "change"), " of the model"), scroller];
 }
 
+/** A time of the journal as people have it. */
+const timeOf = (text) => new Date(text).toLocaleString("en-GB", { day: "numeric", month: "short", hour: "2-digit", minute: "2-digit",
+  second: "2-digit" });
+
 /** The requests that get another answer; a click shows one. */
 function listOf(differences, done) {
   if (differences.length === 0) return [];
@@ -161,8 +165,8 @@ function listOf(differences, done) {
   const rows = new Rows(scroller, body, (at) => {
     const it = differences[at];
     const name = it.request ?? it.id;
-    const attributes = { class: "rule", "data-at": at, title: name, "aria-label": `Case ${name}: look at it` };
-    return el("tr", {}, el("th", { scope: "row" }, button(it.time ?? it.id, () => open(it), attributes)),
+    const attributes = { class: "rule", "data-at": at, title: [name, it.time].filter(Boolean).join(", "), "aria-label": `Case ${name}: look at it` };
+    return el("tr", {}, el("th", { scope: "row" }, button(it.time ? timeOf(it.time) : it.id, () => open(it), attributes)),
       el("td", { title: it.rules }, it.rules), el("td", { title: it.old }, el("code", {}, it.old)),
       el("td", { title: it.new }, el("code", {}, it.new)));
   });

@@ -8,7 +8,7 @@ const MOST_ROWS = 200;
 const kindOf = (value) => (value === null || value === undefined ? "null" : typeof value === "string" ? "string" : "plain");
 
 /** A JSON text that may be broken behind its commas. */
-const commas = (text) => (text.match(/"(?:[^"\\]|\\.)*"?|[^",]+|,/g) ?? []).flatMap((part) => (part === "," ? [part, el("wbr")] : [part]));
+export const commas = (text) => (text.match(/"(?:[^"\\]|\\.)*"?|[^",]+|,/g) ?? []).flatMap((part) => (part === "," ? [part, el("wbr")] : [part]));
 
 /** A value on one line, which may be broken; of a longer one so many letters. */
 export function inLine(value, most = Infinity) {

@@ -149,6 +149,9 @@ func (s *Stream) Close() error {
 
 // An end asks how many messages a stream has, which costs the broker next to nothing. Where its first message is, is looked up at
 // the begin, and when it has fewer messages than before: a reader costs the broker the more the more files the stream has.
+//
+// The broker also counts entries that no reader gets: each file but the first begins with one. And it counts from where the leader's
+// copy begins, while a reader gets the first message of the copy at its own broker. So after retention the end may be too high.
 type end struct {
 	link          *Link
 	queue         string
@@ -180,7 +183,16 @@ func (e *end) Offset() (int64, error) {
 	if e.before = count; count == 0 {
 		return -1, nil
 	}
-	return e.first + count - 1, nil
+	return e.last(), nil
+}
+
+func (e *end) last() int64 { return e.first + e.before - 1 }
+
+// AtMost corrects the offset from which the messages count.
+func (e *end) AtMost(offset int64) {
+	if over := e.last() - offset; over > 0 {
+		e.first -= over
+	}
 }
 
 // First is the offset of the first message of a stream that has some.

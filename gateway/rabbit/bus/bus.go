@@ -135,8 +135,12 @@ type Reader interface {
 
 // An End knows where a stream ends.
 type End interface {
-	// Offset is that of the last message, some seconds ago, or -1 if it isn't known.
+	// Offset is that of the last message, some seconds ago, or -1 if it isn't known. It may be too high until AtMost corrects it.
 	Offset() (int64, error)
+	// AtMost takes in that when Offset was asked last, no message was after this offset.
+	//
+	// Kafka: not needed, since endOffsets is exact.
+	AtMost(offset int64)
 }
 
 // A From says where a reader of a stream begins.

@@ -164,6 +164,9 @@ func (l *Link) End(stream string) (bus.End, error) { return l.bus.Stream(stream)
 // Offset is that of the last message.
 func (s *Stream) Offset() (int64, error) { return s.next - 1, nil }
 
+// AtMost has nothing to correct.
+func (s *Stream) AtMost(int64) {}
+
 // Own gives one of the partitions, whoever else owns it.
 func (l *Link) Own(_ context.Context, _ bus.Settings, partitions []int, _ func([]int)) (int, error) {
 	return partitions[l.bus.random.Intn(len(partitions))], l.err

@@ -278,48 +278,53 @@ func (o *Owner) publishMarks(answers bus.Route, snapshotAt int64) error {
 }
 
 // CheckLog makes sure that the log isn't shorter than its answers, as one that the brokers made anew: the owner reads from behind its
-// end then, and finds no message of it. It marks the log's end over the owner's link, and looks where that is.
+// end then, and finds no message of it.
 func (o *Owner) CheckLog() error {
+	end, err := o.markEnd()
+	if err == nil && end <= o.intake.upto.Offset {
+		return errOtherLog
+	}
+	return err
+}
+
+// markEnd marks the log's end over the owner's link, and looks where the mark is.
+func (o *Owner) markEnd() (int64, error) {
 	stream, err := o.link.Read(bus.Reading{Stream: o.lines, From: bus.From{Place: bus.Last}, Window: bus.MostOpen})
 	if err != nil {
-		return err
+		return 0, err
 	}
 	publisher, err := o.link.Appender()
 	if err != nil {
-		return err
+		return 0, err
 	}
 	mark, err := bus.NewMark()
 	if err != nil {
-		return err
+		return 0, err
 	}
 	if err := publisher.Append(o.marks, bus.Headers{bus.MarkHeader: mark}, nil); err != nil {
-		return err
+		return 0, err
 	}
 	if err := publisher.Settle(); err != nil {
-		return err
+		return 0, err
 	}
-	for {
-		message, err := stream.Next()
-		switch {
-		case err != nil:
-			return err
-		case message.Headers[bus.MarkHeader] != mark:
-			continue
-		case message.Offset <= o.intake.upto.Offset:
-			return errOtherLog
-		}
-		if err := stream.Close(); err != nil {
-			return err
-		}
-		return publisher.Close()
+	message, err := stream.Next()
+	for err == nil && message.Headers[bus.MarkHeader] != mark {
+		message, err = stream.Next()
 	}
+	if err != nil {
+		return 0, err
+	}
+	if err := stream.Close(); err != nil {
+		return 0, err
+	}
+	return message.Offset, publisher.Close()
 }
 
 // run works until the link fails.
 func (o *Owner) run() error {
 	ticker := time.NewTicker(tick)
 	defer ticker.Stop()
-	o.tail = watchTail(o.link, o.lines)
+	o.tail = watchTail(o.link, o.lines, o.markEnd)
 	go func() {
 		if err := o.CheckLog(); err != nil {
 			o.link.Fail(err)

@@ -25,6 +25,7 @@ func (o *Owner) tell() {
 		seconds = time.Since(head.from.Sent).Seconds()
 	}
 	o.gauges.lag(waiting, o.unread(), seconds)
+	o.tail.reached(o.intake.offset)
 	text := fmt.Sprintf("read to offset %d, %d without an answer", o.intake.offset, waiting)
 	if now := time.Now(); text != o.report.text && now.Sub(o.report.at) > reportPause {
 		o.log.Info("%s", text)
@@ -47,7 +48,17 @@ func (i *idle) late(now time.Time, due bool) error {
 }
 
 // A tail knows, some seconds late, where the log ends.
-type tail struct{ last int64 }
+type tail struct {
+	last   int64                 // the offset of the last message
+	read   int64                 // the offset of the last message that the owner has read
+	looked int64                 // what read was at the last look
+	marked int64                 // what read was when the end was last marked
+	mark   func() (int64, error) // marks the end, and gives the mark's offset
+}
+
+func newTail(mark func() (int64, error)) *tail {
+	return &tail{last: -1, read: -1, looked: -2, marked: -2, mark: mark}
+}
 
 func (t *tail) offset() int64 {
 	if t == nil {
@@ -56,10 +67,17 @@ func (t *tail) offset() int64 {
 	return atomic.LoadInt64(&t.last)
 }
 
+// reached takes in up to where the owner has read.
+func (t *tail) reached(offset int64) {
+	if t != nil {
+		atomic.StoreInt64(&t.read, offset)
+	}
+}
+
 // watchTail asks from time to time where a stream ends, until the link ends or the stream can't be read: its owner's reader
 // fails then, too.
-func watchTail(link bus.Link, stream string) *tail {
-	t := &tail{last: -1}
+func watchTail(link bus.Link, stream string, mark func() (int64, error)) *tail {
+	t := newTail(mark)
 	go func() {
 		end, err := link.End(stream)
 		for pause := time.Duration(0); err == nil; pause = reportPause {
@@ -68,11 +86,33 @@ func watchTail(link bus.Link, stream string) *tail {
 				return
 			case <-time.After(pause):
 			}
-			var last int64
-			if last, err = end.Offset(); err == nil && last >= 0 {
-				atomic.StoreInt64(&t.last, last)
-			}
+			err = t.look(end)
 		}
 	}()
 	return t
+}
+
+// look asks where the log ends. The bus may take the end too high. So where messages seem to be left, and none was read since the last
+// look, the end is marked, once: each message that the bus has counted is before the mark.
+func (t *tail) look(end bus.End) error {
+	last, err := end.Offset()
+	if err != nil {
+		return err
+	}
+	read := atomic.LoadInt64(&t.read)
+	if last > read && read == t.looked && read != t.marked {
+		mark, err := t.mark()
+		if err != nil {
+			return err
+		}
+		end.AtMost(mark - 1)
+		if last >= mark {
+			last = mark - 1
+		}
+		t.marked = read
+	}
+	if t.looked = read; last >= 0 {
+		atomic.StoreInt64(&t.last, last)
+	}
+	return nil
 }

@@ -126,7 +126,7 @@ class Cluster:
         return {**self.environment, "DESK_BROKERS": f"amqp://127.0.0.1:{port}"}
 
     def run(self, *words: str) -> None:
-        subprocess.run([str(HERE / "cluster"), *words], check=True, timeout=600, env=self.environment,
+        subprocess.run([str(HERE / "cluster"), *words], check=True, timeout=3700, env=self.environment,
                        stdout=subprocess.DEVNULL)
 
     def declare(self) -> None:

@@ -1,7 +1,8 @@
-use Rattle.std.proofs.Common.{IfSome, subst}
+use Rattle.std.proofs.Common.{◌≡◌, IfSome, Some, subst, true}
 use Rattle.std.specs.List.{All}
 use Rattle.dmn_analysis.specs.Claims.{IsMaskedAmong, IsNeverMetAmong, TellsGaps, TellsOverlaps}
 use Rattle.dmn_analysis.specs.declared.found.Masks.{Masks}
+use Rattle.desk_checking.specs.Outputs.{HitsGiveSame}
 use Rattle.desk_checking.proofs.answers.Answers.of.Goals as goal
 
 pub returns : goal.returns
@@ -20,4 +21,6 @@ returns c =
       never = subst (λ a. All (IsNeverMetAmong t a) c.in_ok-never.never.items) c.deref-3.ensures.value c.in_ok-never.ensures;
       ordered = c.in_ok-masks.ensures.ordered;
       masks = subst (λ a. IfSome c.in_ok-masks.masks (λ (ms : Masks). All (λ m. IsMaskedAmong t a m.rule) ms.found.items)) c.deref-4.ensures.value c.in_ok-masks.ensures.tells;
+      idle = c.in_ok-idle.ensures;
+      same = subst (λ a. c.in_ok-same.same ≡ Some true → HitsGiveSame t a) c.deref-6.ensures.value c.in_ok-same.ensures;
     }
