@@ -41,10 +41,14 @@ type httpOptions struct {
 	journalLimit size
 	log          string
 	keep         days
+	partitions   bool
+	wait         duration
+	keepAnswers  duration
 }
 
 func httpCommand() *cobra.Command {
-	options := httpOptions{deadline: duration(2 * time.Second), memory: 1 << 30, journalSize: 256 << 20}
+	options := httpOptions{deadline: duration(2 * time.Second), memory: 1 << 30, journalSize: 256 << 20, wait: duration(2 * time.Second),
+		keepAnswers: duration(10 * time.Minute)}
 	c := &cobra.Command{
 		Use:   "http [OPTIONS] MODEL.json|FILE.dmn..|-",
 		Short: "Answers requests to the services of a model over HTTP",
@@ -90,6 +94,7 @@ call.`,
 	flags.IntVar(&options.service.Limit, "limit", 50_000, "Allow this `NUMBER` of unanswered requests in all")
 	flags.BoolVar(&options.service.Lenient, "lenient", false, "Ignore inputs that a .dmn file doesn't have")
 	flags.StringVar(&options.log, "log", logText, "Write the log in this `FORM`: text, or json, which has a line for each call too")
+	partitionFlags(flags, &options)
 	readingFlags(flags, &options.reading)
 	return c
 }
@@ -98,6 +103,9 @@ func runHTTP(c *cobra.Command, files []string, o httpOptions) error {
 	options := o.service
 	options.Deadline, options.Memory, options.JournalSize = time.Duration(o.deadline), uint64(o.memory), int64(o.journalSize)
 	options.JournalLimit, options.Keep, options.Version = int64(o.journalLimit), time.Duration(o.keep), version
+	if err := setPartitions(&options, c, o); err != nil {
+		return err
+	}
 	if err := options.Check(); err != nil {
 		return wrong("%w", err)
 	}

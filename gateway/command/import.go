@@ -6,12 +6,19 @@ import (
 	"encoding/json"
 	"fmt"
 	"io"
+	"runtime/debug"
 
 	"github.com/spf13/cobra"
 
 	"gateway/dmn"
 	"gateway/model"
 	"gateway/profile"
+)
+
+// An import ends soon, so that garbage is collected seldom, up to a size of the heap from which on it is collected as it is due.
+const (
+	importGarbage = 400
+	importMemory  = 400 << 20
 )
 
 // importOptions are the options of import.
@@ -47,6 +54,8 @@ func runImport(c *cobra.Command, paths []string, options importOptions) error {
 	if err := oneStdin(paths); err != nil {
 		return err
 	}
+	debug.SetGCPercent(importGarbage)
+	debug.SetMemoryLimit(importMemory)
 	read, _, err := readFiles(c, paths)
 	if err != nil {
 		return err

@@ -137,6 +137,7 @@ func runPartition(c *cobra.Command, o partitionOptions) error {
 	if o.engine.Path, err = engine.Path(); err != nil {
 		return err
 	}
+	collectSeldom()
 	log := partitionLog(c)
 	for _, note := range engineNotes(o.engine.Path) {
 		log.Warning("%s", note)

@@ -66,6 +66,7 @@ func fromOf(text string) (bus.From, error) {
 }
 
 func runReceive(c *cobra.Command, o receiveOptions) error {
+	collectSeldom()
 	on, settings, err := broker.Read()
 	if err != nil {
 		return wrong("%w", err)

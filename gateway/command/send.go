@@ -69,6 +69,7 @@ func runSend(c *cobra.Command, o sendOptions) error {
 	if err != nil {
 		return err
 	}
+	collectSeldom()
 	ctx, stop := untilTold(c)
 	defer stop()
 	options.Check = func(model []byte) error { return checkBeforeSending(ctx, path, model) }

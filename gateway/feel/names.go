@@ -10,6 +10,8 @@ type Scope struct {
 	// count is how many names were put into it, starts has the marks of their first tokens.
 	count  int
 	starts uint64
+	// long has what is behind the first tokens of long names.
+	long stems
 }
 
 // mark is one of 64 bits for a token.
@@ -51,12 +53,23 @@ func NewScope(parent *Scope, names ...string) *Scope {
 
 // Add puts a name into scope. One that can't be cut into tokens can't be written in a text, and is left out.
 func (s *Scope) Add(name string) {
+	if isPlainWord(name) {
+		at := s.first.grown(name)
+		at.ends, at.spelled = true, name
+		s.count++
+		s.starts |= mark(name)
+		return
+	}
 	all := nameTokens(name)
 	if len(all) == 0 {
 		return
 	}
 	at := &s.first
-	for _, t := range all {
+	for i, t := range all {
+		if i == mostFollowed {
+			at = s.long.add(name, all, at)
+			break
+		}
 		at = at.grown(name[t.start:t.end])
 	}
 	at.ends, at.spelled = true, strings.Join(strings.Fields(name), " ")
@@ -97,6 +110,9 @@ func (b *branch) grown(token string) *branch {
 // Canonical is the name as FEEL compares it: its tokens with one blank between them. Two names of one canonical form
 // are the same name.
 func Canonical(name string) string {
+	if isPlainWord(name) {
+		return name
+	}
 	all := nameTokens(name)
 	if len(all) == 0 {
 		return strings.Join(strings.Fields(name), " ")
@@ -106,6 +122,19 @@ func Canonical(name string) string {
 		words = append(words, name[t.start:t.end])
 	}
 	return strings.Join(words, " ")
+}
+
+// isPlainWord tells whether a name is one word of letters, digits and underscores of ASCII, and so one token.
+func isPlainWord(name string) bool {
+	for i := 0; i < len(name); i++ {
+		switch c := name[i]; {
+		case c >= 'a' && c <= 'z', c >= 'A' && c <= 'Z', c == '_':
+		case c >= '0' && c <= '9' && i > 0:
+		default:
+			return false
+		}
+	}
+	return name != ""
 }
 
 // nameTokens are the tokens of a name without the end of the text; none where it can't be cut.
@@ -120,35 +149,59 @@ func nameTokens(name string) []token {
 	return all[:len(all)-1]
 }
 
-// longest finds the longest name that the tokens begin with: how many tokens it takes, and how it was declared. It is 0
+// longest finds the longest name that the tokens from at to end begin with: how many tokens it takes, and how it was declared. It is 0
 // where there is none.
-func (s *Scope) longest(source string, all []token) (int, string) {
+func (s *Scope) longest(r *reading, at, end int) (int, string) {
 	best, spelled := 0, ""
-	if len(all) == 0 {
+	if at >= end {
 		return best, spelled
 	}
-	first := mark(source[all[0].start:all[0].end])
+	first := mark(r.spell(r.all[at]))
 	for ; s != nil; s = s.parent {
 		if s.starts&first == 0 {
 			continue
 		}
-		at := &s.first
-		for i, t := range all {
-			at = at.behind(source[t.start:t.end])
-			if at == nil {
-				break
-			}
-			if at.ends && i+1 > best {
-				best, spelled = i+1, at.spelled
-			}
+		taken, found := s.longestHere(r, at, end)
+		if taken > best {
+			best, spelled = taken, found
 		}
 	}
 	return best, spelled
 }
 
+// longestHere is longest in this scope alone.
+func (s *Scope) longestHere(r *reading, at, end int) (best int, spelled string) {
+	b := &s.first
+	for i := at; i < end; i++ {
+		if i-at == mostFollowed {
+			if found := s.long.find(r, at, end); found != nil && s.isName(r, at, found) {
+				return found.size, found.branch.spelled
+			}
+			return best, spelled
+		}
+		b = b.behind(r.spell(r.all[i]))
+		if b == nil {
+			return best, spelled
+		}
+		if b.ends {
+			best, spelled = i+1-at, b.spelled
+		}
+	}
+	return best, spelled
+}
+
+// isName tells whether the tokens from a place on are those of a name that was found by its hash.
+func (s *Scope) isName(r *reading, at int, found *stem) bool {
+	b := &s.first
+	for i := at; i < at+found.size && b != nil; i++ {
+		b = b.behind(r.spell(r.all[i]))
+	}
+	return b == found.branch
+}
+
 // hasShorter tells whether a name ends before the last of these tokens, which are a name themselves.
-func (s *Scope) hasShorter(source string, all []token) bool {
-	taken, _ := s.longest(source, all[:len(all)-1])
+func (s *Scope) hasShorter(r *reading, at, end int) bool {
+	taken, _ := s.longest(r, at, end-1)
 	return taken > 0
 }
 

@@ -214,7 +214,7 @@ func (p *parser) typeName() string {
 	if p.current().kind != word {
 		p.stop("a type is due")
 	}
-	if taken, _ := longTypes.longest(p.source, p.all[p.at:]); taken > 0 {
+	if taken, _ := longTypes.longest(&p.reading, p.at, len(p.all)); taken > 0 {
 		p.at += taken
 		span := p.from(start)
 		return Canonical(p.source[span.Start:span.End])

@@ -11,11 +11,10 @@ const MostDepth = 500
 // parser reads the tokens of one text. Each method that reads a form begins at the token at hand, and ends behind its
 // last; at a fault it panics with a *Fault, which the readers of this package answer.
 type parser struct {
-	source string
-	all    []token
-	at     int
-	depth  int
-	scope  *Scope
+	reading
+	at    int
+	depth int
+	scope *Scope
 	// members are the names that may stand behind a point: those of the components of types and of the entries of
 	// contexts.
 	members *Scope
@@ -41,7 +40,7 @@ func (p *parser) longest() (int, string) {
 		return 0, ""
 	}
 	if f := &p.found; f.scope != p.scope || f.at != p.at || f.count != p.scope.count {
-		taken, declared := p.scope.longest(p.source, p.all[p.at:])
+		taken, declared := p.scope.longest(&p.reading, p.at, len(p.all))
 		p.found = foundName{p.scope, p.scope.count, p.at, taken, declared}
 	}
 	return p.found.taken, p.found.declared
@@ -79,7 +78,7 @@ func newParser(source string, scope, members *Scope) *parser {
 	if fault != nil {
 		panic(fault)
 	}
-	p := &parser{source: source, all: all, scope: scope, members: members}
+	p := &parser{reading: reading{source: source, all: all}, scope: scope, members: members}
 	p.ranges = p.rangesOf()
 	return p
 }
@@ -102,7 +101,7 @@ func (p *parser) notAsAWhole() (inside []Node) {
 	if !p.peekIs(0, "not") || !p.peekIs(1, "(") || p.spell(p.all[last]) != ")" {
 		return nil
 	}
-	if taken, _ := p.scope.longest(p.source, p.all); taken > 0 {
+	if taken, _ := p.scope.longest(&p.reading, 0, len(p.all)); taken > 0 {
 		return nil
 	}
 	var fault *Fault
@@ -121,8 +120,6 @@ func (p *parser) notAsAWhole() (inside []Node) {
 	p.finish()
 	return inside
 }
-
-func (p *parser) spell(t token) string { return p.source[t.start:t.end] }
 
 func (p *parser) current() token { return p.all[p.at] }
 

@@ -110,11 +110,11 @@ func (p *parser) rangeFrom(start int, open bool) Node {
 
 // context reads {a: 1, "b": 2}. Each value sees the entries before it.
 func (p *parser) context() Node {
-	defer func(before *Scope) { p.scope = before }(p.scope)
+	outer := p.scope
+	defer func() { p.scope = outer }()
 	start := p.at
 	p.at++
 	c := &Context{}
-	p.scope = NewScope(p.scope)
 	for !p.is("}") {
 		if len(c.Entries) > 0 {
 			p.expect(",")
@@ -124,6 +124,12 @@ func (p *parser) context() Node {
 		p.expect(":")
 		value := p.expression()
 		c.Entries = append(c.Entries, Entry{p.from(entry), key, value})
+		if p.is("}") {
+			break // No other entry sees this one.
+		}
+		if p.scope == outer {
+			p.scope = NewScope(outer)
+		}
 		p.scope.Add(key)
 	}
 	p.at++
@@ -194,7 +200,7 @@ func (p *parser) worded() Node {
 func (p *parser) name() Node {
 	start := p.at
 	taken, declared := p.longest()
-	function, _ := builtins.longest(p.source, p.all[p.at:])
+	function, _ := builtins.longest(&p.reading, p.at, len(p.all))
 	if function > taken && p.peekIs(function, "(") {
 		p.at += function
 		span := p.from(start)
@@ -207,7 +213,7 @@ func (p *parser) name() Node {
 	span := p.from(start)
 	n := &Name{Span: span, Name: Canonical(p.source[span.Start:span.End]), Known: true}
 	spelled := strings.Join(strings.Fields(p.source[span.Start:span.End]), " ")
-	n.Doubtful = spelled != declared && p.scope.hasShorter(p.source, p.all[start:p.at])
+	n.Doubtful = spelled != declared && p.scope.hasShorter(&p.reading, start, p.at)
 	return n
 }
 
@@ -237,8 +243,9 @@ func (p *parser) quotedName() Node {
 	t := p.current()
 	p.at++
 	inside := p.source[t.start+1 : t.end-1]
-	taken, _ := p.scope.longest(inside, nameTokens(inside))
-	known := taken > 0 && taken == len(nameTokens(inside))
+	name := &reading{source: inside, all: nameTokens(inside)}
+	taken, _ := p.scope.longest(name, 0, len(name.all))
+	known := taken > 0 && taken == len(name.all)
 	return &Name{Span: p.from(start), Name: Canonical(inside), Known: known}
 }
 
@@ -250,7 +257,7 @@ func (p *parser) path(start int, operand Node) Node {
 		return &Path{Span: p.from(start), Operand: operand, Name: Canonical(p.source[t.start+1 : t.end-1]), Quoted: true}
 	}
 	first := p.at
-	taken, declared := p.members.longest(p.source, p.all[p.at:])
+	taken, declared := p.members.longest(&p.reading, p.at, len(p.all))
 	if taken > 0 {
 		p.at += taken
 	} else {

@@ -4,36 +4,54 @@ import (
 	"bytes"
 	"encoding/json"
 	"sort"
+	"strings"
 )
 
 // A Document is a JSON text with the places of its values.
 type Document struct {
 	text []byte
+	// spelled is the same text: what strings without escapes stand for are pieces of it.
+	spelled string
 	// starts are where its lines but the first begin.
 	starts []int32
+	// parts are those of all lists and objects, the parts of each in a row. Of an object they are its keys and its values by turns.
+	parts []Node
+	// open are the parts of lists and objects whose end is not read yet.
+	open []Node
 	// Whole is the value that the text is.
 	Whole Node
 }
 
-// A Node is a value of a document. Of an object its parts are its keys and its values by turns.
+// A Node is a value of a document.
 type Node struct {
 	start, end int32
-	parts      []Node
+	// first is where its parts begin in the document's, count how many they are.
+	first, count int32
 }
 
 // NewDocument reads a text. It is nil where the text is no JSON.
 func NewDocument(text []byte) *Document {
-	s := scanner{text: text, nesting: MaxNesting}
-	s.blanks()
-	whole, ok := s.node()
-	if s.ended(ok) != nil {
+	d := &Document{}
+	if !d.Read(text) {
 		return nil
 	}
-	d := &Document{text: text, Whole: whole}
+	return d
+}
+
+// Read reads a text in place of the one that was read before, whose nodes are of no use then. False says that it is no JSON.
+func (d *Document) Read(text []byte) bool {
+	*d = Document{text: text, starts: d.starts[:0], parts: d.parts[:0], open: d.open[:0]}
+	s := scanner{text: text, nesting: MaxNesting}
+	s.blanks()
+	whole, ok := d.node(&s)
+	if s.ended(ok) != nil {
+		return false
+	}
+	d.Whole, d.spelled = whole, string(text)
 	for at := 0; ; {
 		next := bytes.IndexByte(text[at:], '\n')
 		if next < 0 {
-			return d
+			return true
 		}
 		at += next + 1
 		d.starts = append(d.starts, int32(at))
@@ -41,23 +59,14 @@ func NewDocument(text []byte) *Document {
 }
 
 // node reads a value with its parts.
-func (s *scanner) node() (Node, bool) {
+func (d *Document) node(s *scanner) (Node, bool) {
 	value := Node{start: int32(s.at)}
 	ok := false
 	switch s.peek() {
 	case '{':
-		ok = s.nodes(&value, '}', func() (Node, bool) {
-			key := Node{start: int32(s.at)}
-			ok := s.key()
-			key.end = int32(s.at)
-			if !ok || !s.colon() {
-				return key, false
-			}
-			value.parts = append(value.parts, key)
-			return s.node()
-		})
+		ok = d.nodes(s, &value, '}')
 	case '[':
-		ok = s.nodes(&value, ']', s.node)
+		ok = d.nodes(s, &value, ']')
 	case '"':
 		ok = s.str()
 	case '-', '0', '1', '2', '3', '4', '5', '6', '7', '8', '9':
@@ -70,7 +79,7 @@ func (s *scanner) node() (Node, bool) {
 }
 
 // nodes reads the parts of a list or an object.
-func (s *scanner) nodes(value *Node, end byte, part func() (Node, bool)) bool {
+func (d *Document) nodes(s *scanner, value *Node, end byte) bool {
 	if !s.enter() {
 		return false
 	}
@@ -79,16 +88,37 @@ func (s *scanner) nodes(value *Node, end byte, part func() (Node, bool)) bool {
 		s.nesting++
 		return true
 	}
+	before := len(d.open)
 	for {
-		next, ok := part()
+		if end == '}' && !d.keyNode(s) {
+			return false
+		}
+		next, ok := d.node(s)
 		if !ok {
 			return false
 		}
-		value.parts = append(value.parts, next)
-		if last, ok := s.next(end); last || !ok {
-			return ok
+		d.open = append(d.open, next)
+		last, ok := s.next(end)
+		if !ok {
+			return false
+		}
+		if last {
+			value.first, value.count = int32(len(d.parts)), int32(len(d.open)-before)
+			d.parts, d.open = append(d.parts, d.open[before:]...), d.open[:before]
+			return true
 		}
 	}
+}
+
+// keyNode reads a key of an object, and the colon behind it.
+func (d *Document) keyNode(s *scanner) bool {
+	key := Node{start: int32(s.at)}
+	if !s.key() {
+		return false
+	}
+	key.end = int32(s.at)
+	d.open = append(d.open, key)
+	return s.colon()
 }
 
 // key goes over a key of an object.
@@ -129,15 +159,37 @@ func (d *Document) Text(v Node) (string, bool) {
 	if d.Kind(v) != '"' {
 		return "", false
 	}
-	return Text(d.Raw(v)), true
+	return d.unquoted(v), true
 }
+
+// unquoted is what a string stands for.
+func (d *Document) unquoted(v Node) string {
+	if inner := d.spelled[v.start+1 : v.end-1]; strings.IndexByte(inner, '\\') < 0 {
+		return inner
+	}
+	return Text(d.Raw(v))
+}
+
+// partsOf are the items of a list, and the keys and the values of an object by turns.
+func (d *Document) partsOf(v Node) []Node { return d.parts[v.first : v.first+v.count] }
+
+// Keys are the keys and the values of an object by turns; false of what is none.
+func (d *Document) Keys(v Node) ([]Node, bool) {
+	if d.Kind(v) != '{' {
+		return nil, false
+	}
+	return d.partsOf(v), true
+}
+
+// IsText tells whether a string stands for this text.
+func (d *Document) IsText(v Node, text string) bool { return d.unquoted(v) == text }
 
 // Items are those of a list; nil of what is none.
 func (d *Document) Items(v Node) []Node {
 	if d.Kind(v) != '[' {
 		return nil
 	}
-	return v.parts
+	return d.partsOf(v)
 }
 
 // Item is one of a list.
@@ -154,20 +206,13 @@ func (d *Document) Member(v Node, key string) (Node, bool) {
 	if d.Kind(v) != '{' {
 		return Node{}, false
 	}
-	for at := len(v.parts) - 2; at >= 0; at -= 2 {
-		if d.isKey(v.parts[at], key) {
-			return v.parts[at+1], true
+	parts := d.partsOf(v)
+	for at := len(parts) - 2; at >= 0; at -= 2 {
+		if d.IsText(parts[at], key) {
+			return parts[at+1], true
 		}
 	}
 	return Node{}, false
-}
-
-func (d *Document) isKey(v Node, key string) bool {
-	raw := d.Raw(v)
-	if bytes.IndexByte(raw, '\\') < 0 {
-		return string(raw[1:len(raw)-1]) == key
-	}
-	return Text(raw) == key
 }
 
 // A Keyed is a member of an object.
@@ -179,21 +224,78 @@ type Keyed struct {
 // Members are those of an object in the order of their keys' bytes, of several with one key the last alone; nil of what is no
 // object.
 func (d *Document) Members(v Node) []Keyed {
+	members, _ := d.InOrder(v)
+	if len(members) > fewMembers {
+		sort.Slice(members, func(i, j int) bool { return members[i].Key < members[j].Key })
+		return members
+	}
+	for at := range members {
+		for ; at > 0 && members[at].Key < members[at-1].Key; at-- {
+			members[at], members[at-1] = members[at-1], members[at]
+		}
+	}
+	return members
+}
+
+// InOrder are the members of an object in the order of the text, of several with one key the last alone; and the keys that come
+// more than once, each where it comes for the second time. Both are nil of what is no object.
+func (d *Document) InOrder(v Node) (members, repeated []Keyed) {
 	if d.Kind(v) != '{' {
-		return nil
+		return nil, nil
 	}
-	members := make([]Keyed, 0, len(v.parts)/2)
-	for at := 0; at+1 < len(v.parts); at += 2 {
-		members = append(members, Keyed{Text(d.Raw(v.parts[at])), v.parts[at+1]})
+	parts := d.partsOf(v)
+	members = make([]Keyed, 0, len(parts)/2)
+	for at := 0; at < len(parts); at += 2 {
+		members = append(members, Keyed{d.unquoted(parts[at]), parts[at+1]})
 	}
-	sort.SliceStable(members, func(i, j int) bool { return members[i].Key < members[j].Key })
-	kept := members[:0]
+	if len(members) <= fewMembers && areApart(members) {
+		return members, nil
+	}
+	counts := make(map[string]int32, len(members))
 	for at, member := range members {
-		if at+1 == len(members) || members[at+1].Key != member.Key {
+		if counts[member.Key]++; counts[member.Key] == 2 {
+			repeated = append(repeated, Keyed{member.Key, parts[2*at]})
+		}
+	}
+	if len(repeated) == 0 {
+		return members, nil
+	}
+	kept := members[:0]
+	for _, member := range members {
+		if counts[member.Key]--; counts[member.Key] == 0 {
 			kept = append(kept, member)
 		}
 	}
-	return kept
+	return kept, repeated
+}
+
+// areApart tells whether no two members have one key.
+func areApart(members []Keyed) bool {
+	for at := range members {
+		for before := 0; before < at; before++ {
+			if members[before].Key == members[at].Key {
+				return false
+			}
+		}
+	}
+	return true
+}
+
+// Second is where a key comes for the second time in an object; false where it doesn't.
+func (d *Document) Second(v Node, key string) (Node, bool) {
+	if d.Kind(v) != '{' {
+		return Node{}, false
+	}
+	count := 0
+	for at, part := range d.partsOf(v) {
+		if at%2 > 0 || d.unquoted(part) != key {
+			continue
+		}
+		if count++; count == 2 {
+			return part, true
+		}
+	}
+	return Node{}, false
 }
 
 // Position is the line and the column of a value's first byte, each from 1; a column is a byte.
@@ -210,59 +312,24 @@ func (d *Document) Position(v Node) (line, column int) {
 func (d *Document) Go(v Node) any {
 	switch d.Kind(v) {
 	case '{':
-		object := make(map[string]any, len(v.parts)/2)
-		for at := 0; at+1 < len(v.parts); at += 2 {
-			object[Text(d.Raw(v.parts[at]))] = d.Go(v.parts[at+1])
+		parts := d.partsOf(v)
+		object := make(map[string]any, len(parts)/2)
+		for at := 0; at < len(parts); at += 2 {
+			object[d.unquoted(parts[at])] = d.Go(parts[at+1])
 		}
 		return object
 	case '[':
-		list := make([]any, len(v.parts))
-		for at, item := range v.parts {
+		list := make([]any, v.count)
+		for at, item := range d.partsOf(v) {
 			list[at] = d.Go(item)
 		}
 		return list
 	case '"':
-		return Text(d.Raw(v))
+		return d.unquoted(v)
 	case 't':
 		return d.text[v.start] == 't'
 	case 'n':
 		return nil
 	}
 	return json.Number(d.Raw(v))
-}
-
-// Before tells whether a value begins before another one of the document.
-func (v Node) Before(other Node) bool { return v.start < other.start }
-
-// InOrder are the members of an object in the order of the text, of several with one key the last alone.
-func (d *Document) InOrder(v Node) []Keyed {
-	members := d.Members(v)
-	sort.Slice(members, func(i, j int) bool { return members[i].Value.Before(members[j].Value) })
-	return members
-}
-
-// Repeated are the keys that come more than once in an object, each where it comes for the second time.
-func (d *Document) Repeated(v Node) []Keyed {
-	if d.Kind(v) != '{' {
-		return nil
-	}
-	var found []Keyed
-	counts := make(map[string]int, len(v.parts)/2)
-	for at := 0; at+1 < len(v.parts); at += 2 {
-		key := Text(d.Raw(v.parts[at]))
-		if counts[key]++; counts[key] == 2 {
-			found = append(found, Keyed{key, v.parts[at]})
-		}
-	}
-	return found
-}
-
-// Second is where a key comes for the second time in an object; false where it doesn't.
-func (d *Document) Second(v Node, key string) (Node, bool) {
-	for _, it := range d.Repeated(v) {
-		if it.Key == key {
-			return it.Value, true
-		}
-	}
-	return Node{}, false
 }

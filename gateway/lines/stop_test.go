@@ -62,7 +62,7 @@ func TestDocument(t *testing.T) {
 	if line, column := d.Position(a); line != 2 || column != 27 {
 		t.Errorf("line %d, column %d", line, column)
 	}
-	if repeated := d.Repeated(d.Whole); len(repeated) != 1 || repeated[0].Key != "a" {
+	if _, repeated := d.InOrder(d.Whole); len(repeated) != 1 || repeated[0].Key != "a" {
 		t.Errorf("repeated: %v", repeated)
 	}
 	if members := d.Members(d.Whole); len(members) != 2 || members[0].Key != "a" || string(d.Raw(members[0].Value)) != "[true,null]" {

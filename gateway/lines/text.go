@@ -5,6 +5,7 @@ import (
 	"encoding/json"
 	"fmt"
 	"strings"
+	"unicode/utf16"
 	"unicode/utf8"
 )
 
@@ -94,14 +95,47 @@ func (s *scanner) unit(at int) (int, bool) {
 // Text is what a JSON string, in its quotes, stands for. The string is lawful.
 func Text(quoted []byte) string {
 	inner := quoted[1 : len(quoted)-1]
-	if bytes.IndexByte(inner, '\\') < 0 {
+	escape := bytes.IndexByte(inner, '\\')
+	if escape < 0 {
 		return string(inner)
 	}
-	var text string
-	if err := json.Unmarshal(quoted, &text); err != nil {
-		return string(inner)
+	var text strings.Builder
+	text.Grow(len(inner))
+	for escape >= 0 {
+		text.Write(inner[:escape])
+		letter, length := unescaped(inner[escape:])
+		text.WriteRune(letter)
+		inner = inner[escape+length:]
+		escape = bytes.IndexByte(inner, '\\')
 	}
-	return text
+	text.Write(inner)
+	return text.String()
+}
+
+// unescaped is the character that the escape at the start of a text stands for, and how many bytes the escape has.
+func unescaped(text []byte) (rune, int) {
+	switch c := text[1]; c {
+	case 'b':
+		return '\b', 2
+	case 'f':
+		return '\f', 2
+	case 'n':
+		return '\n', 2
+	case 'r':
+		return '\r', 2
+	case 't':
+		return '\t', 2
+	case 'u':
+	default:
+		return rune(c), 2
+	}
+	s := scanner{text: text}
+	first, _ := s.unit(0)
+	if !utf16.IsSurrogate(rune(first)) {
+		return rune(first), 6
+	}
+	second, _ := s.unit(6)
+	return utf16.DecodeRune(rune(first), rune(second)), 12
 }
 
 const hexadecimal = "0123456789abcdef"

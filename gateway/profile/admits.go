@@ -37,13 +37,13 @@ func (t *translator) admitted(b *box, of, due *valueType, refuse func(why, inste
 // narrowedTo is a type of the values of another one that were held against it.
 func (t *translator) narrowedTo(due, of *valueType) *valueType {
 	switch {
-	case due.kind != anyKind && (!due.isScalar() || len(due.allowed.all) > 0 || len(of.values().all) == 0):
+	case due.kind != anyKind && (!due.isScalar() || len(due.allowed.nodes()) > 0 || len(of.values().nodes()) == 0):
 		return t.countedAs(due, of)
 	case due.kind != anyKind:
 		own := *t.countedAs(due, of)
 		own.common = of.values()
 		return &own
-	case len(due.allowed.all) == 0:
+	case len(due.allowed.nodes()) == 0:
 		return of
 	}
 	own := *of
@@ -53,7 +53,7 @@ func (t *translator) narrowedTo(due, of *valueType) *valueType {
 
 // admittedPhrase is a value, or null where a type doesn't allow it.
 func (t *translator) admittedPhrase(p phrase, due *valueType, refuse func(why, instead string)) phrase {
-	if p.members != nil && due.kind == listKind && len(due.allowed.all) == 0 {
+	if p.members != nil && due.kind == listKind && len(due.allowed.nodes()) == 0 {
 		members, conditions, why := t.admittedMembers(p.members, due.element)
 		if why == "" {
 			return t.whereAll(conditions, listing(members, p.of))
@@ -129,7 +129,7 @@ func (t *translator) admits(x phrase, due *valueType, orNull bool) (conditions [
 	case due.kind == listKind:
 		return nil, "the members of a list may be none of the allowed values of their type, which can't be tested of a list that is not " +
 			"written out"
-	case due.kind == contextKind && len(due.allowed.all) > 0:
+	case due.kind == contextKind && len(due.allowed.nodes()) > 0:
 		return nil, "allowed values of a context can't be tested"
 	case due.kind == contextKind:
 		return t.admitsEntries(x, due)
@@ -163,7 +163,7 @@ func (t *translator) isAllowed(x phrase, allowed valueList) (condition phrase) {
 	if t.full {
 		return constant("true", booleanType)
 	}
-	t.at(allowed.text, func() { condition = t.conditions(allowed.all, x, newScope(nil)) })
+	t.at(allowed.at(), func() { condition = t.conditions(allowed.nodes(), x, newScope(nil)) })
 	t.wrote(len(condition.text))
 	return condition
 }
@@ -180,7 +180,7 @@ func (t *translator) isSure(b *box, of, due *valueType) bool {
 		return t.isSurePhrase(p, due)
 	case listBox:
 		for _, member := range b.list {
-			if due.kind != listKind || len(due.allowed.all) > 0 || !t.isSure(member, of.memberType(), due.element) {
+			if due.kind != listKind || len(due.allowed.nodes()) > 0 || !t.isSure(member, of.memberType(), due.element) {
 				return false
 			}
 		}
@@ -195,7 +195,7 @@ func (t *translator) isSureContext(b *box, of, due *valueType) bool {
 	if b.result != nil {
 		return t.isSure(b.result, of, due)
 	}
-	if due.kind != contextKind || len(due.allowed.all) > 0 {
+	if due.kind != contextKind || len(due.allowed.nodes()) > 0 {
 		return false
 	}
 	for _, entry := range b.entries {
@@ -210,7 +210,7 @@ func (t *translator) isSureContext(b *box, of, due *valueType) bool {
 func (t *translator) isSureTable(b *box, of, due *valueType) bool {
 	switch b.table.Hit {
 	case "C", "R", "O":
-		if due.kind != listKind || len(due.allowed.all) > 0 {
+		if due.kind != listKind || len(due.allowed.nodes()) > 0 {
 			return false
 		}
 		due = due.element
@@ -230,7 +230,7 @@ func (t *translator) isSureTable(b *box, of, due *valueType) bool {
 			}
 		}
 	}
-	return len(due.allowed.all) == 0 || len(b.table.Outputs) == 1
+	return len(due.allowed.nodes()) == 0 || len(b.table.Outputs) == 1
 }
 
 // mostLiteral is how many bytes a literal has that is looked at.
@@ -243,7 +243,7 @@ func (t *translator) isSurePhrase(p phrase, due *valueType) bool {
 		return true
 	case p.branches != nil:
 		return t.isSurePhrase(p.branches.then, due) && t.isSurePhrase(p.branches.otherwise, due) || t.wasTested(p, due)
-	case p.members != nil && due.kind == listKind && len(due.allowed.all) == 0:
+	case p.members != nil && due.kind == listKind && len(due.allowed.nodes()) == 0:
 		for _, member := range p.members {
 			if !t.isSurePhrase(member, due.element) {
 				return false
@@ -293,7 +293,7 @@ func (t *valueType) isNarrow() bool {
 }
 
 func (t *valueType) hasAllowed() bool {
-	if len(t.allowed.all) > 0 || t.kind == listKind && t.element.isNarrow() {
+	if len(t.allowed.nodes()) > 0 || t.kind == listKind && t.element.isNarrow() {
 		return true
 	}
 	for _, name := range t.order {
@@ -340,17 +340,17 @@ func implies(of, due *valueType) bool {
 // has tells whether a literal is surely one of the values. Null is, always.
 func (v *valueList) has(n feel.Node) bool {
 	literal := literalType(n)
-	if len(v.all) == 0 || literal.kind == nullKind || v.literals[literalText(n)] {
+	if len(v.nodes()) == 0 || literal.kind == nullKind || v.words()[literalText(n)] {
 		return true
 	}
-	if v.literals == nil && len(v.all) <= mostCommon {
-		for _, other := range v.all {
+	if v.words() == nil && len(v.nodes()) <= mostCommon {
+		for _, other := range v.nodes() {
 			if literalType(other) != nil && literalText(other) == literalText(n) {
 				return true
 			}
 		}
 	}
-	for _, other := range v.others {
+	for _, other := range v.tests() {
 		if interval, is := other.(*feel.Range); is && liesIn(n, interval) {
 			return true
 		}
@@ -373,12 +373,12 @@ func liesIn(literal feel.Node, interval *feel.Range) bool {
 // includes tells whether all of some other values are surely among these.
 func (v *valueList) includes(other valueList) bool {
 	switch {
-	case len(v.all) == 0 || len(other.all) > 0 && &v.all[0] == &other.all[0]:
+	case len(v.nodes()) == 0 || len(other.nodes()) > 0 && &v.nodes()[0] == &other.nodes()[0]:
 		return true
-	case len(other.all) == 0:
+	case len(other.nodes()) == 0:
 		return false
 	}
-	for _, n := range other.all {
+	for _, n := range other.nodes() {
 		if literalType(n) != nil && v.has(n) {
 			continue
 		}
@@ -391,7 +391,7 @@ func (v *valueList) includes(other valueList) bool {
 
 // covers tells whether a range of the values holds another one.
 func (v *valueList) covers(inner *feel.Range) bool {
-	for _, other := range v.others {
+	for _, other := range v.tests() {
 		outer, is := other.(*feel.Range)
 		if !is {
 			continue
@@ -410,7 +410,7 @@ func (v *valueList) covers(inner *feel.Range) bool {
 
 // values are those that all values of a type are among; none where they are not known.
 func (t *valueType) values() valueList {
-	if len(t.allowed.all) > 0 {
+	if len(t.allowed.nodes()) > 0 {
 		return t.allowed
 	}
 	return t.common
@@ -422,23 +422,23 @@ const mostCommon = 20
 // commonValues are values that those of two types are among; none where they are not known.
 func commonValues(a, b valueList) valueList {
 	switch {
-	case len(a.all) == 0 || len(b.all) == 0:
+	case len(a.nodes()) == 0 || len(b.nodes()) == 0:
 		return valueList{}
 	case b.includes(a):
 		return b
 	case a.includes(b):
 		return a
-	case len(a.all)+len(b.all) > mostCommon:
+	case len(a.nodes())+len(b.nodes()) > mostCommon:
 		return valueList{}
 	}
-	return valueList{all: append(append([]feel.Node(nil), a.all...), b.all...),
-		others: append(append([]feel.Node(nil), a.others...), b.others...)}
+	return valueList{&listedValues{all: append(append([]feel.Node(nil), a.nodes()...), b.nodes()...),
+		others: append(append([]feel.Node(nil), a.tests()...), b.tests()...)}}
 }
 
 // asOutput holds an output entry against the output values of its column.
 func (r *tableReader) asOutput(entry *dmn.Text, value phrase, o *output) phrase {
 	due := &valueType{kind: value.of.kind, allowed: o.allowed}
-	if len(o.allowed.all) == 0 || r.isSurePhrase(value, due) {
+	if len(o.allowed.nodes()) == 0 || r.isSurePhrase(value, due) {
 		return value
 	}
 	refuse := func(why, instead string) { r.refusals.refuse(entry.Element, entry.Text, why, instead) }
@@ -456,7 +456,7 @@ func (r *tableReader) asOutput(entry *dmn.Text, value phrase, o *output) phrase 
 // asInput holds the value of a column against its input values, where no promise of the caller says that it is one of them.
 func (r *tableReader) asInput(c *column) {
 	due := &valueType{kind: c.value.of.kind, allowed: c.allowed}
-	if len(c.allowed.all) == 0 || c.clause.Expression == nil || r.isPromised(*c) || r.isSurePhrase(c.value, due) {
+	if len(c.allowed.nodes()) == 0 || c.clause.Expression == nil || r.isPromised(*c) || r.isSurePhrase(c.value, due) {
 		return
 	}
 	refuse := func(why, instead string) {

@@ -107,10 +107,10 @@ func (c *cells) named(canonical string) (int, bool) {
 // listedScale is the most decimals of allowed values that are single numbers; false where they are none.
 func listedScale(of *valueType) (scale int, listed bool) {
 	allowed := of.allowed
-	if len(allowed.all) == 0 {
+	if len(allowed.nodes()) == 0 {
 		allowed = of.noted
 	}
-	for _, value := range allowed.all {
+	for _, value := range allowed.nodes() {
 		literal := literalType(value)
 		switch {
 		case literal != nil && literal.kind == nullKind:

@@ -19,7 +19,7 @@ func (r *tableReader) alignOutputs() {
 		if o.other != nil && !isCount {
 			all = append(all, *o.other)
 		}
-		for _, value := range o.allowed.all {
+		for _, value := range o.allowed.nodes() {
 			if number := rational(value); number != nil && ends(number) {
 				all = append(all, constantNumber(number))
 			}
@@ -49,7 +49,7 @@ func (r *tableReader) writeOutput(o *output, i int, all []phrase) {
 		table.Outputs[i].Default = &text
 	}
 	at := 0
-	for _, value := range o.allowed.all {
+	for _, value := range o.allowed.nodes() {
 		if number := rational(value); number != nil && ends(number) {
 			if at < len(table.Outputs[i].Values) {
 				table.Outputs[i].Values[at] = all[next].text

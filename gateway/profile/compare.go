@@ -141,7 +141,11 @@ func (t *translator) compareQuotients(n feel.Node, l phrase, operator string, r 
 		}
 	}
 	if r.number != nil && l.over == nil {
-		if constantNumber(r.number).of.units.scale > l.of.units.scale+mostFiner {
+		scale := constantNumber(r.number).of.units.scale
+		if scale > l.of.units.scale+mostFiner {
+			l = t.decimalParts(n, l)
+		}
+		if scale > l.of.units.scale+mostFiner {
 			return t.refuse(n, fmt.Sprintf("a quotient is compared with a number of over %d decimals more than its own: the standard "+
 				"compares what 34 digits leave of it", mostFiner), "a number with fewer decimals")
 		}
@@ -157,6 +161,15 @@ func (t *translator) compareQuotients(n feel.Node, l phrase, operator string, r 
 		right.Mul(right, decimal.Power(-shift))
 	}
 	return t.crossed(n, l, left, operator, r, right)
+}
+
+// decimalParts is a quotient by a constant with the twos and fives of its divisor as decimals: so a smaller numerator is limit.
+func (t *translator) decimalParts(n feel.Node, p phrase) phrase {
+	rest := big.NewInt(p.of.units.parts())
+	more := maximum(removed(rest, 2), removed(rest, 5))
+	u := p.of.units
+	u.scale, u.per = u.scale+more, rest.Int64()
+	return t.recountedOr(n, p, u)
 }
 
 // quotientAgainst compares a quotient by a variable with a constant.

@@ -45,7 +45,7 @@ func (t *translator) conform(b *box, of, due *valueType, refuse func(why, instea
 
 // insteadOfList tells what to write for a list where a scalar is declared.
 func insteadOfList(due *valueType) string {
-	if due.kind == numberKind && len(due.allowed.all) == 0 {
+	if due.kind == numberKind && len(due.allowed.nodes()) == 0 {
 		return "if count(l) = 1 then sum(l) else null, of a list l of numbers; or a list as the declared type"
 	}
 	return "a list as the declared type"
@@ -149,7 +149,7 @@ func (t *translator) field(of *valueType, word string) *valueType {
 }
 
 func textIsForbidden(text string, due, of *valueType) bool {
-	if len(due.allowed.all) == 0 && (due.kind != listKind || len(due.element.allowed.all) == 0) {
+	if len(due.allowed.nodes()) == 0 && (due.kind != listKind || len(due.element.allowed.nodes()) == 0) {
 		return false
 	}
 	node, fault := feel.Expression(text, nil, nil)

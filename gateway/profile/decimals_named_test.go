@@ -65,7 +65,7 @@ func TestDecimalsOfInputs(t *testing.T) {
 func TestTypesOfQuotients(t *testing.T) {
 	result := taken(t, definitions(input("a", "number"), decision("d", "number", literal("a / 12"), "a"),
 		decision("e", "number", literal("a * 0.5"), "a")))
-	if got := string(result.Types["d"]); !strings.Contains(got, `"per":30000,`) {
+	if got := string(result.Types["d"]); !strings.Contains(got, `"per":1200,`) {
 		t.Errorf("the type of a quotient is %s", got)
 	}
 	due := `decision "e": numbers on the way have up to 3 decimals: one past 9223372036854775.807 is limit`

@@ -3,6 +3,7 @@ package profile
 import (
 	"fmt"
 	"math/big"
+	"strconv"
 	"strings"
 
 	"gateway/lines"
@@ -10,7 +11,7 @@ import (
 
 // The profile has no division. A quotient of a number of 0 or more that is a multiple of the divisor is found by its
 // remainders by two primes, each the remainder of the number times the inverse of the divisor, and put together by the
-// theorem of remainders. It costs three entries in front of the expression where the divisor is a constant.
+// theorem of remainders. It costs three entries in front of the expression where the divisor is a constant, of 2 one more.
 
 // divisionPrimes are primes just below 2^31: the product of two of them is just below 2^62, and a product of two
 // remainders is in the range.
@@ -19,9 +20,46 @@ var divisionPrimes = []int64{2147483647, 2147483629, 2147483587, 2147483579, 214
 // leastDivisor is the least divisor by which each quotient in the range is below the product of two primes.
 const leastDivisor = 3
 
-// exactQuotient is v / p for a v of 0 or more that is a multiple of p, which is leastDivisor or more. Where v is null it is
-// null. V is a text that may stand as an argument.
+// parted is how often p is in size * by, which is 0 or more, and the rest. Where size is null both are.
+//
+// With a factor size is q * p + r: then p is in it q * by times, and as often as in r * by, which is below by times and so found by
+// its remainder by one prime. So no number on the way is greater than the quotient, size, or p * by.
+func (t *translator) parted(size phrase, by int64, p phrase) (q, rest phrase) {
+	rest = t.step("rest", fmt.Sprintf("modulo(%s, %s)", size.text, p.text), numberType)
+	multiple := size.text + " - " + rest.text
+	divisor, err := strconv.ParseInt(p.text, 10, 64)
+	switch {
+	case err != nil:
+		return t.variableQuotient(multiple, p), rest
+	case divisor == 1:
+		return size, rest
+	}
+	q = t.exactQuotient(multiple, divisor)
+	if by == 1 {
+		return q, rest
+	}
+	prime, _ := primesFor(divisor)
+	last := t.step("rest", fmt.Sprintf("modulo(%s * %d, %d)", rest.text, by, divisor), numberType)
+	few := fmt.Sprintf("modulo(modulo(%s * %d - %s, %d) * %d, %d)", rest.text, by, last.text, prime, inverse(divisor, prime), prime)
+	return t.step("quotient", fmt.Sprintf("%s * %d + %s", q.text, by, few), numberType), last
+}
+
+// hasShortRest tells whether a factor above 1 may be left to the rest of a division by p.
+func hasShortRest(by *big.Int, p int64) bool {
+	if by.Sign() <= 0 || p == 1 || by.Cmp(big.NewInt(divisionPrimes[len(divisionPrimes)-1])) > 0 {
+		return by.IsInt64() && by.Int64() == 1
+	}
+	return isNumber(new(big.Int).Mul(by, big.NewInt(p)))
+}
+
+// exactQuotient is v / p for a v of 0 or more that is a multiple of p, which is 2 or more. Where v is null it is null. V is a text that
+// may stand as an argument. A number that is twice a quotient of leastDivisor or more is so often in it, and once more where 2 is left.
 func (t *translator) exactQuotient(v string, p int64) phrase {
+	if p < leastDivisor {
+		left := t.step("rest", fmt.Sprintf("modulo(%s, 4)", v), numberType)
+		q := t.exactQuotient(v+" - "+left.text, 4)
+		return t.step("quotient", fmt.Sprintf("2 * %s + (if %s = 0 then 0 else 1)", q.text, left.text), numberType)
+	}
 	first, second := primesFor(p)
 	a := t.step("rest", fmt.Sprintf("modulo(modulo(%s, %d) * %d, %d)", v, first, inverse(p, first), first), numberType)
 	b := t.step("rest", fmt.Sprintf("modulo(modulo(%s, %d) * %d, %d)", v, second, inverse(p, second), second), numberType)

@@ -13,7 +13,7 @@ import (
 
 // divisors are constants of each sort: powers of two, of three, of ten, primes, and those by which quotients are found.
 var divisors = []int64{2, 3, 4, 5, 6, 7, 8, 9, 11, 12, 13, 16, 24, 27, 30, 52, 60, 64, 81, 97, 100, 128, 365, 1000, 1200, 3600, 12345, 65536, 999983,
-	1000003, 1000000000, 2147483629, 2147483646, 2147483647}
+	1000003, 1000000000, 2147483629, 2147483646, 2147483647, 2 * 2147483647, 1 << 27, 1<<63 - 2, 1<<63 - 1}
 
 // numerators are numbers over the whole range: both ends, where products would pass it, multiples of a divisor and their neighbours.
 func numerators(random *rand.Rand, divisor int64) (all []int64) {
@@ -31,7 +31,7 @@ func numerators(random *rand.Rand, divisor int64) (all []int64) {
 	}
 	for i := 0; i < 12; i++ {
 		add(random.Int63n(most-1) - random.Int63n(most-1))
-		add(random.Int63n(most/divisor-1) * divisor)
+		add(random.Int63n(most/divisor) * divisor)
 	}
 	return all
 }
@@ -45,24 +45,6 @@ func rounded(rounding string, n, d int64) *big.Int {
 		floor.Add(floor, big.NewInt(1))
 	}
 	return floor
-}
-
-// times is how often a prime divides a number.
-func times(n, prime int64) (count int64) {
-	for ; n%prime == 0; n /= prime {
-		count++
-	}
-	return count
-}
-
-// mayBeLimit says whether a number is past the range with the decimals that a division by the twos and fives of a divisor adds.
-func mayBeLimit(n, divisor int64) bool {
-	decimals := times(divisor, 2)
-	if fives := times(divisor, 5); fives > decimals {
-		decimals = fives
-	}
-	scaled := new(big.Int).Mul(big.NewInt(n), new(big.Int).Exp(big.NewInt(10), big.NewInt(decimals), nil))
-	return decimals > 0 && (!scaled.IsInt64() || scaled.Int64() == -1<<63)
 }
 
 // wholeInputs imports parts whose inputs have no decimals, into a desk.
@@ -82,8 +64,7 @@ func wholeInputs(t *testing.T, parts []string) (*desk, *profile.Result) {
 	return d, result
 }
 
-// TestDivisionOverTheWholeRange divides by constants, and holds each quotient against math/big. By a divisor with twos or fives it may
-// be a limit where the decimals of the quotient pass the range, of which the import has a note; never another number.
+// TestDivisionOverTheWholeRange divides by constants, and holds each quotient against math/big: none is a limit.
 func TestDivisionOverTheWholeRange(t *testing.T) {
 	parts := []string{input("x", "number")}
 	for _, divisor := range divisors {
@@ -97,7 +78,7 @@ func TestDivisionOverTheWholeRange(t *testing.T) {
 		for _, n := range numerators(random, divisor) {
 			for _, rounding := range []string{"floor", "ceiling", "decimal"} {
 				came := countedAsk(d, result, fmt.Sprintf("%s_%d", rounding, divisor), fmt.Sprintf(`{"x":%d}`, n))
-				if due := rounded(rounding, n, divisor).String(); came != due && !(came == "limit" && mayBeLimit(n, divisor)) {
+				if due := rounded(rounding, n, divisor).String(); came != due {
 					t.Errorf("%s of %d / %d: %s came, and %s is due", rounding, n, divisor, came, due)
 				}
 			}

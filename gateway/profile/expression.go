@@ -16,7 +16,7 @@ func (t *translator) value(n feel.Node, s *scope) phrase {
 	case *feel.Number:
 		return t.number(n)
 	case *feel.String:
-		return constant(quotedText(n.Value), &valueType{kind: textKind, common: valueList{all: []feel.Node{n}}})
+		return constant(quotedText(n.Value), &valueType{kind: textKind, common: valueList{&listedValues{all: []feel.Node{n}}}})
 	case *feel.Boolean:
 		return constant(literalText(n), booleanType)
 	case *feel.Null:
@@ -132,16 +132,21 @@ func (t *translator) list(n *feel.List, s *scope) phrase {
 	for i, item := range n.Items {
 		members[i] = t.chosen(item, s)
 	}
-	of := t.together(members, t.refusal(n))
-	return listing(members, listOf(of))
+	of := nullType
+	if len(members) == 1 && members[0].isAsItIs() {
+		of = members[0].of
+	} else {
+		of = t.together(members, t.refusal(n))
+	}
+	return listing(members, t.kept.listOf(of))
 }
 
 // contextLiteral is the box of {a: 1, b: a}: each entry sees those before it.
 func (t *translator) contextLiteral(n *feel.Context, s *scope) (*box, *valueType) {
 	made := &box{kind: contextBox, entries: []boxEntry{}}
 	of := &valueType{kind: contextKind, fields: map[string]*valueType{}}
-	inside := newScope(s)
-	for _, entry := range n.Entries {
+	inside := s
+	for i, entry := range n.Entries {
 		if _, twice := of.fields[entry.Key]; twice {
 			t.refuse(n, "the key "+entry.Key+" stands twice", "another key")
 			continue
@@ -157,6 +162,12 @@ func (t *translator) contextLiteral(n *feel.Context, s *scope) (*box, *valueType
 		t.wrote(len(word) + bytesOfEntry)
 		made.entries = append(made.entries, boxEntry{word: word, value: value, of: valueOf})
 		of.setField(entry.Key, valueOf)
+		if i == len(n.Entries)-1 {
+			break // No other entry sees it.
+		}
+		if inside == s {
+			inside = newScope(s)
+		}
 		inside.bindWord(entry.Key, word, valueOf)
 	}
 	return made, of

@@ -45,7 +45,7 @@ func (t *valueType) facts() facts {
 }
 
 func (t *valueType) contextFacts() facts {
-	if t.known.of == t && t.known.size == t.size() && t.known.changes == t.known.loose.now() {
+	if t.known != nil && t.known.of == t && t.known.size == t.size() && t.known.changes == t.known.loose.now() {
 		return t.known.facts
 	}
 	var all facts
@@ -53,7 +53,7 @@ func (t *valueType) contextFacts() facts {
 		all = all.and(part.facts())
 		return true
 	})
-	t.known = knownFacts{facts: all, of: t, size: t.size(), changes: all.loose.now()}
+	t.known = &knownFacts{facts: all, of: t, size: t.size(), changes: all.loose.now()}
 	return all
 }
 

@@ -105,7 +105,7 @@ func (t *translator) propose(x *dmn.Text) {
 
 // sameType tells whether two columns declare the same type.
 func sameType(a, b *valueType) bool {
-	return a == b || a.isScalar() && a.kind == b.kind && len(a.allowed.all) == 0 && len(b.allowed.all) == 0
+	return a == b || a.isScalar() && a.kind == b.kind && len(a.allowed.nodes()) == 0 && len(b.allowed.nodes()) == 0
 }
 
 // addFree makes inputs of the names that nothing declares, where that is asked for. It tells whether there are any.

@@ -67,6 +67,8 @@ type graph struct {
 	constants map[string]phrase
 	// changes counts those of the types of inputs that declare none.
 	changes *changes
+	// partsOfInputs counts the parts of the types of all inputs.
+	partsOfInputs int
 }
 
 func newGraph(files []*dmn.File, r *refusals, w *words, options Options) *graph {
@@ -116,7 +118,7 @@ func (g *graph) parts(s *source) {
 	for _, input := range s.file.Inputs {
 		n := g.node(s, input.Element, input.Variable)
 		n.input = input
-		n.of = s.types.inputType(input)
+		n.of = g.boundedType(n, s.types.inputType(input))
 		g.inputs = append(g.inputs, n)
 	}
 	for _, decision := range s.file.Decisions {
@@ -133,6 +135,23 @@ func (g *graph) parts(s *source) {
 	for _, service := range s.file.Services {
 		g.identify(s, service.Element, service)
 	}
+}
+
+// mostPartsOfInputs is how many parts the types of all inputs may have: each is counted for itself, and has a schema.
+const mostPartsOfInputs = 100_000
+
+// boundedType is the type of an input, refused where those of the inputs have too many parts with it.
+func (g *graph) boundedType(n *node, of *valueType) *valueType {
+	before := g.partsOfInputs
+	g.partsOfInputs += of.parts
+	switch {
+	case g.partsOfInputs <= mostPartsOfInputs:
+		return of
+	case before <= mostPartsOfInputs:
+		g.refusals.refuse(n.element(), n.name, fmt.Sprintf("the types of the inputs up to here have over %d parts in all",
+			mostPartsOfInputs), "smaller types, or fewer inputs")
+	}
+	return refusedType
 }
 
 func (g *graph) node(s *source, e *dmn.Element, variable *dmn.Variable) *node {

@@ -194,7 +194,26 @@ func graphHints() []filedHint {
 		{name: "one name of knowledge", refused: overNumber(literal("f(a)"), f, strings.Replace(f, `id="f"`, `id="g"`, 1), "k:f"), hint: "another name", written: invoked, due: next},
 		{name: "a decision that needs itself", refused: loop, hint: "requirements that end", written: overNumber(literal("if a > 1 then e else a"), e, "d:e"),
 			due: ofA("2", "3", "1", "1", "null", "null")},
+		{name: "inputs of large types", refused: overNumber(literal("a + 1"), inputsOf(largeType(9000), 12)), hint: "smaller types, or fewer inputs",
+			written: overNumber(literal("a + 1"), inputsOf(largeType(9000), 2)), due: next},
 	}
+}
+
+// largeType is a type of the name tLarge with so many components.
+func largeType(components int) string {
+	var all strings.Builder
+	for i := 0; i < components; i++ {
+		fmt.Fprintf(&all, `<itemComponent name="c%d"><typeRef>number</typeRef></itemComponent>`, i)
+	}
+	return `<itemDefinition name="tLarge">` + all.String() + `</itemDefinition>`
+}
+
+// inputsOf is a type with so many inputs of it.
+func inputsOf(large string, count int) string {
+	for i := 0; i < count; i++ {
+		large += input(fmt.Sprintf("large%d", i), "tLarge")
+	}
+	return large
 }
 
 func tableHints() (all []filedHint) {

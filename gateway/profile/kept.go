@@ -9,6 +9,10 @@ type kept struct {
 	alike map[[2]*valueType]keptReason
 	// joint are the types that two contexts have in common.
 	joint map[[2]*valueType]keptContext
+	// lists are the types of lists of those that all runs share.
+	lists map[*valueType]*valueType
+	// number is the type of the numbers that were calculated last.
+	number *valueType
 }
 
 // A state of a type is how many entries it has and how many changes there were that may concern it: while it is the same, what was
@@ -38,7 +42,33 @@ type keptReason struct {
 
 func newKept() *kept {
 	return &kept{units: map[*valueType]keptUnits{}, counted: map[[2]*valueType]keptContext{}, alike: map[[2]*valueType]keptReason{},
-		joint: map[[2]*valueType]keptContext{}}
+		joint: map[[2]*valueType]keptContext{}, lists: map[*valueType]*valueType{}, number: numberType}
+}
+
+// listOf is the type of calculated lists of a type. Each type has one, for a text may have a list a member.
+func (k *kept) listOf(element *valueType) *valueType {
+	known := element.listed
+	if element.isShared {
+		known = k.lists[element]
+	}
+	if known != nil && known.element == element {
+		return known
+	}
+	made := listOf(element)
+	if element.isShared {
+		k.lists[element] = made
+	} else {
+		element.listed = made
+	}
+	return made
+}
+
+// numberOf is the type of calculated numbers of some units. Those that come one after the other share it.
+func (k *kept) numberOf(u units) *valueType {
+	if k.number.units != u {
+		k.number = numberOf(u)
+	}
+	return k.number
 }
 
 // unitsOf are those of a type.

@@ -295,7 +295,7 @@ func (t *translator) unrolledFor(n *feel.For, s *scope) (phrase, bool) {
 		return phrase{}, false
 	}
 	of := t.together(results, t.refusal(n))
-	return listing(results, listOf(of)), true
+	return listing(results, t.kept.listOf(of)), true
 }
 
 // unrolledQuantified is the or, or the and, of a condition of each member.

@@ -130,7 +130,10 @@ func recounted(p phrase, to units) (made phrase, why string) {
 	if finer >= len(largestNumber) {
 		return p, fmt.Sprintf("it would be counted with %d decimals", to.scale)
 	}
-	factor := new(big.Int).Mul(decimal.Power(finer), big.NewInt(to.parts()/p.of.units.parts()))
+	factor, rest := new(big.Int).Mul(decimal.Power(finer), big.NewInt(to.parts())), new(big.Int)
+	if factor.QuoRem(factor, big.NewInt(p.of.units.parts()), rest); rest.Sign() != 0 {
+		return p, "its unit can't be made coarser"
+	}
 	if !isNumber(factor) {
 		return p, fmt.Sprintf("it would be counted with %d decimals", to.scale)
 	}
@@ -146,7 +149,9 @@ func times(p phrase, factor *big.Int, of *valueType) phrase {
 		p.of = of
 		return p
 	}
-	return infix(p, "*", wholeConstant(factor), rankProduct, of)
+	made := infix(p, "*", wholeConstant(factor), rankProduct, of)
+	made.product = &product{p, factor}
+	return made
 }
 
 // recountedOr is a number in finer units, refused where it can't be had.
@@ -192,7 +197,7 @@ func (t *translator) aligned(p phrase, to *valueType, refuse func(why, instead s
 		for i, member := range p.members {
 			members[i] = t.aligned(member, to.element, refuse)
 		}
-		return listing(members, listOf(to.element))
+		return listing(members, t.kept.listOf(to.element))
 	}
 	if why := t.kept.countedAlike(p.of, to); why != "" {
 		refuse(why, "as many decimals for all of them, as by --decimals; or the type number")
@@ -200,6 +205,9 @@ func (t *translator) aligned(p phrase, to *valueType, refuse func(why, instead s
 	}
 	return p
 }
+
+// isAsItIs tells whether a value that meets no other one stays what it is.
+func (p phrase) isAsItIs() bool { return p.of.kind != numberKind || p.of.units.per != tooManyParts }
 
 // isCountedAs tells whether values of a type, a scalar or lists of such, are surely counted as those of another one.
 func isCountedAs(of, to *valueType) bool {
@@ -211,12 +219,17 @@ func isCountedAs(of, to *valueType) bool {
 
 // together aligns values that meet in a list, a branch or a column, and gives the type that all of them have.
 func (t *translator) together(values []phrase, refuse func(why, instead string)) *valueType {
-	of, seen := nullType, map[*valueType]bool{}
-	for _, value := range values {
-		if seen[value.of] {
+	of, seen := nullType, map[*valueType]bool(nil)
+	for i, value := range values {
+		if seen[value.of] || i > 0 && value.of == values[i-1].of {
 			continue
 		}
-		seen[value.of] = true
+		if len(values) > 1 {
+			if seen == nil {
+				seen = map[*valueType]bool{}
+			}
+			seen[value.of] = true
+		}
 		if known := t.kept.wasJoined(of, value.of); known != nil {
 			of = known
 			continue
@@ -297,7 +310,7 @@ func (t *translator) countedSum(n *feel.Chain, operands []phrase) phrase {
 	for i, o := range operands {
 		operands[i] = t.recountedOr(n, o, u)
 	}
-	made := chained(operands, n.Operators, rankSum, numberOf(u))
+	made := chained(operands, n.Operators, rankSum, t.kept.numberOf(u))
 	made.number = value
 	return made
 }
@@ -327,8 +340,9 @@ func (t *translator) countedProduct(n feel.Node, operands []phrase) phrase {
 	if value != nil && !u.isPlain() {
 		return constantNumber(value)
 	}
-	made := chained(all, operators, rankProduct, numberOf(u))
-	made.of, made.number = numberOf(u), value
+	of := t.kept.numberOf(u)
+	made := chained(all, operators, rankProduct, of)
+	made.of, made.number = of, value
 	return made
 }
 
@@ -406,6 +420,9 @@ func (t *translator) shifted(n feel.Node, p phrase, power int) phrase {
 	if p.over == nil && own.units.scale < 0 {
 		factor := decimal.Power(-own.units.scale)
 		own.units.scale = 0
+		common := new(big.Int).GCD(nil, nil, factor, big.NewInt(own.units.per))
+		factor.Quo(factor, common)
+		own.units.per /= common.Int64()
 		if !isNumber(factor) {
 			return t.refuse(n, "the power of ten is past the range", "")
 		}
@@ -437,38 +454,36 @@ func (t *translator) divided(n feel.Node, a, b phrase) phrase {
 	return t.ratio(n, a, b)
 }
 
-// dividedBy is a number divided by a constant: the twos and fives of the divisor go into the unit, and what is left is the
-// divisor of the quotient.
+// dividedBy is a number divided by a constant: where the divisor has twos and fives alone, a number with more decimals, else a
+// quotient of parts.
 func (t *translator) dividedBy(n feel.Node, a phrase, divisor *big.Rat) phrase {
 	if a.number != nil {
 		if value := new(big.Rat).Quo(a.number, divisor); ends(value) {
 			return constantNumber(value)
 		}
 	}
-	factor, rest := new(big.Int).Set(divisor.Denom()), new(big.Int).Set(divisor.Num())
-	if rest.Sign() < 0 {
+	factor, parts := new(big.Int).Set(divisor.Denom()), decimal.Power(a.of.units.scale)
+	parts.Mul(parts, divisor.Num())
+	if parts.Sign() < 0 {
 		factor.Neg(factor)
-		rest.Neg(rest)
+		parts.Neg(parts)
 	}
-	twos, fives := removed(rest, 2), removed(rest, 5)
-	scale := maximum(twos, fives)
-	factor.Mul(factor, power(2, scale-twos))
-	factor.Mul(factor, power(5, scale-fives))
-	u := units{scale: a.of.units.scale + scale, meets: a.of.units.fractional().meets}
-	for u.scale > 0 && new(big.Int).Rem(factor, big.NewInt(10)).Sign() == 0 {
-		factor.Quo(factor, big.NewInt(10))
-		u.scale--
-	}
-	switch {
-	case !isNumber(factor) || !isNumber(rest) || u.scale > mostScale:
+	common := new(big.Int).GCD(nil, nil, new(big.Int).Abs(factor), parts)
+	factor.Quo(factor, common)
+	parts.Quo(parts, common)
+	u, finer := unitsOfParts(parts)
+	u.meets = a.of.units.fractional().meets
+	factor.Mul(factor, finer)
+	if !isNumber(factor) || u.per == tooManyParts || u.scale > mostScale {
 		return t.refuse(n, "the divisor has too many digits", "a divisor with fewer digits")
-	case rest.Int64() > 1:
-		u.per = rest.Int64()
 	}
 	a.number = nil
 	if a.of.kind != numberKind && factor.IsInt64() && factor.Int64() == 1 {
 		// Of what is no number the quotient is null.
 		return infix(a, "*", constant("1", numberType), rankProduct, numberOf(u))
+	}
+	if a.depth >= mostOperandDepth {
+		a = t.part(a)
 	}
 	return times(a, factor, numberOf(u))
 }

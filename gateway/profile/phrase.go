@@ -43,10 +43,18 @@ type phrase struct {
 	inDays *phrase
 	// over is the divisor of a quotient by a variable, which is above 0 or the quotient null; nil of what is none.
 	over *phrase
+	// product says of what times a constant it is; nil of what is none, or isn't known to be.
+	product *product
 	// members are those of a list that is written out.
 	members []phrase
 	// branches are those of a choice; nil of what is none.
 	branches *branches
+}
+
+// A product is a phrase times a constant.
+type product struct {
+	of phrase
+	by *big.Int
 }
 
 // branches are the parts of an if.
@@ -94,11 +102,21 @@ func call(function string, of *valueType, arguments ...phrase) phrase {
 
 // listing is a list of phrases.
 func listing(members []phrase, of *valueType) phrase {
-	texts := make([]string, len(members))
-	for i, m := range members {
-		texts[i] = m.text
+	size := 2
+	for i := range members {
+		size += len(members[i].text) + len(", ")
 	}
-	return phrase{text: "[" + strings.Join(texts, ", ") + "]", rank: rankPrimary, depth: 1 + deepest(members...), of: of,
+	var text strings.Builder
+	text.Grow(size)
+	text.WriteByte('[')
+	for i := range members {
+		if i > 0 {
+			text.WriteString(", ")
+		}
+		text.WriteString(members[i].text)
+	}
+	text.WriteByte(']')
+	return phrase{text: text.String(), rank: rankPrimary, depth: 1 + deepest(members...), of: of,
 		members: members}
 }
 
@@ -118,10 +136,8 @@ func negated(p phrase) phrase { return call("not", booleanType, p) }
 
 func deepest(phrases ...phrase) int {
 	depth := 0
-	for _, p := range phrases {
-		if p.depth > depth {
-			depth = p.depth
-		}
+	for i := range phrases {
+		depth = maximum(depth, phrases[i].depth)
 	}
 	return depth
 }

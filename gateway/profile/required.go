@@ -26,7 +26,7 @@ func requiredInputs(g *graph, nullable []string) (words []string) {
 
 // listsNull tells whether null is written among the values.
 func (v *valueList) listsNull() bool {
-	for _, n := range v.all {
+	for _, n := range v.nodes() {
 		if _, is := n.(*feel.Null); is {
 			return true
 		}

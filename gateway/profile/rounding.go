@@ -127,15 +127,11 @@ func (t *translator) rounded(n feel.Node, name string, x phrase, digits int) phr
 	case !x.isQuotient() && x.of.units.scale <= digits:
 		return unrounded(x, u)
 	}
-	divisor := constant("1", numberType)
-	if x.over != nil {
-		divisor = *x.over
-	}
-	x, divisor, why := atDigits(x, divisor, digits)
+	f, why := atDigits(x, digits)
 	if why != "" {
 		return t.refuse(n, why, "a rounding of what is calculated before")
 	}
-	return t.roundedAt(roundings[name], x, divisor, digits, u)
+	return t.roundedAt(roundings[name], f, digits, u)
 }
 
 // unrounded is a number that has no more decimals than it is rounded to.
@@ -149,47 +145,74 @@ func unrounded(x phrase, u units) phrase {
 	return x
 }
 
-// atDigits gives the numerator and the divisor of a number in the unit that it is rounded to. Why tells where they are past
-// the range.
-func atDigits(x, divisor phrase, digits int) (numerator, by phrase, why string) {
-	factor := big.NewInt(x.of.units.parts())
-	shift := x.of.units.scale - digits
-	x.over = nil
-	if shift < 0 {
-		up := decimal.Power(-shift)
-		if !isNumber(up) {
-			return x, divisor, fmt.Sprintf("a number is rounded to %d decimals", digits)
-		}
-		x = times(x, up, numberType)
-	} else {
-		factor.Mul(factor, decimal.Power(shift))
-	}
-	if !isNumber(factor) {
-		return x, divisor, fmt.Sprintf("a number that is counted with %d decimals is rounded to %d", x.of.units.scale, digits)
-	}
-	if divisor.text == "1" {
-		return x, wholeConstant(factor), ""
-	}
-	return x, times(divisor, factor, numberType), ""
+// A fraction is x * by / over.
+type fraction struct {
+	x    phrase
+	by   *big.Int
+	over phrase
 }
 
-// roundedAt is x / p rounded to a whole number, times 10^-digits where these are below 0.
-func (t *translator) roundedAt(how rounding, x, p phrase, digits int, u units) phrase {
+// atDigits is a number in the unit that it is rounded to, in its lowest terms. Why tells where it is past the range.
+func atDigits(x phrase, digits int) (f fraction, why string) {
+	by, over := big.NewInt(1), big.NewInt(x.of.units.parts())
+	shift := x.of.units.scale - digits
+	if shift < 0 {
+		by = decimal.Power(-shift)
+	} else {
+		over.Mul(over, decimal.Power(shift))
+	}
+	if x.over != nil {
+		divisor := *x.over
+		x.over = nil
+		if !isNumber(by) || !isNumber(over) {
+			return f, pastTheRange(x, digits)
+		}
+		return fraction{times(x, by, numberType), big.NewInt(1), times(divisor, over, numberType)}, ""
+	}
+	whole := lowest(x, by, over)
+	if product := x.product; product != nil {
+		if f := lowest(product.of, new(big.Int).Mul(by, product.by), over); isNumber(f.by) {
+			whole = f
+		}
+	}
+	if !isNumber(whole.by) || whole.over.text == "" {
+		return f, pastTheRange(x, digits)
+	}
+	return whole, ""
+}
+
+func pastTheRange(x phrase, digits int) string {
+	if x.of.units.scale < digits {
+		return fmt.Sprintf("a number is rounded to %d decimals", digits)
+	}
+	return fmt.Sprintf("a number that is counted with %d decimals is rounded to %d", x.of.units.scale, digits)
+}
+
+// lowest is x * by / over in its lowest terms; where the divisor is past the range it has no text.
+func lowest(x phrase, by, over *big.Int) fraction {
+	common := new(big.Int).GCD(nil, nil, new(big.Int).Abs(by), over)
+	f := fraction{x: x, by: new(big.Int).Quo(by, common)}
+	if by.Sign() < 0 {
+		f.x = times(x, big.NewInt(-1), numberType)
+		f.by.Neg(f.by)
+	}
+	if divisor := common.Quo(over, common); isNumber(divisor) {
+		f.over = wholeConstant(divisor)
+	}
+	return f
+}
+
+// roundedAt is a fraction rounded to a whole number, times 10^-digits where these are below 0.
+func (t *translator) roundedAt(how rounding, f fraction, digits int, u units) phrase {
 	if t.full {
 		return constant("null", numberOf(u))
 	}
-	x, p = t.short(x), t.short(p)
-	size := t.step("part", fmt.Sprintf("abs(%s)", x.text), numberType)
-	rest := t.step("rest", fmt.Sprintf("modulo(%s, %s)", size.text, p.text), numberType)
-	multiple := size.text + " - " + rest.text
-	var q phrase
-	if by, err := strconv.ParseInt(p.text, 10, 64); err != nil {
-		q = t.variableQuotient(multiple, p)
-	} else if by == 1 {
-		q = size
-	} else {
-		q = t.exactQuotient(multiple, by)
+	if by, err := strconv.ParseInt(f.over.text, 10, 64); err != nil || !hasShortRest(f.by, by) {
+		f.x, f.by = times(f.x, f.by, numberType), big.NewInt(1)
 	}
+	x, p := t.short(f.x), t.short(f.over)
+	size := t.step("part", fmt.Sprintf("abs(%s)", x.text), numberType)
+	q, rest := t.parted(size, f.by.Int64(), p)
 	text := how.result(x.text, q.text, rest.text, p.text)
 	if digits < 0 {
 		text = fmt.Sprintf("(%s) * %s", text, decimal.Power(-digits))

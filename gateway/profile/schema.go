@@ -54,10 +54,10 @@ func schemaOf(of *valueType, w *words, tick calendar.Tick) map[string]interface{
 		made["type"] = []string{"string", "null"}
 		of.describeTemporal(made, tick)
 	}
-	if len(of.allowed.all) == 0 {
-		narrow(made, of.noted.all)
+	if len(of.allowed.nodes()) == 0 {
+		narrow(made, of.noted.nodes())
 	}
-	narrow(made, of.allowed.all)
+	narrow(made, of.allowed.nodes())
 	return made
 }
 

@@ -55,13 +55,16 @@ func dearContexts() map[string]string {
 // dearExpressions are files of one long expression.
 func dearExpressions() map[string]string {
 	finest := "0." + strings.Repeat("0", 6000) + "1"
-	long := strings.Repeat("a + ", 240) + "b"
+	long, tight := strings.Repeat("a + ", 240)+"b", strings.Repeat("a+", 450)+"b"
 	return map[string]string{
 		"a quotient times tens":     overX("x / 3 " + filled("* 10 / 10", " ", dearSize)),
 		"roundings":                 overX(filled("decimal(x * 1.015, 2)", " + ", dearSize)),
 		"a list with many decimals": overX("[" + finest + ", " + filled("1", ", ", dearSize) + "]"),
 		"a sum with many decimals":  overX(finest + " + " + filled("1", " + ", dearSize)),
 		"deep lists":                overX("[" + filled(strings.Repeat("[", 240)+"x * 1.5"+strings.Repeat("]", 240), ", ", dearSize) + "]"),
+		"deep contexts":             overX("[" + filled(strings.Repeat("{a: ", 200)+"x * 1.5"+strings.Repeat("}", 200), ", ", dearSize) + "]"),
+		"names that begin alike without blanks": definitions(input("a", "number"), input(tight, "number"),
+			decision("q", "", literal(filled("a", "+", dearSize)), "a", tight)),
 		"names that begin alike": definitions(input("a", "number"), input(long, "number"),
 			decision("q", "", literal(filled("a", " + ", dearSize)), "a", long)),
 	}
@@ -92,6 +95,7 @@ func dearParts() map[string]string {
 		"knowledge with a long fault":  invoked(filled("0.5", " + ", halfSize) + " +"),
 		"a wide table of roundings":    definitions(input("x", "number"), decision("q", "", table(first, inputs, outputs, row), "x")),
 		"words that begin alike":       definitions(words.String(), decision("q", "", literal("1"))),
+		"inputs of a large type":       definitions(inputsOf(largeType(900), 400), decision("q", "", literal("large0.c0 * 0.5"), "large0")),
 	}
 }
 

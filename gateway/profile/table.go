@@ -129,7 +129,7 @@ func (r *tableReader) inputColumn(clause *dmn.InputClause) {
 	}
 	if clause.Values != nil {
 		c.allowed = r.types.values(clause.Values, c.value.of)
-		if len(c.allowed.all) > 0 && clause.Expression != nil {
+		if len(c.allowed.nodes()) > 0 && clause.Expression != nil {
 			r.noted(c)
 		}
 		r.asInput(&c)
@@ -169,7 +169,7 @@ func (r *tableReader) noted(c column) {
 	of := r.inputOf(c)
 	switch {
 	case of == nil:
-	case of.noted.text != nil && of.noted.text != c.allowed.text && !(of.noted.includes(c.allowed) && c.allowed.includes(of.noted)):
+	case of.noted.at() != nil && of.noted.at() != c.allowed.at() && !(of.noted.includes(c.allowed) && c.allowed.includes(of.noted)):
 		of.notedTwice, of.noted = true, valueList{}
 	case !of.notedTwice:
 		of.noted = c.allowed
@@ -179,7 +179,7 @@ func (r *tableReader) noted(c column) {
 // isPromised tells whether who calls keeps the input values of a column.
 func (r *tableReader) isPromised(c column) bool {
 	of := r.inputOf(c)
-	return of != nil && !of.notedTwice && len(of.allowed.all) == 0 && isSchema(c.allowed.all)
+	return of != nil && !of.notedTwice && len(of.allowed.nodes()) == 0 && isSchema(c.allowed.nodes())
 }
 
 // inputOf is the type of the input that a column is by itself; nil where it is none.
@@ -223,7 +223,7 @@ func (r *tableReader) outputColumn(clause *dmn.OutputClause, i int) {
 			of = anyType
 		}
 		o.allowed = r.types.values(clause.Values, of)
-		made.Values = listed(o.allowed.all)
+		made.Values = listed(o.allowed.nodes())
 	}
 	if made.Values == nil && r.byPriority() {
 		r.refusals.refuse(clause.Element, name, "the hit policy goes by output values, and the output lists none",
@@ -436,10 +436,10 @@ func (r *tableReader) outputType(i int) *valueType {
 	if o.of != nil && o.of.kind != anyKind {
 		of = r.countedAs(o.of, o.gives)
 	}
-	if len(values.all) == 0 {
+	if len(values.nodes()) == 0 {
 		values = o.allowed
 	}
-	if !of.isScalar() || len(values.all) == 0 || len(of.values().all) > 0 {
+	if !of.isScalar() || len(values.nodes()) == 0 || len(of.values().nodes()) > 0 {
 		return of
 	}
 	own := *of

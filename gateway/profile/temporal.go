@@ -12,13 +12,13 @@ import (
 // number. So a value of such a kind meets its own kind alone, and is never of the type Any.
 
 var (
-	dateType          = &valueType{kind: dateKind}
-	dayDurationType   = &valueType{kind: dayDurationKind}
-	monthDurationType = &valueType{kind: monthDurationKind}
+	dateType          = &valueType{kind: dateKind, isShared: true}
+	dayDurationType   = &valueType{kind: dayDurationKind, isShared: true}
+	monthDurationType = &valueType{kind: monthDurationKind, isShared: true}
 
-	timeType     = &valueType{kind: timeKind}
-	dateTimeType = &valueType{kind: dateTimeKind}
-	instantType  = &valueType{kind: offsetDateTimeKind}
+	timeType     = &valueType{kind: timeKind, isShared: true}
+	dateTimeType = &valueType{kind: dateTimeKind, isShared: true}
+	instantType  = &valueType{kind: offsetDateTimeKind, isShared: true}
 )
 
 // temporalNames are the kinds in the words of DMN.
@@ -30,7 +30,7 @@ var temporalNames = map[kindOfType]string{dateKind: "date", dayDurationKind: "da
 var withOffset = map[kindOfType]kindOfType{timeKind: offsetTimeKind, dateTimeKind: offsetDateTimeKind}
 
 // isTemporal tells whether values are dates or durations.
-func (t *valueType) isTemporal() bool { return temporalNames[t.kind] != "" }
+func (t *valueType) isTemporal() bool { return t.kind >= dateKind && t.kind <= offsetDateTimeKind }
 
 // isNothing tells whether there is no value of a type that another one could be told from.
 func (t *valueType) isNothing() bool {

@@ -165,7 +165,7 @@ func (t *types) plainItem(item *dmn.ItemDefinition) *valueType {
 // narrowed is a type with the allowed values of a definition.
 func (t *types) narrowed(item *dmn.ItemDefinition, plain *valueType) *valueType {
 	allowed := t.values(item.Allowed, plain)
-	if len(allowed.all) == 0 {
+	if len(allowed.nodes()) == 0 {
 		return plain
 	}
 	narrow := *plain

@@ -26,20 +26,31 @@ const (
 // A valueType is what is known of the values of an expression. Null conforms to every type.
 type valueType struct {
 	kind kindOfType
+	// narrow is whether the type or a part of it has allowed values.
+	narrow narrowness
+	// open tells that it is of an input without a declared type, or of an entry of such: what it is given to may tell its type.
+	open bool
+	// unasked tells that it is of a parameter without a declared type of business knowledge that nothing invokes.
+	unasked bool
+	// told tells that it is of what was refused: what it meets is told no more.
+	told bool
+	// notedTwice tells that columns have different input values for it: then none is for who calls.
+	notedTwice bool
 	// element is the type of a list's members; never nil for a list.
 	element *valueType
 	// deepest is a type within lists of lists, of which it may be asked often; nil where it isn't kept.
 	deepest *valueType
+	// listed is the type of calculated lists of it; nil, or that of a type of which this one is a copy, where none was made.
+	listed *valueType
+	// isShared tells that all runs share the type, which are to write nothing into it.
+	isShared bool
 	// fields are the types of a context's entries by their canonical names, order their order.
 	fields map[string]*valueType
 	order  []string
 	// parts counts the type itself and all parts of its parts.
 	parts int
-	// allowed are the values that the type is narrowed to; none where it isn't.
-	allowed valueList
-
-	// narrow is whether the type or a part of it has allowed values, implying keeps of which types all values are allowed.
-	narrow   narrowness
+	// allowed are the values that the type is narrowed to; none where it isn't. Implying keeps of which types all values are allowed.
+	allowed  valueList
 	implying map[*valueType]implied
 
 	// common are values that all those of a type are among which was joined of two.
@@ -47,8 +58,6 @@ type valueType struct {
 
 	// noted are the input values of a column that is an input of the model by itself: they are for who calls.
 	noted valueList
-	// notedTwice tells that columns have different input values for it: then none is for who calls.
-	notedTwice bool
 
 	// units are how numbers of the type are counted; of Any, all numbers within it. Those of a list or a context are its parts'.
 	units units
@@ -60,30 +69,23 @@ type valueType struct {
 	// clock is the zone of the clock that fills an input; empty of others.
 	clock string
 
-	// told tells that it is of what was refused: what it meets is told no more.
-	told bool
-
-	// open tells that it is of an input without a declared type: what it is given to may tell its type. For an entry of
-	// such an input, parent and field tell which.
-	open    bool
+	// parent and field tell of which entry of an input without a declared type it is.
 	parent  *valueType
 	changes *changes
-	// unasked tells that it is of a parameter without a declared type of business knowledge that nothing invokes.
-	unasked bool
 	// known are the facts of a context that were found.
-	known knownFacts
+	known *knownFacts
 	// fitting keeps how other contexts stand to this one, which may have many entries.
 	fitting map[*valueType]fitted
 	field   string
 }
 
 var (
-	anyType     = &valueType{kind: anyKind}
-	nullType    = &valueType{kind: nullKind}
-	numberType  = &valueType{kind: numberKind}
-	textType    = &valueType{kind: textKind}
-	booleanType = &valueType{kind: booleanKind}
-	refusedType = &valueType{kind: refusedKind}
+	anyType     = &valueType{kind: anyKind, isShared: true}
+	nullType    = &valueType{kind: nullKind, isShared: true}
+	numberType  = &valueType{kind: numberKind, isShared: true}
+	textType    = &valueType{kind: textKind, isShared: true}
+	booleanType = &valueType{kind: booleanKind, isShared: true}
+	refusedType = &valueType{kind: refusedKind, isShared: true}
 )
 
 func listOf(element *valueType) *valueType {
@@ -244,7 +246,7 @@ func (t *valueType) setField(name string, field *valueType) {
 	if _, found := t.fields[name]; !found {
 		t.order = append(t.order, name)
 	}
-	t.fields[name], t.narrow, t.implying, t.known = field, unknown, nil, knownFacts{}
+	t.fields[name], t.narrow, t.implying, t.known = field, unknown, nil, nil
 }
 
 // joined is a type that the values of both types have.
@@ -257,21 +259,36 @@ func joined(a, b *valueType) *valueType {
 	case a.kind != b.kind || a.kind == anyKind:
 		return anyOfUnits(a, b)
 	case a.kind == listKind:
-		return listOf(joined(a.element, b.element))
+		return joinedLists(a, b)
 	case a.kind == contextKind:
 		return joinedContexts(a, b)
 	}
 	made := valueType{kind: a.kind, units: joinedUnits(a.units, b.units), common: commonValues(a.values(), b.values()),
 		sort: either(a.sort, b.sort)}
-	if made.sort == nil && len(made.common.all) == 0 && a.isCalculated(made.units) {
+	if made.sort == nil && len(made.common.nodes()) == 0 && a.isCalculated(made.units) {
 		return a
 	}
 	return &made
 }
 
+// joinedLists is one of the types where they are of calculated lists and have the same members.
+func joinedLists(a, b *valueType) *valueType {
+	element := joined(a.element, b.element)
+	if element == a.element && a.isCalculatedList() {
+		return a
+	}
+	return listOf(element)
+}
+
+// isCalculatedList tells whether a type is that of calculated lists, of which no more is known than what their members are.
+func (t *valueType) isCalculatedList() bool {
+	isNarrow := len(t.allowed.nodes()) > 0 || t.noted.at() != nil || t.notedTwice
+	return t.kind == listKind && t.parts == 0 && t.units == (units{}) && !isNarrow && !t.told && !t.open && t.sort == nil
+}
+
 // isCalculated tells whether a type is that of calculated numbers of some units, of which no more is known.
 func (t *valueType) isCalculated(u units) bool {
-	isNarrow := len(t.values().all) > 0 || t.noted.text != nil || t.notedTwice
+	isNarrow := len(t.values().nodes()) > 0 || t.noted.at() != nil || t.notedTwice
 	return t.kind == numberKind && t.units == u && u.cell == nil && !isNarrow && !t.told && !t.open
 }
 

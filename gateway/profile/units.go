@@ -3,6 +3,8 @@ package profile
 import (
 	"fmt"
 	"math/big"
+
+	"gateway/decimal"
 )
 
 // units say how a number is counted: as a whole number of 10^-scale, or of one part of per of that. A value without units
@@ -102,9 +104,9 @@ func (u units) parts() int64 {
 
 // joinedUnits are those in which both numbers can be counted.
 func joinedUnits(a, b units) units {
-	both := units{scale: maximum(a.scale, b.scale), per: leastMultiple(a.parts(), b.parts()), meets: met(a, b)}
-	if both.per == 1 {
-		both.per = 0
+	both := units{scale: maximum(a.scale, b.scale), meets: met(a, b)}
+	if a.per > 1 || b.per > 1 {
+		both.scale, both.per = joinedParts(a, b)
 	}
 	if a.cell == b.cell {
 		both.cell = a.cell
@@ -115,16 +117,48 @@ func joinedUnits(a, b units) units {
 // tooManyParts stands for a divisor that is past the range.
 const tooManyParts = -1
 
-func leastMultiple(a, b int64) int64 {
-	if a == b {
-		return a
+// joinedParts are the units of the fewest parts of 1 of which both numbers have a whole number.
+func joinedParts(a, b units) (scale int, per int64) {
+	if a.per == tooManyParts || b.per == tooManyParts {
+		return maximum(a.scale, b.scale), tooManyParts
 	}
-	both := new(big.Int).Mul(big.NewInt(a), big.NewInt(b))
-	both.Quo(both, new(big.Int).GCD(nil, nil, big.NewInt(a), big.NewInt(b)))
-	if !both.IsInt64() {
-		return tooManyParts
+	if a.scale == b.scale && a.per == b.per {
+		return a.scale, a.per
 	}
-	return both.Int64()
+	first, second := a.partsOfOne(), b.partsOfOne()
+	common := new(big.Int).GCD(nil, nil, first, second)
+	both, _ := unitsOfParts(first.Mul(first, second.Quo(second, common)))
+	return both.scale, both.per
+}
+
+// partsOfOne is how many parts of 1 the numbers count.
+func (u units) partsOfOne() *big.Int {
+	parts := decimal.Power(u.scale)
+	return parts.Mul(parts, big.NewInt(u.parts()))
+}
+
+// unitsOfParts are the units of numbers that count so many parts of 1, which may have to be made finer by a factor: to decimals where
+// the number of parts has twos and fives alone, and where it is past the range.
+func unitsOfParts(parts *big.Int) (u units, finer *big.Int) {
+	rest := new(big.Int).Set(parts)
+	twos, fives := removed(rest, 2), removed(rest, 5)
+	per := new(big.Int).Set(rest)
+	if u.scale = twos; fives < twos {
+		u.scale = fives
+	}
+	if per.Quo(parts, decimal.Power(u.scale)); rest.IsInt64() && rest.Int64() == 1 || !isNumber(per) {
+		u.scale = maximum(twos, fives)
+		per.Set(rest)
+	}
+	finer = decimal.Power(u.scale)
+	finer.Mul(finer, per).Quo(finer, parts)
+	switch {
+	case !isNumber(per):
+		u.per = tooManyParts
+	case per.Int64() > 1:
+		u.per = per.Int64()
+	}
+	return u, finer
 }
 
 // numberOf is the type of numbers of some units.

@@ -9,7 +9,10 @@ import (
 )
 
 // A valueList is a list of allowed values, of input values or of output values. Without any it allows all.
-type valueList struct {
+type valueList struct{ *listedValues }
+
+// listedValues are those of a list with some.
+type listedValues struct {
 	all []feel.Node
 	// literals has the literals as the engine reads them; others are the ranges and tests.
 	literals map[string]bool
@@ -18,11 +21,43 @@ type valueList struct {
 	text *dmn.Text
 }
 
+// nodes are all of them.
+func (v valueList) nodes() []feel.Node {
+	if v.listedValues == nil {
+		return nil
+	}
+	return v.all
+}
+
+// words are the literals as the engine reads them.
+func (v valueList) words() map[string]bool {
+	if v.listedValues == nil {
+		return nil
+	}
+	return v.literals
+}
+
+// tests are the ranges and tests.
+func (v valueList) tests() []feel.Node {
+	if v.listedValues == nil {
+		return nil
+	}
+	return v.others
+}
+
+// at is where they stand; nil where there are none.
+func (v valueList) at() *dmn.Text {
+	if v.listedValues == nil {
+		return nil
+	}
+	return v.text
+}
+
 // mostOthers is how many ranges and tests a list may have: each literal is held against each of them.
 const mostOthers = 100
 
 func listOfValues(nodes []feel.Node) valueList {
-	made := valueList{all: nodes, literals: map[string]bool{}}
+	made := valueList{&listedValues{all: nodes, literals: map[string]bool{}}}
 	for _, n := range nodes {
 		if literalType(n) == nil {
 			made.others = append(made.others, n)
@@ -36,10 +71,10 @@ func listOfValues(nodes []feel.Node) valueList {
 // allows tells whether a form may be one of the values: only a literal can be told not to be. Null is, always.
 func (v *valueList) allows(n feel.Node) bool {
 	literal := literalType(n)
-	if literal == nil || literal.kind == nullKind || len(v.all) == 0 || v.literals[literalText(n)] {
+	if literal == nil || literal.kind == nullKind || len(v.nodes()) == 0 || v.words()[literalText(n)] {
 		return true
 	}
-	for _, other := range v.others {
+	for _, other := range v.tests() {
 		interval, is := other.(*feel.Range)
 		if !is || mayLieIn(n, interval) {
 			return true

@@ -183,7 +183,7 @@ func (c *call) put(asked *asking) (*problem, error) {
 		job.Owner = asked.who.owner
 	}
 	asked.turn.waitToPut()
-	if err := c.service.pool.Put(name, c.jobs); err != nil {
+	if err := c.hand(name, asked.id); err != nil {
 		c.users.Add(-int32(n))
 		c.service.clients.answered(it, n)
 		c.service.clients.leave(it)
@@ -198,6 +198,9 @@ var errGone = errors.New("the caller went away")
 
 // wait waits for all outcomes.
 func (c *call) wait(ctx context.Context) error {
+	if c.service.partitions != nil {
+		return c.waitPartitions(ctx)
+	}
 	select {
 	case <-c.done:
 		return nil

@@ -17,6 +17,7 @@ const statusGone = 499
 // An asking is what a call's head and body say, with the call's place among those of its client.
 type asking struct {
 	who     caller
+	id      string // no other call has it
 	name    string
 	explain bool
 	body    []byte
@@ -50,7 +51,12 @@ func (s *Service) servicesPath(w http.ResponseWriter, r *http.Request, id string
 	defer s.clients.leave(c.client)
 	// The jobs have what they need of it.
 	asked.body = nil
-	if err := c.wait(r.Context()); err != nil {
+	err := c.wait(r.Context())
+	if errors.Is(err, errLater) {
+		v.see(c)
+		return c.later(w, id, asked.id)
+	}
+	if err != nil {
 		// Whoever closed no more than its own side reads this.
 		problemLeft.with("").write(w, id)
 		return statusGone
@@ -115,6 +121,9 @@ func (s *Service) readAsking(w http.ResponseWriter, r *http.Request) (it asking,
 		return it, p
 	}
 	it.turn = s.turns.begin(it.who.client)
+	if s.partitions != nil {
+		it.id = ownID(time.Now())
+	}
 	return it, nil
 }
 
@@ -157,6 +166,9 @@ func (s *Service) ask(asked asking) (*call, *problem) {
 		}
 		if asked.explain && len(c.jobs) > maxExplained {
 			return nil, problemLong.with("at most 100 requests of a list are explained")
+		}
+		if p := c.wholeProblem(); p != nil {
+			return nil, p
 		}
 		c.users.Store(1)
 		c.bytes.Store(int64(len(asked.body)))

@@ -58,6 +58,9 @@ func (s *Service) pages() map[string]http.HandlerFunc {
 func (s *Service) handler() http.Handler {
 	pages := s.pages()
 	below := map[string]http.HandlerFunc{"/problems/": s.problemsPath, explainStart: s.explainPath, page.Files: page.Handle}
+	if s.partitions != nil {
+		below[answersPath] = s.answersOf
+	}
 	return http.HandlerFunc(func(w http.ResponseWriter, r *http.Request) {
 		start := time.Now()
 		header := w.Header()
@@ -133,10 +136,13 @@ func requestID(r *http.Request, now time.Time) string {
 	return ownID(now)
 }
 
+// idTime is how an id of the service's own begins.
+const idTime = "20060102T150405.000Z"
+
 // ownID is an id that no other call has.
 func ownID(now time.Time) string {
 	id := make([]byte, 0, 48)
-	id = now.UTC().AppendFormat(id, "20060102T150405.000Z-")
+	id = now.UTC().AppendFormat(id, idTime+"-")
 	id = append(id, idStart...)
 	return string(strconv.AppendUint(id, idCount.Add(1), 10))
 }
@@ -219,6 +225,11 @@ func (s *Service) unready() string {
 		return "no engine is ready"
 	case s.recorder != nil && s.recorder.journal.Failing():
 		return "the journal cannot be written"
+	}
+	if s.partitions != nil {
+		if is, said := s.partitions.Ready(); !is {
+			return said
+		}
 	}
 	return ""
 }

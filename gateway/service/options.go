@@ -27,6 +27,10 @@ type Options struct {
 	// TLS has the certificates of connections; nil where they are in the clear. Reload reads its files again.
 	TLS    *tls.Config
 	Reload func() error
+	// OpenPartitions lets partitions answer the calls, by the model whose line it is given; nil where the engines do. Wait is how long
+	// a call waits for them.
+	OpenPartitions func(model []byte) (Partitions, error)
+	Wait           time.Duration
 	// IsOpen says that anyone may call.
 	IsOpen bool
 	// AddressLimit is the most connections of one address at once.
@@ -119,6 +123,9 @@ func (o *Options) Check() error {
 		return fmt.Errorf("--keep, --journal-limit and --redact need --journal")
 	case o.Releases != "" && o.State != "":
 		return fmt.Errorf("--releases keeps what is put as releases, so --state can't be given too")
+	case o.OpenPartitions != nil && (o.Journal != "" || o.Releases != "" || o.State != ""):
+		return fmt.Errorf("--partitions has no --journal, --releases or --state: the brokers keep the answers, and the model is that of the " +
+			"command line")
 	case (len(o.Redact) > 0) != (o.RedactKey != ""):
 		return fmt.Errorf("--redact needs --redact-key, and --redact-key needs --redact")
 	}

@@ -92,7 +92,7 @@ var problemKinds = func() map[string]*problemKind {
 	for _, kind := range []*problemKind{
 		problemSyntax, problemHeader, problemTwice, problemUnknown, problemLeft, problemToken, problemRight, problemHost, problemSite, problemPath, problemService, problemUnkept, problemMethod,
 		problemLong, problemShape, problemValue, problemLimit, problemModel, problemMatch, problemVersion, problemBusy, problemFull,
-		problemStopping, problemJournal, problemState, problemWaited, problemLate, problemDied, problemHuge, problemInside,
+		problemUnsent, problemOver, problemStopping, problemJournal, problemState, problemWaited, problemLate, problemDied, problemHuge, problemInside,
 	} {
 		kinds[kind.word] = kind
 	}

@@ -19,6 +19,12 @@ import (
 // modelPath answers GET and PUT /v1/model.
 func (s *Service) modelPath(w http.ResponseWriter, r *http.Request) {
 	id := w.Header().Get("X-Request-Id")
+	if s.partitions != nil && r.Method == http.MethodPut {
+		p := problemMethod.with("partitions answer by the model of the command line")
+		p.allow = "GET, HEAD"
+		p.write(w, id)
+		return
+	}
 	if !takes(w, r, http.MethodGet, http.MethodHead, http.MethodPut) {
 		return
 	}

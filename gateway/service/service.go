@@ -30,6 +30,8 @@ type Service struct {
 	// hasTables says that the engine's check tells what it finds of tables.
 	hasTables bool
 	pool      *engine.Pool
+	// partitions answer the calls; nil where the engines do.
+	partitions Partitions
 	// recorder is nil where no journal is kept.
 	recorder  *recorder
 	statePath string
@@ -177,7 +179,7 @@ func (s *Service) begin(ctx context.Context) error {
 	if err := s.pool.Settle(ctx); err != nil {
 		return err
 	}
-	return nil
+	return s.openPartitions()
 }
 
 // openJournal opens the journal.
@@ -340,6 +342,8 @@ func (s *Service) serve(ctx context.Context) error {
 	select {
 	case err := <-failed:
 		return fmt.Errorf("serving: %w", err)
+	case <-s.partitionsEnded():
+		return fmt.Errorf("asking the partitions: %w", s.partitions.Err())
 	case <-ctx.Done():
 	}
 	return s.stop(server, listener, failed)
@@ -425,6 +429,9 @@ func (s *Service) stop(server *http.Server, listener net.Listener, ended <-chan 
 	if err := server.Shutdown(ctx); err != nil {
 		note(fmt.Errorf("ending: some requests took too long: %w", err))
 		_ = server.Close()
+	}
+	if s.partitions != nil {
+		note(s.partitions.Close(ctx))
 	}
 	note(s.pool.Close(ctx))
 	if s.recorder != nil {

@@ -7,6 +7,7 @@ import (
 	"fmt"
 	"io"
 	"os/exec"
+	"runtime/debug"
 )
 
 // Statuses of `desk check` and `desk explain`.
@@ -56,11 +57,13 @@ func (o CheckOptions) words() []string {
 // Check has the engine check the model that in gives, and writes what is found to out, in words. The status is the engine's. An
 // error says that the engine could not be run; what else goes wrong is told on errOut.
 func Check(ctx context.Context, engine string, options CheckOptions, in io.Reader, out, errOut io.Writer) (status int, err error) {
-	input, err := io.ReadAll(io.LimitReader(in, mostBytes+1))
-	if err != nil {
+	text := bytes.NewBuffer(make([]byte, 0, mostLine+bytes.MinRead))
+	if _, err := text.ReadFrom(io.LimitReader(in, mostBytes+1)); err != nil {
 		fmt.Fprintln(errOut, "read")
 		return StatusFault, nil
 	}
+	input := text.Bytes()
+	defer collectLess(len(input))()
 	output, status, err := run(ctx, engine, input, errOut, options.words()...)
 	if err != nil {
 		return 0, err
@@ -83,6 +86,28 @@ func Check(ctx context.Context, engine string, options CheckOptions, in io.Reade
 		return StatusFault, nil
 	}
 	return status, nil
+}
+
+const (
+	// smallText is a text that is checked without collecting garbage, until so much memory is taken.
+	smallText   = 2 << 20
+	uncollected = 128 << 20
+)
+
+// collectLess lets garbage be while a text of this many bytes is checked, since the memory that is taken for a small one is little
+// anyway. The function that it gives ends that.
+func collectLess(size int) (end func()) {
+	if size > smallText {
+		return func() {}
+	}
+	percent, limit := debug.SetGCPercent(-1), debug.SetMemoryLimit(-1)
+	if limit > uncollected {
+		debug.SetMemoryLimit(uncollected)
+	}
+	return func() {
+		debug.SetMemoryLimit(limit)
+		debug.SetGCPercent(percent)
+	}
 }
 
 // run runs the engine to its end.

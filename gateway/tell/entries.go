@@ -79,15 +79,19 @@ func (u *entryUses) text(text string) {
 }
 
 func (u *entryUses) nodes(nodes ...feel.Node) {
-	for _, used := range seenIn(nodes...).names {
-		if used.entry == "" || !u.inputs[used.name] {
-			continue
-		}
-		if u.used[used.name] == nil {
-			u.used[used.name] = set{}
-		}
-		u.used[used.name][used.entry] = true
+	for _, node := range nodes {
+		eachName(node, u.name)
 	}
+}
+
+func (u *entryUses) name(used valueName) {
+	if used.entry == "" || !u.inputs[used.name] {
+		return
+	}
+	if u.used[used.name] == nil {
+		u.used[used.name] = set{}
+	}
+	u.used[used.name][used.entry] = true
 }
 
 // entryNames are entries that texts take of an input.

@@ -30,9 +30,7 @@ func newFile(text []byte) *file {
 	if under, ok := doc.Member(doc.Whole, "model"); ok {
 		f.root = under
 	}
-	if m, err := model.Of(doc.Go(f.root)); err == nil {
-		f.model = m
-	}
+	f.model = modelOf(doc, f.root)
 	return f
 }
 
@@ -205,17 +203,18 @@ var plain = map[string]string{"rules": "rule", "values": "value", "list": "membe
 
 func (w *way) goToElement(index int) {
 	word, isCounted := counted[w.key]
-	switch own := w.named(w.part, w.isAny); {
+	own := func() string { return w.named(w.part, w.isAny) }
+	switch {
 	case w.key == "decisions", w.key == "services", w.key == "inputs" && !w.hasTable:
-		w.say(fmt.Sprintf("%s[%d]%s", w.key, index, own))
+		w.say(fmt.Sprintf("%s[%d]%s", w.key, index, own()))
 	case isCounted:
-		w.say(fmt.Sprintf("%s %d%s", word, index+1, own))
+		w.say(fmt.Sprintf("%s %d%s", word, index+1, own()))
 	case w.key == "when":
 		w.say(fmt.Sprintf("input %d%s", index+1, w.columnOf("inputs", index)))
 	case w.key == "then":
 		w.say(fmt.Sprintf("output %d%s", index+1, w.columnOf("outputs", index)))
 	case w.key == "context":
-		w.say("entry" + own)
+		w.say("entry" + own())
 	case plain[w.key] != "":
 		w.say(fmt.Sprintf("%s %d", plain[w.key], index+1))
 	}

@@ -23,6 +23,10 @@ type given struct {
 	decisions map[string]*gift
 	// numbers keeps of which values it was seen whether they may be numbers.
 	numbers map[valueName]bool
+	// texts keeps the literals that are texts, of values for which a near one was sought.
+	texts map[valueName][]string
+	// entries keeps the names of the entries of decisions for which a near one was sought.
+	entries map[string][]string
 }
 
 func givenIn(m *model.Model) *given {
@@ -37,7 +41,7 @@ func givenIn(m *model.Model) *given {
 			needed[name] = true
 		}
 	}
-	g := &given{map[string]*gift{}, map[valueName]bool{}}
+	g := &given{map[string]*gift{}, map[valueName]bool{}, map[valueName][]string{}, map[string][]string{}}
 	for _, decision := range m.Decisions {
 		if brought[decision.Name] || !needed[decision.Name] {
 			continue
@@ -129,8 +133,15 @@ func (g *given) lacks(decision, entry string) bool {
 
 // near is the first entry of what a decision gives, by its bytes, whose name is near.
 func (g *given) near(decision, entry string) string {
+	names, isKept := g.entries[decision]
+	if !isKept {
+		for name := range g.decisions[decision].entries {
+			names = append(names, name)
+		}
+		g.entries[decision] = names
+	}
 	nearest := ""
-	for name := range g.decisions[decision].entries {
+	for _, name := range names {
 		if isNear(name, entry) && (nearest == "" || name < nearest) {
 			nearest = name
 		}
@@ -138,17 +149,27 @@ func (g *given) near(decision, entry string) string {
 	return nearest
 }
 
-// nearLiteral is the first of these literals that differs from a text by one letter, or in capital letters.
-func nearLiteral(literals set, literal string) string {
+// nearLiteral is the first of the literals that a value may be that differs from a text by one letter, or in capital letters.
+func (g *given) nearLiteral(of valueName, literal string) string {
 	if !strings.HasPrefix(literal, `"`) {
 		return ""
 	}
-	nearest := ""
-	for known := range literals {
-		if !strings.HasPrefix(known, `"`) || nearest != "" && known > nearest {
+	texts, isKept := g.texts[of]
+	if !isKept {
+		for known := range g.literals(of) {
+			if strings.HasPrefix(known, `"`) {
+				texts = append(texts, known)
+			}
+		}
+		g.texts[of] = texts
+	}
+	nearest, other := "", literal[1:len(literal)-1]
+	for _, known := range texts {
+		if further := len(known) - len(literal); further < -1 || further > 1 {
 			continue
 		}
-		if one, other := known[1:len(known)-1], literal[1:len(literal)-1]; equalASCII(one, other) || isNear(one, other) {
+		one := known[1 : len(known)-1]
+		if (equalASCII(one, other) || isNear(one, other)) && (nearest == "" || known < nearest) {
 			nearest = known
 		}
 	}

@@ -56,7 +56,8 @@ func (s *hiddenTexts) look(part lines.Node) {
 			s.within(index(at), item)
 		}
 	case '{':
-		for _, member := range s.doc.InOrder(part) {
+		members, _ := s.doc.InOrder(part)
+		for _, member := range members {
 			s.within(key(member.Key), member.Value)
 		}
 	}

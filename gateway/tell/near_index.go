@@ -50,7 +50,12 @@ func (s *sums) with(from, to int, letters ...uint64) uint64 {
 }
 
 func (x *nameIndex) make() {
-	x.whole, x.open, x.earlier = map[uint64]int32{}, map[uint64]int32{}, make([]placed, 1)
+	letters := 0
+	for _, name := range x.names {
+		letters += len(name)
+	}
+	x.whole, x.open = make(map[uint64]int32, len(x.names)), make(map[uint64]int32, letters)
+	x.earlier = make([]placed, 1, 1+len(x.names)+letters)
 	for place, name := range x.names {
 		s := sumsOf(name)
 		x.keep(x.whole, s.with(0, 0), place)

@@ -101,12 +101,14 @@ func (u *numberUses) text(text string) {
 
 // compared takes the values that texts compare with something else than numbers.
 func (u *numberUses) compared(nodes ...feel.Node) {
-	for _, it := range seenIn(nodes...).compared {
-		var with kinds
-		with.see(it.with)
-		if with != (kinds{numbers: true}) {
-			u.take(it.subject, false)
-		}
+	for _, node := range nodes {
+		eachComparison(node, func(subject valueName, other feel.Node) {
+			var with kinds
+			with.see(other)
+			if with != (kinds{numbers: true}) {
+				u.take(subject, false)
+			}
+		})
 	}
 }
 

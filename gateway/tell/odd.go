@@ -52,12 +52,15 @@ type walk struct {
 	found []oddity
 	// counts are how many of each kind there are.
 	counts map[string]int
+	// texts is how many texts were looked at, and noted has for each name that nothing binds the last text that it was noted of.
+	texts int
+	noted map[string]int
 }
 
 // oddities are what is odd in a lawful model, of each kind the first 100; and how many there are of each kind. The time is in
 // proportion to the length of the model, times the logarithm of how many names it has.
 func oddities(m *model.Model) ([]oddity, map[string]int) {
-	w := &walk{model: m, scope: newScope(), given: givenIn(m), counts: map[string]int{}}
+	w := &walk{model: m, scope: newScope(), given: givenIn(m), counts: map[string]int{}, noted: map[string]int{}}
 	w.values()
 	w.services()
 	w.within(key("decisions"), func() {
@@ -142,29 +145,35 @@ func (w *walk) unusedEntries(context model.Context, first int) {
 // expression looks at a text that is an expression. In a cell, names are mostly texts without their quotes.
 func (w *walk) expression(steps []Step, text string, isCell bool) {
 	if node, ok := strict.ReadExpression(text); ok {
-		w.look(steps, text, seenIn(node), isCell)
+		w.look(steps, text, isCell, node)
 		w.slips(steps, text, node)
 	}
 }
 
-// look looks at what was seen in a text.
-func (w *walk) look(steps []Step, text string, s *seen, isCell bool) {
-	noted := map[string]bool{}
-	for _, used := range s.names {
-		switch {
-		case w.scope.use(used.name):
-			w.entryOf(steps, used)
-		case !noted[used.name]:
-			noted[used.name] = true
-			w.unbound(steps, used.name, isCell)
-		}
+// look looks at the names, the comparisons and the sums of a text.
+func (w *walk) look(steps []Step, text string, isCell bool, nodes ...feel.Node) {
+	w.texts++
+	for _, node := range nodes {
+		eachName(node, func(used valueName) {
+			switch {
+			case w.scope.use(used.name):
+				w.entryOf(steps, used)
+			case w.noted[used.name] < w.texts:
+				w.noted[used.name] = w.texts
+				w.unbound(steps, used.name, isCell)
+			}
+		})
 	}
-	for _, compared := range s.compared {
-		if w.isKnown(compared.subject) {
-			w.askedFor(steps, compared.subject, compared.with)
-		}
+	adds := false
+	for _, node := range nodes {
+		eachComparison(node, func(subject valueName, with feel.Node) {
+			if w.isKnown(subject) {
+				w.askedFor(steps, subject, with)
+			}
+		})
+		adds = adds || addsText(node)
 	}
-	if s.addsText {
+	if adds {
 		w.note(oddAdded, steps, func() string { return "+ adds numbers, and what it makes of a text is null: " + text })
 	}
 }
@@ -219,6 +228,6 @@ func (w *walk) askedFor(steps []Step, subject valueName, with feel.Node) {
 		return
 	}
 	w.note(oddNeverGiven, steps, func() string {
-		return orNear(subject.name+" never is "+text, nearLiteral(literals, text))
+		return orNear(subject.name+" never is "+text, w.given.nearLiteral(subject, text))
 	})
 }

@@ -25,20 +25,20 @@ func init() {
 }
 
 // slips looks at conditions of a text that say something else than they seem to, and at what is always null.
-func (w *walk) slips(steps []Step, text string, nodes ...feel.Node) {
-	for _, node := range nodes {
-		switch of := node.(type) {
-		case *feel.Chain:
-			w.chainSlips(steps, text, of)
-		case *feel.If:
-			w.branchSlips(steps, text, of)
-		case *feel.Call:
-			w.callSlips(steps, text, of)
-		case *feel.Negation:
-			w.arithmeticSlips(steps, text, of, of.Operand)
-		}
-		w.slips(steps, text, partsOf(node)...)
+func (w *walk) slips(steps []Step, text string, node feel.Node) {
+	switch of := node.(type) {
+	case *feel.Name, *feel.Number, *feel.String:
+		return
+	case *feel.Chain:
+		w.chainSlips(steps, text, of)
+	case *feel.If:
+		w.branchSlips(steps, text, of)
+	case *feel.Call:
+		w.callSlips(steps, text, of)
+	case *feel.Negation:
+		w.arithmeticSlips(steps, text, of, of.Operand)
 	}
+	eachPart(node, func(part feel.Node) { w.slips(steps, text, part) })
 }
 
 // spelled is a form as it is written.

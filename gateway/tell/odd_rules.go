@@ -12,8 +12,18 @@ type ruleOrder struct {
 	table *model.Table
 	// all is the first rule that hits whatever the inputs are, counted from 1, 0 where none does; under P it gives the highest output.
 	all int
-	// seen are the rules by their tests.
-	seen map[string]int
+	// seen are the rules by their tests, and areSpelled says that they are compared.
+	seen       map[string]int
+	areSpelled bool
+}
+
+// areCompared tells whether the hit policy asks which rules have the same tests.
+func areCompared(table *model.Table) bool {
+	switch table.Hit {
+	case "U", "F", "C+", "C#":
+		return len(table.Rules) > 1
+	}
+	return false
 }
 
 // rule looks at the rule that the walk is at.

@@ -16,11 +16,11 @@ func (w *walk) table(table *model.Table) {
 			w.entry(*output.Default, key("outputs"), index(at), key("default"))
 		}
 	}
-	rules := &ruleOrder{table: table, seen: map[string]int{}}
+	rules := &ruleOrder{table: table, seen: map[string]int{}, areSpelled: areCompared(table)}
 	w.within(key("rules"), func() {
 		for at, rule := range table.Rules {
 			w.within(index(at), func() {
-				tests := w.cells(columns, at, rule.When)
+				tests := w.cells(columns, at, rule.When, rules.areSpelled)
 				for column, text := range rule.Then {
 					w.entry(text, key("then"), index(column))
 				}
@@ -62,14 +62,14 @@ type column struct {
 }
 
 func (w *walk) inputs(texts []string) []*column {
-	columns := make([]*column, len(texts))
+	columns, all := make([]*column, len(texts)), make([]column, len(texts))
 	for at, text := range texts {
-		columns[at] = &column{}
+		columns[at] = &all[at]
 		node, ok := strict.ReadExpression(text)
 		if !ok {
 			continue
 		}
-		w.look([]Step{key("inputs"), index(at)}, text, seenIn(node), false)
+		w.look([]Step{key("inputs"), index(at)}, text, false, node)
 		w.slips([]Step{key("inputs"), index(at)}, text, node)
 		if subject, ok := subjectOf(node); ok && w.isKnown(subject) {
 			columns[at].asked, columns[at].isAsked = subject, true
@@ -82,12 +82,13 @@ func (w *walk) inputs(texts []string) []*column {
 type ruleTests struct {
 	// takeAll says that each of them is met by every value.
 	takeAll bool
-	// spelling are they in one spelling, so that those that differ in blanks, or in how a literal is written, are the same.
+	// spelling are they in one spelling, so that those that differ in blanks, or in how a literal is written, are the same. It is
+	// empty where the hit policy doesn't ask for it.
 	spelling string
 }
 
-// cells looks at the input entries of a rule.
-func (w *walk) cells(columns []*column, rule int, texts []string) ruleTests {
+// cells looks at the input entries of a rule, which are spelled where that is asked.
+func (w *walk) cells(columns []*column, rule int, texts []string, areSpelled bool) ruleTests {
 	all := ruleTests{takeAll: true}
 	var spelling strings.Builder
 	for at, text := range texts {
@@ -100,8 +101,10 @@ func (w *walk) cells(columns []*column, rule int, texts []string) ruleTests {
 		default:
 			w.cell(columns[at], rule, at, text, tests)
 		}
-		spell(&spelling, text, tests)
-		spelling.WriteByte(';')
+		if areSpelled {
+			spell(&spelling, text, tests)
+			spelling.WriteByte(';')
+		}
 	}
 	all.spelling = spelling.String()
 	return all
@@ -110,8 +113,10 @@ func (w *walk) cells(columns []*column, rule int, texts []string) ruleTests {
 // cell looks at an input entry that is not "-".
 func (w *walk) cell(c *column, rule, at int, text string, tests strict.Tests) {
 	steps := []Step{key("when"), index(at)}
-	w.look(steps, text, seenIn(tests.List...), true)
-	w.slips(steps, text, tests.List...)
+	w.look(steps, text, true, tests.List...)
+	for _, test := range tests.List {
+		w.slips(steps, text, test)
+	}
 	w.countedCells(steps, text, tests)
 	if kind, areMet, ok := literalTests(tests); ok && !areMet {
 		w.note(oddUnmet, steps, func() string { return "no value meets " + text })
@@ -283,12 +288,15 @@ func spell(to *strings.Builder, text string, tests strict.Tests) {
 func spellTree(to *strings.Builder, text string, node feel.Node) {
 	span := node.At()
 	part := text[span.Start:span.End]
-	for _, token := range strict.Tokens(part) {
+	strict.EachToken(part, func(token strict.Token) {
 		spelled := part[token.Start:token.End]
 		to.WriteByte(' ')
-		if literal, ok := literalText(spelled); ok {
-			spelled = literal
+		switch token.Sort {
+		case strict.Number, strict.Text:
+			if literal, ok := literalText(spelled); ok {
+				spelled = literal
+			}
 		}
 		to.WriteString(spelled)
-	}
+	})
 }

@@ -27,6 +27,8 @@ type note struct {
 // A reading is what is known while lines of requests are read.
 type reading struct {
 	report *report
+	// doc is the line at hand.
+	doc lines.Document
 	// refused are the lines that the engine refuses, by their numbers: the first 1,000, the last of which is this.
 	refused map[int]factNote
 	last    int
@@ -118,12 +120,12 @@ func (r *reading) of(line []byte) {
 		r.note(refused.Note, func() note { return note{word: refused.Note, said: refusal(refused, line)} })
 		return
 	}
-	doc := lines.NewDocument(line)
-	if doc == nil || r.isRefused(doc) && r.number > r.last {
+	doc := &r.doc
+	if !doc.Read(line) || r.isRefused(doc) && r.number > r.last {
 		return
 	}
 	if under, ok := doc.Member(doc.Whole, "model"); ok {
-		if m, err := model.Of(doc.Go(under)); err == nil {
+		if m := modelOf(doc, under); m != nil {
 			r.take(m)
 		}
 		return

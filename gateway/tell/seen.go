@@ -8,27 +8,45 @@ import (
 // A valueName is a name, or an entry of what it stands for.
 type valueName struct{ name, entry string }
 
-// A comparison is a value that is compared with = or != with another.
-type comparison struct {
-	subject valueName
-	with    feel.Node
-}
+// eachName hands the names that a form uses to take, in the order of the text, each with the entry that is taken of its value.
+func eachName(node feel.Node, take func(valueName)) { eachNameOf(node, "", take) }
 
-// A seen is what a text uses.
-type seen struct {
-	names    []valueName
-	compared []comparison
-	// addsText says that a text in quotes is added.
-	addsText bool
-}
-
-// seenIn is what expressions or tests use.
-func seenIn(nodes ...feel.Node) *seen {
-	s := &seen{}
-	for _, node := range nodes {
-		s.look(node, "")
+func eachNameOf(node feel.Node, entry string, take func(valueName)) {
+	switch of := node.(type) {
+	case *feel.Name:
+		take(valueName{of.Name, entry})
+	case *strict.Group:
+		eachNameOf(of.Inside, entry, take)
+	case *feel.Path:
+		eachNameOf(of.Operand, of.Name, take)
+	default:
+		eachPart(node, func(part feel.Node) { eachNameOf(part, "", take) })
 	}
-	return s
+}
+
+// eachComparison hands the values that a form compares with = or != with others to take, each with the other.
+func eachComparison(node feel.Node, take func(subject valueName, with feel.Node)) {
+	if of, ok := node.(*feel.Binary); ok && (of.Operator == "=" || of.Operator == "!=") {
+		if subject, ok := subjectOf(of.Left); ok {
+			take(subject, of.Right)
+		}
+		if subject, ok := subjectOf(of.Right); ok {
+			take(subject, of.Left)
+		}
+	}
+	eachPart(node, func(part feel.Node) { eachComparison(part, take) })
+}
+
+// addsText tells whether a form adds a text in quotes.
+func addsText(node feel.Node) bool {
+	adds := false
+	if of, ok := node.(*feel.Chain); ok {
+		for at, operator := range of.Operators {
+			adds = adds || operator == "+" && (at == 0 && isText(of.Operands[0]) || isText(of.Operands[at+1]))
+		}
+	}
+	eachPart(node, func(part feel.Node) { adds = adds || addsText(part) })
+	return adds
 }
 
 // subjectOf is the value that an expression is; false where it is none with a name.
@@ -59,72 +77,44 @@ func isText(node feel.Node) bool {
 	return ok
 }
 
-// look goes through a tree, of whose value this entry is taken.
-func (s *seen) look(node feel.Node, entry string) {
-	switch of := node.(type) {
-	case *feel.Name:
-		s.names = append(s.names, valueName{of.Name, entry})
-	case *strict.Group:
-		s.look(of.Inside, entry)
-	case *feel.Path:
-		s.look(of.Operand, of.Name)
-	default:
-		s.lookAtParts(node)
-	}
-}
-
-func (s *seen) lookAtParts(node feel.Node) {
-	switch of := node.(type) {
-	case *feel.Chain:
-		for at, operator := range of.Operators {
-			s.addsText = s.addsText || operator == "+" && (at == 0 && isText(of.Operands[0]) || isText(of.Operands[at+1]))
-		}
-	case *feel.Binary:
-		if of.Operator == "=" || of.Operator == "!=" {
-			s.compare(of.Left, of.Right)
-			s.compare(of.Right, of.Left)
-		}
-	}
-	for _, part := range partsOf(node) {
-		s.look(part, "")
-	}
-}
-
-func (s *seen) compare(one, with feel.Node) {
-	if subject, ok := subjectOf(one); ok {
-		s.compared = append(s.compared, comparison{subject, with})
-	}
-}
-
-// partsOf are the forms that a form is made of, in the order of the text.
-func partsOf(node feel.Node) []feel.Node {
+// eachPart hands the forms that a form is made of to take, in the order of the text.
+func eachPart(node feel.Node, take func(feel.Node)) {
 	switch of := node.(type) {
 	case *strict.Group:
-		return []feel.Node{of.Inside}
+		take(of.Inside)
 	case *feel.Path:
-		return []feel.Node{of.Operand}
+		take(of.Operand)
 	case *feel.Chain:
-		return of.Operands
+		eachOf(of.Operands, take)
 	case *feel.Binary:
-		return []feel.Node{of.Left, of.Right}
+		take(of.Left)
+		take(of.Right)
 	case *feel.Negation:
-		return []feel.Node{of.Operand}
+		take(of.Operand)
 	case *feel.Unary:
-		return []feel.Node{of.Operand}
+		take(of.Operand)
 	case *feel.List:
-		return of.Items
+		eachOf(of.Items, take)
 	case *feel.Between:
-		return []feel.Node{of.Operand, of.Low, of.High}
+		take(of.Operand)
+		take(of.Low)
+		take(of.High)
 	case *feel.If:
-		return []feel.Node{of.Condition, of.Then, of.Else}
+		take(of.Condition)
+		take(of.Then)
+		take(of.Else)
 	case *feel.Range:
-		return []feel.Node{of.Low, of.High}
+		take(of.Low)
+		take(of.High)
 	case *feel.Call:
-		parts := make([]feel.Node, len(of.Arguments))
-		for at, argument := range of.Arguments {
-			parts[at] = argument.Value
+		for _, argument := range of.Arguments {
+			take(argument.Value)
 		}
-		return parts
 	}
-	return nil
+}
+
+func eachOf(nodes []feel.Node, take func(feel.Node)) {
+	for _, node := range nodes {
+		take(node)
+	}
 }

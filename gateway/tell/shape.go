@@ -76,6 +76,10 @@ func (s *shaper) note(it misshape) {
 var kindWords = map[byte]string{'n': "null", 't': "a boolean", '0': "a number", '"': "a text", '[': "a list", '{': "an object"}
 
 func (s *shaper) noteDue(of form, part lines.Node) {
+	if s.count >= mostPlaces {
+		s.count++
+		return
+	}
 	s.note(misshape{said: kindWords[s.doc.Kind(part)] + ", where " + of.due + " is due"})
 }
 

@@ -87,14 +87,14 @@ func (s *repeats) look(part lines.Node) {
 			s.within(index(at), item)
 		}
 	case '{':
-		repeated := s.doc.Repeated(part)
+		members, repeated := s.doc.InOrder(part)
 		for _, it := range repeated {
 			s.count++
 			if len(s.found) < mostPlaces {
 				s.found = append(s.found, repeat{s.place.with(), it.Key, it.Value})
 			}
 		}
-		for _, member := range s.doc.InOrder(part) {
+		for _, member := range members {
 			s.within(key(member.Key), member.Value)
 		}
 	}

@@ -16,7 +16,7 @@ use Rattle.dmn_ranges.specs.declared.interval.Interval.{Interval}
 use Rattle.dmn_ranges.specs.declared.range.Range.{Range}
 use Rattle.dmn_ranges.proofs.Equalities.{yes_told, no_told}
 use Rattle.dmn_ranges.proofs.Intervals.{less_in, reach_in}
-use Rattle.dmn_ranges.proofs.Joins.{or_left, or_right, and_both, or_cases, not_cases, is_number, is_text, other_in, no_text_in}
+use Rattle.dmn_ranges.proofs.Joins.{or_left, or_right, and_both, list_in, context_in, or_cases, not_cases, is_number, is_text, other_in, no_text_in}
 use Rattle.dmn_ranges.proofs.TruthSets.{tells}
 
 -- ---- one of two values is no number, or no text
@@ -88,8 +88,8 @@ kind_by a truths numbers texts (boolean true) p q r s h = denied truths (a.trues
 kind_by a truths numbers texts (boolean false) p q r s h = denied truths (a.trues || a.falses) p (or_right a.trues a.falses h)
 kind_by a truths numbers texts (number z) p q r s h = denied numbers (is_some a.numbers) q (some_number a.numbers z h)
 kind_by a truths numbers texts (text t) p q r s h = denied texts a.texts r h
-kind_by a truths numbers texts (list ds) p q r s h = absurd ((none_of a.lists a.contexts s).0 h)
-kind_by a truths numbers texts (context es) p q r s h = absurd ((none_of a.lists a.contexts s).1 h)
+kind_by a truths numbers texts (list ds) p q r s h = absurd ((none_of a.lists a.contexts s).0 (list_in a ds h))
+kind_by a truths numbers texts (context es) p q r s h = absurd ((none_of a.lists a.contexts s).1 (context_in a es h))
 
 kind_of : (a : Range) (truths numbers texts : Bool) (d : Datum) → has_only a truths numbers texts ≡ true → lies_in a d ≡ true → is_kind truths numbers texts d ≡ true
 kind_of a truths numbers texts d only h =

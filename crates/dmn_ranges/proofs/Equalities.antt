@@ -13,22 +13,22 @@ use Rattle.dmn_ranges.specs.Steps.{is_not_null, can_equal, can_differ}
 use Rattle.dmn_ranges.specs.declared.interval.Interval.{Interval}
 use Rattle.dmn_ranges.specs.declared.range.Range.{Range}
 use Rattle.dmn_ranges.proofs.Intervals.{less_in, reach_in}
-use Rattle.dmn_ranges.proofs.Joins.{or_left, or_right, and_both, some_within}
+use Rattle.dmn_ranges.proofs.Joins.{or_left, or_right, and_both, some_within, list_in, context_in}
 
-abbrev is_null : Datum → Bool
+abbrev pub is_null : Datum → Bool
 is_null null = true
 is_null d = false
 
-not_null_in : (r : Range) (d : Datum) → lies_in r d ≡ true → is_null d ≡ false → is_not_null r ≡ true
+pub not_null_in : (r : Range) (d : Datum) → lies_in r d ≡ true → is_null d ≡ false → is_not_null r ≡ true
 not_null_in r null h k = cc
 not_null_in r (boolean true) h k = or_left _ _ (or_left r.trues r.falses h)
 not_null_in r (boolean false) h k = or_left _ _ (or_right r.trues r.falses h)
 not_null_in r (number z) h k = or_right (r.trues || r.falses) _ (or_left _ _ (some_within r.numbers z h))
 not_null_in r (text s) h k = or_right (r.trues || r.falses) _ (or_right (is_some r.numbers) _ (or_left _ _ h))
-not_null_in r (list ds) h k = or_right (r.trues || r.falses) _ (or_right (is_some r.numbers) _ (or_right r.texts _ (or_left _ _ h)))
-not_null_in r (context es) h k = or_right (r.trues || r.falses) _ (or_right (is_some r.numbers) _ (or_right r.texts _ (or_right r.lists _ h)))
+not_null_in r (list ds) h k = or_right (r.trues || r.falses) _ (or_right (is_some r.numbers) _ (or_right r.texts _ (or_left _ _ (list_in r ds h))))
+not_null_in r (context es) h k = or_right (r.trues || r.falses) _ (or_right (is_some r.numbers) _ (or_right r.texts _ (or_right r.lists _ (context_in r es h))))
 
-decided_yes : (t : Bool) → decided t ≡ Yes → t ≡ true
+pub decided_yes : (t : Bool) → decided t ≡ Yes → t ≡ true
 decided_yes true h = refl
 decided_yes false h = cc
 
@@ -89,8 +89,8 @@ yes_told a b (boolean true) (boolean true) h k q = or_left (plain_equal a b) _ (
 yes_told a b (boolean false) (boolean false) h k q = or_left (plain_equal a b) _ (or_right (a.nulls && b.nulls) _ (or_right (a.trues && b.trues) _ (and_both a.falses b.falses h k)))
 yes_told a b (number x) (number y) h k q = or_right (plain_equal a b) _ (or_left (numbers_meet a b) _ (same_numbers a.numbers b.numbers x y h k (decided_yes (is_eq (int_cmp x y)) q)))
 yes_told a b (text s) (text t) h k q = or_right (plain_equal a b) _ (or_right (numbers_meet a b) _ (texts_shared a b h k))
-yes_told a b (list ds) (list es) h k q = or_right (plain_equal a b) _ (or_right (numbers_meet a b) _ (lists_shared a b h k))
-yes_told a b (context ds) (context es) h k q = or_right (plain_equal a b) _ (or_right (numbers_meet a b) _ (contexts_shared a b h k))
+yes_told a b (list ds) (list es) h k q = or_right (plain_equal a b) _ (or_right (numbers_meet a b) _ (lists_shared a b (list_in a ds h) (list_in b es k)))
+yes_told a b (context ds) (context es) h k q = or_right (plain_equal a b) _ (or_right (numbers_meet a b) _ (contexts_shared a b (context_in a ds h) (context_in b es k)))
 yes_told a b d e h k q = cc
 
 first_null : (a b : Range) (e : Datum) → a.nulls ≡ true → lies_in b e ≡ true → is_null e ≡ false → can_differ a b ≡ true
@@ -111,6 +111,6 @@ no_told a b (boolean false) (boolean true) h k q =
     or_left (plain_differ a b) _ (or_right ((a.nulls && is_not_null b) || (b.nulls && is_not_null a)) _ (or_right (a.trues && b.falses) _ (and_both a.falses b.trues h k)))
 no_told a b (number x) (number y) h k q = or_right (plain_differ a b) _ (or_left (numbers_part a b) _ (other_numbers a.numbers b.numbers x y h k (decided_no (is_eq (int_cmp x y)) q)))
 no_told a b (text s) (text t) h k q = or_right (plain_differ a b) _ (or_right (numbers_part a b) _ (texts_shared a b h k))
-no_told a b (list ds) (list es) h k q = or_right (plain_differ a b) _ (or_right (numbers_part a b) _ (lists_shared a b h k))
-no_told a b (context ds) (context es) h k q = or_right (plain_differ a b) _ (or_right (numbers_part a b) _ (contexts_shared a b h k))
+no_told a b (list ds) (list es) h k q = or_right (plain_differ a b) _ (or_right (numbers_part a b) _ (lists_shared a b (list_in a ds h) (list_in b es k)))
+no_told a b (context ds) (context es) h k q = or_right (plain_differ a b) _ (or_right (numbers_part a b) _ (contexts_shared a b (context_in a ds h) (context_in b es k)))
 no_told a b d e h k q = cc

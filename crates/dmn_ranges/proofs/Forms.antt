@@ -1,8 +1,11 @@
 -- Each form of an expression, from what is told of its parts.
-use Rattle.std.proofs.Common.{◌≡◌, refl, ap, subst, ◌∙◌, [], ℕ, ℤ, pos, negsuc, ◌+ℤ◌, ◌-ℤ◌, Bool, true, false, ◌&&◌, ◌||◌, Option, None, Some, List, length, unsigned_abs, if◌then◌else◌}
-use Rattle.std.specs.Prelude.{◌*ℤ◌, int_le}
+use Rattle.std.proofs.Common.{◌≡◌, refl, ap, subst, ◌∙◌, [], ℕ, ℤ, pos, negsuc, ◌+ℤ◌, ◌-ℤ◌, Bool, true, false, ◌&&◌, ◌||◌, Option, None, Some, List, length, unsigned_abs, if◌then◌else◌, ◌+◌, ◌≤◌, arith}
+use Rattle.std.specs.Prelude.{◌*ℤ◌, int_le, int_lt}
+use Rattle.std.proofs.lemmas.Bool.Decides.{nat_tests}
+use Rattle.std.proofs.lemmas.Int.{ints}
+use Rattle.feel_value.proofs.Booleans.{both_true}
 use Rattle.feel_value.specs.Datum.{Datum, null, boolean, number, text, list, context, Items, no_items, item, members_of}
-use Rattle.feel_value.specs.Limits.{in_range, is_value}
+use Rattle.feel_value.specs.Limits.{most_nodes, in_range, items_in_range, is_value}
 use Rattle.feel_value.specs.Comparison.{equal, less}
 use Rattle.feel_value.specs.Logic.{is_yes, and_of, or_of, truth_of, not_of, truth_datum}
 use Rattle.feel_value.specs.Outcome.{held}
@@ -12,22 +15,26 @@ use Rattle.feel_text.specs.Constants.{expr_of_constant}
 use Rattle.feel_value.specs.declared.logic.Truth.{Truth}
 use Rattle.feel_value.specs.declared.logic.Truth.TheVariants.{Yes, No, Unknown}
 use Rattle.feel_text.specs.Meaning as meaning
-use Rattle.feel_text.specs.Meaning.{Bindings, den, with_value, with_values, of_number, modulo, modulo_of, is_zero, call_of, count_of, fold_of, path_of, operation, between_of, choice, list_held}
+use Rattle.feel_text.specs.Meaning.{Bindings, den, with_value, with_values, of_number, modulo, modulo_of, is_zero, call_of, count_of, fold_of, path_of, operation, between_of, choice}
 use Rattle.feel_text.specs.declared.expr.Operator.{Operator}
 use Rattle.feel_text.specs.declared.expr.Operator.TheVariants as operator
 use Rattle.feel_text.specs.declared.expr.Function.{Function}
 use Rattle.feel_text.specs.declared.expr.Function.TheVariants as function
 use Rattle.dmn_ranges.specs.Numbers.{most_number, absolute, remainder, has_divisor}
-use Rattle.dmn_ranges.specs.Ranges.{inside, within, lies_in, covers, null_alone}
-use Rattle.dmn_ranges.specs.Steps.{numbers_or_null, anything, joined, is_other, given, limited, with_one, with_two, either_outcomes, when, numbers_given, worked_out, paired, arithmetic, negated, absolute_if, absolutes, some_number, divided, remainders, truths, opposite, and_truths, or_truths, less_truths, equal_truths, operated, between, inverted, folded, counted, called, paths, listed, natural, branches, point, outcomes}
+use Rattle.dmn_ranges.specs.Ranges.{inside, within, keeps, lies_in, covers, null_alone}
+use Rattle.dmn_ranges.specs.Sizes.{larger}
+use Rattle.dmn_ranges.specs.Steps.{everything, numbers_or_null, any_of_size, joined, is_other, is_other_than_list, given, limited, with_one, with_two, either_outcomes, when, numbers_given, worked_out, paired, arithmetic, negated, absolute_if, absolutes, some_number, divided, remainders, truths, opposite, and_truths, or_truths, less_truths, equal_truths, operated, between, inverted, summed, picked, counted, called, paths, natural, branches, point, outcomes}
 use Rattle.dmn_ranges.specs.declared.bounded.Bounded.{Bounded}
 use Rattle.dmn_ranges.specs.declared.interval.Interval.{Interval}
 use Rattle.dmn_ranges.specs.declared.outcomes.Outcomes.{Outcomes}
 use Rattle.dmn_ranges.specs.declared.range.Range.{Range}
+use Rattle.dmn_ranges.specs.declared.size.Size.{Size}
 use Rattle.dmn_ranges.specs.declared.truths.Truths.{Truths}
 use Rattle.dmn_ranges.proofs.Comparisons.{others, less_told, equal_told}
 use Rattle.dmn_ranges.proofs.Intervals.{Met, le_same, number_in_all, zero_below, most_above, sum_met, difference_met, product_met, absolute_met, zero_or_not, divisor_in, remainder_met, hull_one, hull_other}
-use Rattle.dmn_ranges.proofs.Joins.{or_left, or_right, and_both, other_in}
+use Rattle.dmn_ranges.proofs.Joins.{or_left, or_right, and_both, other_in, no_list_in, list_in, list_keeps, context_in, context_keeps}
+use Rattle.dmn_ranges.proofs.Paths.{path_keeps}
+use Rattle.dmn_ranges.proofs.Sizes.{keeps_one, keeps_other, kept_value, valued, count_kept}
 use Rattle.dmn_ranges.proofs.TruthSets.{tells, opposite_told, and_told, or_told, truth_told, told_is, told_held}
 
 -- ---- outcomes
@@ -52,8 +59,8 @@ joined_one a b (boolean true) h = or_left a.trues b.trues h
 joined_one a b (boolean false) h = or_left a.falses b.falses h
 joined_one a b (number z) h = hull_one a.numbers b.numbers z h
 joined_one a b (text s) h = or_left a.texts b.texts h
-joined_one a b (list ds) h = or_left a.lists b.lists h
-joined_one a b (context es) h = or_left a.contexts b.contexts h
+joined_one a b (list ds) h = and_both (a.lists || b.lists) (keeps (larger a.size b.size) (list ds)) (or_left a.lists b.lists (list_in a ds h)) (keeps_one a.size b.size (list ds) (list_keeps a ds h))
+joined_one a b (context es) h = and_both (a.contexts || b.contexts) (keeps (larger a.size b.size) (context es)) (or_left a.contexts b.contexts (context_in a es h)) (keeps_one a.size b.size (context es) (context_keeps a es h))
 
 pub joined_other : (a b : Range) (d : Datum) → lies_in b d ≡ true → lies_in (joined a b) d ≡ true
 joined_other a b null h = or_right a.nulls b.nulls h
@@ -61,8 +68,8 @@ joined_other a b (boolean true) h = or_right a.trues b.trues h
 joined_other a b (boolean false) h = or_right a.falses b.falses h
 joined_other a b (number z) h = hull_other a.numbers b.numbers z h
 joined_other a b (text s) h = or_right a.texts b.texts h
-joined_other a b (list ds) h = or_right a.lists b.lists h
-joined_other a b (context es) h = or_right a.contexts b.contexts h
+joined_other a b (list ds) h = and_both (a.lists || b.lists) (keeps (larger a.size b.size) (list ds)) (or_right a.lists b.lists (list_in b ds h)) (keeps_other a.size b.size (list ds) (list_keeps b ds h))
+joined_other a b (context es) h = and_both (a.contexts || b.contexts) (keeps (larger a.size b.size) (context es)) (or_right a.contexts b.contexts (context_in b es h)) (keeps_other a.size b.size (context es) (context_keeps b es h))
 
 pub either_one : (o p : Outcomes) (x : Outcome) → covers o x ≡ true → covers (either_outcomes o p) x ≡ true
 either_one o p (Is d) h = joined_one o.range p.range d h
@@ -207,56 +214,94 @@ fold_list f (item (text s) ds) = refl
 fold_list f (item (list es) ds) = refl
 fold_list f (item (context es) ds) = refl
 
-folded_covers : (f : ℤ → ℤ → ℤ) (a : Range) (d : Datum) → lies_in a d ≡ true → covers (folded a) (held (fold_of f d)) ≡ true
-folded_covers f a (list ds) h = if_lists a.lists some_number (held (fold_of f (list ds))) h (fold_list f ds)
-folded_covers f a d h = if_null a.lists some_number refl
+summed_covers : (a : Range) (d : Datum) → lies_in a d ≡ true → covers (summed a) (held (fold_of (λ x y. x +ℤ y) d)) ≡ true
+summed_covers a (list ds) h = if_lists a.lists some_number (held (fold_of (λ x y. x +ℤ y) (list ds))) (list_in a ds h) (fold_list (λ x y. x +ℤ y) ds)
+summed_covers a d h = if_null a.lists some_number refl
 
-abbrev some_count : Outcomes
-some_count = record { range = numbers_or_null true (Some (record { low = pos 0; high = most_number })); limit = true }
+-- a number of the list, or null
+abbrev some_pick : Outcomes
+some_pick = given (numbers_or_null true (Some everything))
 
-natural_in : (n : ℕ) → in_range (pos n) ≡ true → within some_count.range.numbers (pos n) ≡ true
-natural_in n h = and_both (int_le (pos 0) (pos n)) (int_le (pos n) most_number) (zero_below n) (most_above (pos n) h)
+in_and_out : {P : Type 0} (z : ℤ) → in_range z ≡ true → in_range z ≡ false → P
+in_and_out z h k = cc
+
+pick_number : (f : ℤ → ℤ → ℤ) → ((x y : ℤ) → in_range x ≡ true → in_range y ≡ true → in_range (f x y) ≡ true) → (x : ℤ) (ds : Items) → in_range x ≡ true → items_in_range ds ≡ true → covers some_pick (held (meaning.folded f x ds)) ≡ true
+pick_number f closed x no_items h k = number_covers some_pick x (number_in_all x) (in_and_out x h)
+pick_number f closed x (item (number y) ds) h k = let p = both_true (in_range y) (items_in_range ds) k in pick_number f closed (f x y) ds (closed x y h p.0) p.1
+pick_number f closed x (item null ds) h k = refl
+pick_number f closed x (item (boolean b) ds) h k = refl
+pick_number f closed x (item (text s) ds) h k = refl
+pick_number f closed x (item (list es) ds) h k = refl
+pick_number f closed x (item (context es) ds) h k = refl
+
+pick_list : (f : ℤ → ℤ → ℤ) → ((x y : ℤ) → in_range x ≡ true → in_range y ≡ true → in_range (f x y) ≡ true) → (ds : Items) → items_in_range ds ≡ true → covers some_pick (held (fold_of f (list ds))) ≡ true
+pick_list f closed no_items k = refl
+pick_list f closed (item (number x) ds) k = let p = both_true (in_range x) (items_in_range ds) k in pick_number f closed x ds p.0 p.1
+pick_list f closed (item null ds) k = refl
+pick_list f closed (item (boolean b) ds) k = refl
+pick_list f closed (item (text s) ds) k = refl
+pick_list f closed (item (list es) ds) k = refl
+pick_list f closed (item (context es) ds) k = refl
+
+picked_covers : (f : ℤ → ℤ → ℤ) → ((x y : ℤ) → in_range x ≡ true → in_range y ≡ true → in_range (f x y) ≡ true) → (a : Range) (d : Datum) → lies_in a d ≡ true → covers (picked a) (held (fold_of f d)) ≡ true
+picked_covers f closed a (list ds) h =
+    if_lists a.lists some_pick (held (fold_of f (list ds))) (list_in a ds h) (pick_list f closed ds (valued (list ds) (kept_value a.size (list ds) (list_keeps a ds h))).ranged)
+picked_covers f closed a d h = if_null a.lists some_pick refl
+
+one_of : (t : Bool) (x y : ℤ) → in_range x ≡ true → in_range y ≡ true → in_range (if t then y else x) ≡ true
+one_of true x y h k = k
+one_of false x y h k = h
+
+abbrev count_in : Range → Outcomes
+count_in a = given (numbers_or_null (is_other_than_list a) (Some (record { low = pos 0; high = pos a.size.nodes -ℤ pos 1 })))
+
+count_below : (n m : ℕ) → 1 + n ≤ m → int_le (pos n) (pos m -ℤ pos 1) ≡ true
+count_below n m h = grind (arith, ints)
+
+count_in_range : (n : ℕ) → n ≤ most_nodes → in_range (pos n) ≡ true
+count_in_range n h = grind (arith, nat_tests)
 
 counted_covers : (a : Range) (d : Datum) → lies_in a d ≡ true → covers (counted a) (held (count_of d)) ≡ true
 counted_covers a (list ds) h =
-    if_lists a.lists some_count (held (count_of (list ds))) h (number_covers some_count (pos (length (members_of ds))) (natural_in (length (members_of ds))) (λ p. refl))
-counted_covers a d h = if_null a.lists some_count refl
+    let n : ℕ = length (members_of ds) in
+    let few = count_kept a.size ds (list_keeps a ds h) in
+    if_lists a.lists (count_in a) (held (count_of (list ds))) (list_in a ds h)
+    (number_covers (count_in a) (pos n) (λ p. and_both (int_le (pos 0) (pos n)) (int_le (pos n) (pos a.size.nodes -ℤ pos 1)) (zero_below n) (count_below n a.size.nodes few.0)) (in_and_out (pos n) (count_in_range n few.1)))
+counted_covers a d h = if_null a.lists (count_in a) (no_list_in a d h refl)
 
 pub called_covers : (f : Function) (a : Range) (d : Datum) → lies_in a d ≡ true → covers (called f a) (held (call_of f d)) ≡ true
 called_covers function.Abs a d h = absolutes_cover a d h
-called_covers function.Sum a d h = folded_covers (λ x y. x +ℤ y) a d h
-called_covers function.Min a d h = folded_covers meaning.least a d h
-called_covers function.Max a d h = folded_covers meaning.greatest a d h
+called_covers function.Sum a d h = summed_covers a d h
+called_covers function.Min a d h = picked_covers meaning.least (λ x y p q. one_of (int_lt y x) x y p q) a d h
+called_covers function.Max a d h = picked_covers meaning.greatest (λ x y p q. one_of (int_lt x y) x y p q) a d h
 called_covers function.Count a d h = counted_covers a d h
 
-abbrev whatever : Outcomes
-whatever = record { range = anything; limit = true }
+held_if : (t : Bool) (o : Outcomes) (d : Datum) → t ≡ true → lies_in o.range d ≡ true → covers o (if t then Is d else Limit) ≡ true
+held_if true o d e h = h
+held_if false o d e h = cc
 
-whatever_if : (d : Datum) (t : Bool) → lies_in anything d ≡ true → covers whatever (if t then Is d else Limit) ≡ true
-whatever_if d true h = h
-whatever_if d false h = refl
+ranged : (t : Bool) → ((t && true) && true) ≡ true → t ≡ true
+ranged true h = refl
+ranged false h = cc
 
-whatever_held : (d : Datum) → covers whatever (held d) ≡ true
-whatever_held null = refl
-whatever_held (boolean true) = refl
-whatever_held (boolean false) = refl
-whatever_held (number z) = number_covers whatever z (number_in_all z) (λ p. refl)
-whatever_held (text s) = refl
-whatever_held (list ds) = whatever_if (list ds) (is_value (list ds)) refl
-whatever_held (context es) = whatever_if (context es) (is_value (context es)) refl
+kept_in_any : (s : Size) (d : Datum) → keeps s d ≡ true → lies_in (any_of_size s) d ≡ true
+kept_in_any s null h = refl
+kept_in_any s (boolean true) h = refl
+kept_in_any s (boolean false) h = refl
+kept_in_any s (number z) h = number_in_all z (ranged (in_range z) (kept_value s (number z) h))
+kept_in_any s (text t) h = refl
+kept_in_any s (list ds) h = h
+kept_in_any s (context es) h = h
+
+any_covers : (s : Size) (d : Datum) → keeps s d ≡ true → covers (given (any_of_size s)) (held d) ≡ true
+any_covers s d h = held_if (is_value d) (given (any_of_size s)) d (kept_value s d h) (kept_in_any s d h)
 
 pub paths_cover : (name : List ℕ) (a : Range) (d : Datum) → lies_in a d ≡ true → covers (paths a) (held (path_of name d)) ≡ true
-paths_cover name a (list ds) h = if_lists (a.contexts || a.lists) whatever (held (path_of name (list ds))) (or_right a.contexts a.lists h) (whatever_held (path_of name (list ds)))
-paths_cover name a (context es) h = if_lists (a.contexts || a.lists) whatever (held (path_of name (context es))) (or_left a.contexts a.lists h) (whatever_held (path_of name (context es)))
-paths_cover name a d h = if_null (a.contexts || a.lists) whatever refl
-
-pub listed_if : (ds : Items) (t : Bool) → covers listed (if t then Is (list ds) else Limit) ≡ true
-listed_if ds true = refl
-listed_if ds false = refl
-
-pub listed_covers : (o : Option Items) → covers listed (list_held o) ≡ true
-listed_covers None = refl
-listed_covers (Some ds) = listed_if ds (is_value (list ds))
+paths_cover name a (list ds) h =
+    if_lists (a.contexts || a.lists) (given (any_of_size a.size)) (held (path_of name (list ds))) (or_right a.contexts a.lists (list_in a ds h)) (any_covers a.size (path_of name (list ds)) (path_keeps name a.size (list ds) (list_keeps a ds h)))
+paths_cover name a (context es) h =
+    if_lists (a.contexts || a.lists) (given (any_of_size a.size)) (held (path_of name (context es))) (or_left a.contexts a.lists (context_in a es h)) (any_covers a.size (path_of name (context es)) (path_keeps name a.size (context es) (context_keeps a es h)))
+paths_cover name a d h = if_null (a.contexts || a.lists) (given (any_of_size a.size)) refl
 
 -- ---- literals
 

@@ -1,12 +1,16 @@
 pub mod Joins
+pub mod Sizes
+pub mod Paths
 pub mod TruthSets
 pub mod Intervals
 pub mod Equalities
 pub mod Comparisons
 pub mod Forms
+pub mod Formed
 pub mod Sound
 pub mod Walks
 pub mod SoundEntries
+pub mod SoundDomains
 pub mod SoundRules
 pub mod SoundTallies
 pub mod SoundTable

@@ -3,34 +3,44 @@ use Rattle.std.proofs.Common.{◌≡◌, refl, true, false}
 use Rattle.feel_value.specs.Logic.{is_yes, truth_of, not_of, truth_datum}
 use Rattle.feel_value.specs.Outcome.{held}
 use Rattle.feel_value.specs.declared.feel.Outcome.TheVariants.{Is}
-use Rattle.feel_text.specs.Expr.{Expr, Null, Boolean, Number, Text, Name, Group, Members, Call, Modulo, Not, Negate, Path, Binary, Between, If}
+use Rattle.feel_text.specs.Expr.{Expr, Exprs, none, more, Null, Boolean, Number, Text, Name, Group, Members, Call, Modulo, Not, Negate, Path, Binary, Between, If}
 use Rattle.feel_text.specs.Meaning.{Bindings, den, dens, with_values, modulo_of, call_of, path_of, operation, between_of, choice}
 use Rattle.dmn_ranges.specs.Ranges.{Scope, Fits, covers}
-use Rattle.dmn_ranges.specs.Steps.{outcomes, called, remainders, inverted, negated, paths, operated, between, branches, truths, with_two}
-use Rattle.dmn_ranges.proofs.Forms.{with_one_covers, with_two_covers, branches_covers, negated_covers, remainders_cover, natural_covers, operated_covers, between_covers, inverted_covers, called_covers, paths_cover, listed_covers}
+use Rattle.dmn_ranges.specs.Steps.{outcomes, called, remainders, inverted, negated, paths, operated, between, branches, truths, with_two, no_parts, with_part, members_parts}
+use Rattle.dmn_ranges.specs.declared.parts.Parts.{Parts}
+use Rattle.dmn_ranges.proofs.Forms.{with_one_covers, with_two_covers, branches_covers, negated_covers, remainders_cover, natural_covers, operated_covers, between_covers, inverted_covers, called_covers, paths_cover}
+use Rattle.dmn_ranges.proofs.Formed.{MembersTold, member_more, limit_along, list_told}
+use Rattle.dmn_ranges.proofs.Sizes.{none_behind}
 use Rattle.dmn_ranges.proofs.TruthSets.{truth_told}
 
-pub sound : (e : Expr) (xs : Scope) (m : Bindings) → Fits xs m → covers (outcomes e xs) (den e m) ≡ true
-sound Null xs m h = refl
-sound (Boolean true) xs m h = refl
-sound (Boolean false) xs m h = refl
-sound (Number n) xs m h = natural_covers n
-sound (Text bytes) xs m h = refl
-sound (Name name) xs m h = h name
-sound (Group e) xs m h = sound e xs m h
-sound (Members es) xs m h = listed_covers (dens es m)
-sound (Call f e) xs m h = with_one_covers (outcomes e xs) (den e m) (called f) (λ d. held (call_of f d)) (sound e xs m h) (called_covers f (outcomes e xs).range)
-sound (Modulo a b) xs m h =
-    with_two_covers (outcomes a xs) (outcomes b xs) (den a m) (den b m) remainders (λ d e. held (modulo_of d e)) (sound a xs m h) (sound b xs m h) (remainders_cover (outcomes a xs).range (outcomes b xs).range)
-sound (Not e) xs m h = with_one_covers (outcomes e xs) (den e m) inverted (λ d. Is (truth_datum (not_of (truth_of d)))) (sound e xs m h) (inverted_covers (outcomes e xs).range)
-sound (Negate e) xs m h = with_one_covers (outcomes e xs) (den e m) negated _ (sound e xs m h) (negated_covers (outcomes e xs).range)
-sound (Path e name) xs m h = with_one_covers (outcomes e xs) (den e m) paths (λ d. held (path_of name d)) (sound e xs m h) (paths_cover name (outcomes e xs).range)
-sound (Binary op a b) xs m h =
-    with_two_covers (outcomes a xs) (outcomes b xs) (den a m) (den b m) (operated op) (λ d e. held (operation op d e)) (sound a xs m h) (sound b xs m h) (operated_covers op (outcomes a xs).range (outcomes b xs).range)
-sound (Between e low high) xs m h =
-    with_one_covers (outcomes e xs) (den e m) (λ r. with_two (outcomes low xs) (outcomes high xs) (between r)) (λ d. with_values (den low m) (den high m) (λ l u. Is (between_of d l u))) (sound e xs m h)
-    (λ d k. with_two_covers (outcomes low xs) (outcomes high xs) (den low m) (den high m) (between (outcomes e xs).range) (λ l u. Is (between_of d l u)) (sound low xs m h) (sound high xs m h)
-    (λ l u p q. between_covers (outcomes e xs).range (outcomes low xs).range (outcomes high xs).range d l u k p q))
-sound (If test a b) xs m h =
-    with_one_covers (outcomes test xs) (den test m) (λ r. branches (truths r) (outcomes a xs) (outcomes b xs)) (λ d. choice (is_yes (truth_of d)) (den a m) (den b m)) (sound test xs m h)
-    (λ d k. branches_covers (truths (outcomes test xs).range) (truth_of d) (outcomes a xs) (outcomes b xs) (den a m) (den b m) (truth_told (outcomes test xs).range d k) (sound a xs m h) (sound b xs m h))
+mutual
+  pub sound : (e : Expr) (xs : Scope) (m : Bindings) → Fits xs m → covers (outcomes e xs) (den e m) ≡ true
+  sound Null xs m h = refl
+  sound (Boolean true) xs m h = refl
+  sound (Boolean false) xs m h = refl
+  sound (Number n) xs m h = natural_covers n
+  sound (Text bytes) xs m h = refl
+  sound (Name name) xs m h = h name
+  sound (Group e) xs m h = sound e xs m h
+  sound (Members es) xs m h = list_told (members_parts no_parts es xs) (dens es m) (members_sound es xs m h no_parts)
+  sound (Call f e) xs m h = with_one_covers (outcomes e xs) (den e m) (called f) (λ d. held (call_of f d)) (sound e xs m h) (called_covers f (outcomes e xs).range)
+  sound (Modulo a b) xs m h =
+      with_two_covers (outcomes a xs) (outcomes b xs) (den a m) (den b m) remainders (λ d e. held (modulo_of d e)) (sound a xs m h) (sound b xs m h) (remainders_cover (outcomes a xs).range (outcomes b xs).range)
+  sound (Not e) xs m h = with_one_covers (outcomes e xs) (den e m) inverted (λ d. Is (truth_datum (not_of (truth_of d)))) (sound e xs m h) (inverted_covers (outcomes e xs).range)
+  sound (Negate e) xs m h = with_one_covers (outcomes e xs) (den e m) negated _ (sound e xs m h) (negated_covers (outcomes e xs).range)
+  sound (Path e name) xs m h = with_one_covers (outcomes e xs) (den e m) paths (λ d. held (path_of name d)) (sound e xs m h) (paths_cover name (outcomes e xs).range)
+  sound (Binary op a b) xs m h =
+      with_two_covers (outcomes a xs) (outcomes b xs) (den a m) (den b m) (operated op) (λ d e. held (operation op d e)) (sound a xs m h) (sound b xs m h) (operated_covers op (outcomes a xs).range (outcomes b xs).range)
+  sound (Between e low high) xs m h =
+      with_one_covers (outcomes e xs) (den e m) (λ r. with_two (outcomes low xs) (outcomes high xs) (between r)) (λ d. with_values (den low m) (den high m) (λ l u. Is (between_of d l u))) (sound e xs m h)
+      (λ d k. with_two_covers (outcomes low xs) (outcomes high xs) (den low m) (den high m) (between (outcomes e xs).range) (λ l u. Is (between_of d l u)) (sound low xs m h) (sound high xs m h)
+      (λ l u p q. between_covers (outcomes e xs).range (outcomes low xs).range (outcomes high xs).range d l u k p q))
+  sound (If test a b) xs m h =
+      with_one_covers (outcomes test xs) (den test m) (λ r. branches (truths r) (outcomes a xs) (outcomes b xs)) (λ d. choice (is_yes (truth_of d)) (den a m) (den b m)) (sound test xs m h)
+      (λ d k. branches_covers (truths (outcomes test xs).range) (truth_of d) (outcomes a xs) (outcomes b xs) (den a m) (den b m) (truth_told (outcomes test xs).range d k) (sound a xs m h) (sound b xs m h))
+
+  members_sound : (es : Exprs) (xs : Scope) (m : Bindings) → Fits xs m → (p : Parts) → MembersTold p.size (members_parts p es xs) (dens es m)
+  members_sound none xs m h p = none_behind p.size
+  members_sound (more e es) xs m h p =
+      let q : Parts = with_part p (outcomes e xs) in
+      member_more p (outcomes e xs) (den e m) (members_parts q es xs) (dens es m) (sound e xs m h) (limit_along es xs q) (members_sound es xs m h q)

@@ -6,27 +6,32 @@ use Rattle.std.proofs.lemmas.List.{at_drop_more}
 use Rattle.feel_value.specs.Datum as datum
 use Rattle.feel_value.specs.Datum.{Datum, null, items_of, entries_of}
 use Rattle.feel_value.specs.Found.{value_of, ◌>>=◌, outcome_from}
-use Rattle.feel_value.specs.Limits.{is_value}
+use Rattle.feel_value.specs.Limits.{is_value, items_nodes, items_depth, items_in_range, items_distinct}
 use Rattle.feel_value.specs.Outcome.{held}
 use Rattle.feel_value.specs.declared.feel.Outcome.{Outcome}
 use Rattle.feel_value.specs.declared.feel.Outcome.TheVariants.{Is, Limit}
 use Rattle.feel_text.specs.Expr.{Expr}
 use Rattle.feel_text.specs.Meaning.{Bindings, bound, first_some}
 use Rattle.dmn_table.specs.Table.{Table}
-use Rattle.dmn_form.specs.Model.{Boxed, expression, table, list, context, context_with, Entries, no_entries, entry}
+use Rattle.dmn_form.specs.Model.{Boxed, expression, table, list, context, context_with, Members, no_members, member, Entries, no_entries, entry}
 use Rattle.dmn_logic.proofs.Boxes.{Named}
 use Rattle.dmn_logic.specs.Boxed.{boxed, member_values, entry_values}
-use Rattle.dmn_logic.specs.LogicView.{logic_view, entries_view}
+use Rattle.dmn_logic.specs.LogicView.{logic_view, members_view, entries_view}
+use Rattle.dmn_logic.specs.declared.logic.Logic.{Logic}
 use Rattle.std.specs.declared.alloc.Global.{Global}
 use Rattle.std.specs.declared.sync.ArcStr.{ArcStr}
 use Rattle.dmn_ranges.specs.declared.range.NamedRange.{NamedRange}
 use Rattle.dmn_ranges.specs.Ranges.{Scope, scope, Fits, lies_in, covers, null_alone, named_or, range_named}
-use Rattle.dmn_ranges.specs.Steps.{limited, listed}
+use Rattle.dmn_ranges.specs.Steps.{limited, listed, list_of, no_parts, with_part}
+use Rattle.dmn_ranges.specs.Sizes.{no_size}
 use Rattle.dmn_ranges.specs.Tables.{some_context}
-use Rattle.dmn_ranges.specs.Boxes.{box_outcomes, entries_scope, entries_limit}
+use Rattle.dmn_ranges.specs.Boxes.{box_outcomes, member_parts, entries_scope, entries_limit}
 use Rattle.dmn_ranges.specs.declared.outcomes.Outcomes.{Outcomes}
+use Rattle.dmn_ranges.specs.declared.parts.Parts.{Parts}
 use Rattle.dmn_ranges.specs.declared.range.Range.{Range}
-use Rattle.dmn_ranges.proofs.Forms.{limited_covers, listed_if}
+use Rattle.dmn_ranges.proofs.Forms.{limited_covers}
+use Rattle.dmn_ranges.proofs.Formed.{PartsTold, part_more}
+use Rattle.dmn_ranges.proofs.Sizes.{list_covers, none_behind, whole_fit}
 use Rattle.dmn_ranges.proofs.Joins.{or_left, or_right}
 use Rattle.dmn_ranges.proofs.Sound.{sound}
 use Rattle.dmn_ranges.proofs.SoundRules.{context_if}
@@ -90,22 +95,34 @@ with_entries l ys m r f (Some es) told k = limited_covers l r (f (m ++ es)) (k (
 
 -- ---- boxed expressions
 
-list_told : (o : Option (List Datum)) → covers listed (outcome_from (λ ds. held (datum.list (items_of ds))) o) ≡ true
-list_told None = refl
-list_told (Some ds) = listed_if (items_of ds) (is_value (datum.list (items_of ds)))
+list_told : (p : Parts) (o : Option (List Datum)) → PartsTold no_size p o → covers (list_of p) (outcome_from (λ ds. held (datum.list (items_of ds))) o) ≡ true
+list_told p None told = or_left p.limit (listed p.size).limit told
+list_told p (Some ds) told =
+    limited_covers p.limit (listed p.size) (held (datum.list (items_of ds)))
+    (list_covers p.size (items_of ds) (whole_fit (items_in_range (items_of ds)) (items_distinct (items_of ds)) (items_nodes (items_of ds)) (items_depth (items_of ds)) p.size told))
+
+limit_members : (bs : Members Expr Table) (xs : Scope) (p : Parts) → p.limit ≡ true → (member_parts xs p bs).limit ≡ true
+limit_members no_members xs p h = h
+limit_members (member b bs) xs p h = limit_members bs xs (with_part p (box_outcomes xs b)) (or_left p.limit (box_outcomes xs b).limit h)
 
 context_told : (o : Option (List (List ℕ × Datum))) → covers some_context (outcome_from (λ ds. held (datum.context (entries_of ds))) o) ≡ true
 context_told None = refl
-context_told (Some ds) = context_if (entries_of ds) (is_value (datum.context (entries_of ds)))
+context_told (Some ds) = context_if (entries_of ds) (is_value (datum.context (entries_of ds))) refl
 
 mutual
   pub box_sound : (b : Boxed Expr Table) (xs : Scope) (m : Bindings) → Fits xs m → covers (box_outcomes xs b) (boxed b m) ≡ true
   box_sound (expression e) xs m f = sound e xs m f
   box_sound (table t) xs m f = table_sound t xs m f
-  box_sound (list bs) xs m f = list_told (member_values bs m)
+  box_sound (list bs) xs m f = list_told (member_parts xs no_parts bs) (member_values bs m) (members_sound bs xs m f no_parts)
   box_sound (context es) xs m f = context_told (entry_values es m)
   box_sound (context_with es b) xs m f =
       with_entries (entries_limit xs es) (entries_scope xs es) m (box_outcomes (entries_scope xs es) b) (boxed b) (entry_values es m) (entries_sound es xs m f) (λ k g. box_sound b (entries_scope xs es) k g)
+
+  members_sound : (bs : Members Expr Table) (xs : Scope) (m : Bindings) → Fits xs m → (p : Parts) → PartsTold p.size (member_parts xs p bs) (member_values bs m)
+  members_sound no_members xs m f p = none_behind p.size
+  members_sound (member b bs) xs m f p =
+      let q : Parts = with_part p (box_outcomes xs b) in
+      part_more p (box_outcomes xs b) (boxed b m) (member_parts xs q bs) (member_values bs m) (box_sound b xs m f) (limit_members bs xs q) (members_sound bs xs m f q)
 
   entries_sound : (es : Entries Expr Table) (xs : Scope) (m : Bindings) → Fits xs m → EntriesTold (entries_limit xs es) (entries_scope xs es) m (entry_values es m)
   entries_sound no_entries xs m f = fits_same xs m (m ++ []) (sym (append-nil m)) f
@@ -117,6 +134,15 @@ mutual
 
 entries_from : (xs : List Named) (i : ℕ) (x : Named) → x ≡ get_or xs i x → i < length xs → entries_view (drop i xs) ≡ entry (arc_str_bytes x.0) (logic_view x.1) (entries_view (drop (i + 1) xs))
 entries_from xs i x e h = at_drop_more entries_view xs i x h ∙ ap (λ (y : Named). entry (arc_str_bytes y.0) (logic_view y.1) (entries_view (drop (i + 1) xs))) (sym e)
+
+-- one member more
+pub member_turn : (xs : Scope) (whole before next : Parts) (bs : List Logic) (i : ℕ) (x : Logic) (o : Outcomes) → whole ≡ member_parts xs before (members_view (drop i bs)) → x ≡ get_or bs i x → i < length bs
+    → o ≡ box_outcomes xs (logic_view x) → next ≡ with_part before o → whole ≡ member_parts xs next (members_view (drop (i + 1) bs))
+member_turn xs whole before next bs i x o so_far here more told joined =
+    so_far ∙ at_drop_more (λ ys. member_parts xs before (members_view ys)) bs i x more
+    ∙ ap (λ (y : Logic). member_parts xs (with_part before (box_outcomes xs (logic_view y))) (members_view (drop (i + 1) bs))) (sym here)
+    ∙ ap (λ (p : Outcomes). member_parts xs (with_part before p) (members_view (drop (i + 1) bs))) (sym told)
+    ∙ ap (λ q. member_parts xs q (members_view (drop (i + 1) bs))) (sym joined)
 
 or_behind : (a b c : Bool) → (a || (b || c)) ≡ ((a || b) || c)
 or_behind true b c = refl

@@ -19,7 +19,7 @@ use Rattle.dmn_ranges.specs.declared.outcomes.Outcomes.{Outcomes}
 use Rattle.dmn_ranges.specs.declared.range.Range.{Range}
 use Rattle.dmn_ranges.specs.declared.truths.Truths.{Truths}
 use Rattle.dmn_ranges.proofs.Comparisons.{less_told, equal_told}
-use Rattle.dmn_ranges.proofs.Joins.{or_left, or_right}
+use Rattle.dmn_ranges.proofs.Joins.{or_left, or_right, list_in}
 use Rattle.dmn_ranges.proofs.Sound.{sound}
 use Rattle.dmn_ranges.proofs.TruthSets.{tells, opposite_told, and_told, or_told}
 
@@ -47,7 +47,7 @@ both_told f g step a b Broken q h k = or_left a.limit b.limit h
 -- ---- membership
 
 listed_told : (r : Range) (x d : Datum) → lies_in r d ≡ true → is_listed x d ≡ true → r.lists ≡ true
-listed_told r x (list ds) h k = h
+listed_told r x (list ds) h k = list_in r ds h
 listed_told r x null h k = cc
 listed_told r x (boolean b) h k = cc
 listed_told r x (number z) h k = cc

@@ -3,9 +3,11 @@ use Rattle.std.proofs.Common.{◌≡◌, refl, subst, ℕ, suc, List, [], ◌∷
 use Rattle.std.specs.List.{fold, list_all, zip}
 use Rattle.std.specs.Option.{is_none}
 use Rattle.std.proofs.lemmas.Bool.Decides.{nat_tests}
-use Rattle.feel_value.specs.Datum.{Datum, null, context, entries_of, Entries}
+use Rattle.feel_value.specs.Datum.{Datum, null, context, Entries, entries_of}
 use Rattle.feel_value.specs.Found.{value_of, ◌>>=◌, each, outcome_from}
+use Rattle.feel_value.specs.Distinct.{are_distinct}
 use Rattle.feel_value.specs.Limits.{is_value}
+use Rattle.feel_value.specs.Outcome.{held}
 use Rattle.feel_value.specs.declared.feel.Outcome.{Outcome}
 use Rattle.feel_value.specs.declared.feel.Outcome.TheVariants.{Is, Limit}
 use Rattle.feel_value.specs.declared.logic.Truth.TheVariants.{Yes, No, Unknown}
@@ -18,13 +20,17 @@ use Rattle.dmn_table.specs.Priority.{Hit, places_of}
 use Rattle.dmn_table.specs.Result.{default_of, default_values, defaults}
 use Rattle.dmn_table.specs.Table.{Column, Rule}
 use Rattle.dmn_ranges.specs.Ranges.{Scope, Fits, lies_in, covers, null_alone}
-use Rattle.dmn_ranges.specs.Steps.{outcomes, given}
+use Rattle.dmn_ranges.specs.Steps.{outcomes, given, no_parts, named_parts, context_of}
+use Rattle.dmn_ranges.specs.Sizes.{no_size}
 use Rattle.dmn_ranges.specs.Entries.{entry_answers}
-use Rattle.dmn_ranges.specs.Tables.{surely, with_entry, ask_entry, rule_hits, some_context, only, rule_gives, fallback_outcomes, only_fallback, default_outcomes, column_outcomes, some_limit}
+use Rattle.dmn_ranges.specs.Tables.{surely, with_entry, ask_entry, rule_hits, some_context, shape_of, expr_parts, only, rule_gives, fallback_outcomes, fallback_parts, fallbacks, default_outcomes, column_outcomes, some_limit}
 use Rattle.dmn_ranges.specs.declared.entries.Answers.{Answers}
 use Rattle.dmn_ranges.specs.declared.outcomes.Outcomes.{Outcomes}
+use Rattle.dmn_ranges.specs.declared.parts.Parts.{Parts}
 use Rattle.dmn_ranges.specs.declared.rule.Hits.{Hits}
+use Rattle.dmn_ranges.proofs.Formed.{PartsTold, each_told, named_covers}
 use Rattle.dmn_ranges.proofs.Joins.{or_left, or_right, and_both}
+use Rattle.dmn_ranges.proofs.Sizes.{any_keeps}
 use Rattle.dmn_ranges.proofs.Sound.{sound}
 use Rattle.dmn_ranges.proofs.SoundEntries.{answers, entry_told}
 
@@ -113,19 +119,25 @@ made cs values = values >>= λ vs. value_of (output_of cs vs) >>= λ output. Som
 abbrev pub output_in : Option Hit → Outcome
 output_in h = outcome_from (λ k. Is k.output) h
 
-context_by : (es : Entries) (t : Bool) (places : List ℕ) → covers some_context (output_in (value_of (if t then Is (context es) else Limit) >>= λ output. Some (record { places = places; output = output }))) ≡ true
-context_by es true places = refl
-context_by es false places = refl
+pub context_if : (es : Entries) (t : Bool) → is_value (context es) ≡ t → covers some_context (if t then Is (context es) else Limit) ≡ true
+context_if es true e = any_keeps (context es) e
+context_if es false e = refl
 
-no_column : (values : Option (List Datum)) → covers some_context (output_in (made [] values)) ≡ true
-no_column None = refl
-no_column (Some vs) = refl
+through_hit : (o : Outcomes) (h : Outcome) (places : List ℕ) → covers o h ≡ true → covers o (output_in (value_of h >>= λ output. Some (record { places = places; output = output }))) ≡ true
+through_hit o (Is d) places h = h
+through_hit o Limit places h = h
 
-many_columns : (c d : Column) (cs : List Column) (values : Option (List Datum)) → covers some_context (output_in (made (c ∷ d ∷ cs) values)) ≡ true
-many_columns c d cs None = refl
-many_columns c d cs (Some vs) =
-    let es : Entries = entries_of (zip (map (λ k. k.name) (c ∷ d ∷ cs)) vs) in
-    context_by es (is_value (context es)) (places_of (c ∷ d ∷ cs) vs)
+no_column : (p : Parts) (values : Option (List Datum)) → PartsTold no_size p values → covers (context_of (are_distinct []) p) (output_in (made [] values)) ≡ true
+no_column p None told = or_left p.limit (named_parts (are_distinct []) p.size).limit told
+no_column p (Some vs) told = through_hit (context_of (are_distinct []) p) (held (context (entries_of (zip [] vs)))) (places_of [] vs) (named_covers [] vs p told)
+
+abbrev names_in : List Column → List (List ℕ)
+names_in cs = map (λ k. k.name) cs
+
+many_columns : (c d : Column) (cs : List Column) (p : Parts) (values : Option (List Datum)) → PartsTold no_size p values → covers (context_of (are_distinct (names_in (c ∷ d ∷ cs))) p) (output_in (made (c ∷ d ∷ cs) values)) ≡ true
+many_columns c d cs p None told = or_left p.limit (named_parts (are_distinct (names_in (c ∷ d ∷ cs))) p.size).limit told
+many_columns c d cs p (Some vs) told =
+    through_hit (context_of (are_distinct (names_in (c ∷ d ∷ cs))) p) (held (context (entries_of (zip (names_in (c ∷ d ∷ cs)) vs)))) (places_of (c ∷ d ∷ cs) vs) (named_covers (names_in (c ∷ d ∷ cs)) vs p told)
 
 many_values : (c : Column) (p q : Outcome) (rest : Option (List Datum)) → covers some_context (output_in (made (c ∷ []) (value_of p >>= λ y. (value_of q >>= λ z. rest >>= λ zs. Some (z ∷ zs)) >>= λ ys. Some (y ∷ ys)))) ≡ true
 many_values c Limit q rest = refl
@@ -133,7 +145,7 @@ many_values c (Is d) Limit rest = refl
 many_values c (Is d) (Is e) None = refl
 many_values c (Is d) (Is e) (Some zs) =
     let es : Entries = entries_of (zip (c.name ∷ []) (d ∷ e ∷ zs)) in
-    context_by es (is_value (context es)) (places_of (c ∷ []) (d ∷ e ∷ zs))
+    through_hit some_context (held (context es)) (places_of (c ∷ []) (d ∷ e ∷ zs)) (context_if es (is_value (context es)) refl)
 
 one_value : (c : Column) (o : Outcomes) (p : Outcome) → covers o p ≡ true → covers o (output_in (made (c ∷ []) (value_of p >>= λ y. Some (y ∷ [])))) ≡ true
 one_value c o (Is d) h = h
@@ -147,14 +159,16 @@ only_told c (e ∷ f ∷ es) xs m h = many_values c (den e m) (den f m) (values_
 several : (n : ℕ) → nat_eq (suc (suc n)) 1 ≡ false
 several n = grind (arith, nat_tests)
 
-single_by : (single : Bool) (xs : Scope) (es : List Expr) (p : Outcome) → single ≡ false → covers some_context p ≡ true → covers (rule_gives single xs es) p ≡ true
-single_by true xs es p e h = cc
-single_by false xs es p e h = h
+single_by : (t : Bool) (o p : Outcomes) (x : Outcome) → t ≡ false → covers p x ≡ true → covers (if t then o else p) x ≡ true
+single_by true o p x e h = cc
+single_by false o p x e h = h
 
-pub gives_told : (cs : List Column) (r : Rule) (xs : Scope) (m : Bindings) → Fits xs m → covers (rule_gives (nat_eq (length cs) 1) xs r.gives) (output_in (hit_of cs m r)) ≡ true
-gives_told [] r xs m h = no_column (values_of m r.gives)
+pub gives_told : (cs : List Column) (r : Rule) (xs : Scope) (m : Bindings) → Fits xs m → covers (rule_gives (shape_of cs) xs r.gives) (output_in (hit_of cs m r)) ≡ true
+gives_told [] r xs m h = no_column (expr_parts xs r.gives) (values_of m r.gives) (each_told (λ e. outcomes e xs) (λ e. den e m) (λ e. sound e xs m h) r.gives no_parts)
 gives_told (c ∷ []) r xs m h = only_told c r.gives xs m h
-gives_told (c ∷ d ∷ cs) r xs m h = single_by (nat_eq (length (c ∷ d ∷ cs)) 1) xs r.gives (output_in (hit_of (c ∷ d ∷ cs) m r)) (several (length cs)) (many_columns c d cs (values_of m r.gives))
+gives_told (c ∷ d ∷ cs) r xs m h =
+    single_by (nat_eq (length (c ∷ d ∷ cs)) 1) (only xs r.gives) (context_of (are_distinct (names_in (c ∷ d ∷ cs))) (expr_parts xs r.gives)) (output_in (hit_of (c ∷ d ∷ cs) m r)) (several (length cs))
+    (many_columns c d cs (expr_parts xs r.gives) (values_of m r.gives) (each_told (λ e. outcomes e xs) (λ e. den e m) (λ e. sound e xs m h) r.gives no_parts))
 
 -- ---- defaults
 
@@ -166,22 +180,21 @@ one_default : (c : Column) (o : Outcomes) (p : Outcome) → covers o p ≡ true 
 one_default c o (Is d) h = h
 one_default c o Limit h = h
 
-pub context_if : (es : Entries) (t : Bool) → covers some_context (if t then Is (context es) else Limit) ≡ true
-context_if es true = refl
-context_if es false = refl
+many_defaults : (c d : Column) (cs : List Column) (p : Parts) (values : Option (List Datum)) → PartsTold no_size p values → covers (context_of (are_distinct (names_in (c ∷ d ∷ cs))) p) (outcome_from (output_of (c ∷ d ∷ cs)) values) ≡ true
+many_defaults c d cs p None told = or_left p.limit (named_parts (are_distinct (names_in (c ∷ d ∷ cs))) p.size).limit told
+many_defaults c d cs p (Some vs) told = named_covers (names_in (c ∷ d ∷ cs)) vs p told
 
-many_defaults : (c d : Column) (cs : List Column) (values : Option (List Datum)) → covers some_context (outcome_from (output_of (c ∷ d ∷ cs)) values) ≡ true
-many_defaults c d cs None = refl
-many_defaults c d cs (Some vs) = let es : Entries = entries_of (zip (map (λ k. k.name) (c ∷ d ∷ cs)) vs) in context_if es (is_value (context es))
-
-only_fallback_told : (cs : List Column) (xs : Scope) (m : Bindings) → Fits xs m → covers (only_fallback xs cs) (outcome_from (output_of cs) (default_values cs m)) ≡ true
-only_fallback_told [] xs m h = refl
-only_fallback_told (c ∷ []) xs m h = one_default c (fallback_outcomes xs c.fallback) (default_of m c.fallback) (fallback_told c.fallback xs m h)
-only_fallback_told (c ∷ d ∷ cs) xs m h = many_defaults c d cs (default_values (c ∷ d ∷ cs) m)
+fallbacks_told : (cs : List Column) (xs : Scope) (m : Bindings) → Fits xs m → covers (fallbacks (are_distinct (names_in cs)) xs cs) (outcome_from (output_of cs) (default_values cs m)) ≡ true
+fallbacks_told [] xs m h = refl
+fallbacks_told (c ∷ []) xs m h = one_default c (fallback_outcomes xs c.fallback) (default_of m c.fallback) (fallback_told c.fallback xs m h)
+fallbacks_told (c ∷ d ∷ cs) xs m h =
+    many_defaults c d cs (fallback_parts xs (c ∷ d ∷ cs)) (default_values (c ∷ d ∷ cs) m)
+    (each_told (λ (k : Column). fallback_outcomes xs k.fallback) (λ (k : Column). default_of m k.fallback) (λ (k : Column). fallback_told k.fallback xs m h) (c ∷ d ∷ cs) no_parts)
 
 default_by : (t : Bool) (o : Outcomes) (p : Outcome) → covers o p ≡ true → covers (if t then given null_alone else o) (if t then Is null else p) ≡ true
 default_by true o p h = refl
 default_by false o p h = h
 
-pub defaults_told : (cs : List Column) (xs : Scope) (m : Bindings) → Fits xs m → covers (default_outcomes xs cs) (defaults cs m) ≡ true
-defaults_told cs xs m h = default_by (list_all (λ c. is_none c.fallback) cs) (only_fallback xs cs) (outcome_from (output_of cs) (default_values cs m)) (only_fallback_told cs xs m h)
+pub defaults_told : (cs : List Column) (xs : Scope) (m : Bindings) → Fits xs m → covers (default_outcomes (shape_of cs).distinct xs cs) (defaults cs m) ≡ true
+defaults_told cs xs m h =
+    default_by (list_all (λ c. is_none c.fallback) cs) (fallbacks (are_distinct (names_in cs)) xs cs) (outcome_from (output_of cs) (default_values cs m)) (fallbacks_told cs xs m h)

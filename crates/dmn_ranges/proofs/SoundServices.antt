@@ -192,7 +192,7 @@ one_output n o (Some d) h = h
 
 many_outputs : (n k : Name) (ns : List Name) (vs : Option (List Datum)) → covers some_context (outcome_from (one_or_context (n ∷ k ∷ ns)) vs) ≡ true
 many_outputs n k ns None = refl
-many_outputs n k ns (Some vs) = let es : Entries = entries_of (zip (n ∷ k ∷ ns) vs) in context_if es (is_value (context es))
+many_outputs n k ns (Some vs) = let es : Entries = entries_of (zip (n ∷ k ∷ ns) vs) in context_if es (is_value (context es)) refl
 
 pub outputs_told : (name : ℕ → Name) (told : List Outcomes) (found : Found) (qs : List ℕ) → TellsFound told found → covers (outputs_outcomes told qs) (outputs_at name found qs) ≡ true
 outputs_told name told found [] tells = refl

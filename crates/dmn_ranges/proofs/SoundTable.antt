@@ -1,5 +1,5 @@
 -- What is told of a table holds of its result.
-use Rattle.std.proofs.Common.{◌≡◌, ◌∙◌, refl, sym, ap, subst, ℕ, ◌≤◌, ℤ, pos, ◌+ℤ◌, List, [], ◌∷◌, length, nat_eq, Bool, true, false, ◌&&◌, ◌||◌, Option, None, Some, option_map, if◌then◌else◌, arith, cond}
+use Rattle.std.proofs.Common.{◌≡◌, ◌∙◌, refl, sym, ap, subst, ℕ, suc, ◌+◌, ◌≤◌, ℤ, pos, ◌+ℤ◌, List, [], ◌∷◌, length, nat_eq, Bool, true, false, ◌&&◌, ◌||◌, Option, None, Some, option_map, if◌then◌else◌, arith, cond}
 use Rattle.std.specs.Prelude.{int_le, int_lt}
 use Rattle.std.specs.Int.{int_min, int_max}
 use Rattle.std.specs.List.{fold, list_all}
@@ -15,19 +15,23 @@ use Rattle.feel_text.specs.Meaning.{Bindings}
 use Rattle.dmn_table.proofs.Each.{each_length}
 use Rattle.dmn_table.specs.Hits.{does_hit, kept, hit_of, values_of}
 use Rattle.dmn_table.specs.Priority.{Hit, is_higher, put_before, in_priority}
-use Rattle.dmn_table.specs.Result.{only_one, first_of, common_one, numbers_of, sum_of, least_of, greatest_of, of_numbers, policy_result, defaults, result_from, table_result}
+use Rattle.dmn_table.specs.Result.{only_one, first_of, common_one, numbers_of, sum_of, least_of, greatest_of, of_numbers, list_of, policy_result, defaults, result_from, table_result}
 use Rattle.dmn_table.specs.Table.{Column, Rule, Table}
 use Rattle.dmn_table.specs.declared.hit_policy.HitPolicy.{HitPolicy}
 use Rattle.dmn_table.specs.declared.hit_policy.HitPolicy.TheVariants.{Unique, Any, Priority, First, OutputOrder, RuleOrder, Collect, Sum, Least, Greatest, Count}
 use Rattle.dmn_ranges.specs.Numbers.{bounded}
 use Rattle.dmn_ranges.specs.Ranges.{Scope, Fits, within, lies_in, covers, null_alone}
-use Rattle.dmn_ranges.specs.Steps.{is_other, either_outcomes, when, numbers_given}
-use Rattle.dmn_ranges.specs.Tables.{null_if, any_sum, within_bounds, summed, by_policy, default_outcomes, column_outcomes, some_limit, tally_rules, with_tally, table_outcomes}
+use Rattle.dmn_ranges.specs.Steps.{is_other, either_outcomes, when, numbers_given, size_of, listed}
+use Rattle.dmn_ranges.specs.Sizes.{times}
+use Rattle.dmn_ranges.specs.Tables.{null_if, any_sum, within_bounds, summed, by_policy, shape_of, default_outcomes, column_outcomes, some_limit, tally_rules, with_tally, table_outcomes}
 use Rattle.dmn_ranges.specs.declared.interval.Interval.{Interval}
 use Rattle.dmn_ranges.specs.declared.outcomes.Outcomes.{Outcomes}
 use Rattle.dmn_ranges.specs.declared.range.Range.{Range}
 use Rattle.dmn_ranges.specs.declared.tally.Tally.{Tally}
-use Rattle.dmn_ranges.proofs.Forms.{joined_one, joined_other, limited_covers, either_one, either_other, when_covers, met_covers, null_covers, listed_if}
+use Rattle.dmn_ranges.proofs.Forms.{joined_one, joined_other, limited_covers, either_one, either_other, when_covers, met_covers, null_covers}
+use Rattle.dmn_ranges.proofs.Formed.{times_fit}
+use Rattle.dmn_ranges.proofs.Sizes.{list_covers, along_right}
+use Rattle.dmn_ranges.proofs.Walks.{same_length}
 use Rattle.dmn_ranges.proofs.Intervals.{bounded_met, low_of, high_of, number_in_all}
 use Rattle.dmn_ranges.proofs.Joins.{or_left, or_right, and_both, other_in}
 use Rattle.dmn_ranges.proofs.SoundRules.{InputsTold, inputs_told, gives_told, defaults_told}
@@ -208,6 +212,37 @@ extreme_by f pick picks same t d ds (Some (z ∷ zs)) tells e =
     subst P (same z zs)
     (extreme_covers (is_other t.outputs) t.outputs.numbers (fold f z zs) (picked f picks t.outputs.numbers z zs (first_part (within t.outputs.numbers z) (list_all (within t.outputs.numbers) zs) all) (second_part (within t.outputs.numbers z) (list_all (within t.outputs.numbers) zs) all)))
 
+-- ---- lists
+
+sum_up : (a b : ℕ) → a ≡ b + 1 → suc a ≡ suc b + 1
+sum_up a b e = omega (arith, e)
+
+one_on : (a : ℕ) → suc a ≡ a + 1
+one_on a = omega arith
+
+put_by_length : (b : Bool) (h k : Hit) (ks : List Hit) → length (put_before h ks) ≡ length ks + 1 → length (if b then k ∷ put_before h ks else h ∷ k ∷ ks) ≡ length (k ∷ ks) + 1
+put_by_length true h k ks e = sum_up (length (put_before h ks)) (length ks) e
+put_by_length false h k ks e = one_on (length (k ∷ ks))
+
+put_length : (h : Hit) (ks : List Hit) → length (put_before h ks) ≡ length ks + 1
+put_length h [] = refl
+put_length h (k ∷ ks) = put_by_length (is_higher k.places h.places) h k ks (put_length h ks)
+
+priority_length : (hs : List Hit) → length (in_priority hs) ≡ length hs
+priority_length [] = refl
+priority_length (h ∷ hs) = put_length h (in_priority hs) ∙ ap (λ n. n + 1) (priority_length hs) ∙ sym (one_on (length hs))
+
+one_at_least : (a n : ℕ) → suc a ≤ n → 1 ≤ n
+one_at_least a n h = omega (arith, h)
+
+some_rule : (h : Hit) (hs : List Hit) (n : ℕ) → length (h ∷ hs) ≤ n → 1 ≤ n
+some_rule h hs n s = one_at_least (length hs) n s
+
+several_told_in : (t : Tally) (n : ℕ) (hs : List Hit) → length hs ≤ n → 1 ≤ n → list_all (lies_in t.outputs) (outputs_of_hits hs) ≡ true → covers (listed (times n (size_of t.outputs))) (list_of (outputs_of_hits hs)) ≡ true
+several_told_in t n hs s some all =
+    list_covers (times n (size_of t.outputs)) (items_of (outputs_of_hits hs))
+    (times_fit n t.outputs (outputs_of_hits hs) some (along_right (length (outputs_of_hits hs)) (length hs) n (same_length (λ (h : Hit). h.output) hs) s) all)
+
 -- ---- each policy
 
 one_low : (k : ℕ) → 1 ≤ k → int_le (pos 1) (pos k) ≡ true
@@ -221,9 +256,9 @@ policy_told Unique t n h hs tells s = only_told true t.outputs h.output (outputs
 policy_told Any t n h hs tells s = common_told t.outputs h.output (outputs_of_hits hs) t (first_part (lies_in t.outputs h.output) (list_all (lies_in t.outputs) (outputs_of_hits hs)) tells.outputs) tells.several
 policy_told Priority t n h hs tells s = highest_told t.outputs h hs tells.outputs
 policy_told First t n h hs tells s = tells.first
-policy_told OutputOrder t n h hs tells s = let es : Items = items_of (outputs_of_hits (in_priority (h ∷ hs))) in listed_if es (is_value (list es))
-policy_told RuleOrder t n h hs tells s = let es : Items = items_of (outputs_of_hits (h ∷ hs)) in listed_if es (is_value (list es))
-policy_told Collect t n h hs tells s = let es : Items = items_of (outputs_of_hits (h ∷ hs)) in listed_if es (is_value (list es))
+policy_told OutputOrder t n h hs tells s = several_told_in t n (in_priority (h ∷ hs)) (along_right (length (in_priority (h ∷ hs))) (length (h ∷ hs)) n (priority_length (h ∷ hs)) s) (some_rule h hs n s) (priority_told t.outputs (h ∷ hs) tells.outputs)
+policy_told RuleOrder t n h hs tells s = several_told_in t n (h ∷ hs) s (some_rule h hs n s) tells.outputs
+policy_told Collect t n h hs tells s = several_told_in t n (h ∷ hs) s (some_rule h hs n s) tells.outputs
 policy_told Sum t n h hs tells s = sum_by t h.output (outputs_of_hits hs) (numbers_of (outputs_of_hits (h ∷ hs))) tells refl
 policy_told Least t n h hs tells s = extreme_by int_min least_of least_picks (λ z zs. refl) t h.output (outputs_of_hits hs) (numbers_of (outputs_of_hits (h ∷ hs))) tells refl
 policy_told Greatest t n h hs tells s = extreme_by int_max greatest_of greatest_picks (λ z zs. refl) t h.output (outputs_of_hits hs) (numbers_of (outputs_of_hits (h ∷ hs))) tells refl
@@ -244,15 +279,15 @@ hits_short m cs rs (Some zs) hs e = omega (arith, each_length (hit_of cs m) (kep
 
 result_told : (t : Table) (xs : Scope) (m : Bindings) → Fits xs m → (l : Bool) (s : Tally) (found : Option (List Hit)) → FoundTold s (found >>= λ hs. Some (outputs_of_hits hs)) → ((hs : List Hit) → found ≡ Some hs → length hs ≤ length t.rules)
     → covers (with_tally t xs l s) (outcome_from (result_from t m) found) ≡ true
-result_told t xs m f l s None told short = or_left (l || s.limit) (either_outcomes (when s.may_be_some (by_policy t.policy s (length t.rules))) (when s.may_be_none (default_outcomes xs t.outputs))).limit (or_right l s.limit told)
+result_told t xs m f l s None told short = or_left (l || s.limit) (either_outcomes (when s.may_be_some (by_policy t.policy s (length t.rules))) (when s.may_be_none (default_outcomes (shape_of t.outputs).distinct xs t.outputs))).limit (or_right l s.limit told)
 result_told t xs m f l s (Some []) told short =
     let hit : Outcomes = when s.may_be_some (by_policy t.policy s (length t.rules)) in
-    let missed : Outcomes = when s.may_be_none (default_outcomes xs t.outputs) in
+    let missed : Outcomes = when s.may_be_none (default_outcomes (shape_of t.outputs).distinct xs t.outputs) in
     limited_covers (l || s.limit) (either_outcomes hit missed) (defaults t.outputs m)
-    (either_other hit missed (defaults t.outputs m) (when_covers s.may_be_none (default_outcomes xs t.outputs) (defaults t.outputs m) told.first (defaults_told t.outputs xs m f)))
+    (either_other hit missed (defaults t.outputs m) (when_covers s.may_be_none (default_outcomes (shape_of t.outputs).distinct xs t.outputs) (defaults t.outputs m) told.first (defaults_told t.outputs xs m f)))
 result_told t xs m f l s (Some (h ∷ hs)) told short =
     let hit : Outcomes = when s.may_be_some (by_policy t.policy s (length t.rules)) in
-    let missed : Outcomes = when s.may_be_none (default_outcomes xs t.outputs) in
+    let missed : Outcomes = when s.may_be_none (default_outcomes (shape_of t.outputs).distinct xs t.outputs) in
     limited_covers (l || s.limit) (either_outcomes hit missed) (policy_result t.policy (h ∷ hs))
     (either_one hit missed (policy_result t.policy (h ∷ hs)) (when_covers s.may_be_some (by_policy t.policy s (length t.rules)) (policy_result t.policy (h ∷ hs)) told.some (policy_told t.policy s (length t.rules) h hs told (short (h ∷ hs) refl))))
 
@@ -263,14 +298,14 @@ same_hits m cs rs (Some zs) = refl
 from_values : (t : Table) (xs : Scope) (m : Bindings) → Fits xs m → (values : Option (List Datum)) → InputsTold (column_outcomes xs t.inputs) values
     → covers (table_outcomes xs t) (outcome_from (result_from t m) ((values >>= λ vs. each (does_hit m vs) t.rules >>= λ answers. Some (kept t.rules answers)) >>= λ rules. each (hit_of t.outputs m) rules)) ≡ true
 from_values t xs m f None told =
-    let s : Tally = tally_rules (nat_eq (length t.outputs) 1) (column_outcomes xs t.inputs) xs t.rules in
-    or_left (some_limit (column_outcomes xs t.inputs) || s.limit) (either_outcomes (when s.may_be_some (by_policy t.policy s (length t.rules))) (when s.may_be_none (default_outcomes xs t.outputs))).limit
+    let s : Tally = tally_rules (shape_of t.outputs) (column_outcomes xs t.inputs) xs t.rules in
+    or_left (some_limit (column_outcomes xs t.inputs) || s.limit) (either_outcomes (when s.may_be_some (by_policy t.policy s (length t.rules))) (when s.may_be_none (default_outcomes (shape_of t.outputs).distinct xs t.outputs))).limit
     (or_left (some_limit (column_outcomes xs t.inputs)) s.limit told)
 from_values t xs m f (Some vs) told =
     let P : Option (List Hit) → Type 0 = λ found. covers (table_outcomes xs t) (outcome_from (result_from t m) found) ≡ true in
     subst P (same_hits m t.outputs t.rules (each (does_hit m vs) t.rules))
-    (result_told t xs m f (some_limit (column_outcomes xs t.inputs)) (tally_rules (nat_eq (length t.outputs) 1) (column_outcomes xs t.inputs) xs t.rules) (hits_among m vs t.outputs t.rules)
-    (rules_told (nat_eq (length t.outputs) 1) (column_outcomes xs t.inputs) vs t.outputs xs m f told (λ r. gives_told t.outputs r xs m f) t.rules)
+    (result_told t xs m f (some_limit (column_outcomes xs t.inputs)) (tally_rules (shape_of t.outputs) (column_outcomes xs t.inputs) xs t.rules) (hits_among m vs t.outputs t.rules)
+    (rules_told (shape_of t.outputs) (column_outcomes xs t.inputs) vs t.outputs xs m f told (λ r. gives_told t.outputs r xs m f) t.rules)
     (λ hs e. hits_short m t.outputs t.rules (each (does_hit m vs) t.rules) hs e))
 
 pub table_sound : (t : Table) (xs : Scope) (m : Bindings) → Fits xs m → covers (table_outcomes xs t) (table_result t m) ≡ true

@@ -19,6 +19,7 @@ use Rattle.dmn_ranges.specs.declared.interval.Interval.{Interval}
 use Rattle.dmn_ranges.specs.declared.outcomes.Outcomes.{Outcomes}
 use Rattle.dmn_ranges.specs.declared.range.Range.{Range}
 use Rattle.dmn_ranges.specs.declared.rule.Hits.{Hits}
+use Rattle.dmn_ranges.specs.declared.rule.Shape.{Shape}
 use Rattle.dmn_ranges.specs.declared.tally.Tally.{Tally}
 use Rattle.dmn_ranges.proofs.Forms.{joined_one, joined_other}
 use Rattle.dmn_ranges.proofs.Intervals.{Met, sum_met, le_trans, low_of, high_of, least_one, least_other, greatest_one, greatest_other}
@@ -252,17 +253,17 @@ nothing_behind : (found : Option (List Datum)) → found ≡ behind found (Some 
 nothing_behind None = refl
 nothing_behind (Some ds) = ap Some (sym (append-nil ds))
 
-rules_along : (single : Bool) (os : List Outcomes) (vs : List Datum) (cs : List Column) (xs : Scope) (m : Bindings) → Fits xs m → AllIn os vs
-    → ((r : Rule) → covers (rule_gives single xs r.gives) (output_in (hit_of cs m r)) ≡ true) → (rs : List Rule) (t : Tally) (found : Option (List Datum)) → FoundTold t found
-    → FoundTold (fold (tally_rule single os xs) t rs) (behind found (hits_among m vs cs rs))
-rules_along single os vs cs xs m f all gives [] t found h = found_along t found (behind found (Some [])) (nothing_behind found) h
-rules_along single os vs cs xs m f all gives (r ∷ rs) t found h =
-    found_along (fold (tally_rule single os xs) (tally_rule single os xs t r) rs)
+rules_along : (shape : Shape) (os : List Outcomes) (vs : List Datum) (cs : List Column) (xs : Scope) (m : Bindings) → Fits xs m → AllIn os vs
+    → ((r : Rule) → covers (rule_gives shape xs r.gives) (output_in (hit_of cs m r)) ≡ true) → (rs : List Rule) (t : Tally) (found : Option (List Datum)) → FoundTold t found
+    → FoundTold (fold (tally_rule shape os xs) t rs) (behind found (hits_among m vs cs rs))
+rules_along shape os vs cs xs m f all gives [] t found h = found_along t found (behind found (Some [])) (nothing_behind found) h
+rules_along shape os vs cs xs m f all gives (r ∷ rs) t found h =
+    found_along (fold (tally_rule shape os xs) (tally_rule shape os xs t r) rs)
     (behind (found >>= λ ds. next ds (does_hit m vs r) (hit_of cs m r)) (hits_among m vs cs rs))
     (behind found (hits_among m vs cs (r ∷ rs)))
     (regroup m cs r rs found (does_hit m vs r) (each (does_hit m vs) rs))
-    (rules_along single os vs cs xs m f all gives rs (tally_rule single os xs t r) (found >>= λ ds. next ds (does_hit m vs r) (hit_of cs m r))
-    (rule_more t (rule_hits xs (zip r.tests os)) (rule_gives single xs r.gives) found (does_hit m vs r) (hit_of cs m r) h (rule_told r os vs xs m f all) (gives r)))
+    (rules_along shape os vs cs xs m f all gives rs (tally_rule shape os xs t r) (found >>= λ ds. next ds (does_hit m vs r) (hit_of cs m r))
+    (rule_more t (rule_hits xs (zip r.tests os)) (rule_gives shape xs r.gives) found (does_hit m vs r) (hit_of cs m r) h (rule_told r os vs xs m f all) (gives r)))
 
 nothing_told : Tells blank []
 nothing_told = record {
@@ -273,7 +274,7 @@ nothing_told = record {
   total = λ z q. (let same : pos 0 ≡ z = cc in let P : ℤ → Type 0 = λ x. inside zero_alone x ≡ true in subst P same refl);
 }
 
-pub rules_told : (single : Bool) (os : List Outcomes) (vs : List Datum) (cs : List Column) (xs : Scope) (m : Bindings) → Fits xs m → AllIn os vs
-    → ((r : Rule) → covers (rule_gives single xs r.gives) (output_in (hit_of cs m r)) ≡ true) → (rs : List Rule)
-    → FoundTold (tally_rules single os xs rs) (hits_among m vs cs rs >>= λ hs. Some (outputs_of_hits hs))
-rules_told single os vs cs xs m f all gives rs = rules_along single os vs cs xs m f all gives rs blank (Some []) nothing_told
+pub rules_told : (shape : Shape) (os : List Outcomes) (vs : List Datum) (cs : List Column) (xs : Scope) (m : Bindings) → Fits xs m → AllIn os vs
+    → ((r : Rule) → covers (rule_gives shape xs r.gives) (output_in (hit_of cs m r)) ≡ true) → (rs : List Rule)
+    → FoundTold (tally_rules shape os xs rs) (hits_among m vs cs rs >>= λ hs. Some (outputs_of_hits hs))
+rules_told shape os vs cs xs m f all gives rs = rules_along shape os vs cs xs m f all gives rs blank (Some []) nothing_told

@@ -16,6 +16,14 @@ walk_on f shown whole acc next xs i a before e h q =
 pub walk_done : {A X B : Type 0} (f : B → X → B) (shown : A → X) (whole acc : B) (xs : List A) (i : ℕ) → whole ≡ fold f acc (map shown (drop i xs)) → length xs ≤ i → acc ≡ whole
 walk_done f shown whole acc xs i before h = sym (before ∙ ap (λ ys. fold f acc (map shown ys)) (drop_all i xs h))
 
+-- the same of elements as they are
+pub fold_on : {A B : Type 0} (f : B → A → B) (whole acc next : B) (xs : List A) (i : ℕ) (a : A) → whole ≡ fold f acc (drop i xs) → a ≡ get_or xs i a → i < length xs → next ≡ f acc a → whole ≡ fold f next (drop (i + 1) xs)
+fold_on f whole acc next xs i a before e h q =
+    before ∙ at_drop_more (λ ys. fold f acc ys) xs i a h ∙ ap (λ b. fold f (f acc b) (drop (i + 1) xs)) (sym e) ∙ ap (λ t. fold f t (drop (i + 1) xs)) (sym q)
+
+pub fold_done : {A B : Type 0} (f : B → A → B) (whole acc : B) (xs : List A) (i : ℕ) → whole ≡ fold f acc (drop i xs) → length xs ≤ i → acc ≡ whole
+fold_done f whole acc xs i before h = sym (before ∙ ap (λ ys. fold f acc ys) (drop_all i xs h))
+
 -- one pair more
 pub pair_on : {A X B : Type 0} (f : B → A × X → B) (whole acc next : B) (rests ts : List A) (others vs : List X) (t : A) (v : X) → whole ≡ fold f acc (zip rests others) → rests ≡ t ∷ ts → others ≡ v ∷ vs → next ≡ f acc (t, v)
     → whole ≡ fold f next (zip ts vs)

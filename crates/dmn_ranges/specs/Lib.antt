@@ -1,7 +1,10 @@
 pub mod Ranges
 pub mod Numbers
+pub mod Sizes
 pub mod Steps
 pub mod Entries
+pub mod Domains
+pub mod Constraints
 pub mod Tables
 pub mod Boxes
 pub mod Services

@@ -1,8 +1,9 @@
 -- Which values a range has, and what it says of names, of parameters and of an evaluation: what the public contracts speak of. How
 -- ranges are worked out stands in the other files, which nobody has to believe: it is proved to be right.
-use Rattle.std.specs.Prelude.{◌≡◌, ℕ, ℤ, int_le, List, [], ◌∷◌, map, Bool, true, false, ◌&&◌, Option, Some, None, unwrap_or, bytes_eq, if◌then◌else◌}
+use Rattle.std.specs.Prelude.{◌≡◌, ℕ, ℤ, int_le, List, [], ◌∷◌, map, Bool, true, false, ◌&&◌, nat_le, Option, Some, None, unwrap_or, bytes_eq, if◌then◌else◌}
 use Rattle.std.specs.Arc.{arc_str_bytes}
 use Rattle.feel_value.specs.Datum.{Datum, null, boolean, number, text, list, context}
+use Rattle.feel_value.specs.Limits.{is_value, nodes, depth}
 use Rattle.feel_value.specs.declared.feel.Outcome.{Outcome}
 use Rattle.feel_value.specs.declared.feel.Outcome.TheVariants.{Is, Limit}
 use Rattle.feel_text.specs.Meaning.{Bindings, bound}
@@ -10,6 +11,7 @@ use Rattle.dmn_ranges.specs.declared.interval.Interval.{Interval}
 use Rattle.dmn_ranges.specs.declared.range.Range.{Range}
 use Rattle.dmn_ranges.specs.declared.range.NamedRange.{NamedRange}
 use Rattle.dmn_ranges.specs.declared.outcomes.Outcomes.{Outcomes}
+use Rattle.dmn_ranges.specs.declared.size.Size.{Size}
 
 abbrev pub inside : Interval → ℤ → Bool
 inside i z = int_le i.low z && int_le z i.high
@@ -18,6 +20,10 @@ abbrev pub within : Option Interval → ℤ → Bool
 within None z = false
 within (Some i) z = inside i z
 
+-- whether a value keeps the limits, and is no larger than this
+abbrev pub keeps : Size → Datum → Bool
+keeps s d = is_value d && (nat_le (nodes d) s.nodes && nat_le (depth d) s.depth)
+
 -- whether a value is one of the range
 abbrev pub lies_in : Range → Datum → Bool
 lies_in r null = r.nulls
@@ -25,8 +31,8 @@ lies_in r (boolean true) = r.trues
 lies_in r (boolean false) = r.falses
 lies_in r (number z) = within r.numbers z
 lies_in r (text s) = r.texts
-lies_in r (list ds) = r.lists
-lies_in r (context es) = r.contexts
+lies_in r (list ds) = r.lists && keeps r.size (list ds)
+lies_in r (context es) = r.contexts && keeps r.size (context es)
 
 -- whether an evaluation may give this
 abbrev pub covers : Outcomes → Outcome → Bool
@@ -34,7 +40,7 @@ covers r (Is d) = lies_in r.range d
 covers r Limit = r.limit
 
 abbrev pub null_alone : Range
-null_alone = record { nulls = true; trues = false; falses = false; numbers = None; texts = false; lists = false; contexts = false }
+null_alone = record { nulls = true; trues = false; falses = false; numbers = None; texts = false; lists = false; contexts = false; size = record { nodes = 0; depth = 0 } }
 
 -- what is said of names; of several of one name the last counts
 abbrev pub Scope : Type 0

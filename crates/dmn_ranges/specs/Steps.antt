@@ -1,19 +1,22 @@
 -- What each form of an expression can give, from what its parts can give.
-use Rattle.std.specs.Prelude.{ℕ, ℤ, pos, Bool, true, false, not, ◌&&◌, ◌||◌, Option, Some, None, is_some, if◌then◌else◌}
-use Rattle.feel_value.specs.Limits.{in_range}
+use Rattle.std.specs.Prelude.{ℕ, ℤ, pos, int_le, ◌-ℤ◌, Bool, true, false, not, ◌&&◌, ◌||◌, Option, Some, None, is_some, if◌then◌else◌}
+use Rattle.feel_value.specs.Limits.{in_range, most_nodes}
 use Rattle.feel_text.specs.declared.expr.Operator.{Operator}
 use Rattle.feel_text.specs.declared.expr.Operator.TheVariants as operator
 use Rattle.feel_text.specs.declared.expr.Function.{Function}
 use Rattle.feel_text.specs.declared.expr.Function.TheVariants as function
 use Rattle.feel_text.specs.Expr as expr
-use Rattle.feel_text.specs.Expr.{Expr}
+use Rattle.feel_text.specs.Expr.{Expr, Exprs, none}
 use Rattle.dmn_ranges.specs.Numbers.{least_number, most_number, sum, difference, product, absolute, remainder, has_divisor, hull, are_less, reach}
 use Rattle.dmn_ranges.specs.Ranges.{Scope, null_alone, range_named, within}
 use Rattle.dmn_ranges.specs.declared.bounded.Bounded.{Bounded}
 use Rattle.dmn_ranges.specs.declared.interval.Interval.{Interval}
 use Rattle.dmn_ranges.specs.declared.outcomes.Outcomes.{Outcomes}
 use Rattle.dmn_ranges.specs.declared.range.Range.{Range}
+use Rattle.dmn_ranges.specs.declared.parts.Parts.{Parts}
+use Rattle.dmn_ranges.specs.declared.size.Size.{Size}
 use Rattle.dmn_ranges.specs.declared.truths.Truths.{Truths}
+use Rattle.dmn_ranges.specs.Sizes.{no_size, any_size, more, larger, beside, fits, around}
 
 -- ---- ranges
 
@@ -22,22 +25,30 @@ everything = record { low = least_number; high = most_number }
 
 -- numbers, and null where this is said
 abbrev pub numbers_or_null : Bool → Option Interval → Range
-numbers_or_null n i = record { nulls = n; trues = false; falses = false; numbers = i; texts = false; lists = false; contexts = false }
+numbers_or_null n i = record { nulls = n; trues = false; falses = false; numbers = i; texts = false; lists = false; contexts = false; size = no_size }
 
 abbrev pub nothing : Range
 nothing = numbers_or_null false None
 
+-- any value, but lists and contexts of this size alone
+abbrev pub any_of_size : Size → Range
+any_of_size s = record { nulls = true; trues = true; falses = true; numbers = Some everything; texts = true; lists = true; contexts = true; size = s }
+
 abbrev pub anything : Range
-anything = record { nulls = true; trues = true; falses = true; numbers = Some everything; texts = true; lists = true; contexts = true }
+anything = any_of_size any_size
 
 abbrev pub truth_values : Bool → Bool → Bool → Range
-truth_values n t f = record { nulls = n; trues = t; falses = f; numbers = None; texts = false; lists = false; contexts = false }
+truth_values n t f = record { nulls = n; trues = t; falses = f; numbers = None; texts = false; lists = false; contexts = false; size = no_size }
 
 abbrev pub texts_alone : Range
-texts_alone = record { nulls = false; trues = false; falses = false; numbers = None; texts = true; lists = false; contexts = false }
+texts_alone = record { nulls = false; trues = false; falses = false; numbers = None; texts = true; lists = false; contexts = false; size = no_size }
 
-abbrev pub lists_alone : Range
-lists_alone = record { nulls = false; trues = false; falses = false; numbers = None; texts = false; lists = true; contexts = false }
+-- lists of this size, contexts of this size
+abbrev pub lists_of : Size → Range
+lists_of s = record { nulls = false; trues = false; falses = false; numbers = None; texts = false; lists = true; contexts = false; size = s }
+
+abbrev pub contexts_of : Size → Range
+contexts_of s = record { nulls = false; trues = false; falses = false; numbers = None; texts = false; lists = false; contexts = true; size = s }
 
 abbrev pub joined : Range → Range → Range
 joined a b = record {
@@ -48,6 +59,7 @@ joined a b = record {
   texts = a.texts || b.texts;
   lists = a.lists || b.lists;
   contexts = a.contexts || b.contexts;
+  size = larger a.size b.size;
 }
 
 -- some value is no number
@@ -57,6 +69,19 @@ is_other r = (r.nulls || (r.trues || r.falses)) || (r.texts || (r.lists || r.con
 -- some value is no text
 abbrev pub is_other_than_text : Range → Bool
 is_other_than_text r = (r.nulls || (r.trues || r.falses)) || (is_some r.numbers || (r.lists || r.contexts))
+
+-- some value is no list
+abbrev pub is_other_than_list : Range → Bool
+is_other_than_list r = (r.nulls || (r.trues || r.falses)) || (is_some r.numbers || (r.texts || r.contexts))
+
+-- each number is one of the range of numbers
+abbrev pub are_numbers : Option Interval → Bool
+are_numbers None = true
+are_numbers (Some i) = int_le least_number i.low && int_le i.high most_number
+
+-- how large a value can be; past where it can be no value
+abbrev pub size_of : Range → Size
+size_of r = record { nodes = if are_numbers r.numbers then more r.size.nodes 1 else most_nodes; depth = more r.size.depth 1 }
 
 -- ---- outcomes
 
@@ -201,22 +226,49 @@ inverted a = told (opposite (truths a))
 
 -- ---- functions, paths and lists
 
-abbrev pub folded : Range → Outcomes
-folded a = if a.lists then some_number else given null_alone
+-- the sum of a list
+abbrev pub summed : Range → Outcomes
+summed a = if a.lists then some_number else given null_alone
 
+-- the least or the greatest of a list, which is one of its numbers
+abbrev pub picked : Range → Outcomes
+picked a = if a.lists then given (numbers_or_null true (Some everything)) else given null_alone
+
+-- the members of a list, which is a node beside them
 abbrev pub counted : Range → Outcomes
-counted a = if a.lists then record { range = numbers_or_null true (Some (record { low = pos 0; high = most_number })); limit = true } else given null_alone
+counted a = if a.lists then given (numbers_or_null (is_other_than_list a) (Some (record { low = pos 0; high = pos a.size.nodes -ℤ pos 1 }))) else given null_alone
 
 abbrev pub called : Function → Range → Outcomes
 called function.Abs a = absolutes a
 called function.Count a = counted a
-called f a = folded a
+called function.Sum a = summed a
+called function.Min a = picked a
+called function.Max a = picked a
 
 abbrev pub paths : Range → Outcomes
-paths a = if a.contexts || a.lists then record { range = anything; limit = true } else given null_alone
+paths a = if a.contexts || a.lists then given (any_of_size a.size) else given null_alone
 
-abbrev pub listed : Outcomes
-listed = record { range = lists_alone; limit = true }
+-- ---- values that are formed of parts
+
+-- a list of parts of this size
+abbrev pub listed : Size → Outcomes
+listed s = record { range = lists_of (around s); limit = not (fits s) }
+
+-- a context of parts of this size, under names that are distinct where this is said
+abbrev pub named_parts : Bool → Size → Outcomes
+named_parts distinct s = record { range = contexts_of (around s); limit = not (distinct && fits s) }
+
+abbrev pub no_parts : Parts
+no_parts = record { size = no_size; limit = false }
+
+abbrev pub with_part : Parts → Outcomes → Parts
+with_part p o = record { size = beside p.size (size_of o.range); limit = p.limit || o.limit }
+
+abbrev pub list_of : Parts → Outcomes
+list_of p = limited p.limit (listed p.size)
+
+abbrev pub context_of : Bool → Parts → Outcomes
+context_of distinct p = limited p.limit (named_parts distinct p.size)
 
 -- ---- expressions
 
@@ -231,20 +283,26 @@ natural n = if in_range (pos n) then given (point (pos n)) else record { range =
 abbrev pub branches : Truths → Outcomes → Outcomes → Outcomes
 branches t o p = either_outcomes (when t.yes o) (when (t.no || t.unknown) p)
 
-abbrev pub outcomes : Expr → Scope → Outcomes
-outcomes expr.Null xs = given null_alone
-outcomes (expr.Boolean b) xs = given (truth_values false b (not b))
-outcomes (expr.Number n) xs = natural n
-outcomes (expr.Text bytes) xs = given texts_alone
-outcomes (expr.Name name) xs = given (range_named xs name)
-outcomes (expr.Group e) xs = outcomes e xs
-outcomes (expr.Members es) xs = listed
-outcomes (expr.Call f e) xs = with_one (outcomes e xs) (called f)
-outcomes (expr.Modulo a b) xs = with_two (outcomes a xs) (outcomes b xs) remainders
-outcomes (expr.Not e) xs = with_one (outcomes e xs) inverted
-outcomes (expr.Negate e) xs = with_one (outcomes e xs) negated
-outcomes (expr.Path e name) xs = with_one (outcomes e xs) paths
-outcomes (expr.Binary op a b) xs = with_two (outcomes a xs) (outcomes b xs) (operated op)
-outcomes (expr.Between e low high) xs =
-    with_one (outcomes e xs) (λ r. with_two (outcomes low xs) (outcomes high xs) (between r))
-outcomes (expr.If test a b) xs = with_one (outcomes test xs) (λ r. branches (truths r) (outcomes a xs) (outcomes b xs))
+abbrev mutual
+  pub outcomes : Expr → Scope → Outcomes
+  outcomes expr.Null xs = given null_alone
+  outcomes (expr.Boolean b) xs = given (truth_values false b (not b))
+  outcomes (expr.Number n) xs = natural n
+  outcomes (expr.Text bytes) xs = given texts_alone
+  outcomes (expr.Name name) xs = given (range_named xs name)
+  outcomes (expr.Group e) xs = outcomes e xs
+  outcomes (expr.Members es) xs = list_of (members_parts no_parts es xs)
+  outcomes (expr.Call f e) xs = with_one (outcomes e xs) (called f)
+  outcomes (expr.Modulo a b) xs = with_two (outcomes a xs) (outcomes b xs) remainders
+  outcomes (expr.Not e) xs = with_one (outcomes e xs) inverted
+  outcomes (expr.Negate e) xs = with_one (outcomes e xs) negated
+  outcomes (expr.Path e name) xs = with_one (outcomes e xs) paths
+  outcomes (expr.Binary op a b) xs = with_two (outcomes a xs) (outcomes b xs) (operated op)
+  outcomes (expr.Between e low high) xs =
+      with_one (outcomes e xs) (λ r. with_two (outcomes low xs) (outcomes high xs) (between r))
+  outcomes (expr.If test a b) xs = with_one (outcomes test xs) (λ r. branches (truths r) (outcomes a xs) (outcomes b xs))
+
+  -- these parts, and the members behind them
+  pub members_parts : Parts → Exprs → Scope → Parts
+  members_parts p none xs = p
+  members_parts p (expr.more e es) xs = members_parts (with_part p (outcomes e xs)) es xs

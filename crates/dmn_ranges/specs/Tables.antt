@@ -3,6 +3,7 @@
 use Rattle.std.specs.Prelude.{ℕ, pos, List, [], ◌∷◌, length, map, nat_eq, Bool, true, false, ◌&&◌, ◌||◌, Option, None, Some, option_map, if◌then◌else◌}
 use Rattle.std.specs.List.{fold, list_all, list_any, zip}
 use Rattle.std.specs.Option.{is_none}
+use Rattle.feel_value.specs.Distinct.{are_distinct}
 use Rattle.feel_text.specs.Expr.{Expr}
 use Rattle.feel_text.specs.Meaning.{least, greatest}
 use Rattle.feel_text.specs.Tests.{Tests}
@@ -11,14 +12,17 @@ use Rattle.dmn_table.specs.declared.hit_policy.HitPolicy.{HitPolicy}
 use Rattle.dmn_table.specs.declared.hit_policy.HitPolicy.TheVariants.{Unique, Any, Priority, First, OutputOrder, RuleOrder, Collect, Sum, Least, Greatest, Count}
 use Rattle.dmn_ranges.specs.Numbers.{bounded, sum}
 use Rattle.dmn_ranges.specs.Ranges.{Scope, null_alone}
-use Rattle.dmn_ranges.specs.Steps.{outcomes, nothing, joined, is_other, everything, given, limited, either_outcomes, when, numbers_given, listed}
+use Rattle.dmn_ranges.specs.Steps.{outcomes, nothing, joined, is_other, everything, given, limited, either_outcomes, when, numbers_given, size_of, contexts_of, listed, no_parts, with_part, context_of}
+use Rattle.dmn_ranges.specs.Sizes.{any_size, times}
 use Rattle.dmn_ranges.specs.Entries.{entry_answers}
 use Rattle.dmn_ranges.specs.declared.bounded.Bounded.{Bounded}
 use Rattle.dmn_ranges.specs.declared.entries.Answers.{Answers}
 use Rattle.dmn_ranges.specs.declared.interval.Interval.{Interval}
 use Rattle.dmn_ranges.specs.declared.outcomes.Outcomes.{Outcomes}
 use Rattle.dmn_ranges.specs.declared.range.Range.{Range}
+use Rattle.dmn_ranges.specs.declared.parts.Parts.{Parts}
 use Rattle.dmn_ranges.specs.declared.rule.Hits.{Hits}
+use Rattle.dmn_ranges.specs.declared.rule.Shape.{Shape}
 use Rattle.dmn_ranges.specs.declared.tally.Tally.{Tally}
 
 -- ---- a rule
@@ -39,7 +43,17 @@ rule_hits xs ps = fold (ask_entry xs) surely ps
 
 -- a context, or a limit is broken
 abbrev pub some_context : Outcomes
-some_context = record { range = record { nulls = false; trues = false; falses = false; numbers = None; texts = false; lists = false; contexts = true }; limit = true }
+some_context = record { range = contexts_of any_size; limit = true }
+
+-- the output columns: whether there is a single one, and whether their names are distinct
+abbrev pub shape_of : List Column → Shape
+shape_of cs = record { single = nat_eq (length cs) 1; distinct = are_distinct (map (λ c. c.name) cs) }
+
+abbrev pub with_expr : Scope → Parts → Expr → Parts
+with_expr xs p e = with_part p (outcomes e xs)
+
+abbrev pub expr_parts : Scope → List Expr → Parts
+expr_parts xs es = fold (with_expr xs) no_parts es
 
 -- the only one
 abbrev pub only : Scope → List Expr → Outcomes
@@ -47,9 +61,9 @@ only xs [] = some_context
 only xs (e ∷ []) = outcomes e xs
 only xs (e ∷ f ∷ es) = some_context
 
--- the output entries under so many columns
-abbrev pub rule_gives : Bool → Scope → List Expr → Outcomes
-rule_gives single xs es = if single then only xs es else some_context
+-- the output entries under such columns
+abbrev pub rule_gives : Shape → Scope → List Expr → Outcomes
+rule_gives shape xs es = if shape.single then only xs es else context_of shape.distinct (expr_parts xs es)
 
 -- ---- the rules together
 
@@ -91,11 +105,11 @@ tally_with t h o = record {
   limit = t.limit || (h.limit || (h.hit && o.limit));
 }
 
-abbrev pub tally_rule : Bool → List Outcomes → Scope → Tally → Rule → Tally
-tally_rule single columns xs t r = tally_with t (rule_hits xs (zip r.tests columns)) (rule_gives single xs r.gives)
+abbrev pub tally_rule : Shape → List Outcomes → Scope → Tally → Rule → Tally
+tally_rule shape columns xs t r = tally_with t (rule_hits xs (zip r.tests columns)) (rule_gives shape xs r.gives)
 
-abbrev pub tally_rules : Bool → List Outcomes → Scope → List Rule → Tally
-tally_rules single columns xs rs = fold (tally_rule single columns xs) blank rs
+abbrev pub tally_rules : Shape → List Outcomes → Scope → List Rule → Tally
+tally_rules shape columns xs rs = fold (tally_rule shape columns xs) blank rs
 
 -- ---- the hit policy
 
@@ -120,9 +134,9 @@ by_policy Unique t n = given (null_if t.may_be_several t.outputs)
 by_policy Any t n = given (null_if t.may_be_several t.outputs)
 by_policy Priority t n = given t.outputs
 by_policy First t n = given t.first
-by_policy OutputOrder t n = listed
-by_policy RuleOrder t n = listed
-by_policy Collect t n = listed
+by_policy OutputOrder t n = listed (times n (size_of t.outputs))
+by_policy RuleOrder t n = listed (times n (size_of t.outputs))
+by_policy Collect t n = listed (times n (size_of t.outputs))
 by_policy Sum t n = numbers_given (is_other t.outputs) (summed t.outputs.numbers t.total)
 by_policy Least t n = numbers_given (is_other t.outputs) (option_map within_bounds t.outputs.numbers)
 by_policy Greatest t n = numbers_given (is_other t.outputs) (option_map within_bounds t.outputs.numbers)
@@ -134,13 +148,19 @@ abbrev pub fallback_outcomes : Scope → Option Expr → Outcomes
 fallback_outcomes xs None = given null_alone
 fallback_outcomes xs (Some e) = outcomes e xs
 
-abbrev pub only_fallback : Scope → List Column → Outcomes
-only_fallback xs [] = some_context
-only_fallback xs (c ∷ []) = fallback_outcomes xs c.fallback
-only_fallback xs (c ∷ d ∷ cs) = some_context
+abbrev pub with_fallback : Scope → Parts → Column → Parts
+with_fallback xs p c = with_part p (fallback_outcomes xs c.fallback)
 
-abbrev pub default_outcomes : Scope → List Column → Outcomes
-default_outcomes xs cs = if list_all (λ c. is_none c.fallback) cs then given null_alone else only_fallback xs cs
+abbrev pub fallback_parts : Scope → List Column → Parts
+fallback_parts xs cs = fold (with_fallback xs) no_parts cs
+
+abbrev pub fallbacks : Bool → Scope → List Column → Outcomes
+fallbacks distinct xs [] = some_context
+fallbacks distinct xs (c ∷ []) = fallback_outcomes xs c.fallback
+fallbacks distinct xs (c ∷ d ∷ cs) = context_of distinct (fallback_parts xs (c ∷ d ∷ cs))
+
+abbrev pub default_outcomes : Bool → Scope → List Column → Outcomes
+default_outcomes distinct xs cs = if list_all (λ c. is_none c.fallback) cs then given null_alone else fallbacks distinct xs cs
 
 -- ---- the table
 
@@ -151,8 +171,8 @@ abbrev pub some_limit : List Outcomes → Bool
 some_limit os = list_any (λ o. o.limit) os
 
 abbrev pub with_tally : Table → Scope → Bool → Tally → Outcomes
-with_tally t xs l s = limited (l || s.limit) (either_outcomes (when s.may_be_some (by_policy t.policy s (length t.rules))) (when s.may_be_none (default_outcomes xs t.outputs)))
+with_tally t xs l s = limited (l || s.limit) (either_outcomes (when s.may_be_some (by_policy t.policy s (length t.rules))) (when s.may_be_none (default_outcomes (shape_of t.outputs).distinct xs t.outputs)))
 
 abbrev pub table_outcomes : Scope → Table → Outcomes
 table_outcomes xs t =
-    with_tally t xs (some_limit (column_outcomes xs t.inputs)) (tally_rules (nat_eq (length t.outputs) 1) (column_outcomes xs t.inputs) xs t.rules)
+    with_tally t xs (some_limit (column_outcomes xs t.inputs)) (tally_rules (shape_of t.outputs) (column_outcomes xs t.inputs) xs t.rules)

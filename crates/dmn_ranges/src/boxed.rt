@@ -2,13 +2,14 @@
 ghost use Rattle.std.specs.Prelude.{◌≡◌, IfOk, true};
 ghost use Rattle.feel_text.specs.Meaning.{Bindings};
 ghost use Rattle.dmn_logic.specs.Boxed.{boxed};
-ghost use Rattle.dmn_logic.specs.LogicView.{logic_view, entries_view};
-ghost use Rattle.dmn_ranges.specs.Boxes.{box_outcomes as box_outcomes_of, entries_scope, entries_limit};
+ghost use Rattle.dmn_logic.specs.LogicView.{logic_view, members_view, entries_view};
+ghost use Rattle.dmn_ranges.specs.Boxes.{box_outcomes as box_outcomes_of, member_parts, entries_scope, entries_limit};
 ghost use Rattle.dmn_ranges.specs.Ranges.{Fits, covers, scope};
+ghost use Rattle.dmn_ranges.specs.Steps.{no_parts};
 
-use crate::calls::listed;
 use crate::expression::outcomes;
 use crate::outcomes::Outcomes;
+use crate::parts::Parts;
 use crate::range::{NamedRange, either};
 use crate::rule::some_context;
 use crate::table::table_outcomes;
@@ -52,7 +53,7 @@ fn copied(alloc: Global, names: &[NamedRange]) -> Result<Vec<NamedRange>, AllocE
 }
 
 #[cycle(boxes)]
-#[tactic(auto, using(crate::proofs::BoxForms::context_told, crate::proofs::BoxForms::result_told))]
+#[tactic(auto, using(crate::proofs::BoxForms::context_told, crate::proofs::BoxForms::result_told, crate::proofs::BoxForms::list_told))]
 pub(crate) fn box_outcomes(
     alloc: Global,
     logic: &Logic,
@@ -63,7 +64,10 @@ pub(crate) fn box_outcomes(
     match logic {
         Logic::Expression(expression) => Ok(outcomes(expression.tree(), names)),
         Logic::Table(table) => table_outcomes(alloc, table, names),
-        Logic::List(_) => Ok(listed()),
+        Logic::List(logics) => {
+            let parts = members(alloc, logics, names)?;
+            Ok(parts.list())
+        }
         Logic::Context(_) => Ok(some_context()),
         Logic::ContextWith(entries, last) => {
             let bound = bind_entries(alloc, entries, names)?;
@@ -71,6 +75,19 @@ pub(crate) fn box_outcomes(
             Ok(told.limited(bound.limit))
         }
     }
+}
+
+// The members of a list.
+#[cycle(boxes)]
+fn members(alloc: Global, logics: &[Logic], names: &[NamedRange]) -> Result<Parts, AllocError>
+    ensures { IfOk result (λ p. p ≡ member_parts (scope names.now) no_parts (members_view logics.now)) }
+{
+    let mut parts = Parts::none();
+    for logic in logics {
+        let told = box_outcomes(alloc, logic, names)?;
+        parts = parts.with(told);
+    }
+    Ok(parts)
 }
 
 // The names with the entries of a context behind them, each of which sees the earlier ones.

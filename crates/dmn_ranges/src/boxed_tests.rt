@@ -57,7 +57,7 @@ fn parts_of_unknown_size(rt: HostRuntime) -> Result<(), Fail> {
     let names = names(alloc)?;
     let list = Logic::List(Vec::new(alloc));
     let told = words(alloc, range_of_logic(alloc, &list, &names)?)?;
-    assert_eq!(&rt; told.as_str(), "list limit ");
+    assert_eq!(&rt; told.as_str(), "list ");
     let context = Logic::Context(Vec::new(alloc));
     let told = words(alloc, range_of_logic(alloc, &context, &names)?)?;
     assert_eq!(&rt; told.as_str(), "context limit ");

@@ -1,6 +1,6 @@
 //! The functions of one argument on sets of values.
 ghost use Rattle.std.specs.Prelude.{◌≡◌};
-ghost use Rattle.dmn_ranges.specs.Steps.{folded as folded_of, counted as counted_of, called as called_of, paths as paths_of, listed as listed_of};
+ghost use Rattle.dmn_ranges.specs.Steps.{summed as summed_of, picked as picked_of, counted as counted_of, called as called_of, paths as paths_of};
 
 use crate::interval::Interval;
 use crate::numbers::absolutes;
@@ -8,9 +8,9 @@ use crate::outcomes::Outcomes;
 use crate::range::{Range, every_number};
 use feel_text::Function;
 
-// The sum, the least or the greatest of a list; null for anything else.
-fn folded(a: Range) -> Outcomes
-    ensures { result ≡ folded_of a }
+// The sum of a list; null for anything else.
+fn summed(a: Range) -> Outcomes
+    ensures { result ≡ summed_of a }
 {
     if a.lists {
         Outcomes {
@@ -22,19 +22,27 @@ fn folded(a: Range) -> Outcomes
     }
 }
 
-// How many members a list has; null for anything else.
+// The least or the greatest of a list, which is one of its numbers; null for anything else.
+fn picked(a: Range) -> Outcomes
+    ensures { result ≡ picked_of a }
+{
+    if a.lists {
+        Outcomes::given(Range::numbers_or_null(true, every_number()))
+    } else {
+        Outcomes::given(Range::null())
+    }
+}
+
+// How many members a list has, which is a node beside them; null for anything else.
 fn counted(a: Range) -> Outcomes
     ensures { result ≡ counted_of a }
 {
     if a.lists {
         let numbers = Interval {
             low: 0,
-            high: i64::MAX,
+            high: i64::from(a.size.nodes) - 1,
         };
-        Outcomes {
-            range: Range::numbers_or_null(true, Some(numbers)),
-            limit: true,
-        }
+        Outcomes::given(Range::numbers_or_null(a.is_other_than_list(), Some(numbers)))
     } else {
         Outcomes::given(Range::null())
     }
@@ -47,7 +55,8 @@ pub(crate) fn called(function: Function, a: Range) -> Outcomes
     match function {
         Function::Abs => absolutes(a),
         Function::Count => counted(a),
-        _ => folded(a),
+        Function::Sum => summed(a),
+        Function::Min | Function::Max => picked(a),
     }
 }
 
@@ -56,29 +65,8 @@ pub(crate) fn paths(a: Range) -> Outcomes
     ensures { result ≡ paths_of a }
 {
     if a.contexts || a.lists {
-        Outcomes {
-            range: Range::any(),
-            limit: true,
-        }
+        Outcomes::given(Range::any_of_size(a.size))
     } else {
         Outcomes::given(Range::null())
-    }
-}
-
-/// What a list of expressions gives.
-pub(crate) fn listed() -> Outcomes
-    ensures { result ≡ listed_of }
-{
-    Outcomes {
-        range: Range {
-            nulls: false,
-            trues: false,
-            falses: false,
-            numbers: None,
-            texts: false,
-            lists: true,
-            contexts: false,
-        },
-        limit: true,
     }
 }

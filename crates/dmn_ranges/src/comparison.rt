@@ -65,8 +65,8 @@ fn is_alike(a: Range, b: Range) -> bool
     )
 }
 
-// Whether some value is not null.
-fn is_not_null(range: Range) -> bool
+/// Whether some value is not null.
+pub(crate) fn is_not_null(range: Range) -> bool
     ensures { result ≡ is_not_null_of range }
 {
     either(

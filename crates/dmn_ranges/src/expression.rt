@@ -2,16 +2,18 @@
 ghost use Rattle.std.specs.Prelude.{◌≡◌, true, []};
 ghost use Rattle.feel_text.specs.Constants.{expr_of_constant};
 ghost use Rattle.feel_text.specs.Meaning.{Bindings, den};
-ghost use Rattle.feel_text.specs.View.{view};
+ghost use Rattle.feel_text.specs.View.{view, views};
 ghost use Rattle.dmn_ranges.specs.Ranges.{Fits, covers, scope};
-ghost use Rattle.dmn_ranges.specs.Steps.{natural as natural_of, outcomes as outcomes_of, point as point_of, branches as branches_of};
+ghost use Rattle.dmn_ranges.specs.Steps.{natural as natural_of, outcomes as outcomes_of, point as point_of, branches as branches_of, members_parts, no_parts};
 
-use crate::calls::{called, listed, paths};
+use crate::calls::{called, paths};
 use crate::comparison::{between, inverted, operated};
 use crate::interval::Interval;
 use crate::numbers::{negated, remainders};
 use crate::outcomes::{Outcomes, either_of, when};
+use crate::parts::Parts;
 use crate::range::{NamedRange, Range, either, named};
+use crate::size::Size;
 use crate::truths::{Truths, truths_in};
 use feel_text::{Constant, Expr, Tree};
 use feel_value::Value;
@@ -48,6 +50,7 @@ fn constant(constant: &Constant) -> Outcomes
             texts: false,
             lists: false,
             contexts: false,
+            size: Size::none(),
         }),
         Value::Number(n) => Outcomes::given(point(*n)),
         Value::Text(_) => Outcomes::given(Range {
@@ -58,6 +61,7 @@ fn constant(constant: &Constant) -> Outcomes
             texts: true,
             lists: false,
             contexts: false,
+            size: Size::none(),
         }),
         Value::Null | Value::List(_) | Value::Context(_) => Outcomes::given(Range::null()),
     }
@@ -90,6 +94,18 @@ pub(crate) fn expr_outcomes(expr: &Expr, names: &[NamedRange]) -> Outcomes
     outcomes(expr.tree(), names)
 }
 
+// The members of a list.
+#[cycle(outcomes)]
+fn members(exprs: &[Tree], names: &[NamedRange]) -> Parts
+    ensures { result ≡ members_parts no_parts (views exprs.now) (scope names.now) }
+{
+    let mut parts = Parts::none();
+    for expr in exprs {
+        parts = parts.with(outcomes(expr, names));
+    }
+    parts
+}
+
 #[cycle(outcomes)]
 pub(crate) fn outcomes(expr: &Tree, names: &[NamedRange]) -> Outcomes
     ensures { result ≡ outcomes_of (view expr.now) (scope names.now) }
@@ -99,7 +115,7 @@ pub(crate) fn outcomes(expr: &Tree, names: &[NamedRange]) -> Outcomes
         Tree::Number(n) => natural(*n),
         Tree::Name(reference) => Outcomes::given(named(reference.name.as_str(), names)),
         Tree::Group(inner) => outcomes(inner, names),
-        Tree::List(_) => listed(),
+        Tree::List(exprs) => members(exprs, names).list(),
         Tree::Call(function, argument) => {
             let argument = outcomes(argument, names);
             called(*function, argument.range).limited(argument.limit)

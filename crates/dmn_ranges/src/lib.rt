@@ -8,14 +8,19 @@ mod boxed;
 mod boxed_tests;
 mod calls;
 mod comparison;
+mod domain;
+#[cfg(test)]
+mod domain_tests;
 mod entries;
 mod expression;
 mod interval;
 mod numbers;
 mod outcomes;
+mod parts;
 mod range;
 mod rule;
 mod service;
+mod size;
 mod table;
 #[cfg(test)]
 mod table_tests;
@@ -25,9 +30,11 @@ mod tests;
 mod truths;
 
 pub use boxed::range_of_logic;
+pub use domain::range_of_domain;
 pub use expression::range_of_expression;
 pub use interval::Interval;
 pub use outcomes::Outcomes;
 pub use range::{NamedRange, Range};
 pub use service::{range_of_service, ranges_of_decisions};
+pub use size::Size;
 pub use table::range_of_table;

@@ -2,9 +2,10 @@
 ghost use Rattle.std.specs.Prelude.{◌≡◌, ◌&&◌, ◌||◌, Some, None, bytes_eq, if◌then◌else◌};
 ghost use Rattle.std.specs.Arc.{arc_str_bytes};
 ghost use Rattle.dmn_ranges.specs.Ranges.{range_named, null_alone, scope};
-ghost use Rattle.dmn_ranges.specs.Steps.{nothing as no_value, anything, everything, joined as joined_of, is_other as is_other_of, is_other_than_text as is_other_than_text_of, numbers_or_null as numbers_or_null_of};
+ghost use Rattle.dmn_ranges.specs.Steps.{nothing as no_value, anything, everything, joined as joined_of, is_other as is_other_of, any_of_size as any_of_size_of, lists_of as lists_of_size, contexts_of as contexts_of_size, is_other_than_text as is_other_than_text_of, is_other_than_list as is_other_than_list_of, are_numbers as are_numbers_of, size_of as size_of_range, numbers_or_null as numbers_or_null_of};
 
 use crate::interval::{Interval, hull};
+use crate::size::Size;
 use std::sync::ArcStr;
 
 /// A set of values: null, the truth values, the numbers of an interval, texts, lists and contexts.
@@ -17,6 +18,8 @@ pub struct Range {
     pub texts: bool,
     pub lists: bool,
     pub contexts: bool,
+    /// How large the lists and the contexts are at most.
+    pub size: Size,
 }
 
 /// What a name can stand for.
@@ -57,6 +60,13 @@ impl Range {
     pub fn any() -> Range
         ensures { result ≡ anything }
     {
+        Range::any_of_size(Size::any())
+    }
+
+    /// Any value, but lists and contexts of this size alone.
+    pub(crate) fn any_of_size(size: Size) -> Range
+        ensures { result ≡ any_of_size_of size }
+    {
         Range {
             nulls: true,
             trues: true,
@@ -65,6 +75,39 @@ impl Range {
             texts: true,
             lists: true,
             contexts: true,
+            size,
+        }
+    }
+
+    /// Lists of this size.
+    pub(crate) fn lists_of(size: Size) -> Range
+        ensures { result ≡ lists_of_size size }
+    {
+        Range {
+            nulls: false,
+            trues: false,
+            falses: false,
+            numbers: None,
+            texts: false,
+            lists: true,
+            contexts: false,
+            size,
+        }
+    }
+
+    /// Contexts of this size.
+    pub(crate) fn contexts_of(size: Size) -> Range
+        ensures { result ≡ contexts_of_size size }
+    {
+        Range {
+            nulls: false,
+            trues: false,
+            falses: false,
+            numbers: None,
+            texts: false,
+            lists: false,
+            contexts: true,
+            size,
         }
     }
 
@@ -80,6 +123,7 @@ impl Range {
             texts: false,
             lists: false,
             contexts: false,
+            size: Size::none(),
         }
     }
 
@@ -102,6 +146,32 @@ impl Range {
             either(self.numbers.is_some(), either(self.lists, self.contexts)),
         )
     }
+
+    /// Whether some value is no list.
+    pub(crate) fn is_other_than_list(&self) -> bool
+        ensures { result ≡ is_other_than_list_of self.now }
+    {
+        either(
+            either(self.nulls, either(self.trues, self.falses)),
+            either(self.numbers.is_some(), either(self.texts, self.contexts)),
+        )
+    }
+
+    /// How large a value can be; past where it can be no value.
+    pub(crate) fn size_of(&self) -> Size
+        ensures { result ≡ size_of_range self.now }
+    {
+        let scalar = Size { nodes: 1, depth: 1 };
+        let size = self.size.larger(scalar);
+        if are_numbers(self.numbers) {
+            size
+        } else {
+            Size {
+                nodes: Size::any().nodes,
+                depth: size.depth,
+            }
+        }
+    }
 }
 
 /// Every number of the range of numbers.
@@ -112,6 +182,16 @@ pub(crate) fn every_number() -> Option<Interval>
         low: -i64::MAX,
         high: i64::MAX,
     })
+}
+
+// Whether each number is one of the range of numbers.
+fn are_numbers(numbers: Option<Interval>) -> bool
+    ensures { result ≡ are_numbers_of numbers }
+{
+    match numbers {
+        Some(numbers) => -i64::MAX <= numbers.low && numbers.high <= i64::MAX,
+        None => true,
+    }
 }
 
 /// A set with the values of both.
@@ -126,6 +206,7 @@ pub(crate) fn joined(a: Range, b: Range) -> Range
         texts: either(a.texts, b.texts),
         lists: either(a.lists, b.lists),
         contexts: either(a.contexts, b.contexts),
+        size: a.size.larger(b.size),
     }
 }
 

@@ -3,14 +3,23 @@ ghost use Rattle.std.specs.Prelude.{◌≡◌, map};
 ghost use Rattle.std.specs.List.{zip, list_any};
 ghost use Rattle.dmn_table.specs.Parts.{column_view};
 ghost use Rattle.dmn_ranges.specs.Ranges.{scope};
-ghost use Rattle.dmn_ranges.specs.Tables.{surely as surely_of, with_entry as with_entry_of, ask_entry as ask_entry_of, rule_hits as rule_hits_of, some_context as a_context, only as only_of, rule_gives as rule_gives_of, fallback_outcomes as fallback_of, only_fallback as only_fallback_of, default_outcomes as default_outcomes_of};
+ghost use Rattle.dmn_ranges.specs.Tables.{surely as surely_of, with_expr as with_expr_of, expr_parts as expr_parts_of, with_fallback as with_fallback_of, fallback_parts as fallback_parts_of, fallbacks as fallbacks_of, with_entry as with_entry_of, ask_entry as ask_entry_of, rule_hits as rule_hits_of, some_context as a_context, only as only_of, rule_gives as rule_gives_of, fallback_outcomes as fallback_of, default_outcomes as default_outcomes_of};
 
 use crate::entries::{Answers, entry_answers};
 use crate::expression::expr_outcomes;
 use crate::outcomes::Outcomes;
+use crate::parts::Parts;
 use crate::range::{NamedRange, Range, both, either};
+use crate::size::Size;
 use dmn_table::{Output, has_no_default};
 use feel_lang::{Expr, Tests};
+
+/// Output columns: whether there is a single one, and whether their names are distinct.
+#[derive(Clone, Copy)]
+pub(crate) struct Shape {
+    pub(crate) single: bool,
+    pub(crate) distinct: bool,
+}
 
 /// What can become of a rule: that it hits, that it misses, that an input entry breaks a limit.
 #[derive(Clone, Copy)]
@@ -67,15 +76,7 @@ pub(crate) fn some_context() -> Outcomes
     ensures { result ≡ a_context }
 {
     Outcomes {
-        range: Range {
-            nulls: false,
-            trues: false,
-            falses: false,
-            numbers: None,
-            texts: false,
-            lists: false,
-            contexts: true,
-        },
+        range: Range::contexts_of(Size::any()),
         limit: true,
     }
 }
@@ -93,14 +94,32 @@ fn only(exprs: &[Expr], names: &[NamedRange]) -> Outcomes
     }
 }
 
-/// What the output entries of a rule give, where there is a single output column, or there are several.
-pub(crate) fn rule_gives(single: bool, gives: &[Expr], names: &[NamedRange]) -> Outcomes
-    ensures { result ≡ rule_gives_of single (scope names.now) gives.now }
+// The parts, and the value of one expression more.
+fn with_expr(parts: Parts, expr: &Expr, names: &[NamedRange]) -> Parts
+    ensures { result ≡ with_expr_of (scope names.now) parts expr.now }
 {
-    if single {
+    parts.with(expr_outcomes(expr, names))
+}
+
+// The values of the expressions as parts.
+fn expr_parts(exprs: &[Expr], names: &[NamedRange]) -> Parts
+    ensures { result ≡ expr_parts_of (scope names.now) exprs.now }
+{
+    let mut parts = Parts::none();
+    for expr in exprs {
+        parts = with_expr(parts, expr, names);
+    }
+    parts
+}
+
+/// What the output entries of a rule give under such output columns.
+pub(crate) fn rule_gives(shape: Shape, gives: &[Expr], names: &[NamedRange]) -> Outcomes
+    ensures { result ≡ rule_gives_of shape (scope names.now) gives.now }
+{
+    if shape.single {
         only(gives, names)
     } else {
-        some_context()
+        expr_parts(gives, names).context(shape.distinct)
     }
 }
 
@@ -114,26 +133,44 @@ fn fallback(column: &Output, names: &[NamedRange]) -> Outcomes
     }
 }
 
-// What the default of the only column gives.
-fn only_fallback(columns: &[Output], names: &[NamedRange]) -> Outcomes
-    ensures { result ≡ only_fallback_of (scope names.now) (map column_view columns.now) }
+// The parts, and the default of one column more.
+fn with_fallback(parts: Parts, column: &Output, names: &[NamedRange]) -> Parts
+    ensures { result ≡ with_fallback_of (scope names.now) parts (column_view column.now) }
+{
+    parts.with(fallback(column, names))
+}
+
+// The defaults of the columns as parts.
+fn fallback_parts(columns: &[Output], names: &[NamedRange]) -> Parts
+    ensures { result ≡ fallback_parts_of (scope names.now) (map column_view columns.now) }
+{
+    let mut parts = Parts::none();
+    for column in columns {
+        parts = with_fallback(parts, column, names);
+    }
+    parts
+}
+
+// What the defaults of the columns give as one value, under names that are distinct where this is said.
+fn fallbacks(distinct: bool, columns: &[Output], names: &[NamedRange]) -> Outcomes
+    ensures { result ≡ fallbacks_of distinct (scope names.now) (map column_view columns.now) }
 {
     let Some((first, others)) = columns.split_first() else {
         return some_context();
     };
     match others.split_first() {
-        Some(_) => some_context(),
+        Some(_) => fallback_parts(columns, names).context(distinct),
         None => fallback(first, names),
     }
 }
 
-/// What the defaults of these columns give.
-pub(crate) fn defaults(columns: &[Output], names: &[NamedRange]) -> Outcomes
-    ensures { result ≡ default_outcomes_of (scope names.now) (map column_view columns.now) }
+/// What the defaults of these columns give, under names that are distinct where this is said.
+pub(crate) fn defaults(distinct: bool, columns: &[Output], names: &[NamedRange]) -> Outcomes
+    ensures { result ≡ default_outcomes_of distinct (scope names.now) (map column_view columns.now) }
 {
     if has_no_default(columns) {
         Outcomes::given(Range::null())
     } else {
-        only_fallback(columns, names)
+        fallbacks(distinct, columns, names)
     }
 }

@@ -5,11 +5,11 @@ ghost use Rattle.dmn_ranges.specs.Ranges.{scope};
 ghost use Rattle.dmn_ranges.specs.Tables.{or_zero as or_zero_of, zero_alone as zero_of, share as share_of, unless_past as unless_past_of, plus as plus_of, joined_if as joined_if_of, blank as blank_of, tally_with as tally_with_of, tally_rule as tally_rule_of, tally_rules as tally_rules_of, null_if as null_if_of, any_sum as any_sum_of, within_bounds as within_bounds_of, summed as summed_of, by_policy as by_policy_of};
 
 use crate::bounded::{Bounded, between_bounds, counted_to, sum};
-use crate::calls::listed;
 use crate::interval::{Interval, higher, lower};
 use crate::outcomes::{Outcomes, numbers_given};
+use crate::parts::listed;
 use crate::range::{NamedRange, Range, both, either, joined};
-use crate::rule::{Hits, rule_gives, rule_hits};
+use crate::rule::{Hits, Shape, rule_gives, rule_hits};
 use dmn_table::{HitPolicy, Rule};
 
 /// What the rules that were looked at can give: the outputs of those that hit, the output of the first, the sum of all, unless that
@@ -117,29 +117,29 @@ impl Tally {
 fn tally_rule(
     tally: Tally,
     rule: &Rule,
-    single: bool,
+    shape: Shape,
     columns: &[Outcomes],
     names: &[NamedRange],
 ) -> Tally
-    ensures { result ≡ tally_rule_of single columns.now (scope names.now) tally (rule_view rule.now) }
+    ensures { result ≡ tally_rule_of shape columns.now (scope names.now) tally (rule_view rule.now) }
 {
     let hits = rule_hits(&rule.tests, columns, names);
-    let output = rule_gives(single, &rule.gives, names);
+    let output = rule_gives(shape, &rule.gives, names);
     tally.with_rule(hits, output)
 }
 
-/// What these rules can give, under a single output column or several, from what the input of each column can be.
+/// What these rules can give, under such output columns, from what the input of each column can be.
 pub(crate) fn tally_rules(
     rules: &[Rule],
-    single: bool,
+    shape: Shape,
     columns: &[Outcomes],
     names: &[NamedRange],
 ) -> Tally
-    ensures { result ≡ tally_rules_of single columns.now (scope names.now) (map rule_view rules.now) }
+    ensures { result ≡ tally_rules_of shape columns.now (scope names.now) (map rule_view rules.now) }
 {
     let mut tally = Tally::blank();
     for rule in rules {
-        tally = tally_rule(tally, rule, single, columns, names);
+        tally = tally_rule(tally, rule, shape, columns, names);
     }
     tally
 }
@@ -204,7 +204,9 @@ pub(crate) fn by_policy(policy: HitPolicy, tally: Tally, rules: usize) -> Outcom
         }
         HitPolicy::Priority => Outcomes::given(tally.outputs),
         HitPolicy::First => Outcomes::given(tally.first),
-        HitPolicy::OutputOrder | HitPolicy::RuleOrder | HitPolicy::Collect => listed(),
+        HitPolicy::OutputOrder | HitPolicy::RuleOrder | HitPolicy::Collect => {
+            listed(tally.outputs.size_of().times(rules))
+        }
         HitPolicy::Sum => numbers_given(
             tally.outputs.is_other(),
             summed(tally.outputs.numbers, tally.total),

@@ -1,5 +1,5 @@
 //! What expressions can give, worked out by hand.
-use crate::{Interval, NamedRange, Outcomes, Range, range_of_expression};
+use crate::{Interval, NamedRange, Outcomes, Range, Size, range_of_expression};
 use feel_text::read_expr;
 use std::alloc::{AllocError, Global};
 use std::process::Abort;
@@ -11,6 +11,11 @@ fn numbers(low: i64, high: i64) -> Range {
 }
 
 fn others(trues: bool, falses: bool, texts: bool, lists: bool, contexts: bool) -> Range {
+    let size = if lists || contexts {
+        Size::any()
+    } else {
+        Size::none()
+    };
     Range {
         nulls: false,
         trues,
@@ -19,6 +24,7 @@ fn others(trues: bool, falses: bool, texts: bool, lists: bool, contexts: bool) -
         texts,
         lists,
         contexts,
+        size,
     }
 }
 
@@ -99,14 +105,15 @@ const LITERALS: &[(&str, &str)] = &[
     ("\"a\"", "text "),
     ("missing", "null "),
     ("(small)", "1..10 "),
-    ("[1, 2]", "list limit "),
+    ("[1, 2]", "list "),
+    ("[1, full + 1]", "list limit "),
     (
         "parts.a",
-        "null true false -9223372036854775807..9223372036854775807 text list context limit ",
+        "null true false -9223372036854775807..9223372036854775807 text list context ",
     ),
     (
         "items.a",
-        "null true false -9223372036854775807..9223372036854775807 text list context limit ",
+        "null true false -9223372036854775807..9223372036854775807 text list context ",
     ),
     ("word.a", "null "),
     ("missing.a", "null "),
@@ -135,14 +142,18 @@ const EMPTY: &[(&str, &str)] = &[
 ];
 
 const LISTS: &[(&str, &str)] = &[
-    ("[[1, 2], []]", "list limit "),
-    ("[none]", "list limit "),
-    ("[[1], [2]] = [[1], [2]]", "null true false limit "),
-    ("[[1]] = null", "false limit "),
+    ("[[1, 2], []]", "list "),
+    ("[items]", "list limit "),
+    ("[any]", "list limit "),
+    ("[none]", "list "),
+    ("[[1], [2]] = [[1], [2]]", "null true false "),
+    ("[[1]] = null", "false "),
     ("items < items", "null "),
     ("items + 1", "null "),
     ("-items", "null "),
-    ("count([[1, 2], []])", "null 0..9223372036854775807 limit "),
+    ("count([[1, 2], []])", "0..4 "),
+    ("count([])", "0..0 "),
+    ("count(any)", "null 0..9999 "),
     ("abs(items)", "null "),
     (
         "sum([[1]])",
@@ -150,7 +161,7 @@ const LISTS: &[(&str, &str)] = &[
     ),
     (
         "[[1], [2]].a",
-        "null true false -9223372036854775807..9223372036854775807 text list context limit ",
+        "null true false -9223372036854775807..9223372036854775807 text list context ",
     ),
     (
         "[parts].a",
@@ -158,13 +169,13 @@ const LISTS: &[(&str, &str)] = &[
     ),
     (
         "parts.a.b",
-        "null true false -9223372036854775807..9223372036854775807 text list context limit ",
+        "null true false -9223372036854775807..9223372036854775807 text list context ",
     ),
     (
         "parts.a + 1",
         "null -9223372036854775806..9223372036854775807 limit ",
     ),
-    ("if parts.a = 1 then 1 else 2", "1..2 limit "),
+    ("if parts.a = 1 then 1 else 2", "1..2 "),
 ];
 
 const ARITHMETIC: &[(&str, &str)] = &[
@@ -250,7 +261,7 @@ const CALLS: &[(&str, &str)] = &[
         "9223372036854775807..9223372036854775807 ",
     ),
     ("abs(word)", "null "),
-    ("count(items)", "null 0..9223372036854775807 limit "),
+    ("count(items)", "0..9999 "),
     ("count(word)", "null "),
     (
         "sum(items)",
@@ -259,7 +270,7 @@ const CALLS: &[(&str, &str)] = &[
     ("min(small)", "null "),
     (
         "max([1, 2])",
-        "null -9223372036854775807..9223372036854775807 limit ",
+        "null -9223372036854775807..9223372036854775807 ",
     ),
 ];
 

@@ -4,6 +4,7 @@ ghost use Rattle.dmn_ranges.specs.Steps.{truths as truths_of, opposite as opposi
 
 use crate::outcomes::Outcomes;
 use crate::range::{Range, both, either};
+use crate::size::Size;
 
 /// A set of truth values.
 #[derive(Clone, Copy)]
@@ -75,5 +76,6 @@ pub(crate) fn told(a: Truths) -> Outcomes
         texts: false,
         lists: false,
         contexts: false,
+        size: Size::none(),
     })
 }

@@ -8,11 +8,23 @@ ghost use Rattle.dmn_table.specs.Unbroken.{AllKeepLimits};
 
 use crate::table::Rule;
 use feel_lang::{Env, Expr, Held, eval, holds};
+use feel_text::Tree;
 use feel_value::{Feel, Outcome};
 use std::alloc::{AllocError, Global};
 
-/// The most columns whose values are kept together: of the largest lists they take 30 MB.
-pub(crate) const MOST_KEPT: usize = 128;
+/// The most columns with values of their own that are kept together: of the largest lists they take 30 MB.
+const MOST_KEPT: usize = 128;
+
+/// Whether the values of these columns are kept together. A name's value is shared, and takes no memory.
+pub(crate) fn are_kept(inputs: &[Expr]) -> bool {
+    let mut made: usize = 0;
+    for input in inputs {
+        if !matches!(input.tree(), Tree::Name(_)) {
+            made = made.saturating_add(1);
+        }
+    }
+    made <= MOST_KEPT
+}
 
 /// A rule, and whether each of its entries that was asked is met.
 #[derive(Drop)]

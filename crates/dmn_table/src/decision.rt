@@ -6,7 +6,7 @@ ghost use Rattle.dmn_table.specs.RuleOutputs.{rules_view};
 ghost use Rattle.dmn_table.specs.Result.{table_result, defaults as defaults_of};
 ghost use Rattle.dmn_table.specs.Parts.{column_view, names_of};
 
-use crate::columns::{MOST_KEPT, hits_by_columns};
+use crate::columns::{are_kept, hits_by_columns};
 use crate::hits::rules_that_hit;
 use crate::output::{default_values, evaluated, has_no_default, one_or_context};
 use crate::policy::result_of;
@@ -31,7 +31,7 @@ pub fn decide(alloc: Global, table: &Table, env: &Env) -> Result<Outcome, AllocE
 }
 
 /// The rules of a table that hit, in their order; None where an input expression or an entry breaks a limit. The values of the
-/// columns are kept together where these are few.
+/// columns are kept together where this takes little memory.
 fn rules_of<'a>(
     alloc: Global,
     table: &'a Table,
@@ -40,7 +40,7 @@ fn rules_of<'a>(
     ensures { IfOk result (λ found. option_map (λ v. rules_view v.items) found ≡ hits table.now env.now) }
 {
     let keep_limits = table.entries_keep_limits;
-    if table.inputs.len() > MOST_KEPT {
+    if !are_kept(&table.inputs) {
         return hits_by_columns(alloc, &table.inputs, &table.rules, keep_limits, env);
     }
     let Some(values) = evaluated(alloc, &table.inputs, env)? else {

@@ -8,7 +8,7 @@ ghost use Rattle.dmn_table.specs.Parts.{names_of, entry_counts, fault_of_parts, 
 ghost use Rattle.dmn_table.specs.Unbroken.{AllKeepLimits};
 ghost use Rattle.table_classes.specs.Unbroken.{KeepLimits};
 
-use crate::columns::MOST_KEPT;
+use crate::columns::are_kept;
 use crate::fault::TableFault;
 use crate::hit_policy::HitPolicy;
 use crate::may_hit::{MayHit, may_hit};
@@ -212,12 +212,12 @@ impl Table {
     }
 
     /// The same table with the classes of its columns, by which a decision finds the rules that hit without asking each, where it
-    /// has many rules and its columns are few; otherwise it stays as it is. A rule an entry of which may break a limit is always asked. Its value is the
-    /// same. On an error the table is let go.
+    /// has many rules and the values of its columns are kept together; otherwise it stays as it is. A rule an entry of which may
+    /// break a limit is always asked. Its value is the same. On an error the table is let go.
     pub fn with_classes(mut self, alloc: Global) -> Result<Table, AllocError>
         ensures { IfOk result (λ t. t ≡ self) }
     {
-        if self.rules.len() < FEWEST_RULES || self.inputs.len() > MOST_KEPT {
+        if self.rules.len() < FEWEST_RULES || !are_kept(&self.inputs) {
             return Ok(self);
         }
         if !self.rules.iter().any(|rule| rule.keeps_limits()) {

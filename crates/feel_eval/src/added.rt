@@ -11,7 +11,7 @@ use std::borrow::CowStr;
 use std::marker::Model;
 
 // So many bindings are looked through one by one. An index finds the others.
-const FEW: usize = 8;
+const FEW: usize = 32;
 
 // A name with its value.
 #[derive(Drop)]
@@ -89,7 +89,7 @@ impl<'a> Added<'a> {
     /// How many bindings there are, hidden ones included.
     pub(crate) fn len(&self) -> usize
         ensures number { result ≡ length self.now }
-        ensures small { result < 2 ^ 63 + 8 }
+        ensures small { result < 2 ^ 63 + 32 }
     {
         self.few.len() + self.more.len()
     }

@@ -158,7 +158,7 @@ fn cut_added(added: &mut Option<Added<'_>>, len: usize)
 // How many bindings there are behind what is lent.
 fn added_len(added: &Option<Added<'_>>) -> usize
     ensures number { result ≡ length (unwrap_or added.now []) }
-    ensures small { result < 2 ^ 63 + 8 }
+    ensures small { result < 2 ^ 63 + 32 }
 {
     match added {
         Some(added) => added.len(),

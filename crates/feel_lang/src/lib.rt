@@ -5,7 +5,7 @@
 
 pub use feel_eval::{Env, eval, holds};
 pub use feel_text::{
-    Class, Expr, HasName, Held, MARKS, Needs, ReadFault, Tests, compare_names,
+    Class, Expr, HasName, Held, MARKS, Needs, ReadFault, Sieve, Tests, compare_names,
     expressions_by_the_grammar, found_by_halves, is_name, literals_by_the_grammar, mark,
     order_by_name, read_expr, read_expr_under, read_literal, read_tests, read_tests_under,
     tests_by_the_grammar,

@@ -25,3 +25,4 @@ pub mod Forms
 pub mod WithinLimits
 pub mod ReadyTests
 pub mod Classes
+pub mod Sieves

@@ -23,3 +23,4 @@ pub mod Parts
 pub mod WithinLimits
 pub mod Ready
 pub mod Classes
+pub mod Sieves

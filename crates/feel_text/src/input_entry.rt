@@ -8,11 +8,13 @@ ghost use Rattle.feel_text.specs.Meaning.{Bindings};
 ghost use Rattle.feel_text.specs.Ready.{Meets};
 ghost use Rattle.feel_text.specs.Satisfied.{satisfied, Broken, held_of};
 ghost use Rattle.feel_text.specs.declared.held.Held.TheVariants.{No};
+ghost use Rattle.feel_text.specs.Sieves.{IsSieveOf};
 ghost use Rattle.feel_text.specs.Spells.{TestsHaveText};
 ghost use Rattle.feel_text.specs.TestsView.{tests_view};
 
 use crate::class::Class;
 use crate::ready::Ready;
+use crate::sieve::Sieve;
 use crate::unary::TestsTree;
 use crate::within_limits::tests_stay;
 use feel_value::Feel;
@@ -85,6 +87,13 @@ impl Tests {
         ensures { IsTrue result → (value : Datum) (bindings : Bindings) → is_value value ≡ true → is_in_class class value ≡ true → held_of (satisfied self.now value bindings) ≡ No }
     {
         self.ready.misses(class)
+    }
+
+    /// Which values may meet the tests, worked out once to be asked of many classes.
+    pub fn sieve(&self) -> Sieve
+        ensures { IsSieveOf self.now result }
+    {
+        self.ready.sieve()
     }
 
     /// Whether the tests are known to be met by no text but those that they name, of which there is one.

@@ -12,6 +12,7 @@ ghost use Rattle.feel_text.specs.Classes.{IsApart, is_in_class};
 ghost use Rattle.feel_text.specs.Constants.{expr_of_constant};
 ghost use Rattle.feel_text.specs.Meaning.{Bindings, den};
 ghost use Rattle.feel_text.specs.Ready.{lies_within, told, Meets, AreReady};
+ghost use Rattle.feel_text.specs.Sieves.{lets_through};
 ghost use Rattle.feel_text.specs.Satisfied.{Told, is_member, stands_to, tested, tested_any, low_bound, high_bound};
 ghost use Rattle.feel_text.specs.Expr.{Negate};
 ghost use Rattle.feel_text.specs.Tests.{OneOf, NoneOf, Equals};
@@ -21,6 +22,7 @@ ghost use Rattle.feel_text.specs.View.{view};
 use crate::class::{Class, is_apart};
 use crate::constant::Constant;
 use crate::expr::Tree;
+use crate::sieve::Sieve;
 use crate::unary::{Bound, Test, TestsTree, high_end, low_end};
 use feel_value::Value;
 use std::alloc::{AllocError, Global};
@@ -84,6 +86,13 @@ impl Span {
             Class::Numbers(low, high) => self.high < low || high < self.low,
             _ => true,
         }
+    }
+
+    // What lets through the numbers of the span.
+    fn sieve(self) -> Sieve
+        ensures { (v : Datum) → lets_through result v ≡ lies_within self v }
+    {
+        Sieve::Numbers(self.low, self.high)
     }
 
     // The numbers that both spans have.
@@ -154,6 +163,17 @@ impl Ready {
             Ready::Numbers(span) => span.is_apart(class),
             Ready::Among(values) => are_apart(values, class),
             Ready::Any | Ready::Besides(_) | Ready::General => false,
+        }
+    }
+
+    /// Which values may meet the tests, as far as that is known.
+    pub(crate) fn sieve(&self) -> Sieve
+        ensures { (v : Datum) → lets_through result v ≡ false → told self.now v ≡ Some false }
+    {
+        match self {
+            Ready::Numbers(span) => span.sieve(),
+            Ready::Among(values) => Sieve::of_values(values),
+            Ready::Any | Ready::Besides(_) | Ready::General => Sieve::All,
         }
     }
 }

@@ -13,7 +13,8 @@ use Rattle.feel_value.specs.Datum.{Datum}
 use Rattle.feel_value.specs.Limits.{is_value}
 use Rattle.feel_text.specs.Tests.{Tests}
 use Rattle.feel_text.specs.declared.class.Class.{Class}
-use Rattle.table_classes.specs.Classes.{AreRowsOf, IsBlockWord, IsRowOf, IsUnsetIn, MissesAt, TellsBlock, TellsBlocks, TellsBreaking, TellsColumn, TellsColumns, TellsRules, TellsUnset, TellsWord}
+use Rattle.feel_text.specs.declared.sieve.Sieve.{Sieve}
+use Rattle.table_classes.specs.Classes.{AreRowsOf, AreSievesOf, IsBlockWord, IsRowOf, IsSieveAt, IsUnsetIn, MissesAt, TellsBlock, TellsBlocks, TellsBreaking, TellsColumn, TellsColumns, TellsRules, TellsUnset, TellsWord}
 use Rattle.table_classes.specs.declared.classes.BlockWords.{BlockWords}
 use Rattle.table_classes.specs.declared.classes.ClassRules.{ClassRules}
 use Rattle.table_classes.specs.declared.classes.ColumnClasses.{ColumnClasses}
@@ -83,6 +84,13 @@ told_more P old new last h more told w x there =
       | inl before ↦ h w x before
       | inr at ↦ subst (λ k. P k x) (sym at.0) (subst (P (length old)) at.1 told)
     ]
+
+-- the sieve of one rule more
+pub sieve_more : (column : ℕ) (rules : List (List Tests)) (old new : List Sieve) (last : Sieve) (x : List Tests) → AreSievesOf column rules old → new ≡ old ++ last ∷ [] → x ≡ get_or rules (length old) x
+    → IsSieveAt column x last → AreSievesOf column rules new
+sieve_more column rules old new last x h more here told =
+    told_more (λ i (sieve : Sieve). (rule : List Tests) → slice_get rules i ≡ Some rule → IsSieveAt column rule sieve) old new last h more
+    (λ rule there. subst (λ r. IsSieveAt column r last) (here ∙ get_or_from_slice_get rules (length old) rule x there) told)
 
 -- the word of one class more
 pub class_more : (rules : List (List Tests)) (column : ℕ) (classes : List Class) (old new : List ℕ) (last : ℕ) (class : Class) → TellsBlock rules column classes old → new ≡ old ++ last ∷ []

@@ -1,5 +1,5 @@
 -- Which rules a class of values can't meet, told by words that have a bit for each rule. A rule stands here for its input entries.
--- `TellsBreaking`, `TellsBlock`, `TellsBlocks` and `IsBlockWord` are internal.
+-- `TellsBreaking`, `TellsBlock`, `TellsBlocks`, `IsBlockWord` and what is said of sieves are internal.
 use Rattle.std.specs.Prelude.{◌≡◌, ◌<◌, ◌*◌, ℕ, List, drop, true, Option, Some}
 use Rattle.std.specs.List.{slice_get, All}
 use Rattle.std.specs.Int.{bit_at}
@@ -9,9 +9,11 @@ use Rattle.feel_value.specs.Limits.{is_value}
 use Rattle.feel_text.specs.Classes.{is_in_class}
 use Rattle.feel_text.specs.Meaning.{Bindings}
 use Rattle.feel_text.specs.Satisfied.{satisfied, held_of}
+use Rattle.feel_text.specs.Sieves.{IsSieveOf, is_narrow}
 use Rattle.feel_text.specs.Tests.{Tests}
 use Rattle.feel_text.specs.declared.class.Class.{Class}
 use Rattle.feel_text.specs.declared.held.Held.TheVariants.{No}
+use Rattle.feel_text.specs.declared.sieve.Sieve.{Sieve}
 use Rattle.table_classes.specs.declared.classes.BlockWords.{BlockWords}
 use Rattle.table_classes.specs.declared.classes.ClassRules.{ClassRules}
 use Rattle.table_classes.specs.declared.classes.ColumnClasses.{ColumnClasses}
@@ -26,6 +28,20 @@ pub record MissesAt (class : Class) (column : ℕ) (rule : List Tests) : Type 0 
   pub entry : Tests
   pub there : slice_get rule column ≡ Some entry
   pub misses : Misses class entry
+
+-- the rule has an entry in this column, of which this is a sieve
+pub record HasSieve (column : ℕ) (rule : List Tests) (sieve : Sieve) : Type 0 where
+  pub entry : Tests
+  pub there : slice_get rule column ≡ Some entry
+  pub stops : IsSieveOf entry sieve
+
+-- what the sieve stops doesn't meet the rule's entry in this column
+abbrev pub IsSieveAt : ℕ → List Tests → Sieve → Type 0
+IsSieveAt column rule sieve = is_narrow sieve ≡ true → HasSieve column rule sieve
+
+-- each of these is a sieve of the rule at its place
+abbrev pub AreSievesOf : ℕ → List (List Tests) → List Sieve → Type 0
+AreSievesOf column rules sieves = (i : ℕ) (sieve : Sieve) → slice_get sieves i ≡ Some sieve → (rule : List Tests) → slice_get rules i ≡ Some rule → IsSieveAt column rule sieve
 
 -- of these rules, whose first stands at the lowest bit, this holds of each whose bit is not set
 abbrev pub TellsUnset : (List Tests → Type 0) → List (List Tests) → ℕ → Type 0

@@ -6,11 +6,11 @@ ghost use Rattle.feel_text.specs.Tests.{Tests as TestsData};
 ghost use Rattle.feel_text.specs.declared.class.Class.{Class as ClassData};
 ghost use Rattle.feel_value.specs.Datum.{text as text_datum};
 ghost use Rattle.feel_value.specs.View.{datum_of};
-ghost use Rattle.table_classes.specs.Classes.{AreRowsOf, IsRowOf, IsUnsetIn, MissesAt, TellsBlock, TellsBreaking, TellsBlocks, TellsColumn, TellsColumns, TellsRules, TellsUnset};
+ghost use Rattle.table_classes.specs.Classes.{AreRowsOf, AreSievesOf, IsRowOf, IsSieveAt, IsUnsetIn, MissesAt, TellsBlock, TellsBreaking, TellsBlocks, TellsColumn, TellsColumns, TellsRules, TellsUnset};
 ghost use Rattle.table_classes.specs.Unbroken.{KeepLimits};
 
 use crate::entries::{HasTests, keep_limits};
-use feel_lang::{Class, MARKS, Tests, mark};
+use feel_lang::{Class, MARKS, Sieve, Tests, mark};
 use feel_value::{Feel, Value};
 use std::alloc::{AllocError, Global};
 
@@ -66,8 +66,33 @@ fn is_in(class: Class, value: &Value) -> bool
     }
 }
 
-/// Whether a value may meet a rule's entry in a column, if it is of the class.
-fn may_meet(rule: &[Tests], column: usize, class: Class) -> bool
+/// Which values may meet a rule's entry in a column; every value, where it has none.
+fn sieve_at(rule: &[Tests], column: usize) -> Sieve
+    ensures { IsSieveAt column rule.now result }
+{
+    match rule.get(column) {
+        Some(tests) => tests.sieve(),
+        None => Sieve::All,
+    }
+}
+
+/// The sieves of the first 64 of these rules.
+fn sieves_of<R: HasTests>(
+    alloc: Global,
+    rules: &[R],
+    column: usize,
+) -> Result<Vec<Sieve>, AllocError>
+    ensures { IfOk result (λ sieves. AreSievesOf column (map R.tests_of rules.now) sieves.items) }
+{
+    let mut sieves = Vec::with_capacity(alloc, WORD)?;
+    for i in 0..rules.len().min(WORD) {
+        sieves.push(sieve_at(rules[i].tests(), column))?;
+    }
+    Ok(sieves)
+}
+
+/// Whether a value of the class may meet a rule's entry in a column. The entry is asked.
+fn may_meet_entry(rule: &[Tests], column: usize, class: Class) -> bool
     ensures { IsFalse result → MissesAt class column rule.now }
 {
     match rule.get(column) {
@@ -76,13 +101,38 @@ fn may_meet(rule: &[Tests], column: usize, class: Class) -> bool
     }
 }
 
-/// The bits of the first 64 of these rules that may meet the class in a column.
-fn word_for<R: HasTests>(rules: &[R], column: usize, class: Class) -> u64
+/// Whether a value of the class may meet a rule's entry in a column. The entry is asked only where its sieve doesn't know.
+fn may_meet(rule: &[Tests], column: usize, sieve: Sieve, class: Class) -> bool
+    requires { IsSieveAt column rule.now sieve }
+    ensures { IsFalse result → MissesAt class column rule.now }
+{
+    if sieve.misses(class) {
+        return false;
+    }
+    match sieve {
+        Sieve::Unknown => may_meet_entry(rule, column, class),
+        _ => true,
+    }
+}
+
+/// The sieve at a place; one that doesn't know, where there is none.
+fn sieve_of(sieves: &[Sieve], place: usize) -> Sieve
+    ensures { (column : ℕ) (rules : List (List TestsData)) (rule : List TestsData) → AreSievesOf column rules sieves.now → slice_get rules place ≡ Some rule → IsSieveAt column rule result }
+{
+    match sieves.get(place) {
+        Some(sieve) => *sieve,
+        None => Sieve::Unknown,
+    }
+}
+
+/// The bits of the first 64 of these rules that may meet the class in a column, where they have these sieves.
+fn word_for<R: HasTests>(rules: &[R], column: usize, sieves: &[Sieve], class: Class) -> u64
+    requires { AreSievesOf column (map R.tests_of rules.now) sieves.now }
     ensures { TellsUnset (MissesAt class column) (map R.tests_of rules.now) result }
 {
     let mut word = 0;
     for i in 0..rules.len().min(WORD) {
-        if may_meet(rules[i].tests(), column, class) {
+        if may_meet(rules[i].tests(), column, sieve_of(sieves, i), class) {
             word |= 1 << i;
         }
     }
@@ -127,9 +177,10 @@ fn block_words<R: HasTests>(
     requires { TellsUnset KeepLimits (map R.tests_of rules.now) breaking }
     ensures { IfOk result (λ block. TellsBlock (map R.tests_of rules.now) column classes.now block.words.items) }
 {
+    let sieves = sieves_of(alloc, rules, column)?;
     let mut words = Vec::with_capacity(alloc, classes.len())?;
     for class in classes {
-        let word = word_for(rules, column, *class) | breaking;
+        let word = word_for(rules, column, &sieves, *class) | breaking;
         words.push(word)?;
     }
     Ok(BlockWords { words })

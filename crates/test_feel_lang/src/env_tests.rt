@@ -28,6 +28,7 @@ const STEPS: &[(&[(&str, u8)], usize, usize, [Option<i64>; 3])] = &[
     (&[], 6, 4, [Some(3), Some(2), Some(4)]),
     (&[("c", 7)], 5, 2, [Some(1), Some(2), None]),
     // More than are looked through one by one.
+    (&[("b", 0); 22], 24, 24, [Some(1), Some(0), None]),
     (
         &[
             ("b", 1),
@@ -41,14 +42,15 @@ const STEPS: &[(&[(&str, u8)], usize, usize, [Option<i64>; 3])] = &[
             ("a", 9),
             ("c", 10),
         ],
-        12,
-        12,
+        34,
+        34,
         [Some(9), Some(8), Some(10)],
     ),
-    (&[], 12, 10, [Some(7), Some(8), None]),
-    (&[], 10, 9, [Some(7), Some(6), None]),
-    (&[("b", 11)], 10, 10, [Some(7), Some(11), None]),
-    (&[], 10, 3, [Some(1), Some(1), None]),
+    (&[], 34, 32, [Some(7), Some(8), None]),
+    (&[], 32, 31, [Some(7), Some(6), None]),
+    (&[("b", 11)], 32, 32, [Some(7), Some(11), None]),
+    (&[], 32, 25, [Some(1), Some(1), None]),
+    (&[], 25, 3, [Some(1), Some(0), None]),
 ];
 
 fn number(n: u8) -> Result<Feel, Fail> {

@@ -1,85 +1,153 @@
 package strict
 
-import "gateway/feel"
+import (
+	"sync"
+
+	"gateway/feel"
+)
 
 // A reader reads the tokens of one text. Each of its methods begins at the token at hand. The limit is how many levels the
 // form may have; a form that has no reading within it gives a nil node, and the reader is of no use then.
 type reader struct {
 	text string
-	all  []Token
-	at   int
+	// token is the one at hand, and behind the one before it.
+	token, behind Token
+	// names and numbers have room for more of them: most texts with many nodes have many of these.
+	names   []feel.Name
+	numbers []feel.Number
 }
+
+// mostRoom is for how many nodes room is made at once.
+const mostRoom = 256
+
+// name is a new node.
+func (r *reader) name(span feel.Span, name string) feel.Node {
+	if len(r.names) == cap(r.names) {
+		r.names = make([]feel.Name, 0, room(cap(r.names)))
+	}
+	r.names = append(r.names, feel.Name{Span: span, Name: name})
+	return &r.names[len(r.names)-1]
+}
+
+// number is a new node.
+func (r *reader) number(span feel.Span, text string) feel.Node {
+	if len(r.numbers) == cap(r.numbers) {
+		r.numbers = make([]feel.Number, 0, room(cap(r.numbers)))
+	}
+	r.numbers = append(r.numbers, feel.Number{Span: span, Text: text})
+	return &r.numbers[len(r.numbers)-1]
+}
+
+// room is for how many nodes room is made after it was made for so many.
+func room(last int) int {
+	if last >= mostRoom {
+		return mostRoom
+	}
+	return 1 + 2*last
+}
+
+// sorts is a set of sorts.
+type sorts uint32
+
+func setOf(all ...Sort) (set sorts) {
+	for _, sort := range all {
+		set |= 1 << sort
+	}
+	return set
+}
+
+var (
+	ofOr         = setOf(Or)
+	ofAnd        = setOf(And)
+	ofSigns      = setOf(Plus, Minus)
+	ofStar       = setOf(Star)
+	ofNames      = setOf(Name, Function, Modulo)
+	ofConstants  = setOf(Number, Text, Constant)
+	ofComparison = setOf(Equal, Order, Between)
+	ofLowEnds    = setOf(OpenBracket, OpenParen, CloseBracket)
+	ofHighEnds   = setOf(CloseBracket, CloseParen, OpenBracket)
+)
+
+func (s sorts) has(sort Sort) bool { return s>>sort&1 > 0 }
 
 // ReadExpression reads a text as an expression. False says that it is none.
 func ReadExpression(text string) (feel.Node, bool) {
-	r, ok := newReader(text)
-	if !ok {
-		return nil, false
+	if node := oneToken(text); node != nil {
+		return node, true
 	}
+	r := newReader(text)
+	defer r.end()
 	node, _ := r.read(MostDepth, (*reader).whole)
-	return node, node != nil && r.at == len(r.all)
+	return node, node != nil && r.isAtEnd()
+}
+
+// oneToken reads a text that is a constant or a name alone; nil of another one.
+func oneToken(text string) feel.Node {
+	token := tokenAfter(text, Token{Sort: end})
+	switch {
+	case tokenAfter(text, token).Sort != end:
+		return nil
+	case ofConstants.has(token.Sort):
+		return constantOf(text, token)
+	case ofNames.has(token.Sort):
+		return &feel.Name{Span: feel.Span{Start: token.Start, End: token.End}, Name: text[token.Start:token.End]}
+	}
+	return nil
 }
 
 // ReadLiteral reads a text as a literal: a constant, or a number behind a minus.
 func ReadLiteral(text string) (Value, bool) {
-	r, ok := newReader(text)
-	if !ok {
+	first := tokenAfter(text, Token{Sort: end})
+	if !ofConstants.has(first.Sort) && first.Sort != Minus {
 		return nil, false
 	}
+	second := tokenAfter(text, first)
 	switch {
-	case len(r.all) == 1 && r.is(0, Number, Text, Constant):
-		return ConstantOf(r.constant())
-	case len(r.all) == 2 && r.is(0, Minus) && r.is(1, Number):
-		r.at++
-		value, ok := ConstantOf(r.constant())
+	case first.Sort != Minus && second.Sort == end:
+		return valueOf(text, first)
+	case first.Sort == Minus && second.Sort == Number && tokenAfter(text, second).Sort == end:
+		value, ok := valueOf(text, second)
 		number, isNumber := value.(int64)
 		return -number, ok && isNumber
 	}
 	return nil, false
 }
 
-func newReader(text string) (*reader, bool) {
-	all := Tokens(text)
-	for _, token := range all {
-		if token.Sort.isWrong() {
-			return nil, false
-		}
-	}
-	return &reader{text: text, all: all}, true
+// readers are those that are read to their end. The room that they have left is used again.
+var readers = sync.Pool{New: func() any { return &reader{} }}
+
+func newReader(text string) *reader {
+	r := readers.Get().(*reader)
+	r.text, r.behind = text, Token{Sort: end}
+	r.token = tokenAfter(text, r.behind)
+	return r
 }
 
-// is tells whether the token some places on is of one of these sorts.
-func (r *reader) is(ahead int, sorts ...Sort) bool {
-	if r.at+ahead >= len(r.all) {
-		return false
-	}
-	for _, sort := range sorts {
-		if r.all[r.at+ahead].Sort == sort {
-			return true
-		}
-	}
-	return false
+// end gives the reader back.
+func (r *reader) end() {
+	r.text = ""
+	readers.Put(r)
 }
+
+// goOn goes over the token at hand.
+func (r *reader) goOn() { r.behind, r.token = r.token, tokenAfter(r.text, r.token) }
+
+func (r *reader) isAtEnd() bool { return r.token.Sort == end }
 
 // takes goes over a token of this sort.
 func (r *reader) takes(sort Sort) bool {
-	if r.is(0, sort) {
-		r.at++
+	if r.token.Sort == sort {
+		r.goOn()
 		return true
 	}
 	return false
 }
 
 // spelled is the token at hand as it is written.
-func (r *reader) spelled() string {
-	token := r.all[r.at]
-	return r.text[token.Start:token.End]
-}
+func (r *reader) spelled() string { return r.text[r.token.Start:r.token.End] }
 
-// from is the span of the text from a token up to what was read.
-func (r *reader) from(token int) feel.Span {
-	return feel.Span{Start: r.all[token].Start, End: r.all[r.at-1].End}
-}
+// from is the span of the text from a byte up to what was read.
+func (r *reader) from(start int) feel.Span { return feel.Span{Start: start, End: r.behind.End} }
 
 // A form reads a form whose parts have at most inner levels, and gives its own.
 type form func(r *reader, inner int) (node feel.Node, depth int)
@@ -89,22 +157,22 @@ func (r *reader) read(limit int, of form) (feel.Node, int) {
 	if limit == 0 {
 		return nil, 0
 	}
-	node, depth := of(r, limit-1)
-	return node, depth
+	return of(r, limit-1)
 }
 
-func deeper(depths ...int) int {
-	deepest := 0
-	for _, depth := range depths {
-		if depth > deepest {
-			deepest = depth
-		}
+// deeper is one level more than the deepest of some parts.
+func deeper(one, two, three int) int {
+	if two > one {
+		one = two
 	}
-	return 1 + deepest
+	if three > one {
+		one = three
+	}
+	return 1 + one
 }
 
 func (r *reader) whole(inner int) (feel.Node, int) {
-	start := r.at
+	start := r.token.Start
 	if !r.takes(If) {
 		return r.disjunction(inner)
 	}
@@ -124,63 +192,63 @@ func (r *reader) whole(inner int) (feel.Node, int) {
 }
 
 func (r *reader) disjunction(inner int) (feel.Node, int) {
-	return r.chain(inner, (*reader).conjunction, Or)
+	return r.chain(inner, (*reader).conjunction, ofOr)
 }
 
 func (r *reader) conjunction(inner int) (feel.Node, int) {
-	return r.chain(inner, (*reader).comparison, And)
+	return r.chain(inner, (*reader).comparison, ofAnd)
 }
 
 func (r *reader) sum(inner int) (feel.Node, int) {
-	return r.chain(inner, (*reader).product, Plus, Minus)
+	return r.chain(inner, (*reader).product, ofSigns)
 }
 
 func (r *reader) product(inner int) (feel.Node, int) {
-	return r.chain(inner, (*reader).negation, Star)
+	return r.chain(inner, (*reader).negation, ofStar)
 }
 
 // chain reads operands with operators of these sorts between, grouped to the left: each step is one level more.
-func (r *reader) chain(inner int, operand form, sorts ...Sort) (feel.Node, int) {
-	start := r.at
+func (r *reader) chain(inner int, operand form, operators sorts) (feel.Node, int) {
+	start := r.token.Start
 	first, depth := operand(r, inner)
-	if first == nil || !r.is(0, sorts...) {
+	if first == nil || !operators.has(r.token.Sort) {
 		return first, depth
 	}
-	chain := &feel.Chain{Operands: []feel.Node{first}}
-	for r.is(0, sorts...) {
+	chain := &feel.Chain{Operators: make([]string, 0, 1), Operands: append(make([]feel.Node, 0, 2), first)}
+	for operators.has(r.token.Sort) {
 		if depth > inner {
 			return nil, 0
 		}
 		chain.Operators = append(chain.Operators, r.spelled())
-		r.at++
+		r.goOn()
 		next, of := r.read(inner, operand)
 		if next == nil {
 			return nil, 0
 		}
 		chain.Operands = append(chain.Operands, next)
-		depth = deeper(depth, of)
+		depth = deeper(depth, of, 0)
 	}
 	chain.Span = r.from(start)
 	return chain, depth
 }
 
 func (r *reader) comparison(inner int) (feel.Node, int) {
-	start := r.at
+	start := r.token.Start
 	left, depth := r.sum(inner)
-	if left == nil || !r.is(0, Equal, Order, Between) {
+	if left == nil || !ofComparison.has(r.token.Sort) {
 		return left, depth
 	}
 	if depth > inner {
 		return nil, 0
 	}
 	operator := r.spelled()
-	r.at++
+	r.goOn()
 	right, of := r.read(inner, (*reader).sum)
 	if right == nil {
 		return nil, 0
 	}
 	if operator != "between" {
-		return &feel.Binary{Span: r.from(start), Operator: operator, Left: left, Right: right}, deeper(depth, of)
+		return &feel.Binary{Span: r.from(start), Operator: operator, Left: left, Right: right}, deeper(depth, of, 0)
 	}
 	if !r.takes(And) {
 		return nil, 0
@@ -193,7 +261,7 @@ func (r *reader) comparison(inner int) (feel.Node, int) {
 }
 
 func (r *reader) negation(inner int) (feel.Node, int) {
-	start := r.at
+	start := r.token.Start
 	if !r.takes(Minus) {
 		return r.path(inner)
 	}
@@ -201,54 +269,55 @@ func (r *reader) negation(inner int) (feel.Node, int) {
 	if operand == nil {
 		return nil, 0
 	}
-	return &feel.Negation{Span: r.from(start), Operand: operand}, deeper(depth)
+	return &feel.Negation{Span: r.from(start), Operand: operand}, deeper(depth, 0, 0)
 }
 
 func (r *reader) path(inner int) (feel.Node, int) {
-	start := r.at
+	start := r.token.Start
 	node, depth := r.primary(inner)
 	for node != nil && r.takes(Dot) {
-		if depth > inner || !r.is(0, Name, Function, Modulo) {
+		if depth > inner || !ofNames.has(r.token.Sort) {
 			return nil, 0
 		}
 		name := r.spelled()
-		r.at++
+		r.goOn()
 		node, depth = &feel.Path{Span: r.from(start), Operand: node, Name: name}, depth+1
 	}
 	return node, depth
 }
 
 func (r *reader) primary(inner int) (feel.Node, int) {
-	if r.at == len(r.all) {
-		return nil, 0
-	}
-	start := r.at
-	switch r.all[start].Sort {
-	case Number, Text, Constant:
-		return r.constant(), 1
+	start := r.token.Start
+	switch r.token.Sort {
+	case Number:
+		spelled := r.spelled()
+		r.goOn()
+		return r.number(r.from(start), spelled), 1
+	case Text, Constant:
+		constant := constantOf(r.text, r.token)
+		r.goOn()
+		return constant, 1
 	case Name, Function, Modulo:
 		return r.named(inner)
 	case Not:
-		r.at++
+		r.goOn()
 		return r.call(start, inner, "not", 1)
 	case OpenParen:
-		r.at++
+		r.goOn()
 		inside, depth := r.read(inner, (*reader).whole)
 		if inside == nil || !r.takes(CloseParen) {
 			return nil, 0
 		}
-		return &Group{r.from(start), inside}, deeper(depth)
+		return &Group{r.from(start), inside}, deeper(depth, 0, 0)
 	case OpenBracket:
 		return r.list(inner)
 	}
 	return nil, 0
 }
 
-// constant reads a constant of one token.
-func (r *reader) constant() feel.Node {
-	token, spelled := r.all[r.at], r.spelled()
-	r.at++
-	span := feel.Span{Start: token.Start, End: token.End}
+// constantOf is a token that is a constant.
+func constantOf(text string, token Token) feel.Node {
+	span, spelled := feel.Span{Start: token.Start, End: token.End}, text[token.Start:token.End]
 	switch {
 	case token.Sort == Number:
 		return &feel.Number{Span: span, Text: spelled}
@@ -262,10 +331,10 @@ func (r *reader) constant() feel.Node {
 
 // named reads a name, or the call of a function where a parenthesis follows.
 func (r *reader) named(inner int) (feel.Node, int) {
-	start, name, sort := r.at, r.spelled(), r.all[r.at].Sort
-	r.at++
-	if !r.is(0, OpenParen) {
-		return &feel.Name{Span: r.from(start), Name: name}, 1
+	start, name, sort := r.token.Start, r.spelled(), r.token.Sort
+	r.goOn()
+	if r.token.Sort != OpenParen {
+		return r.name(r.from(start), name), 1
 	}
 	switch sort {
 	case Function:
@@ -300,12 +369,12 @@ func (r *reader) call(start, inner int, name string, arguments int) (feel.Node, 
 		return nil, 0
 	}
 	call.Span = r.from(start)
-	return call, deeper(deepest)
+	return call, deeper(deepest, 0, 0)
 }
 
 func (r *reader) list(inner int) (feel.Node, int) {
-	start, deepest := r.at, 0
-	r.at++
+	start, deepest := r.token.Start, 0
+	r.goOn()
 	list := &feel.List{}
 	for !r.takes(CloseBracket) {
 		if len(list.Items) > 0 && !r.takes(Comma) {
@@ -315,11 +384,19 @@ func (r *reader) list(inner int) (feel.Node, int) {
 		if item == nil {
 			return nil, 0
 		}
-		list.Items = append(list.Items, item)
+		list.Items = appended(list.Items, item)
 		if depth > deepest {
 			deepest = depth
 		}
 	}
 	list.Span = r.from(start)
-	return list, deeper(deepest)
+	return list, deeper(deepest, 0, 0)
+}
+
+// appended adds a node to others, for which twice the room is made where they have none left.
+func appended(nodes []feel.Node, node feel.Node) []feel.Node {
+	if len(nodes) == cap(nodes) {
+		nodes = append(make([]feel.Node, 0, 1+2*len(nodes)), nodes...)
+	}
+	return append(nodes, node)
 }

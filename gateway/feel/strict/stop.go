@@ -141,15 +141,16 @@ func expressionHalt(tokens []Token) *halt {
 }
 
 func literalHalt(tokens []Token) *halt {
-	is := func(at int, sorts ...Sort) bool { return (&reader{all: tokens}).is(at, sorts...) }
+	is := func(at int, of sorts) bool { return at < len(tokens) && of.has(tokens[at].Sort) }
+	minus, number := setOf(Minus), setOf(Number)
 	switch {
-	case is(0, Minus) && is(1, Number) && len(tokens) == 2, is(0, Number, Text, Constant) && len(tokens) == 1:
+	case is(0, minus) && is(1, number) && len(tokens) == 2, is(0, ofConstants) && len(tokens) == 1:
 		return nil
-	case is(0, Minus) && is(1, Number):
+	case is(0, minus) && is(1, number):
 		return haltBefore(2, DueEnd)
-	case is(0, Minus):
+	case is(0, minus):
 		return haltBefore(1, DueNumber)
-	case is(0, Number, Text, Constant):
+	case is(0, ofConstants):
 		return haltBefore(1, DueEnd)
 	}
 	return haltBefore(0, DueLiteral)

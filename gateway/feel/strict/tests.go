@@ -4,22 +4,27 @@ import "gateway/feel"
 
 // ReadTests reads a text as an input entry. A text that is not( tests ) as a whole is that alone.
 func ReadTests(text string) (Tests, bool) {
-	r, ok := newReader(text)
-	if !ok {
-		return Tests{}, false
+	if node := oneToken(text); node != nil {
+		return Tests{List: []feel.Node{node}}, true
 	}
-	if len(r.all) == 1 && r.is(0, Minus) {
+	r := newReader(text)
+	defer r.end()
+	begin := *r
+	switch {
+	case r.takes(Minus) && r.isAtEnd():
 		return Tests{Any: true}, true
-	}
-	if r.is(0, Not) && r.is(1, OpenParen) {
-		r.at = 2
-		if list := r.tests(); list != nil && r.takes(CloseParen) && r.at == len(r.all) {
+	case begin.token.Sort == Not:
+		r.goOn()
+		if !r.takes(OpenParen) {
+			break
+		}
+		if list := r.tests(); list != nil && r.takes(CloseParen) && r.isAtEnd() {
 			return Tests{Negated: true, List: list}, true
 		}
-		r.at = 0
 	}
+	*r = begin
 	list := r.tests()
-	return Tests{List: list}, list != nil && r.at == len(r.all)
+	return Tests{List: list}, list != nil && r.isAtEnd()
 }
 
 // tests reads tests with commas between; nil says that one has no reading.
@@ -30,7 +35,7 @@ func (r *reader) tests() []feel.Node {
 		if test == nil {
 			return nil
 		}
-		list = append(list, test)
+		list = appended(list, test)
 		if !r.takes(Comma) {
 			return list
 		}
@@ -38,41 +43,41 @@ func (r *reader) tests() []feel.Node {
 }
 
 func (r *reader) test() feel.Node {
-	start := r.at
-	if r.is(0, Order) {
+	begin := *r
+	if r.token.Sort == Order {
 		sign := r.spelled()
-		r.at++
+		r.goOn()
 		operand, _ := r.read(MostDepth, (*reader).sum)
 		if operand == nil {
 			return nil
 		}
-		return &feel.Unary{Span: r.from(start), Operator: sign, Operand: operand}
+		return &feel.Unary{Span: r.from(begin.token.Start), Operator: sign, Operand: operand}
 	}
 	if node, _ := r.read(MostDepth, (*reader).whole); node != nil {
 		return node
 	}
-	r.at = start
+	*r = begin
 	return r.interval()
 }
 
 // interval reads an interval from its first sign on.
 func (r *reader) interval() feel.Node {
-	start := r.at
-	if !r.is(0, OpenBracket, OpenParen, CloseBracket) {
+	start := r.token.Start
+	if !ofLowEnds.has(r.token.Sort) {
 		return nil
 	}
-	interval := &feel.Range{LowOpen: !r.is(0, OpenBracket)}
-	r.at++
+	interval := &feel.Range{LowOpen: r.token.Sort != OpenBracket}
+	r.goOn()
 	interval.Low, _ = r.read(MostDepth, (*reader).sum)
 	if interval.Low == nil || !r.takes(DotDot) {
 		return nil
 	}
 	interval.High, _ = r.read(MostDepth, (*reader).sum)
-	if interval.High == nil || !r.is(0, CloseBracket, CloseParen, OpenBracket) {
+	if interval.High == nil || !ofHighEnds.has(r.token.Sort) {
 		return nil
 	}
-	interval.HighOpen = !r.is(0, CloseBracket)
-	r.at++
+	interval.HighOpen = r.token.Sort != CloseBracket
+	r.goOn()
 	interval.Span = r.from(start)
 	return interval
 }

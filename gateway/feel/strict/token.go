@@ -46,10 +46,9 @@ const (
 	WrongEscape
 	// Other is what is no token.
 	Other
+	// end is behind the last token.
+	end
 )
-
-// isWrong tells whether a token of this sort is in no reading.
-func (s Sort) isWrong() bool { return s >= LargeNumber }
 
 // A Token is a piece of a text, from the byte Start up to the byte End.
 type Token struct {
@@ -65,10 +64,16 @@ func isBlank(c byte) bool { return c == ' ' || c == '\t' || c == '\r' || c == '\
 // IsDigit tells whether a byte is a digit.
 func IsDigit(c byte) bool { return '0' <= c && c <= '9' }
 
+// wordBytes are the bytes of numbers, names and key words.
+var wordBytes = func() (bytes [256]bool) {
+	for c := range bytes {
+		bytes[c] = IsDigit(byte(c)) || 'A' <= c && c <= 'Z' || 'a' <= c && c <= 'z' || c == '_'
+	}
+	return bytes
+}()
+
 // IsWordByte tells whether a byte is one of a number, a name or a key word.
-func IsWordByte(c byte) bool {
-	return IsDigit(c) || 'A' <= c && c <= 'Z' || 'a' <= c && c <= 'z' || c == '_'
-}
+func IsWordByte(c byte) bool { return wordBytes[c] }
 
 // IsName tells whether a text is a name: a word of at most 64 bytes that begins with no digit and is no key word.
 func IsName(text string) bool {
@@ -80,39 +85,57 @@ func IsName(text string) bool {
 }
 
 // Tokens cuts a text into tokens, wrong ones among them.
-func Tokens(text string) []Token {
-	var found []Token
-	for at := 0; ; {
-		for at < len(text) && isBlank(text[at]) {
-			at++
-		}
-		if at == len(text) {
-			return found
-		}
-		token := next(text, at)
-		if count := len(found); count > 0 && found[count-1].Sort == Number && found[count-1].End == at && IsWordByte(text[at]) {
-			token.Sort = Other
-		}
+func Tokens(text string) (found []Token) {
+	for token := tokenAfter(text, Token{Sort: end}); token.Sort != end; token = tokenAfter(text, token) {
 		found = append(found, token)
-		at = token.End
 	}
+	return found
+}
+
+// EachToken hands each of the tokens of a text to take.
+func EachToken(text string, take func(token Token)) {
+	for token := tokenAfter(text, Token{Sort: end}); token.Sort != end; token = tokenAfter(text, token) {
+		take(token)
+	}
+}
+
+// tokenAfter is the token behind another one. Behind the last it is one of the sort end, and behind one of this sort that ends at
+// 0 it is the first.
+func tokenAfter(text string, before Token) Token {
+	at := before.End
+	for at < len(text) && isBlank(text[at]) {
+		at++
+	}
+	if at == len(text) {
+		return Token{end, at, at}
+	}
+	token := next(text, at)
+	if before.Sort == Number && before.End == at && wordBytes[text[at]] {
+		token.Sort = Other
+	}
+	return token
 }
 
 // next is the token that begins at a byte.
 func next(text string, at int) Token {
-	rest := text[at:]
-	switch c := rest[0]; {
+	switch c := text[at]; {
 	case IsDigit(c):
-		length := runLength(rest, IsDigit)
-		return Token{numberSort(rest[:length]), at, at + length}
-	case IsWordByte(c):
-		length := runLength(rest, IsWordByte)
-		return Token{wordSort(rest[:length]), at, at + length}
+		end := at + 1
+		for end < len(text) && IsDigit(text[end]) {
+			end++
+		}
+		return Token{numberSort(text[at:end]), at, end}
+	case wordBytes[c]:
+		end := at + 1
+		for end < len(text) && wordBytes[text[end]] {
+			end++
+		}
+		return Token{wordSort(text[at:end]), at, end}
 	case c == '"':
-		sort, length := quoted(rest[1:])
+		sort, length := quoted(text[at+1:])
 		return Token{sort, at, at + 1 + length}
 	}
-	sort, length := sign(rest)
+	sort, length := sign(text[at:])
 	return Token{sort, at, at + length}
 }
 
@@ -126,22 +149,41 @@ func runLength(text string, belongs func(byte) bool) int {
 	return len(text)
 }
 
+// fewDigits is how many digits a number may have whatever they are.
+const fewDigits = 18
+
 func numberSort(digits string) Sort {
+	if len(digits) <= fewDigits {
+		return Number
+	}
 	if _, err := strconv.ParseInt(digits, 10, 64); err != nil {
 		return LargeNumber
 	}
 	return Number
 }
 
-var words = map[string]Sort{
-	"if": If, "then": Then, "else": Else, "and": And, "or": Or, "not": Not, "between": Between,
-	"null": Constant, "true": Constant, "false": Constant,
-	"abs": Function, "sum": Function, "min": Function, "max": Function, "count": Function, "modulo": Modulo,
-}
-
 func wordSort(word string) Sort {
-	if sort, known := words[word]; known {
-		return sort
+	switch word {
+	case "if":
+		return If
+	case "then":
+		return Then
+	case "else":
+		return Else
+	case "and":
+		return And
+	case "or":
+		return Or
+	case "not":
+		return Not
+	case "between":
+		return Between
+	case "null", "true", "false":
+		return Constant
+	case "abs", "sum", "min", "max", "count":
+		return Function
+	case "modulo":
+		return Modulo
 	}
 	if len(word) > mostName {
 		return LongName
@@ -180,25 +222,44 @@ func escaped(c byte) byte {
 	return 0
 }
 
-var pairs = map[string]Sort{"!=": Equal, "<=": Order, ">=": Order, "..": DotDot}
+var singles = func() (sorts [256]Sort) {
+	for c := range sorts {
+		sorts[c] = Other
+	}
+	for c, sort := range map[byte]Sort{
+		'+': Plus, '-': Minus, '*': Star, '=': Equal, '<': Order, '>': Order, '(': OpenParen, ')': CloseParen,
+		'[': OpenBracket, ']': CloseBracket, ',': Comma, '.': Dot,
+	} {
+		sorts[c] = sort
+	}
+	return sorts
+}()
 
-var singles = map[byte]Sort{
-	'+': Plus, '-': Minus, '*': Star, '=': Equal, '<': Order, '>': Order, '(': OpenParen, ')': CloseParen,
-	'[': OpenBracket, ']': CloseBracket, ',': Comma, '.': Dot,
+// pairOf is the sort of a sign of two characters; Other where they are none.
+func pairOf(first, second byte) Sort {
+	switch {
+	case first == '.' && second == '.':
+		return DotDot
+	case second == '=' && first == '!':
+		return Equal
+	case second == '=' && (first == '<' || first == '>'):
+		return Order
+	}
+	return Other
 }
 
 // sign is the longest sign at the start of a text. What is none is a whole character.
 func sign(rest string) (Sort, int) {
 	if len(rest) > 1 {
-		if sort, known := pairs[rest[:2]]; known {
+		if sort := pairOf(rest[0], rest[1]); sort != Other {
 			return sort, 2
 		}
 	}
-	length := 1 + runLength(rest[1:], isInner)
-	if sort, known := singles[rest[0]]; known {
-		return sort, length
+	length := 1
+	for length < len(rest) && isInner(rest[length]) {
+		length++
 	}
-	return Other, length
+	return singles[rest[0]], length
 }
 
 // isInner tells whether a byte goes on with a character.

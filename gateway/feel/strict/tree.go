@@ -42,10 +42,25 @@ func ConstantOf(node feel.Node) (Value, bool) {
 	return nil, false
 }
 
+// valueOf is the value of a token that is a constant; false of a number that is none of them.
+func valueOf(text string, token Token) (Value, bool) {
+	switch spelled := text[token.Start:token.End]; {
+	case token.Sort == Number:
+		number, err := strconv.ParseInt(spelled, 10, 64)
+		return number, err == nil
+	case token.Sort == Text:
+		return unquoted(spelled), true
+	case spelled == "null":
+		return nil, true
+	default:
+		return spelled == "true", true
+	}
+}
+
 // unquoted is what a text between quotes stands for.
 func unquoted(spelled string) string {
 	inner := spelled[1 : len(spelled)-1]
-	if !strings.Contains(inner, `\`) {
+	if strings.IndexByte(inner, '\\') < 0 {
 		return inner
 	}
 	var text strings.Builder

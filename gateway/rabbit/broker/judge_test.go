@@ -8,7 +8,9 @@ import (
 	"log"
 	"net/http/httptest"
 	"strings"
+	"sync/atomic"
 	"testing"
+	"time"
 
 	amqp "github.com/rabbitmq/amqp091-go"
 
@@ -64,17 +66,19 @@ func TestACertificateThatIsNotTrusted(t *testing.T) {
 // Streams that are there with files of another length stay as they are. A queue with other arguments ends the declaring.
 func TestDeclaringBesideOtherQueues(t *testing.T) {
 	b := brokertest.Start(t)
-	on, silent := Broker{Addresses: []string{b.Address}}, logs.New(io.Discard, "test")
-	first := true
+	// The client library has a race of its own where a connection is lost while it is opened, so that may take as long as it takes.
+	on, silent := Broker{Addresses: []string{b.Address}, opening: time.Hour}, logs.New(io.Discard, "test")
+	var asked, isLease int32 // of the stream of lines; 1 once the lease is the other one. The broker has a goroutine for each connection
 	b.Other = func(queue string) bool {
-		is := first && brokertest.Is(queue, "lines", "1")
-		first = first && !is
-		return is
+		if atomic.LoadInt32(&isLease) == 1 {
+			return brokertest.Is(queue, "lease", "1")
+		}
+		return brokertest.Is(queue, "lines", "1") && atomic.AddInt32(&asked, 1) == 1
 	}
 	if err := on.Declare(context.Background(), bus.Settings{Partitions: 2}, silent); err != nil {
 		t.Error(err)
 	}
-	b.Other = func(queue string) bool { return brokertest.Is(queue, "lease", "1") }
+	atomic.StoreInt32(&isLease, 1)
 	var final *bus.Final
 	if err := on.Declare(context.Background(), bus.Settings{Partitions: 2}, silent); !errors.As(err, &final) {
 		t.Error(err)

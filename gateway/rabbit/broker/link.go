@@ -56,7 +56,7 @@ func (b Broker) connect(ctx context.Context, name, last string) (*Link, error) {
 		var turn <-chan time.Time
 		if len(order) > 0 {
 			go func(address string) {
-				link, err := dial(ctx, address, name)
+				link, err := b.dial(ctx, address, name)
 				results <- dialed{link, err}
 			}(order[0])
 			order, open = order[1:], open+1
@@ -96,7 +96,11 @@ func closeOthers(results <-chan dialed, open int) {
 	}
 }
 
-func dial(ctx context.Context, address, name string) (*Link, error) {
+func (b Broker) dial(ctx context.Context, address, name string) (*Link, error) {
+	timeout := b.opening
+	if timeout == 0 {
+		timeout = dialTimeout
+	}
 	link := &Link{address: address, done: make(chan struct{})}
 	properties := amqp.NewConnectionProperties()
 	properties["connection_name"] = name
@@ -105,14 +109,14 @@ func dial(ctx context.Context, address, name string) (*Link, error) {
 		Locale:     "en_US",
 		Properties: properties,
 		Dial: func(network, address string) (net.Conn, error) {
-			dialer := net.Dialer{Timeout: dialTimeout, Deadline: time.Now().Add(dialTimeout)}
+			dialer := net.Dialer{Timeout: timeout, Deadline: time.Now().Add(timeout)}
 			socket, err := dialer.DialContext(ctx, network, address)
 			if err != nil {
 				return nil, err
 			}
 			link.socket = socket
 			// The library takes the deadline away once the connection is open.
-			return socket, socket.SetDeadline(time.Now().Add(dialTimeout))
+			return socket, socket.SetDeadline(time.Now().Add(timeout))
 		},
 	})
 	if err != nil {

@@ -20,7 +20,10 @@ import (
 )
 
 // A Broker is the bus on RabbitMQ, at these addresses of the scheme amqp or amqps.
-type Broker struct{ Addresses []string }
+type Broker struct {
+	Addresses []string
+	opening   time.Duration // how long a connection may take to open; 0 is dialTimeout
+}
 
 // Read reads the environment. Without it there is one partition, at a broker on this machine. An error does not tell an
 // address, which may have a password.

@@ -21,6 +21,7 @@ type Stream struct {
 	arrivals chan bus.Message
 	together int // so many messages are acknowledged together, which is less work for the broker
 	taken    int // since the last of them
+	last     amqp.Delivery
 	closed   chan struct{}
 	mutex    sync.Mutex // is held while a message is acknowledged, and while the channel is closed
 	isClosed bool
@@ -63,7 +64,7 @@ func (l *Link) read(what bus.Reading) (*Stream, error) {
 		return nil, l.Because(fmt.Errorf("reading %s: %w", what.Stream, err))
 	}
 	s := &Stream{link: l, channel: channel, arrivals: make(chan bus.Message), together: 1, closed: make(chan struct{})}
-	if what.Brief && what.Window >= 8 { // what isn't acknowledged is an old delivery to the broker after a while
+	if what.Window >= 8 {
 		s.together = what.Window / 4
 	}
 	go s.handOn(deliveries)
@@ -73,34 +74,56 @@ func (l *Link) read(what bus.Reading) (*Stream, error) {
 // handOn hands the messages on, one after the other, and lets the broker send further ones.
 func (s *Stream) handOn(deliveries <-chan amqp.Delivery) {
 	defer close(s.arrivals)
-	for delivery := range deliveries {
-		message, err := messageOf(delivery)
-		if err != nil {
-			s.link.Fail(err)
-			return
-		}
+	rest := time.NewTimer(acknowledgePause)
+	defer rest.Stop()
+	for {
+		var err error
 		select {
-		case s.arrivals <- message:
-		case <-s.closed:
-			return
-		case <-s.link.Done():
-			return
+		case delivery, open := <-deliveries:
+			if !open {
+				return
+			}
+			message, fault := messageOf(delivery)
+			if fault != nil {
+				s.link.Fail(fault)
+				return
+			}
+			select {
+			case s.arrivals <- message:
+			case <-s.closed:
+				return
+			case <-s.link.Done():
+				return
+			}
+			if s.taken == 0 {
+				rest.Reset(acknowledgePause)
+			}
+			s.taken, s.last = s.taken+1, delivery
+			if s.taken >= s.together {
+				err = s.acknowledge()
+			}
+		case <-rest.C:
+			err = s.acknowledge()
 		}
-		if err := s.acknowledge(delivery); err != nil {
+		if err != nil {
 			s.link.Fail(s.link.Because(fmt.Errorf("reading a stream: %w", err)))
 			return
 		}
 	}
 }
 
+// acknowledgePause is how long a message waits at most to be acknowledged with others: the broker ends a reader that leaves one
+// for too long.
+const acknowledgePause = time.Second
+
 // acknowledge lets the broker send further messages. On a channel that is being closed nothing may be said.
-func (s *Stream) acknowledge(delivery amqp.Delivery) error {
+func (s *Stream) acknowledge() error {
 	s.mutex.Lock()
 	defer s.mutex.Unlock()
-	if s.taken++; s.isClosed || s.taken < s.together {
+	if s.isClosed || s.taken == 0 {
 		return nil
 	}
-	err := delivery.Ack(s.taken > 1)
+	err := s.last.Ack(s.taken > 1)
 	s.taken = 0
 	return err
 }

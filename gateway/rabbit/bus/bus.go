@@ -202,6 +202,14 @@ const (
 	MostOpen = 16
 )
 
+// LineGather and AnswerGather are how long a message of lines, and one of answers, waits at most after the one before it, unless it is
+// full. What a message costs the brokers is most of what a line costs, so of lines that come one by one several share a message;
+// one that comes after a pause waits for nothing.
+const (
+	LineGather   = 25 * time.Millisecond
+	AnswerGather = 10 * time.Millisecond
+)
+
 // OpenOf is how many messages of each of so many streams that are read at once may be on their way: of full messages of
 // several lines these are 16 MiB, and of each stream at least two.
 func OpenOf(streams int) int {

@@ -21,7 +21,7 @@ func TakeMessage(message Message, l *ledger.Ledger) {
 	}
 	for index, raw := range bytes.Split(message.Body, []byte("\n")) {
 		if l.Place.Before(ledger.Place{Offset: message.Offset, Index: int64(index)}) {
-			read, err := line.Read(raw)
+			read, err := line.Look(raw)
 			isModel := err == nil && read.IsModel() && from.MayHaveModels
 			l.Senders.Take(from, from.Number+int64(index), raw, isModel)
 		}

@@ -12,15 +12,28 @@ const DigestBytes = 12
 // A Digest stands for a list of lines: that of the list with one line more comes from it and the line.
 type Digest [DigestBytes]byte
 
+// usualBytes is how long most lines are at most.
+const usualBytes = 500
+
 // With is the digest of the list with one line more.
 func (d Digest) With(line []byte) Digest {
+	var next Digest
+	if len(line) <= usualBytes { // without a hash of its own, which takes longer
+		var text [DigestBytes + usualBytes]byte
+		copy(text[copy(text[:], d[:]):], line)
+		sum := sha256.Sum256(text[:DigestBytes+len(line)])
+		copy(next[:], sum[:])
+		return next
+	}
 	hash := sha256.New()
 	hash.Write(d[:])
 	hash.Write(line)
-	var next Digest
 	copy(next[:], hash.Sum(nil))
 	return next
 }
+
+// A Step is from one digest to the next, by one line. The zero value is none.
+type Step struct{ before, after Digest }
 
 // A Batch is what a partition knows of a batch: how many of its lines it took, and digests of them.
 type Batch struct {
@@ -53,16 +66,21 @@ func (b *Batch) skip(number, models int64) (missing int64) {
 	return missing
 }
 
-// add takes one line more in.
-func (b *Batch) add(line []byte, isModel bool) {
+// add takes one line more in. The step of the line may be known.
+func (b *Batch) add(line []byte, isModel bool, known Step) Step {
 	if isModel {
 		b.Models, b.Adrift = b.Models+1, false
 	}
 	b.Count++
-	b.Last = b.Last.With(line)
+	step := known
+	if step == (Step{}) || step.before != b.Last {
+		step = Step{b.Last, b.Last.With(line)}
+	}
+	b.Last = step.after
 	if b.Count&(b.Count-1) == 0 {
 		b.Marks = append(b.Marks, b.Last)
 	}
+	return step
 }
 
 // Mark is the digest of the first lines, where one is kept of so many.

@@ -101,6 +101,8 @@ const (
 	Taken    Verdict = iota
 	Repeated         // it was taken before
 	Fenced           // a newer process sends under its name
+
+	Verdicts = iota // how many there are
 )
 
 // A Taking is what Take says of a line. A sender waits for the confirm of a message before it sends the next one to the
@@ -110,10 +112,16 @@ type Taking struct {
 	First   bool  // whether it is the first line of its batch that came
 	Missing int64 // how many lines of its batch are missing before it; each is reported once
 	Adrift  bool  // whether the model of the line isn't known, since that is missing
+	Step    Step  // of the batch's digest
 }
 
 // Take takes a line with this number of its batch in, unless it was taken before or a newer process has the name.
 func (s *Senders) Take(from Origin, number int64, line []byte, isModel bool) Taking {
+	return s.TakeKnown(from, number, line, isModel, Step{})
+}
+
+// TakeKnown is Take of a line whose step is known from another copy of the senders, so that it isn't computed again.
+func (s *Senders) TakeKnown(from Origin, number int64, line []byte, isModel bool, known Step) Taking {
 	sender := s.seen(from)
 	if from.Epoch < sender.Epoch {
 		return Taking{Verdict: Fenced}
@@ -127,9 +135,9 @@ func (s *Senders) Take(from Origin, number int64, line []byte, isModel bool) Tak
 		return Taking{Verdict: Repeated}
 	}
 	missing := batch.skip(number, from.Models)
-	batch.add(line, isModel)
+	step := batch.add(line, isModel, known)
 	batch.Sent = from.Sent
-	return Taking{Verdict: Taken, First: first, Missing: missing, Adrift: batch.Adrift}
+	return Taking{Verdict: Taken, First: first, Missing: missing, Adrift: batch.Adrift, Step: step}
 }
 
 // Control takes in a claim or the end of a batch. It says whether it counts, and how many lines of the batch never came.

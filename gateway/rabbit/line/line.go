@@ -4,8 +4,6 @@ package line
 
 import (
 	"bytes"
-	"crypto/sha256"
-	"encoding/binary"
 	"encoding/json"
 	"errors"
 	"fmt"
@@ -37,6 +35,8 @@ type Line struct {
 	Client int    // the number of the key's client, or NoClient
 	Engine []byte // the line that the engine is given
 	hash   uint64
+
+	service, inputs []byte // of a request, as JSON
 }
 
 // ErrShape tells that a text is JSON, but neither a request nor a model.
@@ -49,7 +49,14 @@ func (l Line) IsModel() bool { return l.Client == NoClient }
 func (l Line) Partition(partitions int) int { return int(l.hash % uint64(partitions)) }
 
 // ClientName is the name by which the engine knows a client.
-func ClientName(client int) string { return fmt.Sprintf("n%02d", client) }
+func ClientName(client int) string { return clientNames[client] }
+
+var clientNames = func() (names [Clients]string) {
+	for client := range names {
+		names[client] = fmt.Sprintf("n%02d", client)
+	}
+	return names
+}()
 
 // ClientNumber is the number of the client with this name, where there is one.
 func ClientNumber(name []byte) (int, bool) {
@@ -63,6 +70,33 @@ func ClientNumber(name []byte) (int, bool) {
 // Read reads one line, without its line end. The first of these faults is told: too long, no UTF-8, no JSON, neither
 // a request nor a model, nested too deep, a key or an id that is too long.
 func Read(text []byte) (Line, error) {
+	l, err := Look(text)
+	if err == nil && !l.IsModel() {
+		l.Engine = l.engine()
+	}
+	return l, err
+}
+
+// Look is Read for who gives no request to an engine: its Engine is nil.
+func Look(text []byte) (Line, error) {
+	if l, is := usual(text); is {
+		return l, nil
+	}
+	return anyLine(text)
+}
+
+// engine is what the engine is given of a request.
+func (l *Line) engine() []byte {
+	const client, service, inputs = `{"client":"`, `","service":`, `,"inputs":`
+	text := make([]byte, 0, len(client)+ClientNameBytes+len(service)+len(l.service)+len(inputs)+len(l.inputs)+1)
+	text = append(append(text, client...), ClientName(l.Client)...)
+	text = append(append(text, service...), l.service...)
+	text = append(append(text, inputs...), l.inputs...)
+	return append(text, '}')
+}
+
+// anyLine reads any line.
+func anyLine(text []byte) (Line, error) {
 	switch {
 	case len(text) > MaximumBytes:
 		return Line{}, fmt.Errorf("over %d bytes", MaximumBytes)
@@ -96,10 +130,9 @@ func request(found map[string][]byte) (Line, error) {
 	if service[0] != '"' || inputs[0] != '{' {
 		return Line{}, errors.New("the service is no text, or the inputs are no object")
 	}
-	digest := sha256.Sum256([]byte(name))
-	client := int(digest[8] % Clients)
-	engine := join([]byte(`{"client":"`+ClientName(client)+`","service":`), service, []byte(`,"inputs":`), inputs, []byte(`}`))
-	return Line{Key: key, ID: id, Client: client, Engine: engine, hash: binary.BigEndian.Uint64(digest[:8])}, nil
+	l := Line{Key: key, ID: id, service: service, inputs: inputs}
+	l.place([]byte(name))
+	return l, nil
 }
 
 // join is one text of several.

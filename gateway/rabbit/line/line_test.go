@@ -2,6 +2,8 @@ package line
 
 import (
 	"fmt"
+	"math/rand"
+	"reflect"
 	"strings"
 	"testing"
 )
@@ -78,5 +80,48 @@ func TestClientNames(t *testing.T) {
 		if _, known := ClientNumber([]byte(name)); known {
 			t.Errorf("%s is a client", name)
 		}
+	}
+}
+
+// A request of the usual kind is read as any line is. What is read in one pass is changed at random, a byte or two at a time.
+func TestUsualRequests(t *testing.T) {
+	random := rand.New(rand.NewSource(1))
+	bytes := []byte("{}[]\",:\\ \t\n\r0123456789+-.eEtruefalsnbk\x00\x1f/\x7f\xc3\xa9\xff\xed\xa0\x80")
+	isUsual := 0
+	for _, text := range []string{
+		`{"key":"key 17","service":"s","inputs":{"a":17},"id":17}`,
+		` { "id" : [ ] , "inputs" : { "a" : [ 1 , -0.5e-3 , { } , { "x" : null } ] , "b" : "\\\"\/\u00e9" } , "service" : "s" , "key" : "é" } `,
+		`{"key":"k","service":"s","inputs":{"a":true,"b":false,"c":[0,10,1E+5,2e7]},"id":{"x":"y"}}`,
+		`{"key":"k","service":"s","inputs":{"a":` + strings.Repeat("[", 125) + strings.Repeat("]", 125) + `},"id":1}`,
+		`{"key":"` + strings.Repeat("k", 255) + `","service":"s","inputs":{},"id":"` + strings.Repeat("i", 4094) + `"}`,
+	} {
+		if _, is := usual([]byte(text)); !is {
+			t.Errorf("%.100s is not usual", text)
+		}
+		for round := 0; round < 4000; round++ {
+			changed := []byte(text)
+			for change := random.Intn(3); change >= 0; change-- {
+				at, next := random.Intn(len(changed)), bytes[random.Intn(len(bytes))]
+				switch random.Intn(3) {
+				case 0:
+					changed[at] = next
+				case 1:
+					changed = append(changed[:at], changed[at+1:]...)
+				case 2:
+					changed = append(changed[:at:at], append([]byte{next}, changed[at:]...)...)
+				}
+			}
+			found, is := usual(changed)
+			if !is {
+				continue
+			}
+			isUsual++
+			if due, err := anyLine(changed); err != nil || !reflect.DeepEqual(found, due) {
+				t.Fatalf("%q is read as %+v, and not as %+v, %v", changed, found, due, err)
+			}
+		}
+	}
+	if isUsual < 2000 {
+		t.Errorf("only %d were usual", isUsual)
 	}
 }

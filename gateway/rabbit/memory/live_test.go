@@ -136,6 +136,21 @@ func (l *liveLink) Read(what bus.Reading) (made bus.Reader, err error) {
 	return made, err
 }
 
+func (l *liveLink) End(stream string) (made bus.End, err error) {
+	l.bus.with(func() { made, err = l.Link.End(stream) })
+	return &liveEnd{made, l.bus}, err
+}
+
+type liveEnd struct {
+	bus.End
+	bus *live
+}
+
+func (e *liveEnd) Offset() (offset int64, err error) {
+	e.bus.with(func() { offset, err = e.End.Offset() })
+	return offset, err
+}
+
 type liveReader struct {
 	bus.Reader
 	link *liveLink

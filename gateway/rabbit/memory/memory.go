@@ -189,7 +189,7 @@ func (l *Link) Fail(reason error) {
 	l.err = reason
 	close(l.done)
 	for _, a := range l.appenders {
-		for _, message := range a.open {
+		for _, message := range a.open[a.confirmed:] {
 			l.bus.lose(message)
 		}
 	}
@@ -212,7 +212,7 @@ func (b *Bus) lose(m appended) {
 // Confirm lets the first message without a confirm be appended and have its confirm, or lets the link be lost.
 func (l *Link) Confirm(lost int) {
 	for _, a := range l.appenders {
-		if len(a.open) > 0 {
+		if a.waits() {
 			a.one(lost)
 			return
 		}
@@ -222,7 +222,7 @@ func (l *Link) Confirm(lost int) {
 // Waits says whether a message is without a confirm.
 func (l *Link) Waits() bool {
 	for _, a := range l.appenders {
-		if l.err == nil && len(a.open) > 0 && len(a.confirms) == 0 {
+		if l.err == nil && a.waits() {
 			return true
 		}
 	}
@@ -257,10 +257,14 @@ type appended struct {
 
 // An Appender appends to streams in memory.
 type Appender struct {
-	link     *Link
-	open     []appended
-	confirms chan error
+	link      *Link
+	open      []appended
+	confirmed int // so many of the first open ones have their confirm, which isn't taken in yet
+	confirms  chan error
 }
+
+// waits says whether a message is without a confirm, and each confirm before is taken in.
+func (a *Appender) waits() bool { return len(a.open) > 0 && a.confirmed == 0 }
 
 // Append appends a message, soon.
 func (a *Appender) Append(to bus.Route, headers bus.Headers, body []byte) error {
@@ -286,6 +290,7 @@ func (a *Appender) one(lost int) {
 	}
 	m := a.open[0]
 	a.link.bus.append(m.to, m.headers, m.body)
+	a.confirmed++
 	a.confirms <- nil
 }
 
@@ -297,7 +302,7 @@ func (a *Appender) Confirms() <-chan error { return a.confirms }
 
 // Take takes a confirm in.
 func (a *Appender) Take(confirm error, _ bool) error {
-	a.open = a.open[1:]
+	a.open, a.confirmed = a.open[1:], a.confirmed-1
 	return confirm
 }
 
@@ -307,7 +312,7 @@ const seldom = 60
 // Settle waits until all messages are confirmed.
 func (a *Appender) Settle() error {
 	for len(a.open) > 0 {
-		if len(a.confirms) == 0 && a.link.err == nil {
+		if a.waits() && a.link.err == nil {
 			a.one(seldom)
 		}
 		if a.link.err != nil {

@@ -10,10 +10,11 @@ import (
 type entry struct {
 	place    ledger.Place
 	from     ledger.Origin
-	sequence int64  // its number among the batch's lines
-	first    bool   // whether it is the first of its batch
-	ends     bool   // whether it ends its batch
-	part     bool   // whether its message has further lines
+	sequence int64 // its number among the batch's lines
+	first    bool  // whether it is the first of its batch
+	ends     bool  // whether it ends its batch
+	part     bool  // whether its message has further lines
+	step     ledger.Step
 	raw      []byte // as it was sent
 	line     line.Line
 	number   int64 // its number among the lines of the log that are answered, from 1

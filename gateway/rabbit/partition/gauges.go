@@ -91,15 +91,30 @@ func (g *Gauges) unreadSnapshot() { g.with(func() { g.unreads++ }) }
 
 func (g *Gauges) restart() { g.with(func() { g.restarts++ }) }
 
-func (g *Gauges) settled(e *entry) {
+// A settled counts entries that are settled.
+type settled struct {
+	answers  int64
+	refusals []answer.Reason
+}
+
+func (s *settled) add(e *entry) {
 	if e.skipped || e.known {
 		return
 	}
+	if s.answers++; e.reason != "" {
+		s.refusals = append(s.refusals, e.reason)
+	}
+}
+
+func (g *Gauges) settled(s settled) {
+	if s.answers == 0 {
+		return
+	}
 	g.with(func() {
-		g.answers++
+		g.answers += s.answers
 		g.moved = time.Now()
-		if e.reason != "" {
-			g.refusals[e.reason]++
+		for _, reason := range s.refusals {
+			g.refusals[reason]++
 		}
 	})
 }

@@ -55,8 +55,10 @@ func TestMetricsAreShown(t *testing.T) {
 		t.Error(text)
 	}
 	g.takeover(3)
-	g.settled(&entry{answered: true, reason: answer.Deadline})
-	g.settled(&entry{skipped: true})
+	var s settled
+	s.add(&entry{answered: true, reason: answer.Deadline})
+	s.add(&entry{skipped: true})
+	g.settled(s)
 	g.lag(4, 5, 1.5)
 	if status, said := get("/readyz"); status != 200 || said != "owns partition 3\n" {
 		t.Errorf("%d %s", status, said)

@@ -43,8 +43,10 @@ type output struct {
 	// publish marks. snapshotAt is that of the last snapshot.
 	published, snapshotAt int64
 	body                  []byte
-	more                  bool // whether the message of that place has further lines
-	lines                 int  // in the body
+	begun, sent           time.Time     // when the body got its first answer, and when the last message of answers was published
+	gather                time.Duration // how long answers wait for others at most
+	more                  bool          // whether the message of that place has further lines
+	lines                 int           // in the body
 
 	sinceBytes    int // of lines and answers since the last snapshot
 	sinceMessages int
@@ -91,7 +93,7 @@ func (out *output) settle(e *entry) {
 		out.ledger.Skip(e.place)
 		return
 	}
-	out.ledger.Senders.Take(e.from, e.sequence, e.raw, e.line.IsModel())
+	out.ledger.Senders.TakeKnown(e.from, e.sequence, e.raw, e.line.IsModel(), e.step)
 	if e.first {
 		out.ledger.Models.Begin(e.from.Key())
 	}
@@ -105,6 +107,7 @@ func (out *output) settle(e *entry) {
 	if e.known {
 		return
 	}
+	out.begin()
 	out.more = e.part
 	out.body = answer.Append(out.body, e.place, e.line.Key, e.line.ID, e.text)
 	out.upto = e.place
@@ -120,17 +123,36 @@ func (out *output) settleLost(e *entry) {
 	if e.known {
 		return
 	}
+	out.begin()
 	out.more = false
 	out.body = answer.AppendLost(out.body, e.lost.gap)
 	out.upto = e.place
 	out.lines++
 }
 
-// publish publishes what is due, once the message before is confirmed. With several on their way, one could be lost
-// and the next one kept where the stream changes its leader.
-func (out *output) publish() (bool, error) {
+// begin notes when the body gets its first answer.
+func (out *output) begin() {
+	if out.lines == 0 {
+		out.begun = out.now()
+	}
+}
+
+// gathers is how long the answers in the body wait for further ones, of which some may come soon.
+func (out *output) gathers(soon bool) time.Duration {
 	switch {
-	case out.publisher.Open() > 0:
+	case out.lines == 0 || out.publisher.Open() > 0 || !out.room():
+		return 0
+	case soon:
+		return out.gather - out.now().Sub(out.begun)
+	}
+	return out.gather - out.now().Sub(out.sent)
+}
+
+// publish publishes what is due, once the message before is confirmed. With several on their way, one could be lost
+// and the next one kept where the stream changes its leader. Of the next answers some may come soon.
+func (out *output) publish(soon bool) (bool, error) {
+	switch {
+	case out.publisher.Open() > 0 || out.gathers(soon) > 0:
 		return false, nil
 	case out.lines > 0:
 		return true, out.publishAnswers()
@@ -147,9 +169,16 @@ func (out *output) publishAnswers() error {
 	}
 	out.published++
 	out.last = out.upto
-	out.body, out.lines = nil, 0
+	out.body, out.lines, out.sent = make([]byte, 0, min(len(out.body), bus.MessageBytes)), 0, out.now()
 	out.sinceMessages++
 	return nil
+}
+
+func min(a, b int) int {
+	if a < b {
+		return a
+	}
+	return b
 }
 
 func (out *output) publishSnapshot() error {

@@ -203,6 +203,7 @@ type Owner struct {
 	work      *work
 	output    *output
 	tail      *tail
+	timed     bool // whether the clock is the machine's; with another one who moves it lets the owner look at it
 	report    report
 	idle      idle
 }
@@ -258,11 +259,11 @@ func newOwner(options Options, link bus.Link, partition int, log *logs.Log, h *b
 		begin = beginProcess
 	}
 	marks := options.Settings.Route(bus.RequestsExchange, bus.TopicMarks, partition)
-	return &Owner{log: log, gauges: options.Gauges, link: link, lines: lines, marks: marks, queue: q,
+	return &Owner{log: log, gauges: options.Gauges, timed: options.Now == nil, link: link, lines: lines, marks: marks, queue: q,
 		intake: newIntake(log, options.Gauges, q, h, first),
 		work: &work{log: log, options: options.Engine, deadline: int(options.Deadline / tick), queue: q, ledger: h.Ledger,
 			models: h.Ledger.Models.Clone(), begin: begin, restarts: options.Gauges.restart, taken: time.Now()},
-		output: &output{now: now, route: route, program: options.Program, ledger: h.Ledger, last: h.Upto(),
+		output: &output{now: now, gather: bus.AnswerGather, route: route, program: options.Program, ledger: h.Ledger, last: h.Upto(),
 			published: h.End, snapshotAt: h.At, sinceMessages: h.Messages, next: now().Add(firstPause)}}
 }
 
@@ -353,7 +354,14 @@ func (o *Owner) Wait(ticks <-chan time.Time) error {
 	if o.work.process != nil {
 		answers = o.work.process.Answers()
 	}
+	var gathered <-chan time.Time
+	if gathers := o.output.gathers(o.queue.head() != nil); gathers > 0 && o.timed {
+		while := time.NewTimer(gathers)
+		defer while.Stop()
+		gathered = while.C
+	}
 	select {
+	case <-gathered:
 	case message, open := <-arrivals:
 		if !open {
 			return o.stream.Ended()
@@ -397,7 +405,7 @@ func (o *Owner) unread() int64 {
 func (o *Owner) Step() error {
 	for {
 		o.settle()
-		published, err := o.output.publish()
+		published, err := o.output.publish(o.queue.head() != nil)
 		if err != nil {
 			return err
 		}
@@ -416,10 +424,12 @@ func (o *Owner) Step() error {
 
 // settle hands the settled entries at the head of the queue to the output.
 func (o *Owner) settle() {
+	var s settled
 	for e := o.queue.head(); e != nil && e.settled() && o.output.room(); e = o.queue.head() {
 		o.output.settle(e)
-		o.gauges.settled(e)
+		s.add(e)
 		o.queue.drop()
 		o.work.dropped(e)
 	}
+	o.gauges.settled(s)
 }

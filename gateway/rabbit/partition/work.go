@@ -36,7 +36,7 @@ type work struct {
 	fault    error                      // why the partition can't be owned any longer
 	model    *entry                     // a model that was given and isn't answered: nothing else is given before
 	waiting  [line.Clients + 1][]*entry // given, of each client and of none; some of the first may be answered
-	byLine   map[int64]*entry           // given, and without an answer, by their number in the engine's input
+	byLine   handed                     // by their number in the engine's input
 	lines    int64                      // that the engine was given
 	greeting int                        // so many of the engine's first lines are without an answer
 	base     [line.Clients]int64        // the tickets before the engine's first
@@ -123,7 +123,7 @@ func (w *work) needed(e *entry) []byte {
 
 // ready makes the engine ready for an entry, and says whether it is.
 func (w *work) ready(e *entry) (bool, error) {
-	if w.careful > 0 && len(w.byLine) > 0 || w.queue.ready > bus.WindowBytes || w.model != nil || w.greeting > 0 {
+	if w.careful > 0 && w.byLine.open > 0 || w.queue.ready > bus.WindowBytes || w.model != nil || w.greeting > 0 {
 		return false, nil
 	}
 	model := w.needed(e)
@@ -139,7 +139,7 @@ func (w *work) ready(e *entry) (bool, error) {
 	if ledger.SameModel(model, w.inForce) {
 		return true, nil
 	}
-	if len(w.byLine) > 0 { // each is answered by the model under which it was given
+	if w.byLine.open > 0 { // each is answered by the model under which it was given
 		return false, nil
 	}
 	if model == nil { // no line takes a model away
@@ -176,7 +176,7 @@ func (w *work) giveOne(e *entry) {
 	w.passed(e)
 	w.lines++
 	e.given, e.asked = true, w.lines
-	w.byLine[e.asked] = e
+	w.byLine.add(e)
 	w.waiting[e.line.Client] = append(w.waiting[e.line.Client], e)
 	if e.line.IsModel() {
 		w.model = e
@@ -192,7 +192,7 @@ func (w *work) start(model []byte) error {
 		return err
 	}
 	w.process, w.lines, w.base, w.started = started, 0, w.ledger.Tickets, time.Now()
-	w.byLine = make(map[int64]*entry)
+	w.byLine = handed{}
 	w.greet(model)
 	return nil
 }
@@ -214,7 +214,7 @@ func (w *work) end() {
 	if w.process != nil {
 		w.process.End()
 	}
-	w.process, w.byLine, w.waiting, w.next = nil, nil, [line.Clients + 1][]*entry{}, 0
+	w.process, w.byLine, w.waiting, w.next = nil, handed{}, [line.Clients + 1][]*entry{}, 0
 	w.models, w.inForce, w.model, w.going = w.ledger.Models.Clone(), nil, nil, nil
 	w.oldest, w.age, w.greeting = nil, 0, 0
 }
@@ -234,24 +234,13 @@ func (w *work) again(reason error) {
 	w.careful = len(w.queue.entries)
 }
 
-// alone is the entry that the engine is at, where it has no other.
-func (w *work) alone() *entry {
-	if len(w.byLine) != 1 {
-		return nil
-	}
-	for _, e := range w.byLine {
-		return e
-	}
-	return nil
-}
-
 // ended takes in that the engine has ended by itself, or has to be.
 func (w *work) ended(reason error) {
 	if w.greeting > 0 {
 		w.neverGreeted(reason)
 		return
 	}
-	e := w.alone()
+	e := w.byLine.only() // the one that the engine is at
 	w.again(reason)
 	if e != nil && e == w.died {
 		w.refuse(e, answer.Died)
@@ -282,10 +271,10 @@ func (w *work) tick() {
 		return
 	}
 	if head != w.oldest {
-		w.oldest, w.age, w.lonely = head, 0, len(w.byLine) == 1
+		w.oldest, w.age, w.lonely = head, 0, w.byLine.open == 1
 		return
 	}
-	w.lonely = w.lonely && len(w.byLine) == 1
+	w.lonely = w.lonely && w.byLine.open == 1
 	if w.age++; w.age >= w.deadline {
 		w.late(head)
 	}
@@ -398,12 +387,12 @@ func (w *work) answer(e *entry, a answer.Answer) {
 
 // find finds the entry that is answered: the one with the line's number, or else the client's first without an answer.
 func (w *work) find(a answer.Answer) *entry {
-	e := w.byLine[a.Number]
+	e := w.byLine.at(a.Number)
 	if a.Ticket {
 		e = w.firstOf(a.Client)
 	}
 	if e != nil {
-		delete(w.byLine, e.asked)
+		w.byLine.remove(e)
 	}
 	return e
 }

@@ -16,6 +16,12 @@ import (
 // keptBytes is how much of the end of an answer that is too long is kept: enough for its ticket.
 const keptBytes = 64
 
+// usualBytes is how long most answers are at most, and roomBytes is the room for some of them.
+const (
+	usualBytes = 512
+	roomBytes  = 32 << 10
+)
+
 // Capacity is how many requests of one client the engine evaluates at a time.
 const Capacity = 64
 
@@ -127,12 +133,17 @@ func (p *Process) next() [][]byte {
 func (p *Process) read(output io.Reader) {
 	reader := bufio.NewReaderSize(output, 256<<10)
 	var batch []Answer
+	var room []byte // for the texts of some answers, which take less time together
 	for {
-		next, err := p.readAnswer(reader)
+		if cap(room)-len(room) < usualBytes {
+			room = make([]byte, 0, roomBytes)
+		}
+		next, err := p.readAnswer(reader, room[len(room):len(room):len(room)+usualBytes])
 		if err != nil {
 			break
 		}
 		batch = append(batch, next)
+		room = room[:len(room)+min(len(next.Text), usualBytes)]
 		if reader.Buffered() == 0 || len(batch) >= 256 {
 			p.answers <- batch
 			batch = nil
@@ -149,8 +160,16 @@ func (p *Process) read(output io.Reader) {
 	close(p.answers)
 }
 
-func (p *Process) readAnswer(reader *bufio.Reader) (Answer, error) {
-	var a Answer
+func min(a, b int) int {
+	if a < b {
+		return a
+	}
+	return b
+}
+
+// readAnswer reads an answer. Its text is put into the room where that has enough.
+func (p *Process) readAnswer(reader *bufio.Reader, room []byte) (Answer, error) {
+	a := Answer{Text: room}
 	for {
 		piece, err := reader.ReadSlice('\n')
 		if err != nil && !errors.Is(err, bufio.ErrBufferFull) {
@@ -166,6 +185,7 @@ func (p *Process) readAnswer(reader *bufio.Reader) (Answer, error) {
 			a.Text = append(a.Text[:keptBytes:keptBytes], a.Text[len(a.Text)-keptBytes:]...)
 		}
 		if whole {
+			a.Text = a.Text[:len(a.Text):len(a.Text)] // the rest of the room is for others
 			return a, nil
 		}
 	}

@@ -24,9 +24,10 @@ const savePause = 250 * time.Millisecond
 type Options struct {
 	Bus      bus.Bus
 	Settings bus.Settings
-	From     bus.From      // for partitions that the place doesn't know
-	Place    string        // the file that keeps the place, or empty
-	Output   *os.File      // where answers go
+	From     bus.From // for partitions that the place doesn't know
+	Place    string   // the file that keeps the place, or empty
+	Output   *os.File // where answers go, unless Each is handed them
+	Each     func(partition int, line []byte, record answer.Record) error
 	File     bool          // whether Output is a file of its own, whose length belongs to the place
 	Idle     time.Duration // after so long without an answer it ends; 0 says never
 	Log      *logs.Log
@@ -133,7 +134,11 @@ func New(options Options) (*Receiver, error) {
 	if options.Gauges == nil {
 		options.Gauges = NewGauges()
 	}
-	r := &Receiver{options: options, output: bufio.NewWriterSize(options.Output, bus.MessageBytes), moved: time.Now()}
+	var output io.Writer = options.Output
+	if options.Output == nil {
+		output = io.Discard
+	}
+	r := &Receiver{options: options, output: bufio.NewWriterSize(output, bus.MessageBytes), moved: time.Now()}
 	for partition := 0; partition < options.Settings.Partitions; partition++ {
 		r.streams = append(r.streams, -1)
 		r.chains = append(r.chains, ledger.Chain{})
@@ -284,6 +289,14 @@ func (r *Receiver) writeLine(partition int, text []byte) error {
 	return nil
 }
 
+// writeRecord writes a line of a partition's answers, or hands it on.
+func (r *Receiver) writeRecord(partition int, text []byte, record answer.Record) error {
+	if r.options.Each != nil {
+		return r.options.Each(partition, text, record)
+	}
+	return r.writeLine(partition, text)
+}
+
 func (r *Receiver) writeAnswers(partition int, body []byte, chain *ledger.Chain, part bus.Part) error {
 	for _, text := range bytes.Split(bytes.TrimSuffix(body, []byte("\n")), []byte("\n")) {
 		record, err := answer.ReadRecord(text)
@@ -296,7 +309,7 @@ func (r *Receiver) writeAnswers(partition int, body []byte, chain *ledger.Chain,
 		if record.Lost {
 			r.lost()
 		}
-		if err := r.writeLine(partition, text); err != nil {
+		if err := r.writeRecord(partition, text, record); err != nil {
 			return err
 		}
 	}

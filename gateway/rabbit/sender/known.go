@@ -107,6 +107,6 @@ func readOn(link bus.Link, lines, token string, l *ledger.Ledger) (int64, error)
 
 // isModel says whether a line is a model.
 func isModel(raw []byte) bool {
-	read, err := line.Read(raw)
+	read, err := line.Look(raw)
 	return err == nil && read.IsModel()
 }

@@ -1,7 +1,6 @@
 package sender
 
 import (
-	"bytes"
 	"context"
 	"errors"
 	"fmt"
@@ -28,8 +27,9 @@ type Lane struct {
 	fenced   bool  // whether a newer process had claimed the name before: no line counts
 	before   int64 // how many lines of the batch were taken before
 	known    known
-	next     int64 // the number of the next message's first line
-	models   int64 // how many lines of the batch so far are models
+	next     int64     // the number of the next message's first line
+	last     time.Time // when a message was published last
+	models   int64     // how many lines of the batch so far are models
 	message  *message
 	link     bus.Link
 	appender bus.Appender
@@ -85,7 +85,9 @@ func (l *Lane) put(next pending) bool {
 	}
 	l.pending = append(l.pending, next)
 	l.bytes += len(next.text)
-	signal(l.wake)
+	if l.message == nil && (len(l.pending) == 1 || l.isFull()) { // what comes between waits for a message with them
+		signal(l.wake)
+	}
 	return true
 }
 
@@ -260,7 +262,7 @@ func (l *Lane) claimBatch(link bus.Link) error {
 
 // Step publishes the next message, if none is on its way, or ends the batch. It says whether there is more to wait for.
 func (l *Lane) Step() (more bool, err error) {
-	if l.message != nil {
+	if l.message != nil || l.gathers() > 0 {
 		return true, nil
 	}
 	next, closed, err := l.nextMessage()
@@ -279,6 +281,21 @@ func (l *Lane) Step() (more bool, err error) {
 	return true, l.append()
 }
 
+// isFull says whether the lines that wait fill a message.
+func (l *Lane) isFull() bool {
+	return len(l.pending) >= bus.MessageLines || l.bytes >= bus.MessageBytes
+}
+
+// gathers is how long the lines that wait for a message wait for further ones.
+func (l *Lane) gathers() time.Duration {
+	l.mutex.Lock()
+	defer l.mutex.Unlock()
+	if l.message != nil || l.closed || len(l.pending) == 0 || l.isFull() {
+		return 0
+	}
+	return bus.LineGather - time.Since(l.last)
+}
+
 // nextMessage makes the next message, or nil if there is nothing to send, and says whether no more lines come.
 func (l *Lane) nextMessage() (next *message, closed bool, err error) {
 	lines, closed, err := l.take()
@@ -286,16 +303,27 @@ func (l *Lane) nextMessage() (next *message, closed bool, err error) {
 		return nil, closed, err
 	}
 	next = &message{number: l.next, models: l.models, lines: lines}
-	texts := make([][]byte, len(lines))
-	for at, one := range lines {
-		texts[at] = one.text
+	next.body = bodyOf(lines)
+	for _, one := range lines {
 		if one.isModel() {
 			l.models++
 		}
 	}
-	next.body = bytes.Join(texts, []byte("\n"))
 	l.next += int64(len(lines))
 	return next, closed, nil
+}
+
+// bodyOf is the body of a message with these lines.
+func bodyOf(lines []pending) []byte {
+	size := len(lines) - 1
+	for _, one := range lines {
+		size += len(one.text)
+	}
+	body := append(make([]byte, 0, size), lines[0].text...)
+	for _, one := range lines[1:] {
+		body = append(append(body, '\n'), one.text...)
+	}
+	return body
 }
 
 // take takes the lines of the next message, and says whether no more come. Those that the partition has are left out. Models
@@ -349,12 +377,17 @@ func (l *Lane) append() error {
 	if l.message.lines[0].isModel() {
 		route = l.sender.options.Settings.Route(bus.RequestsExchange, bus.TopicModels, l.partition)
 	}
+	l.last = time.Now()
 	return l.appender.Append(route, bus.OriginHeaders(from), l.message.body)
 }
 
 // Wait waits for something to happen, and takes it in.
 func (l *Lane) Wait(ctx context.Context) error {
-	late := time.NewTimer(time.Second)
+	pause := time.Second
+	if gathers := l.gathers(); gathers > 0 {
+		pause = gathers
+	}
+	late := time.NewTimer(pause)
 	defer late.Stop()
 	select {
 	case <-l.wake:
@@ -381,6 +414,9 @@ func (l *Lane) confirmed() {
 		l.bytes -= len(next.text)
 		if next.counts() {
 			l.sent++
+		}
+		if l.sender.options.Confirmed != nil {
+			l.sender.options.Confirmed(next.text)
 		}
 	}
 	l.message = nil

@@ -28,7 +28,9 @@ type Options struct {
 	Input    io.Reader
 	Log      *logs.Log
 	Check    func(model []byte) error // refuses a faulty model
-	Gauges   *metrics.Partitions      // new ones, where it is nil
+	// Confirmed is told of each line that a partition has, where it isn't nil. It must not wait.
+	Confirmed func(line []byte)
+	Gauges    *metrics.Partitions // new ones, where it is nil
 }
 
 // A Tally counts lines of the input.
@@ -206,7 +208,7 @@ func (s *Sender) read(text inputLine) (line.Line, error) {
 	if text.tooLong {
 		return line.Line{}, fmt.Errorf("over %d bytes", line.MaximumBytes)
 	}
-	parsed, err := line.Read(text.text)
+	parsed, err := line.Look(text.text)
 	if err == nil && parsed.IsModel() {
 		err = s.options.Check(parsed.Engine)
 	}
@@ -215,6 +217,9 @@ func (s *Sender) read(text inputLine) (line.Line, error) {
 
 // put hands a line to a lane, once that has room. A lane that can't be reached while others can is passed by.
 func (s *Sender) put(ctx context.Context, l *Lane, next pending) error {
+	if l.put(next) {
+		return nil
+	}
 	look := time.NewTicker(time.Second)
 	defer look.Stop()
 	for !l.put(next) {

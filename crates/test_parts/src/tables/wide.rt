@@ -1,8 +1,9 @@
-//! A table of more columns than have their values kept together.
+//! A table of more columns than have values of their own that are kept together.
 use crate::logic::{env_of, logic, shown};
 use dmn_logic::Logic;
 use dmn_table::{Table, decide};
 use std::alloc::{AllocError, Global};
+use std::process::Abort;
 use std::test::Fail;
 
 const COLUMNS: usize = 129;
@@ -13,9 +14,9 @@ fn entries(alloc: Global, entry: &str, last: &str) -> Result<String, AllocError>
     format!(in alloc; "[{before}\"{last}\"]")
 }
 
-/// A table that collects 1 where `a` is above 0, 2 where it is 0, and 3 where it is below and the last entry is met.
-fn table(alloc: Global, last: &str) -> Result<Table, Fail> {
-    let inputs = entries(alloc, "a", "a")?;
+/// A table over this expression in each column that collects 1 where `a` is above 0, 2 where it is 0, and 3 where it is below and the last entry is met.
+fn table(alloc: Global, input: &str, last: &str) -> Result<Table, Fail> {
+    let inputs = entries(alloc, input, input)?;
     let above = entries(alloc, "> 0", "> 0")?;
     let zero = entries(alloc, "-", "0")?;
     let below = entries(alloc, "< 0", last)?;
@@ -39,12 +40,26 @@ const OUTCOMES: &[(&str, i64, &str)] = &[
     ("> a * 9223372036854775807", -1, "[3]"),
 ];
 
+/// Values that are kept together, and values that are not.
+const INPUTS: &[&str] = &["a", "a + 0"];
+
+fn many_columns_of(rt: &impl Abort, alloc: Global, input: &str) -> Result<(), Fail> {
+    for (last, a, want) in OUTCOMES {
+        let table = table(alloc, input, last)?;
+        let outcome = decide(alloc, &table, &env_of(alloc, *a)?)?;
+        assert_eq!(rt;
+            shown(alloc, &outcome)?.as_str(),
+            *want,
+            "{input} {last} {a}"
+        );
+    }
+    Ok(())
+}
+
 #[test]
 fn many_columns(rt: HostRuntime) -> Result<(), Fail> {
-    for (last, a, want) in OUTCOMES {
-        let table = table(rt.alloc(), last)?;
-        let outcome = decide(rt.alloc(), &table, &env_of(rt.alloc(), *a)?)?;
-        assert_eq!(rt; shown(rt.alloc(), &outcome)?.as_str(), *want, "{last} {a}");
+    for input in INPUTS {
+        many_columns_of(&rt, rt.alloc(), input)?;
     }
     Ok(())
 }

@@ -6,4 +6,4 @@ use Rattle.dmn_ranges.specs.Tables.{tally_rule, tally_rules}
 use Rattle.dmn_ranges.proofs.tally.tally_rules.Given as goal
 
 abbrev pub invariant-loop-rule : goal.invariant-loop-rule
-invariant-loop-rule l = tally_rules l.single l.columns (scope l.names) (map rule_view l.rules) ≡ fold (tally_rule l.single l.columns (scope l.names)) l.tally (map rule_view (drop l.rule-index l.rules))
+invariant-loop-rule l = tally_rules l.shape l.columns (scope l.names) (map rule_view l.rules) ≡ fold (tally_rule l.shape l.columns (scope l.names)) l.tally (map rule_view (drop l.rule-index l.rules))

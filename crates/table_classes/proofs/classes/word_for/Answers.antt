@@ -1,10 +1,20 @@
-use Rattle.std.proofs.Common.{◌<◌, ◌+◌, sym, subst, map, arith}
+use Rattle.std.proofs.Common.{◌<◌, ◌+◌, ◌∙◌, ap, sym, subst, length, map, Some, arith}
 use Rattle.std.proofs.lemmas.List.{length-map}
-use Rattle.std.proofs.lemmas.Option.{slice_get_within}
+use Rattle.std.proofs.lemmas.Option.{slice_get_within, slice_get-get_or}
 use Rattle.table_classes.specs.Classes.{MissesAt}
 use Rattle.table_classes.proofs.ClassWords.{TellsBefore, bit_set, entries_at, rule_told}
 use Rattle.table_classes.proofs.classes.word_for.Goals.{then-may_meet, else-may_meet}
 use Rattle.table_classes.proofs.classes.word_for.Goals as goal
+
+pub may_meet-requires : goal.may_meet-requires
+may_meet-requires g c =
+    let rules = map g.R.HasTests.tests_of c.args.rules.now in
+    let i = c.loop-i.i in
+    let rule = c.tests.result.now in
+    let within : i < length c.args.rules.now = omega (arith, c.loop-i-test.true, c.min-i-end.ensures) in
+    c.sieve_of.ensures c.args.column rules rule c.requires
+    (slice_get-get_or rules i rule (omega (arith, within, length-map c.args.rules.now g.R.HasTests.tests_of))
+    ∙ ap Some (sym (entries_at g.R.HasTests.tests_of c.args.rules.now i c.index-rules-i.result rule within c.index-rules-i.is c.tests.ensures)))
 
 pub loop-i-preserved : goal.loop-i-preserved
 loop-i-preserved g c =
