@@ -41,17 +41,14 @@ func (p *parser) product() Node { return p.chain(p.power, "*", "/") }
 func (p *parser) chain(operand func() Node, operators ...string) Node {
 	start := p.at
 	first := operand()
+	operator := p.acceptOne(operators)
+	if operator == "" {
+		return first
+	}
 	c := &Chain{Operands: []Node{first}}
-	for {
-		operator := p.acceptOne(operators)
-		if operator == "" {
-			break
-		}
+	for ; operator != ""; operator = p.acceptOne(operators) {
 		c.Operators = append(c.Operators, operator)
 		c.Operands = append(c.Operands, operand())
-	}
-	if len(c.Operators) == 0 {
-		return first
 	}
 	c.Span = p.from(start)
 	return c

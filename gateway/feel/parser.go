@@ -133,7 +133,7 @@ func (p *parser) peek(ahead int) token {
 
 func (p *parser) peekIs(ahead int, spelled string) bool {
 	t := p.peek(ahead)
-	return (t.kind == sign || t.kind == word) && p.spell(t) == spelled
+	return (t.kind == sign || t.kind == word) && p.source[t.start] == spelled[0] && p.spell(t) == spelled
 }
 
 func (p *parser) is(spelled string) bool { return p.peekIs(0, spelled) }

@@ -212,7 +212,10 @@ func (p *parser) name() Node {
 	p.at += taken
 	span := p.from(start)
 	n := &Name{Span: span, Name: Canonical(p.source[span.Start:span.End]), Known: true}
-	spelled := strings.Join(strings.Fields(p.source[span.Start:span.End]), " ")
+	spelled := p.source[span.Start:span.End]
+	if taken > 1 {
+		spelled = strings.Join(strings.Fields(spelled), " ")
+	}
 	n.Doubtful = spelled != declared && p.scope.hasShorter(&p.reading, start, p.at)
 	return n
 }

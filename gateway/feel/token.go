@@ -69,12 +69,15 @@ func isNamePart(r rune) bool {
 // signs are those of more than one character, the longest first.
 var signs = []string{"..", "**", "<=", ">=", "!=", "->"}
 
+// usualToken is how many bytes a token takes with the blanks before it, or more.
+const usualToken = 4
+
 // tokens cuts a text. The last token is the end of the text.
 func tokens(source string) ([]token, *Fault) {
 	if len(source) > MostBytes {
 		return nil, &Fault{Offset: MostBytes, Why: fmt.Sprintf("the text has over %d bytes", MostBytes)}
 	}
-	var all []token
+	all := make([]token, 0, len(source)/usualToken+2)
 	for offset := 0; ; {
 		start, fault := skipBlanks(source, offset)
 		if fault != nil {

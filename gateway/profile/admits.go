@@ -53,15 +53,15 @@ func (t *translator) narrowedTo(due, of *valueType) *valueType {
 
 // admittedPhrase is a value, or null where a type doesn't allow it.
 func (t *translator) admittedPhrase(p phrase, due *valueType, refuse func(why, instead string)) phrase {
-	if p.members != nil && due.kind == listKind && len(due.allowed.nodes()) == 0 {
-		members, conditions, why := t.admittedMembers(p.members, due.element)
+	if p.members() != nil && due.kind == listKind && len(due.allowed.nodes()) == 0 {
+		members, conditions, why := t.admittedMembers(p.members(), due.element)
 		if why == "" {
 			return t.whereAll(conditions, listing(members, p.of))
 		}
 		refuse(why, untestableInstead)
 		return refused
 	}
-	if p.over != nil {
+	if p.over() != nil {
 		refuse("a quotient by a variable is not held against allowed values", "a rounding round the quotient")
 		return refused
 	}
@@ -115,9 +115,7 @@ func (t *translator) admittedList(b *box, of, due *valueType, refuse func(why, i
 			members[i] = t.hoisted("member", member, of.memberType())
 		}
 	}
-	list := listing(members, of)
-	list.members = members
-	return t.boxed(t.admittedPhrase(list, due, refuse))
+	return t.boxed(t.admittedPhrase(listing(members, of), due, refuse))
 }
 
 // admits are the conditions under which a type allows a value that may be written more than once. They are true of null where
@@ -241,10 +239,10 @@ func (t *translator) isSurePhrase(p phrase, due *valueType) bool {
 	switch {
 	case implies(p.of, due):
 		return true
-	case p.branches != nil:
-		return t.isSurePhrase(p.branches.then, due) && t.isSurePhrase(p.branches.otherwise, due) || t.wasTested(p, due)
-	case p.members != nil && due.kind == listKind && len(due.allowed.nodes()) == 0:
-		for _, member := range p.members {
+	case p.branches() != nil:
+		return t.isSurePhrase(p.branches().then, due) && t.isSurePhrase(p.branches().otherwise, due) || t.wasTested(p, due)
+	case p.members() != nil && due.kind == listKind && len(due.allowed.nodes()) == 0:
+		for _, member := range p.members() {
 			if !t.isSurePhrase(member, due.element) {
 				return false
 			}
@@ -259,15 +257,15 @@ func (t *translator) isSurePhrase(p phrase, due *valueType) bool {
 
 // wasTested tells whether a choice is what admitted makes, as in a file that was exported.
 func (t *translator) wasTested(p phrase, due *valueType) bool {
-	x := p.branches.then
-	if p.branches.otherwise.text != "null" || !x.isShort() || t.full {
+	x := p.branches().then
+	if p.branches().otherwise.text != "null" || !x.isShort() || t.full {
 		return false
 	}
 	written, entries, civils := t.written, len(t.frame.entries), t.civils
 	t.civils = nil
 	conditions, why := t.admits(x, due, false)
 	isSame := why == "" && len(conditions) > 0 && len(t.frame.entries) == entries &&
-		allOf(conditions).text == p.branches.condition.text
+		allOf(conditions).text == p.branches().condition.text
 	t.written, t.frame.entries, t.civils = written, t.frame.entries[:entries], civils
 	return isSame
 }
@@ -373,7 +371,7 @@ func liesIn(literal feel.Node, interval *feel.Range) bool {
 // includes tells whether all of some other values are surely among these.
 func (v *valueList) includes(other valueList) bool {
 	switch {
-	case len(v.nodes()) == 0 || len(other.nodes()) > 0 && &v.nodes()[0] == &other.nodes()[0]:
+	case len(v.nodes()) == 0 || len(other.nodes()) > 0 && &v.nodes()[0] == &other.nodes()[0] || v.at() != nil && v.at() == other.at():
 		return true
 	case len(other.nodes()) == 0:
 		return false

@@ -5,7 +5,6 @@ import (
 	"fmt"
 	"strings"
 
-	"gateway/calendar"
 	"gateway/dmn"
 	"gateway/model"
 )
@@ -46,22 +45,24 @@ func (b *box) nesting(depth int) int {
 
 // assembler makes the model of boxes, and notes where each part came from.
 type assembler struct {
-	words   *words
-	tick    calendar.Tick
 	homes   map[*dmn.Element]home
 	places  map[string]Place
 	origins map[string]Origin
 	// counts tells that numbers are counted in units: then places have the texts of the files.
 	counts bool
-	// schemas are those of the types of places, which share them.
+	// schemas are those of types, which places share; written counts their bytes, one that stands twice twice.
+	writer  *schemaWriter
 	schemas map[*valueType]json.RawMessage
-	kept    *kept
+	written int
+	// near is the input or decision at hand, tooLarge the one whose schemas are too many bytes with those before; nil for none.
+	near, tooLarge *node
+	kept           *kept
 }
 
-// assembled is the result of a graph that was translated without a refusal.
-func assembled(g *graph, services []service, counts bool) *Result {
-	a := &assembler{words: g.words, tick: g.offsets.tick, homes: g.refusals.homes, places: map[string]Place{}, origins: map[string]Origin{},
-		counts: counts, schemas: map[*valueType]json.RawMessage{}, kept: newKept()}
+// assembled is the result of a graph that was translated without a refusal, and the part whose schemas are too large; nil for none.
+func assembled(g *graph, services []service, counts bool) (*Result, *node) {
+	a := &assembler{writer: newSchemaWriter(g.words, g.offsets.tick), homes: g.refusals.homes, places: map[string]Place{},
+		origins: map[string]Origin{}, counts: counts, schemas: map[*valueType]json.RawMessage{}, kept: newKept()}
 	if len(g.sources) > 0 {
 		a.origin("", g.sources[0].file.Root)
 	}
@@ -73,13 +74,15 @@ func assembled(g *graph, services []service, counts bool) *Result {
 	result.Model = model.Model{Inputs: []string{}, Decisions: []model.Decision{}, Services: []model.Service{}}
 	for i, n := range g.inputs {
 		result.Model.Inputs = append(result.Model.Inputs, n.word)
-		result.Types[n.word] = schema(n.of, g.words, g.offsets.tick)
+		a.near = n
+		result.Types[n.word] = a.schema(n.of)
 		a.place(fmt.Sprintf("/inputs/%d", i), n.element())
 	}
 	for i, n := range g.decisions {
 		pointer := fmt.Sprintf("/decisions/%d", i)
+		a.near = n
 		a.place(pointer, n.element())
-		result.Types[n.word] = schema(n.of, g.words, g.offsets.tick)
+		result.Types[n.word] = a.schema(n.of)
 		decision := model.Decision{Name: n.word, Needs: wordsOf(n.needs), Expr: a.box(n.logic, pointer+"/expr")}
 		result.Model.Decisions = append(result.Model.Decisions, decision)
 	}
@@ -87,7 +90,7 @@ func assembled(g *graph, services []service, counts bool) *Result {
 		result.Model.Services = append(result.Model.Services, s.Service)
 		a.place(fmt.Sprintf("/services/%d", i), s.origin)
 	}
-	return result
+	return result, a.tooLarge
 }
 
 // drawn has where the diagram of a single file draws each input and decision; nil where it draws not all of them.
@@ -143,8 +146,8 @@ func (a *assembler) text(pointer string, e *dmn.Element, translated string) {
 func (a *assembler) counted(pointer string, value phrase) {
 	place := a.places[pointer]
 	switch {
-	case value.over != nil:
-		place.Over, place.Decimals = value.over.text, value.of.units.scale
+	case value.over() != nil:
+		place.Over, place.Decimals = value.over().text, value.of.units.scale
 	case a.kept.isCounted(value.of) || value.of.hasTemporal():
 		place.Type = a.schema(value.of)
 	default:
@@ -153,12 +156,18 @@ func (a *assembler) counted(pointer string, value phrase) {
 	a.places[pointer] = place
 }
 
-// schema is the schema of a type, made once.
+// schema is the schema of a type, made once. Past the most bytes there are none.
 func (a *assembler) schema(of *valueType) json.RawMessage {
+	if a.tooLarge != nil {
+		return nil
+	}
 	made, found := a.schemas[of]
 	if !found {
-		made = schema(of, a.words, a.tick)
+		made = a.writer.schema(of)
 		a.schemas[of] = made
+	}
+	if a.written += len(made); a.written > mostOfSchemas {
+		a.tooLarge = a.near
 	}
 	return made
 }

@@ -5,19 +5,13 @@ import (
 	"gateway/model"
 )
 
-// A box is a boxed expression of the model that knows where it came from. One of table, list, entries or the phrase
+// A box is a boxed expression of the model that knows where it came from. One of the table, list, entries or the phrase
 // alone is its content.
 type box struct {
 	kind  boxKind
 	value phrase
-	// table is of a decision table; rows, inputs and outputs are the elements of its parts.
-	table         *model.Table
-	rows          []*dmn.Element
-	inputs, gives []*dmn.Element
-	// cells are the entries and the default of each output of a table.
-	cells [][]phrase
-	// columns are the values of the input columns.
-	columns []phrase
+	// boxedTable is nil of what is no decision table.
+	*boxedTable
 	list    []*box
 	entries []boxEntry
 	// result is nil for a context without one.
@@ -26,6 +20,22 @@ type box struct {
 	isRow bool
 	// origin is its element; nil for what was made here.
 	origin *dmn.Element
+}
+
+// A boxedTable is a decision table; rows, inputs and gives are the elements of its parts.
+type boxedTable struct {
+	table         *model.Table
+	rows          []*dmn.Element
+	inputs, gives []*dmn.Element
+	// cells are the entries and the default of each output of a table.
+	cells [][]phrase
+	// columns are the values of the input columns.
+	columns []phrase
+}
+
+// tableOf is the box of a table.
+func tableOf(table *model.Table) *box {
+	return &box{kind: tableBox, boxedTable: &boxedTable{table: table}}
 }
 
 type boxKind uint8

@@ -136,7 +136,7 @@ func (t *translator) context(x *dmn.Context, s *scope) (*box, *valueType) {
 		}
 		t.contextEntry(entry, made, of, inside)
 	}
-	return made, of
+	return made, of.bounded(func(why, instead string) { t.refusals.refuse(x.At(), "", why, instead) })
 }
 
 // contextEntry translates an entry with a name, and puts it into scope for those behind it.
@@ -206,7 +206,7 @@ func (t *translator) relationRow(x *dmn.Relation, row *dmn.List, s *scope) (*box
 		made.entries = append(made.entries, boxEntry{word: word, value: value, of: valueOf})
 		of.setField(name, valueOf)
 	}
-	return made, of
+	return made, of.bounded(func(why, instead string) { t.refusals.refuse(row.Element, "", why, instead) })
 }
 
 // usesColumn tells whether a cell may name a column before it.

@@ -82,8 +82,8 @@ func (c *civil) fromMarch(t *translator) string {
 }
 
 func (c *civil) year(t *translator) string {
-	if c.date.moment != nil {
-		year, _, _ := calendar.Date(*c.date.moment)
+	if c.date.moment() != nil {
+		year, _, _ := calendar.Date(*c.date.moment())
 		return fmt.Sprint(year)
 	}
 	return once(&c.yearWord, func() string {
@@ -95,8 +95,8 @@ func (c *civil) year(t *translator) string {
 }
 
 func (c *civil) month(t *translator) string {
-	if c.date.moment != nil {
-		_, month, _ := calendar.Date(*c.date.moment)
+	if c.date.moment() != nil {
+		_, month, _ := calendar.Date(*c.date.moment())
 		return fmt.Sprint(month)
 	}
 	return once(&c.monthWord, func() string {
@@ -105,8 +105,8 @@ func (c *civil) month(t *translator) string {
 }
 
 func (c *civil) day(t *translator) string {
-	if c.date.moment != nil {
-		_, _, day := calendar.Date(*c.date.moment)
+	if c.date.moment() != nil {
+		_, _, day := calendar.Date(*c.date.moment())
 		return fmt.Sprint(day)
 	}
 	return once(&c.dayWord, func() string {
@@ -168,8 +168,8 @@ func (t *translator) dayPart(d phrase, name string) phrase {
 	case "day":
 		return partNumber(t.civil(d).day(t))
 	case "weekday":
-		if d.moment != nil {
-			return partNumber(fmt.Sprint((*d.moment-1)%7 + 1))
+		if d.moment() != nil {
+			return partNumber(fmt.Sprint((*d.moment()-1)%7 + 1))
 		}
 		// The first day is a Monday, which is 1.
 		less := infix(d, "-", constant("1", numberType), rankSum, numberType)
@@ -190,8 +190,8 @@ func (t *translator) secondsPart(p phrase, name string) phrase {
 		return phrase{}
 	case isWhole && name == "days":
 		return days
-	case name == "seconds" && p.moment != nil:
-		return t.secondsOf(*p.moment % bounds[0])
+	case name == "seconds" && p.moment() != nil:
+		return t.secondsOf(*p.moment() % bounds[0])
 	}
 	made := t.durationPart(p, bounds[0], bounds[1])
 	if name == "seconds" {
@@ -212,8 +212,8 @@ func (t *translator) monthsPart(p phrase, name string) phrase {
 
 // durationPart is the size of a duration, by within where that isn't 0, in units; below 0 where the duration is.
 func (t *translator) durationPart(p phrase, within, unit int64) phrase {
-	if p.moment != nil {
-		value := *p.moment
+	if p.moment() != nil {
+		value := *p.moment()
 		if within > 0 {
 			value %= within
 		}
@@ -257,8 +257,8 @@ func (t *translator) monthsBetween(n *feel.Call, s *scope) phrase {
 	if t.full {
 		return refused
 	}
-	if from.moment != nil && to.moment != nil {
-		return momentOf(calendar.MonthsBetween(*from.moment, *to.moment), monthDurationType)
+	if from.moment() != nil && to.moment() != nil {
+		return momentOf(calendar.MonthsBetween(*from.moment(), *to.moment()), monthDurationType)
 	}
 	a, b := t.civil(from), t.civil(to)
 	months := t.step("months", fmt.Sprintf("12 * (%s - %s) + %s - %s", b.year(t), a.year(t), b.month(t), a.month(t)), numberType)

@@ -171,5 +171,5 @@ func (r *tableReader) hitTable(rules []int) *box {
 		made.Rules = append(made.Rules, model.Rule{When: when, Then: []string{"true"}})
 		r.wrote(len(fmt.Sprint(when)) + bytesOfEntry)
 	}
-	return &box{kind: tableBox, table: made}
+	return tableOf(made)
 }

@@ -17,7 +17,7 @@ func (t *translator) compare(n feel.Node, l phrase, operator string, r phrase) p
 	if refuseMixed(l.of, r.of, t.refusal(n)) {
 		return refused
 	}
-	if !t.counts && l.over == nil && r.over == nil || l.of.kind == refusedKind || r.of.kind == refusedKind {
+	if !t.counts && l.over() == nil && r.over() == nil || l.of.kind == refusedKind || r.of.kind == refusedKind {
 		return infix(l, operator, r, rankComparison, booleanType)
 	}
 	l, r = t.meeting(l, r), t.meeting(r, l)
@@ -45,6 +45,9 @@ func (t *translator) meeting(p, other phrase) phrase {
 
 // compareCounted compares values of which no one is a constant.
 func (t *translator) compareCounted(n feel.Node, l phrase, operator string, r phrase) phrase {
+	if left, right, is := t.withoutProducts(l, r); is {
+		return infix(left, operator, right, rankComparison, booleanType)
+	}
 	of := joinedUnits(t.within(l.of), t.within(r.of))
 	for _, side := range []*phrase{&l, &r} {
 		other := l
@@ -61,18 +64,55 @@ func (t *translator) compareCounted(n feel.Node, l phrase, operator string, r ph
 	return infix(l, operator, r, rankComparison, booleanType)
 }
 
+// withoutProducts are two numbers of which one is a product with a constant, as x / 8 is, times what leaves the fewest decimals: x / 8 < y
+// is x < y * 8. False where no side is a product, or a factor is past the range.
+func (t *translator) withoutProducts(l, r phrase) (left, right phrase, is bool) {
+	if l.of.kind != numberKind || r.of.kind != numberKind || !l.isPositiveProduct() && !r.isPositiveProduct() {
+		return l, r, false
+	}
+	scale := maximum(l.of.units.scale, r.of.units.scale)
+	left, byLeft := withoutProduct(l, decimal.Power(scale-l.of.units.scale))
+	right, byRight := withoutProduct(r, decimal.Power(scale-r.of.units.scale))
+	common := new(big.Int).GCD(nil, nil, byLeft, byRight)
+	byLeft, byRight = new(big.Int).Quo(byLeft, common), new(big.Int).Quo(byRight, common)
+	if !isNumber(byLeft) || !isNumber(byRight) {
+		return l, r, false
+	}
+	return t.shallow(times(left, byLeft, numberType)), t.shallow(times(right, byRight, numberType)), true
+}
+
+// isPositiveProduct tells whether a phrase is a number times a constant above 0.
+func (p phrase) isPositiveProduct() bool {
+	product := p.product()
+	return product != nil && product.of.of.kind == numberKind && product.by.Sign() > 0
+}
+
+// withoutProduct is a number times a factor as what it is a product of, times another factor.
+func withoutProduct(p phrase, by *big.Int) (phrase, *big.Int) {
+	if !p.isPositiveProduct() {
+		return p, by
+	}
+	return p.product().of, by.Mul(by, p.product().by)
+}
+
 // againstNumber compares a value with a constant, which is brought to the value's unit: of x < 0.125 in hundredths it is
 // x <= 12. Where the constant has no such number no value is equal to it.
 func (t *translator) againstNumber(x phrase, operator string, value *big.Rat) phrase {
-	if operator == "=" || operator == "!=" {
-		return t.equalToNumber(x, operator, value)
+	u := t.within(x.of)
+	if product := x.product(); x.isPositiveProduct() && constantNumber(value).of.units.scale <= product.of.of.units.scale+mostFiner {
+		value = new(big.Rat).Quo(inUnits(value, u), new(big.Rat).SetInt(product.by))
+		x, u = product.of, units{}
 	}
-	operator, limit := boundIn(operator, value, t.within(x.of))
+	if operator == "=" || operator == "!=" {
+		return t.equalIn(x, operator, value, u)
+	}
+	operator, limit := boundIn(operator, value, u)
 	return infix(x, operator, wholeConstant(limit), rankComparison, booleanType)
 }
 
-func (t *translator) equalToNumber(x phrase, operator string, value *big.Rat) phrase {
-	if at := inUnits(value, t.within(x.of)); at.IsInt() && isNumber(at.Num()) {
+// equalIn compares a value that is counted in some units.
+func (t *translator) equalIn(x phrase, operator string, value *big.Rat, u units) phrase {
+	if at := inUnits(value, u); at.IsInt() && isNumber(at.Num()) {
 		return infix(x, operator, wholeConstant(at.Num()), rankComparison, booleanType)
 	}
 	// A number is not two numbers, null is none, and of another kind it is unknown.
@@ -140,7 +180,7 @@ func (t *translator) compareQuotients(n feel.Node, l phrase, operator string, r 
 			return t.refuse(n, "a quotient is compared with what may be no number", "the type number for it")
 		}
 	}
-	if r.number != nil && l.over == nil {
+	if r.number != nil && l.over() == nil {
 		scale := constantNumber(r.number).of.units.scale
 		if scale > l.of.units.scale+mostFiner {
 			l = t.decimalParts(n, l)
@@ -179,23 +219,26 @@ func (t *translator) quotientAgainst(n feel.Node, l phrase, operator string, val
 		return t.refuse(n, "a quotient is compared with a number of too many digits", "a number with fewer digits")
 	}
 	left := times(l, at.Denom(), numberType)
-	right := infix(*l.over, "*", wholeConstant(at.Num()), rankProduct, numberType)
+	right := infix(*l.over(), "*", wholeConstant(at.Num()), rankProduct, numberType)
 	return infix(left, operator, right, rankComparison, booleanType)
 }
 
 // crossed compares l * left * the divisor of r with r * right * the divisor of l.
 func (t *translator) crossed(n feel.Node, l phrase, left *big.Int, operator string, r phrase, right *big.Int) phrase {
+	over, under := l.over(), r.over()
+	l, left = withoutProduct(l, left)
+	r, right = withoutProduct(r, right)
 	common := new(big.Int).GCD(nil, nil, left, right)
 	left, right = new(big.Int).Quo(left, common), new(big.Int).Quo(right, common)
 	if !isNumber(left) || !isNumber(right) {
 		return t.refuse(n, "the quotients have too many decimals to be compared", "a rounding of what is calculated before")
 	}
 	lText, rText := times(l, left, numberType), times(r, right, numberType)
-	if r.over != nil {
-		lText = infix(lText, "*", *r.over, rankProduct, numberType)
+	if under != nil {
+		lText = infix(lText, "*", *under, rankProduct, numberType)
 	}
-	if l.over != nil {
-		rText = infix(rText, "*", *l.over, rankProduct, numberType)
+	if over != nil {
+		rText = infix(rText, "*", *over, rankProduct, numberType)
 	}
 	return infix(lText, operator, rText, rankComparison, booleanType)
 }
@@ -205,8 +248,8 @@ func (t *translator) between(n feel.Node, x, low, high phrase) phrase {
 	if refuseMixed(x.of, low.of, t.refusal(n)) || refuseMixed(x.of, high.of, t.refusal(n)) {
 		return refused
 	}
-	if !t.counts && x.over == nil && low.over == nil && high.over == nil ||
-		!t.isCounted(x.of) && !t.isCounted(low.of) && !t.isCounted(high.of) && x.over == nil && low.over == nil && high.over == nil {
+	if !t.counts && x.over() == nil && low.over() == nil && high.over() == nil ||
+		!t.isCounted(x.of) && !t.isCounted(low.of) && !t.isCounted(high.of) && x.over() == nil && low.over() == nil && high.over() == nil {
 		t.meeting(x, low)
 		t.meeting(x, high)
 		return between(x, low, high)

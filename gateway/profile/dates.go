@@ -12,7 +12,7 @@ import (
 // momentOf is a constant date or duration.
 func momentOf(value int64, of *valueType) phrase {
 	made := wholeConstant(big.NewInt(value))
-	made.of, made.moment = of, &value
+	made.of, made.rare = of, &rare{moment: &value}
 	return made
 }
 

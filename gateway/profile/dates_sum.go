@@ -69,8 +69,8 @@ func (t *translator) secondsBetween(n feel.Node, a, b phrase) phrase {
 	if refuseMixed(a.of, b.of, t.refusal(n)) {
 		return refused
 	}
-	if a.moment != nil && b.moment != nil {
-		return momentOf(*a.moment-*b.moment, dayDurationType)
+	if a.moment() != nil && b.moment() != nil {
+		return momentOf(*a.moment()-*b.moment(), dayDurationType)
 	}
 	return infix(a, "-", b, rankSum, dayDurationType)
 }
@@ -119,15 +119,15 @@ func (t *translator) insteadOfOther(one, other kindOfType) string {
 // durationSum is the sum or the difference of two durations of one type.
 func (t *translator) durationSum(a phrase, operator string, b phrase) phrase {
 	made := infix(a, operator, b, rankSum, &valueType{kind: a.of.kind})
-	if a.moment != nil && b.moment != nil {
-		if value, fine := addedNumbers(*a.moment, operator, *b.moment); fine {
+	if a.moment() != nil && b.moment() != nil {
+		if value, fine := addedNumbers(*a.moment(), operator, *b.moment()); fine {
 			return momentOf(value, made.of)
 		}
 	}
 	if days, is := t.wholeDays(a); is {
 		if more, also := t.wholeDays(b); also {
 			both := t.shallow(infix(days, operator, more, rankSum, numberType))
-			made.inDays = &both
+			made.rare = &rare{inDays: &both}
 		}
 	}
 	return made
@@ -147,11 +147,11 @@ func (t *translator) wholeDays(p phrase) (phrase, bool) {
 	switch {
 	case p.of.kind != dayDurationKind:
 		return phrase{}, false
-	case p.inDays != nil:
-		return *p.inDays, true
-	case p.moment != nil && *p.moment%t.perDay() == 0:
-		days := wholeConstant(big.NewInt(*p.moment / t.perDay()))
-		days.number = new(big.Rat).SetInt64(*p.moment / t.perDay())
+	case p.inDays() != nil:
+		return *p.inDays(), true
+	case p.moment() != nil && *p.moment()%t.perDay() == 0:
+		days := wholeConstant(big.NewInt(*p.moment() / t.perDay()))
+		days.number = new(big.Rat).SetInt64(*p.moment() / t.perDay())
 		return days, true
 	}
 	return phrase{}, false
@@ -159,19 +159,19 @@ func (t *translator) wholeDays(p phrase) (phrase, bool) {
 
 // daysBetween is the duration between two dates.
 func (t *translator) daysBetween(a, b phrase) phrase {
-	if a.moment != nil && b.moment != nil {
-		return momentOf((*a.moment-*b.moment)*t.perDay(), dayDurationType)
+	if a.moment() != nil && b.moment() != nil {
+		return momentOf((*a.moment()-*b.moment())*t.perDay(), dayDurationType)
 	}
 	days := t.short(infix(a, "-", b, rankSum, numberType))
 	made := infix(days, "*", wholeConstant(big.NewInt(t.perDay())), rankProduct, dayDurationType)
-	made.inDays = &days
+	made.rare = &rare{inDays: &days}
 	return made
 }
 
 // daysLater is a date plus or minus a days and time duration: the date of that time after its midnight.
 func (t *translator) daysLater(n feel.Node, d phrase, operator string, length phrase) phrase {
-	if d.moment != nil && length.moment != nil {
-		return t.constantDaysLater(n, *d.moment, operator, *length.moment)
+	if d.moment() != nil && length.moment() != nil {
+		return t.constantDaysLater(n, *d.moment(), operator, *length.moment())
 	}
 	days, whole := t.wholeDays(length)
 	if whole {
@@ -245,8 +245,8 @@ func (t *translator) times(n feel.Node, a phrase, operator string, b phrase) phr
 			"a whole number: floor(n), or an input of the type number, by --decimals NAME=0")
 	}
 	of := &valueType{kind: a.of.kind}
-	if a.moment != nil && b.number != nil {
-		product := new(big.Int).Mul(big.NewInt(*a.moment), b.number.Num())
+	if a.moment() != nil && b.number != nil {
+		product := new(big.Int).Mul(big.NewInt(*a.moment()), b.number.Num())
 		if isNumber(product) {
 			return momentOf(product.Int64(), of)
 		}
@@ -254,7 +254,7 @@ func (t *translator) times(n feel.Node, a phrase, operator string, b phrase) phr
 	made := infix(a, "*", b, rankProduct, of)
 	if days, is := t.wholeDays(a); is {
 		many := t.shallow(infix(days, "*", b, rankProduct, numberType))
-		made.inDays = &many
+		made.rare = &rare{inDays: &many}
 	}
 	return made
 }
@@ -264,12 +264,12 @@ const mostMonths = 12 * (calendar.LastYear + 1)
 
 // monthsLater is a date plus or minus a years and months duration: the same day of the month, or its last day.
 func (t *translator) monthsLater(n feel.Node, d phrase, operator string, length phrase) phrase {
-	if d.moment != nil && length.moment != nil && *length.moment != math.MinInt64 {
-		months := *length.moment
+	if d.moment() != nil && length.moment() != nil && *length.moment() != math.MinInt64 {
+		months := *length.moment()
 		if operator == "-" {
 			months = -months
 		}
-		at, fine := calendar.AddMonths(*d.moment, months)
+		at, fine := calendar.AddMonths(*d.moment(), months)
 		if !fine {
 			return t.refuse(n, pastYears, "a date within these")
 		}

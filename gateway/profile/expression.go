@@ -16,7 +16,7 @@ func (t *translator) value(n feel.Node, s *scope) phrase {
 	case *feel.Number:
 		return t.number(n)
 	case *feel.String:
-		return constant(quotedText(n.Value), &valueType{kind: textKind, common: valueList{&listedValues{all: []feel.Node{n}}}})
+		return constant(quotedText(n.Value), t.kept.textOf(n))
 	case *feel.Boolean:
 		return constant(literalText(n), booleanType)
 	case *feel.Null:
@@ -143,7 +143,12 @@ func (t *translator) list(n *feel.List, s *scope) phrase {
 
 // contextLiteral is the box of {a: 1, b: a}: each entry sees those before it.
 func (t *translator) contextLiteral(n *feel.Context, s *scope) (*box, *valueType) {
-	made := &box{kind: contextBox, entries: []boxEntry{}}
+	made := &box{kind: contextBox, entries: make([]boxEntry, 0, len(n.Entries))}
+	if len(n.Entries) == 1 {
+		entry, of := t.literalEntry(n.Entries[0], s)
+		made.entries = append(made.entries, entry)
+		return made, t.kept.contextOf(n.Entries[0].Key, of)
+	}
 	of := &valueType{kind: contextKind, fields: map[string]*valueType{}}
 	inside := s
 	for i, entry := range n.Entries {
@@ -151,26 +156,29 @@ func (t *translator) contextLiteral(n *feel.Context, s *scope) (*box, *valueType
 			t.refuse(n, "the key "+entry.Key+" stands twice", "another key")
 			continue
 		}
-		var value *box
-		var valueOf *valueType
-		value = t.framed(func() *box {
-			var b *box
-			b, valueOf = t.boxedPart(entry.Value, inside)
-			return b
-		})
-		word := t.words.of(entry.Key)
-		t.wrote(len(word) + bytesOfEntry)
-		made.entries = append(made.entries, boxEntry{word: word, value: value, of: valueOf})
+		part, valueOf := t.literalEntry(entry, inside)
+		made.entries = append(made.entries, part)
 		of.setField(entry.Key, valueOf)
 		if i == len(n.Entries)-1 {
 			break // No other entry sees it.
 		}
 		if inside == s {
-			inside = newScope(s)
+			inside = s.within()
 		}
-		inside.bindWord(entry.Key, word, valueOf)
+		inside.bindWord(entry.Key, part.word, valueOf)
 	}
-	return made, of
+	return made, of.bounded(t.refusal(n))
+}
+
+// literalEntry is an entry of a context literal, with its type.
+func (t *translator) literalEntry(entry feel.Entry, s *scope) (made boxEntry, of *valueType) {
+	value := t.framed(func() (b *box) {
+		b, of = t.boxedPart(entry.Value, s)
+		return b
+	})
+	word := t.words.of(entry.Key)
+	t.wrote(len(word) + bytesOfEntry)
+	return boxEntry{word: word, value: value, of: of}, of
 }
 
 // boxedForm translates a form that stands alone, so that a context literal needs no entry in front, nor do lists of
@@ -231,7 +239,10 @@ func (t *translator) negation(n *feel.Negation, s *scope) phrase {
 		return t.refuse(n, "a value of the type "+inside.of.String()+" is negated", "a duration times -1")
 	}
 	o := inside.within(rankNegation)
-	made := phrase{text: "-" + o.text, rank: rankNegation, depth: 1 + o.depth, of: numberOf(uncelled(inside.of.units)), over: inside.over}
+	made := phrase{text: "-" + o.text, rank: rankNegation, depth: 1 + o.depth, of: numberOf(uncelled(inside.of.units))}
+	if inside.over() != nil {
+		made.rare = &rare{over: inside.over()}
+	}
 	if inside.number != nil {
 		made.number = new(big.Rat).Neg(inside.number)
 	}

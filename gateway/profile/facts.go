@@ -1,10 +1,14 @@
 package profile
 
+import "fmt"
+
 // facts are what is known of the scalars in values of a type.
 type facts struct {
 	// temporal, numbers, units and quotients tell whether one is a date or a duration, may be a number, is known to be counted, and is
 	// a quotient by a constant.
 	temporal, numbers, units, quotients bool
+	// parts is how many parts a type has, of lists those of its members; no more than are told apart.
+	parts int
 	// loose counts how often a type became another, where one is of an input without a declared type; nil where none is.
 	loose *changes
 }
@@ -24,11 +28,23 @@ type knownFacts struct {
 
 func (f facts) and(other facts) facts {
 	both := facts{temporal: f.temporal || other.temporal, numbers: f.numbers || other.numbers, units: f.units || other.units,
-		quotients: f.quotients || other.quotients, loose: f.loose}
+		quotients: f.quotients || other.quotients, loose: f.loose, parts: minimum(f.parts+other.parts, mostCalculatedParts+1)}
 	if both.loose == nil {
 		both.loose = other.loose
 	}
 	return both
+}
+
+// mostCalculatedParts is how many parts a calculated type may have. A context that has another one twice has twice as many.
+const mostCalculatedParts = 100_000
+
+// bounded is a calculated type, refused where it has too many parts.
+func (t *valueType) bounded(refuse func(why, instead string)) *valueType {
+	if t.facts().parts <= mostCalculatedParts {
+		return t
+	}
+	refuse(fmt.Sprintf("the value has over %d parts", mostCalculatedParts), "fewer entries, or smaller ones")
+	return refusedType
 }
 
 // facts are those of a type.
@@ -36,7 +52,7 @@ func (t *valueType) facts() facts {
 	if t = t.innermost(); t.kind == contextKind {
 		return t.contextFacts()
 	}
-	found := facts{temporal: t.isTemporal(), numbers: t.kind == numberKind || t.kind == anyKind, units: t.units != (units{}),
+	found := facts{parts: 1, temporal: t.isTemporal(), numbers: t.kind == numberKind || t.kind == anyKind, units: t.units != (units{}),
 		quotients: t.units.per > 1}
 	if t.open && t.kind == anyKind {
 		found.loose = t.changes
@@ -48,7 +64,7 @@ func (t *valueType) contextFacts() facts {
 	if t.known != nil && t.known.of == t && t.known.size == t.size() && t.known.changes == t.known.loose.now() {
 		return t.known.facts
 	}
-	var all facts
+	all := facts{parts: 1}
 	t.eachEntry(func(part *valueType) bool {
 		all = all.and(part.facts())
 		return true

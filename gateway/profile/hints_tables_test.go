@@ -196,7 +196,20 @@ func graphHints() []filedHint {
 			due: ofA("2", "3", "1", "1", "null", "null")},
 		{name: "inputs of large types", refused: overNumber(literal("a + 1"), inputsOf(largeType(9000), 12)), hint: "smaller types, or fewer inputs",
 			written: overNumber(literal("a + 1"), inputsOf(largeType(9000), 2)), due: next},
+		{name: "decisions of large types", refused: overNumber(literal("a + 1"), inputsOf(largeType(9000), 1), decisionsOf(60, "large0", "large0")),
+			hint: "smaller types, or fewer decisions of them", written: overNumber(literal("a + 1"), inputsOf(largeType(9000), 1), decisionsOf(2, "large0", "large0")), due: next},
+		{name: "a value of many parts", refused: overNumber(literal("a + 1"), inputsOf(largeType(9000), 1), decisionsOf(1, "{"+manyEntries("large0", 12)+"}", "large0")),
+			hint: "fewer entries, or smaller ones", written: overNumber(literal("a + 1"), inputsOf(largeType(9000), 1), decisionsOf(1, "{"+manyEntries("large0", 2)+"}", "large0")), due: next},
 	}
+}
+
+// decisionsOf are so many decisions of a text.
+func decisionsOf(count int, text string, needs ...string) string {
+	var all strings.Builder
+	for i := 0; i < count; i++ {
+		all.WriteString(decision(fmt.Sprintf("p%d", i), "", literal(text), needs...))
+	}
+	return all.String()
 }
 
 // largeType is a type of the name tLarge with so many components.

@@ -1,5 +1,11 @@
 package profile
 
+import (
+	"math/big"
+
+	"gateway/feel"
+)
+
 // kept has what one pass found of contexts, which may have thousands of entries and be looked at for each call. In another pass
 // their numbers may be counted otherwise.
 type kept struct {
@@ -11,8 +17,69 @@ type kept struct {
 	joint map[[2]*valueType]keptContext
 	// lists are the types of lists of those that all runs share.
 	lists map[*valueType]*valueType
-	// number is the type of the numbers that were calculated last.
-	number *valueType
+	// texts are the types of literal texts.
+	texts map[string]*valueType
+	// contexts are the types of calculated contexts with one entry.
+	contexts map[keptEntry]*valueType
+	// numbers are the types of the numbers that were calculated last, of which turn is replaced next, others those before; power is the
+	// power that was.
+	numbers [4]*valueType
+	turn    int
+	others  map[units]*valueType
+	power   keptPower
+	// recount is the type that was counted in other units last, uncounted the class of all numbers where none are counted.
+	recount   keptRecount
+	uncounted *meeting
+	// constants are numbers as they are counted in some units, quotients what is calculated of a divisor.
+	constants map[keptNumber]keptConstant
+	quotients map[keptNumber]keptQuotient
+	// literal are the members of lists whose members are all literals, or contexts of such; nil of others.
+	literal map[*box][]*box
+}
+
+// A keptEntry is an entry of a context.
+type keptEntry struct {
+	name string
+	of   *valueType
+}
+
+// A keptNumber is a constant with how it, or what it divides, is counted.
+type keptNumber struct {
+	value *big.Rat
+	scale int
+	per   int64
+}
+
+// A keptConstant is a number as it is counted; false where that is none.
+type keptConstant struct {
+	made     phrase
+	isNumber bool
+}
+
+// A keptQuotient is what a number is multiplied by for its quotient, and how that is counted.
+type keptQuotient struct {
+	units  units
+	factor *big.Int
+}
+
+// A keptRecount is a type that is counted in other units.
+type keptRecount struct {
+	of   *valueType
+	to   units
+	made *valueType
+}
+
+// A keptPower is a power of a text.
+type keptPower struct {
+	text     string
+	of       *valueType
+	exponent *big.Rat
+	made     phrase
+}
+
+// isOf tells whether a power is that of a base.
+func (k *keptPower) isOf(base, exponent phrase) bool {
+	return k.of == base.of && k.text == base.text && k.exponent == exponent.number && base.number == nil && base.rare == nil
 }
 
 // A state of a type is how many entries it has and how many changes there were that may concern it: while it is the same, what was
@@ -42,7 +109,80 @@ type keptReason struct {
 
 func newKept() *kept {
 	return &kept{units: map[*valueType]keptUnits{}, counted: map[[2]*valueType]keptContext{}, alike: map[[2]*valueType]keptReason{},
-		joint: map[[2]*valueType]keptContext{}, lists: map[*valueType]*valueType{}, number: numberType}
+		joint: map[[2]*valueType]keptContext{}, lists: map[*valueType]*valueType{}, numbers: [4]*valueType{numberType, numberType, numberType, numberType},
+		texts: map[string]*valueType{}, contexts: map[keptEntry]*valueType{}, uncounted: &meeting{fractional: true},
+		constants: map[keptNumber]keptConstant{}, quotients: map[keptNumber]keptQuotient{}, others: map[units]*valueType{}, literal: map[*box][]*box{}}
+}
+
+// contextOf is the type of calculated contexts with one entry. Contexts of the same entry share it.
+func (k *kept) contextOf(name string, of *valueType) *valueType {
+	entry := keptEntry{name, of}
+	known := k.contexts[entry]
+	if known == nil {
+		known = &valueType{kind: contextKind, fields: map[string]*valueType{}}
+		known.setField(name, of)
+		k.contexts[entry] = known
+	}
+	return known
+}
+
+// textOf is the type of a literal text.
+func (k *kept) textOf(n *feel.String) *valueType {
+	known := k.texts[n.Value]
+	if known == nil {
+		known = &valueType{kind: textKind, common: valueList{&listedValues{all: []feel.Node{n}}}}
+		if len(k.texts) < mostKept {
+			k.texts[n.Value] = known
+		}
+	}
+	return known
+}
+
+// recounted is a type of numbers in other units.
+func (k *kept) recounted(of *valueType, to units) *valueType {
+	if k.recount.of == of && k.recount.to == to {
+		return k.recount.made
+	}
+	own := *of
+	own.units = to
+	if of.kind == numberKind {
+		k.recount = keptRecount{of, to, &own}
+	}
+	return &own
+}
+
+// mostKept is how many texts, constants and divisors are kept: a file has few that come often.
+const mostKept = 1000
+
+// constantAt is a number as it is counted in some units; false where it is past the range.
+func (k *kept) constantAt(value *big.Rat, u units) (phrase, bool) {
+	key := keptNumber{value, u.scale, u.per}
+	found, is := k.constants[key]
+	if !is {
+		at := inUnits(value, u).Num()
+		if found.isNumber = isNumber(at); found.isNumber {
+			found.made = wholeConstant(at)
+			found.made.number = value
+		}
+		if len(k.constants) < mostKept {
+			k.constants[key] = found
+		}
+	}
+	found.made.of = k.numberOf(u)
+	return found.made, found.isNumber
+}
+
+// parted is partsBy, which is calculated once for each divisor.
+func (k *kept) parted(divisor *big.Rat, scale int) (units, *big.Int) {
+	key := keptNumber{value: divisor, scale: scale}
+	found, is := k.quotients[key]
+	if !is {
+		found.units, found.factor = partsBy(divisor, scale)
+		if len(k.quotients) < mostKept {
+			k.quotients[key] = found
+		}
+	}
+	return found.units, found.factor
 }
 
 // listOf is the type of calculated lists of a type. Each type has one, for a text may have a list a member.
@@ -65,10 +205,21 @@ func (k *kept) listOf(element *valueType) *valueType {
 
 // numberOf is the type of calculated numbers of some units. Those that come one after the other share it.
 func (k *kept) numberOf(u units) *valueType {
-	if k.number.units != u {
-		k.number = numberOf(u)
+	for _, known := range k.numbers {
+		if known.units == u {
+			return known
+		}
 	}
-	return k.number
+	made := k.others[u]
+	if made == nil {
+		made = numberOf(u)
+		if len(k.others) < mostKept {
+			k.others[u] = made
+		}
+	}
+	k.numbers[k.turn] = made
+	k.turn = (k.turn + 1) % len(k.numbers)
+	return made
 }
 
 // unitsOf are those of a type.
@@ -78,11 +229,30 @@ func (k *kept) unitsOf(of *valueType) keptUnits {
 	if found, is := k.units[of]; is && found.state == now {
 		return found
 	}
-	made := keptUnits{state: now, isCounted: of.isCounted(), within: of.within()}
+	made := keptUnits{state: now, isCounted: !of.units.isPlain(), within: of.units}
 	if of.kind == contextKind {
+		made = k.unitsOfContext(of)
+		made.state = now
 		k.units[of] = made
 	}
 	return made
+}
+
+// unitsOfContext are those of all entries of a context, of which each may stand in many.
+func (k *kept) unitsOfContext(of *valueType) (all keptUnits) {
+	isFirst := true
+	of.eachEntry(func(part *valueType) bool {
+		found := k.unitsOf(part)
+		all.isCounted = all.isCounted || found.isCounted
+		if isFirst {
+			all.within = found.within
+		} else {
+			all.within = joinedUnits(all.within, found.within)
+		}
+		isFirst = false
+		return true
+	})
+	return all
 }
 
 // contextAs is what make makes of a declared context and that of a value.

@@ -71,7 +71,7 @@ func (t *translator) contains(n feel.Node, l, x phrase) (made phrase, is bool) {
 		table := &model.Table{Hit: "F", Inputs: []string{x.text}, Outputs: []model.Output{{Name: t.words.of("result"), Default: &fallback}},
 			Rules: []model.Rule{{When: []string{asTest(l)}, Then: []string{"true"}}}}
 		t.wrote(len(x.text) + len(l.text) + bytesOfEntry)
-		hit = t.hoisted("contains", &box{kind: tableBox, table: table}, booleanType)
+		hit = t.hoisted("contains", tableOf(table), booleanType)
 	}
 	isNull := infix(l, "=", constant("null", nullType), rankComparison, booleanType)
 	return choice(isNull, constant("null", nullType), hit), true
@@ -165,25 +165,17 @@ func (t *translator) membersOfList(n feel.Node, s *scope) (all []phrase, is bool
 
 // rows are the members of a relation or a boxed list whose cells are literals, which stand anew where they are gone through.
 func (t *translator) rows(found *binding) (all []phrase, is bool) {
-	b, of := found.logic, found.value.of
-	if of.kind != listKind {
+	of := found.value.of
+	if of.kind != listKind || t.gone > mostGone {
 		return nil, false
 	}
-	members := b.list
-	if b.kind == textBox && b.value.members != nil {
-		for _, member := range b.value.members {
-			members = append(members, boxOf(member))
-		}
-	} else if b.kind != listBox {
-		return nil, false
+	members, known := t.kept.literal[found.logic]
+	if !known {
+		members = literalMembers(found.logic)
+		t.kept.literal[found.logic] = members
 	}
-	if len(members) > mostUnrolled {
+	if members == nil {
 		return nil, false
-	}
-	for _, member := range members {
-		if !isConstantBox(member) {
-			return nil, false
-		}
 	}
 	for _, member := range members {
 		if member.kind == textBox {
@@ -191,10 +183,32 @@ func (t *translator) rows(found *binding) (all []phrase, is bool) {
 			p.of = of.element
 			all = append(all, p)
 		} else {
+			t.gone++
 			all = append(all, t.hoisted("row", member, of.element))
 		}
 	}
 	return all, true
+}
+
+// literalMembers are those of a list that is written out, of few literals or contexts of such; nil of another one.
+func literalMembers(b *box) []*box {
+	members := append([]*box{}, b.list...)
+	if b.kind == textBox && b.value.members() != nil {
+		for _, member := range b.value.members() {
+			members = append(members, boxOf(member))
+		}
+	} else if b.kind != listBox {
+		return nil
+	}
+	if len(members) > mostUnrolled {
+		return nil
+	}
+	for _, member := range members {
+		if !isConstantBox(member) {
+			return nil
+		}
+	}
+	return members
 }
 
 // isConstantBox tells whether a box is a literal, or a context of literals.
@@ -232,7 +246,7 @@ func (t *translator) each(n feel.Node, iterators []feel.Iterator, s *scope, coun
 	}
 	members, is := t.iterated(iterators[0], s)
 	for _, member := range members {
-		inside := newScope(s)
+		inside := s.within()
 		inside.bind(iterators[0].Name, &binding{value: member})
 		if !is || !t.each(n, iterators[1:], inside, count, do) {
 			return false
@@ -368,7 +382,7 @@ func (t *translator) filtered(n *feel.Filter, s *scope) (members, conditions []p
 		return nil, nil, false
 	}
 	for i := range members {
-		inside := newScope(s)
+		inside := s.within()
 		if !bindMember(inside, members[i], t.words) {
 			return nil, nil, false
 		}

@@ -109,7 +109,7 @@ func (t *valueType) isPlain() bool { return t.units.isPlain() }
 func (t *valueType) isFractional() bool { return t.units.isFractional() }
 
 // recounted is a number in finer units. Why is empty, or tells why it can't be had.
-func recounted(p phrase, to units) (made phrase, why string) {
+func (t *translator) recounted(p phrase, to units) (made phrase, why string) {
 	if to.per == tooManyParts {
 		return p, "the quotients have no common divisor in the range"
 	}
@@ -119,10 +119,14 @@ func recounted(p phrase, to units) (made phrase, why string) {
 	finer := to.scale - p.of.units.scale
 	if p.number != nil {
 		// In its own unit it is a whole number.
-		if p.number.Sign() != 0 && finer >= len(largestNumber) || !isNumber(inUnits(p.number, to).Num()) {
+		made, is := phrase{}, p.number.Sign() == 0 || finer < len(largestNumber)
+		if is {
+			made, is = t.kept.constantAt(p.number, to)
+		}
+		if !is {
 			return p, fmt.Sprintf("the number is past %s where it is counted with %d decimals", largestNumber, to.scale)
 		}
-		return constantAt(p.number, to), ""
+		return made, ""
 	}
 	if to.scale < p.of.units.scale {
 		return p, "its unit can't be made coarser"
@@ -130,17 +134,14 @@ func recounted(p phrase, to units) (made phrase, why string) {
 	if finer >= len(largestNumber) {
 		return p, fmt.Sprintf("it would be counted with %d decimals", to.scale)
 	}
-	factor, rest := new(big.Int).Mul(decimal.Power(finer), big.NewInt(to.parts())), new(big.Int)
-	if factor.QuoRem(factor, big.NewInt(p.of.units.parts()), rest); rest.Sign() != 0 {
+	factor := factorBetween(p.of.units, to)
+	if factor == nil {
 		return p, "its unit can't be made coarser"
 	}
 	if !isNumber(factor) {
 		return p, fmt.Sprintf("it would be counted with %d decimals", to.scale)
 	}
-	own := *p.of
-	own.units.scale, own.units.per, own.units.meets = to.scale, to.per, to.meets
-	own.units.cell = nil
-	return times(p, factor, &own), ""
+	return times(p, factor, t.kept.recounted(p.of, units{scale: to.scale, per: to.per, meets: to.meets})), ""
 }
 
 // times is a phrase times a whole number.
@@ -150,14 +151,14 @@ func times(p phrase, factor *big.Int, of *valueType) phrase {
 		return p
 	}
 	made := infix(p, "*", wholeConstant(factor), rankProduct, of)
-	made.product = &product{p, factor}
+	made.rare = &rare{product: &product{p, factor}}
 	return made
 }
 
 // recountedOr is a number in finer units, refused where it can't be had.
 func (t *translator) recountedOr(n feel.Node, p phrase, to units) phrase {
 	t.countedFinely(to)
-	made, why := recounted(p, to)
+	made, why := t.recounted(p, to)
 	if why != "" {
 		return t.refuse(n, why, "a rounding of what is calculated before")
 	}
@@ -182,19 +183,19 @@ func (t *translator) aligned(p phrase, to *valueType, refuse func(why, instead s
 		return p
 	}
 	if p.of.kind == numberKind {
-		made, why := recounted(p, to.within())
+		made, why := t.recounted(p, to.within())
 		if why != "" {
 			refuse(why, "a rounding of what is calculated before")
 			return refused
 		}
 		return t.shallow(made)
 	}
-	if p.members != nil && to.kind == listKind {
+	if p.members() != nil && to.kind == listKind {
 		if isCountedAs(p.of, to) {
 			return p
 		}
-		members := make([]phrase, len(p.members))
-		for i, member := range p.members {
+		members := make([]phrase, len(p.members()))
+		for i, member := range p.members() {
 			members[i] = t.aligned(member, to.element, refuse)
 		}
 		return listing(members, t.kept.listOf(to.element))
@@ -268,11 +269,14 @@ func unitsOf(operands []phrase) units {
 
 // folded is the value of a calculation with constants; nil where some operand is none, or the standard rounds on the way.
 func folded(operator string, operands []phrase, operators []string) *big.Rat {
+	for i := range operands {
+		if operands[i].number == nil {
+			return nil
+		}
+	}
 	value := new(big.Rat)
 	for i, o := range operands {
 		switch {
-		case o.number == nil:
-			return nil
 		case i == 0:
 			value.Set(o.number)
 		case operator == "*":
@@ -317,21 +321,7 @@ func (t *translator) countedSum(n *feel.Chain, operands []phrase) phrase {
 
 // countedProduct is the product of operands: their decimals add up.
 func (t *translator) countedProduct(n feel.Node, operands []phrase) phrase {
-	u, all := units{}, make([]phrase, 0, len(operands))
-	operators := make([]string, 0, len(operands))
-	for _, o := range operands {
-		u.meets = met(u, o.of.units)
-		u.scale += o.of.units.scale
-	}
-	for _, o := range operands {
-		// A constant as 0.1 is one of its unit: it says how the others are counted.
-		if o.text != "1" || !o.of.isFractional() || !hasNumber(operands) {
-			all = append(all, o)
-		}
-	}
-	for range all[1:] {
-		operators = append(operators, "*")
-	}
+	u := t.unitsOfProduct(operands)
 	t.countedFinely(u)
 	if u.scale > mostScale {
 		return t.refuse(n, fmt.Sprintf("it would be counted with %d decimals", u.scale), "a rounding of what is calculated before")
@@ -340,10 +330,57 @@ func (t *translator) countedProduct(n feel.Node, operands []phrase) phrase {
 	if value != nil && !u.isPlain() {
 		return constantNumber(value)
 	}
-	of := t.kept.numberOf(u)
-	made := chained(all, operators, rankProduct, of)
+	all, of := factors(operands), t.kept.numberOf(u)
+	made := chained(all, repeated("*", len(all)-1), rankProduct, of)
 	made.of, made.number = of, value
 	return made
+}
+
+// unitsOfProduct are those of the product of operands.
+func (t *translator) unitsOfProduct(operands []phrase) (u units) {
+	for i := range operands {
+		switch of := operands[i].of.units; {
+		case t.counts:
+			u.meets = met(u, of)
+		case of.isFractional():
+			u.meets = t.kept.uncounted
+		}
+		u.scale += operands[i].of.units.scale
+	}
+	return u
+}
+
+// factors are the operands of a product that are written: a constant as 0.1 is one of its unit, and says how the others are counted.
+func factors(operands []phrase) []phrase {
+	var all []phrase
+	for i, o := range operands {
+		isLeftOut := o.text == "1" && o.of.isFractional() && hasNumber(operands)
+		switch {
+		case isLeftOut && all == nil:
+			all = append(make([]phrase, 0, len(operands)), operands[:i]...)
+		case !isLeftOut && all != nil:
+			all = append(all, o)
+		}
+	}
+	if all == nil {
+		return operands
+	}
+	return all
+}
+
+// timesSigns are the operators of short products.
+var timesSigns = strings.Split(strings.Repeat("*", mostChain), "")
+
+// repeated is an operator so many times.
+func repeated(operator string, count int) []string {
+	if operator == "*" && count <= len(timesSigns) {
+		return timesSigns[:count]
+	}
+	operators := make([]string, count)
+	for i := range operators {
+		operators[i] = operator
+	}
+	return operators
 }
 
 // hasNumber tells whether an operand is a number, and no constant: then the product is null where it is.
@@ -373,7 +410,7 @@ func (t *translator) productWithQuotients(n *feel.Chain, operands []phrase) phra
 
 // isQuotient tells whether a phrase is a quotient by a constant or a variable.
 func (p phrase) isQuotient() bool {
-	return p.over != nil || p.of.kind == numberKind && p.of.units.per != 0
+	return p.over() != nil || p.of.kind == numberKind && p.of.units.per != 0
 }
 
 // multiplied is a product; a quotient may be multiplied by powers of ten alone.
@@ -417,7 +454,7 @@ func (t *translator) shifted(n feel.Node, p phrase, power int) phrase {
 	own := *p.of
 	own.units.scale -= power
 	own.units.meets = met(p.of.units, units{scale: 1})
-	if p.over == nil && own.units.scale < 0 {
+	if p.over() == nil && own.units.scale < 0 {
 		factor := decimal.Power(-own.units.scale)
 		own.units.scale = 0
 		common := new(big.Int).GCD(nil, nil, factor, big.NewInt(own.units.per))
@@ -462,18 +499,8 @@ func (t *translator) dividedBy(n feel.Node, a phrase, divisor *big.Rat) phrase {
 			return constantNumber(value)
 		}
 	}
-	factor, parts := new(big.Int).Set(divisor.Denom()), decimal.Power(a.of.units.scale)
-	parts.Mul(parts, divisor.Num())
-	if parts.Sign() < 0 {
-		factor.Neg(factor)
-		parts.Neg(parts)
-	}
-	common := new(big.Int).GCD(nil, nil, new(big.Int).Abs(factor), parts)
-	factor.Quo(factor, common)
-	parts.Quo(parts, common)
-	u, finer := unitsOfParts(parts)
-	u.meets = a.of.units.fractional().meets
-	factor.Mul(factor, finer)
+	u, factor := t.kept.parted(divisor, a.of.units.scale)
+	u.meets = t.fractional(a.of.units).meets
 	if !isNumber(factor) || u.per == tooManyParts || u.scale > mostScale {
 		return t.refuse(n, "the divisor has too many digits", "a divisor with fewer digits")
 	}
@@ -485,7 +512,31 @@ func (t *translator) dividedBy(n feel.Node, a phrase, divisor *big.Rat) phrase {
 	if a.depth >= mostOperandDepth {
 		a = t.part(a)
 	}
-	return times(a, factor, numberOf(u))
+	return times(a, factor, t.kept.numberOf(u))
+}
+
+// fractional notes that fractions meet a number. Where none are counted nobody asks which do.
+func (t *translator) fractional(u units) units {
+	if !t.counts && u.meets == nil {
+		u.meets = t.kept.uncounted
+		return u
+	}
+	return u.fractional()
+}
+
+// partsBy are the units of the quotient of a number of some decimals by a constant, and by what the number is multiplied for them.
+func partsBy(divisor *big.Rat, scale int) (u units, factor *big.Int) {
+	factor, parts := new(big.Int).Set(divisor.Denom()), decimal.Power(scale)
+	parts.Mul(parts, divisor.Num())
+	if parts.Sign() < 0 {
+		factor.Neg(factor)
+		parts.Neg(parts)
+	}
+	common := new(big.Int).GCD(nil, nil, new(big.Int).Abs(factor), parts)
+	factor.Quo(factor, common)
+	parts.Quo(parts, common)
+	u, finer := unitsOfParts(parts)
+	return u, factor.Mul(factor, finer)
 }
 
 // removed takes a factor out of a number as often as it is in it, and gives how often.
@@ -518,7 +569,7 @@ func (t *translator) ratio(n feel.Node, a, b phrase) phrase {
 	}
 	made := t.step("numerator", fmt.Sprintf("if %[2]s < 0 then -%[1]s else if %[2]s > 0 then %[1]s else null", parenthesized(x), d), numberOf(u))
 	over := t.step("divisor", fmt.Sprintf("if %[1]s < 0 then -%[1]s else if %[1]s > 0 then %[1]s else 1", d), numberType)
-	made.over = &over
+	made.rare = &rare{over: &over}
 	return made
 }
 
@@ -534,6 +585,15 @@ func parenthesized(text string) string {
 func (t *translator) powered(n *feel.Binary, s *scope) phrase {
 	t.fractions = true
 	base, exponent := t.operand(n.Left, s), t.operand(n.Right, s)
+	return t.power(n, base, exponent)
+}
+
+// power is a power of a base. That of the same base as the last one is the same.
+func (t *translator) power(n *feel.Binary, base, exponent phrase) phrase {
+	if last := &t.kept.power; last.text != "" && last.isOf(base, exponent) {
+		t.countedFinely(last.made.of.units)
+		return last.made
+	}
 	if base.of.kind == refusedKind || exponent.of.kind == refusedKind {
 		return refused
 	}
@@ -554,5 +614,9 @@ func (t *translator) powered(n *feel.Binary, s *scope) phrase {
 	if len(operands) == 1 && base.of.kind != numberKind {
 		return infix(base, "*", constant("1", numberType), rankProduct, numberOf(base.of.units))
 	}
-	return t.countedProduct(n, operands)
+	made := t.countedProduct(n, operands)
+	if base.of.kind == numberKind && base.number == nil && base.rare == nil && made.of.kind == numberKind {
+		t.kept.power = keptPower{base.text, base.of, exponent.number, made}
+	}
+	return made
 }

@@ -126,18 +126,14 @@ func anyOf(alternatives []phrase) phrase { return joinedBy("or", alternatives, r
 // allOf is the and of conditions.
 func allOf(conditions []phrase) phrase { return joinedBy("and", conditions, rankAnd) }
 
-func joinedBy(operator string, operands []phrase, rank int) phrase {
+func joinedBy(operator string, operands []phrase, rank int32) phrase {
 	if len(operands) == 0 {
 		return constant("false", booleanType)
 	}
 	if len(operands) == 1 {
 		return operands[0]
 	}
-	operators := make([]string, len(operands)-1)
-	for i := range operators {
-		operators[i] = operator
-	}
-	return chained(operands, operators, rank, booleanType)
+	return chained(operands, repeated(operator, len(operands)-1), rank, booleanType)
 }
 
 // condition translates a test to a condition of a value x.

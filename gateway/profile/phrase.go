@@ -32,23 +32,70 @@ const (
 type phrase struct {
 	text string
 	// rank tells which operators may stand beside it without parentheses, depth how deep it is as the engine counts.
-	rank, depth int
+	rank, depth int32
 	// of is the type of its values.
 	of *valueType
 	// number is the value of a constant number; nil of what is none.
 	number *big.Rat
-	// moment is the whole number of a constant date or duration; nil of what is none.
-	moment *int64
-	// inDays is how many days a days and time duration has that is known to be of whole days; nil of others.
-	inDays *phrase
-	// over is the divisor of a quotient by a variable, which is above 0 or the quotient null; nil of what is none.
-	over *phrase
-	// product says of what times a constant it is; nil of what is none, or isn't known to be.
-	product *product
-	// members are those of a list that is written out.
-	members []phrase
-	// branches are those of a choice; nil of what is none.
-	branches *branches
+	// rare is what few phrases have; nil of the others. It is made once, and written no more.
+	rare *rare
+}
+
+// rare is what few phrases have beside their text, which are so many that each is small.
+type rare struct {
+	moment       *int64
+	inDays, over *phrase
+	product      *product
+	members      []phrase
+	branches     *branches
+}
+
+// moment is the whole number of a constant date or duration; nil of what is none.
+func (p phrase) moment() *int64 {
+	if p.rare == nil {
+		return nil
+	}
+	return p.rare.moment
+}
+
+// inDays is how many days a days and time duration has that is known to be of whole days; nil of others.
+func (p phrase) inDays() *phrase {
+	if p.rare == nil {
+		return nil
+	}
+	return p.rare.inDays
+}
+
+// over is the divisor of a quotient by a variable, which is above 0 or the quotient null; nil of what is none.
+func (p phrase) over() *phrase {
+	if p.rare == nil {
+		return nil
+	}
+	return p.rare.over
+}
+
+// product says of what times a constant it is; nil of what is none, or isn't known to be.
+func (p phrase) product() *product {
+	if p.rare == nil {
+		return nil
+	}
+	return p.rare.product
+}
+
+// members are those of a list that is written out; nil of what is none.
+func (p phrase) members() []phrase {
+	if p.rare == nil {
+		return nil
+	}
+	return p.rare.members
+}
+
+// branches are those of a choice; nil of what is none.
+func (p phrase) branches() *branches {
+	if p.rare == nil {
+		return nil
+	}
+	return p.rare.branches
 }
 
 // A product is a phrase times a constant.
@@ -69,7 +116,7 @@ func constant(text string, of *valueType) phrase {
 }
 
 // within gives a phrase that may stand where a rank is asked for, with parentheses where it needs them.
-func (p phrase) within(rank int) phrase {
+func (p phrase) within(rank int32) phrase {
 	if p.rank >= rank {
 		return p
 	}
@@ -82,7 +129,7 @@ func (p phrase) isShort() bool {
 }
 
 // infix joins two phrases by an operator that groups to the left.
-func infix(left phrase, operator string, right phrase, rank int, of *valueType) phrase {
+func infix(left phrase, operator string, right phrase, rank int32, of *valueType) phrase {
 	l, r := left.within(rank), right.within(rank+1)
 	if rank == rankComparison {
 		l = left.within(rank + 1)
@@ -117,7 +164,7 @@ func listing(members []phrase, of *valueType) phrase {
 	}
 	text.WriteByte(']')
 	return phrase{text: text.String(), rank: rankPrimary, depth: 1 + deepest(members...), of: of,
-		members: members}
+		rare: &rare{members: members}}
 }
 
 // choice is an if.
@@ -128,43 +175,87 @@ func choice(condition, then, otherwise phrase) phrase {
 // choiceOf is an if with the type that its branches have in common.
 func choiceOf(of *valueType, condition, then, otherwise phrase) phrase {
 	return phrase{text: "if " + condition.text + " then " + then.text + " else " + otherwise.text, rank: rankIf,
-		depth: 1 + deepest(condition, then, otherwise), of: of, branches: &branches{condition, then, otherwise}}
+		depth: 1 + deepest(condition, then, otherwise), of: of, rare: &rare{branches: &branches{condition, then, otherwise}}}
 }
 
 // negated is the not of a phrase.
 func negated(p phrase) phrase { return call("not", booleanType, p) }
 
-func deepest(phrases ...phrase) int {
-	depth := 0
+func deepest(phrases ...phrase) int32 {
+	depth := int32(0)
 	for i := range phrases {
-		depth = maximum(depth, phrases[i].depth)
+		depth = deeper(depth, phrases[i].depth)
 	}
 	return depth
 }
 
 // chained joins operands by operators of one rank: "or", "and", "*", or "+" and "-". A long chain is regrouped, which
 // changes none of these: a - b - c is a - (b + c).
-func chained(operands []phrase, operators []string, rank int, of *valueType) phrase {
+func chained(operands []phrase, operators []string, rank int32, of *valueType) phrase {
+	if len(operands) == 1 {
+		return operands[0].within(rank)
+	}
+	w, size := chainWriter{rank: rank}, 0
+	for i := range operands {
+		size += len(operands[i].text) + len(" and ")
+		if operands[i].rank <= rank {
+			size += len("()")
+		}
+	}
+	w.text.Grow(size)
+	depth := w.chain(operands, operators)
+	return phrase{text: w.text.String(), rank: rank, depth: depth, of: of}
+}
+
+// A chainWriter writes a chain of operands with operators of a rank.
+type chainWriter struct {
+	text strings.Builder
+	rank int32
+}
+
+// chain writes some of the operands, the later half of many in parentheses, and gives how deep they are.
+func (w *chainWriter) chain(operands []phrase, operators []string) (depth int32) {
 	if len(operands) > mostChain {
 		middle := len(operands) / 2
 		joint := operators[middle-1]
-		left := chained(operands[:middle], operators[:middle-1], rank, of)
-		right := chained(operands[middle:], turned(operators[middle:], joint), rank, of)
-		return infix(left, joint, right, rank, of)
+		left := w.chain(operands[:middle], operators[:middle-1])
+		w.operator(joint)
+		w.text.WriteByte('(')
+		right := w.chain(operands[middle:], turned(operators[middle:], joint))
+		w.text.WriteByte(')')
+		return 1 + deeper(left, right+1)
 	}
-	var text strings.Builder
-	first := operands[0].within(rank)
-	text.WriteString(first.text)
-	depth := first.depth
-	for i, operand := range operands[1:] {
-		o := operand.within(rank + 1)
-		text.WriteString(" " + operators[i] + " " + o.text)
-		depth = 1 + maximum(depth, o.depth)
+	depth = w.operand(&operands[0], w.rank)
+	for i, operator := range operators {
+		w.operator(operator)
+		depth = 1 + deeper(depth, w.operand(&operands[i+1], w.rank+1))
 	}
-	if len(operands) == 1 {
-		return first
+	return depth
+}
+
+func (w *chainWriter) operator(operator string) {
+	w.text.WriteByte(' ')
+	w.text.WriteString(operator)
+	w.text.WriteByte(' ')
+}
+
+// operand writes one where a rank is asked for.
+func (w *chainWriter) operand(o *phrase, rank int32) (depth int32) {
+	if o.rank >= rank {
+		w.text.WriteString(o.text)
+		return o.depth
 	}
-	return phrase{text: text.String(), rank: rank, depth: depth, of: of}
+	w.text.WriteByte('(')
+	w.text.WriteString(o.text)
+	w.text.WriteByte(')')
+	return o.depth + 1
+}
+
+func deeper(a, b int32) int32 {
+	if a > b {
+		return a
+	}
+	return b
 }
 
 // turned gives the operators of a part that stands in parentheses behind an operator: behind a minus the signs turn.
@@ -185,6 +276,13 @@ func turned(operators []string, joint string) []string {
 
 func maximum(a, b int) int {
 	if a > b {
+		return a
+	}
+	return b
+}
+
+func minimum(a, b int) int {
+	if a < b {
 		return a
 	}
 	return b

@@ -161,16 +161,16 @@ func atDigits(x phrase, digits int) (f fraction, why string) {
 	} else {
 		over.Mul(over, decimal.Power(shift))
 	}
-	if x.over != nil {
-		divisor := *x.over
-		x.over = nil
+	if x.over() != nil {
+		divisor := *x.over()
+		x.rare = nil
 		if !isNumber(by) || !isNumber(over) {
 			return f, pastTheRange(x, digits)
 		}
 		return fraction{times(x, by, numberType), big.NewInt(1), times(divisor, over, numberType)}, ""
 	}
 	whole := lowest(x, by, over)
-	if product := x.product; product != nil {
+	if product := x.product(); product != nil {
 		if f := lowest(product.of, new(big.Int).Mul(by, product.by), over); isNumber(f.by) {
 			whole = f
 		}

@@ -192,7 +192,13 @@ func (r *run) report() *Report {
 		r.refusals.refuse(g.decisions[mostDecisions].element(), "", fmt.Sprintf("there are over %d decisions", mostDecisions),
 			"several models")
 	}
-	result := assembled(g, services, r.units != nil)
+	result, tooLarge := assembled(g, services, r.units != nil)
+	if tooLarge != nil {
+		r.refusals.refuse(tooLarge.element(), tooLarge.name, fmt.Sprintf("the schemas of the values up to here have over %d bytes in all",
+			mostOfSchemas), "smaller types, or fewer decisions of them")
+		report.Refusals = r.told()
+		return report
+	}
 	result.Required = requiredInputs(g, r.options.Nullable)
 	if r.options.Service == "" && len(services) == 0 && len(g.decisions) <= mostDecisions {
 		defaultServices(g, result)

@@ -3,6 +3,7 @@ package profile
 import (
 	"encoding/json"
 	"math/big"
+	"sort"
 	"strings"
 
 	"gateway/calendar"
@@ -10,16 +11,124 @@ import (
 	"gateway/feel"
 )
 
-// schema is the JSON Schema of a type, of whose times the ticks are given. Null conforms to each type; a number is whole.
-func schema(of *valueType, w *words, tick calendar.Tick) json.RawMessage {
-	text, err := json.Marshal(schemaOf(of, w, tick))
-	if err != nil {
-		return json.RawMessage("{}")
-	}
-	return text
+// mostOfSchemas is how many bytes all schemas of a model may have, and those of its places: one for each decision and input, whose
+// values all have the same large type.
+const mostOfSchemas = 16 << 20
+
+// A schemaWriter writes the JSON Schemas of types, of whose times the ticks are given. Null conforms to each type; a number is whole.
+type schemaWriter struct {
+	words *words
+	tick  calendar.Tick
+	text  []byte
+	// plain are the schemas of numbers of some units, and of texts and booleans, without values.
+	plain map[plainType][]byte
 }
 
-func schemaOf(of *valueType, w *words, tick calendar.Tick) map[string]interface{} {
+// A plainType is a scalar type of which no more is known than how it is counted.
+type plainType struct {
+	kind  kindOfType
+	scale int
+	per   int64
+}
+
+func newSchemaWriter(w *words, tick calendar.Tick) *schemaWriter {
+	return &schemaWriter{words: w, tick: tick, plain: map[plainType][]byte{}}
+}
+
+// schema is the schema of a type.
+func (w *schemaWriter) schema(of *valueType) json.RawMessage {
+	w.text = w.text[:0]
+	w.write(of)
+	return append(json.RawMessage(nil), w.text...)
+}
+
+// write writes the schema of a type, as far as a model may have it.
+func (w *schemaWriter) write(of *valueType) {
+	if len(w.text) > mostOfSchemas {
+		return
+	}
+	key, isPlain := plainType{of.kind, of.units.scale, of.units.per}, of.isPlainScalar()
+	if isPlain && w.plain[key] != nil {
+		w.text = append(w.text, w.plain[key]...)
+		return
+	}
+	start := len(w.text)
+	w.members(of, describe(of, w.tick))
+	if isPlain {
+		w.plain[key] = append([]byte(nil), w.text[start:]...)
+	}
+}
+
+// isPlainScalar tells whether a type is a scalar of which the schema says no more than how it is counted.
+func (t *valueType) isPlainScalar() bool {
+	isScalar := t.kind == numberKind || t.kind == textKind || t.kind == booleanKind || t.kind == anyKind
+	return isScalar && len(t.allowed.nodes()) == 0 && len(t.noted.nodes()) == 0
+}
+
+// members writes what a schema says in the order of the names.
+func (w *schemaWriter) members(of *valueType, said map[string]interface{}) {
+	names := make([]string, 0, len(said))
+	for name := range said {
+		names = append(names, name)
+	}
+	sort.Strings(names)
+	w.text = append(w.text, '{')
+	for i, name := range names {
+		w.name(i, name)
+		switch name {
+		case "items":
+			w.write(of.element)
+		case "properties":
+			w.properties(of)
+		default:
+			w.value(said[name])
+		}
+	}
+	w.text = append(w.text, '}')
+}
+
+// properties writes the schemas of the entries of a context.
+func (w *schemaWriter) properties(of *valueType) {
+	parts := make(map[string]*valueType, len(of.order))
+	for _, name := range of.order {
+		parts[w.words.of(name)] = of.fields[name]
+	}
+	for name, part := range of.more {
+		if part.isCounted() || part.hasTemporal() {
+			parts[w.words.of(name)] = part
+		}
+	}
+	names := make([]string, 0, len(parts))
+	for name := range parts {
+		names = append(names, name)
+	}
+	sort.Strings(names)
+	w.text = append(w.text, '{')
+	for i, name := range names {
+		w.name(i, name)
+		w.write(parts[name])
+	}
+	w.text = append(w.text, '}')
+}
+
+func (w *schemaWriter) name(index int, name string) {
+	if index > 0 {
+		w.text = append(w.text, ',')
+	}
+	w.value(name)
+	w.text = append(w.text, ':')
+}
+
+func (w *schemaWriter) value(of interface{}) {
+	text, err := json.Marshal(of)
+	if err != nil {
+		text = []byte("null")
+	}
+	w.text = append(w.text, text...)
+}
+
+// describe is what the schema of a type says; of items and properties no more than that there are some.
+func describe(of *valueType, tick calendar.Tick) map[string]interface{} {
 	made := map[string]interface{}{}
 	switch of.kind {
 	case numberKind:
@@ -35,20 +144,9 @@ func schemaOf(of *valueType, w *words, tick calendar.Tick) map[string]interface{
 	case booleanKind:
 		made["type"] = []string{"boolean", "null"}
 	case listKind:
-		made["type"] = []string{"array", "null"}
-		made["items"] = schemaOf(of.element, w, tick)
+		made["type"], made["items"] = []string{"array", "null"}, nil
 	case contextKind:
-		made["type"] = []string{"object", "null"}
-		properties := map[string]interface{}{}
-		for _, name := range of.order {
-			properties[w.of(name)] = schemaOf(of.fields[name], w, tick)
-		}
-		for name, part := range of.more {
-			if part.isCounted() || part.hasTemporal() {
-				properties[w.of(name)] = schemaOf(part, w, tick)
-			}
-		}
-		made["properties"] = properties
+		made["type"], made["properties"] = []string{"object", "null"}, nil
 	}
 	if of.isTemporal() {
 		made["type"] = []string{"string", "null"}
@@ -101,9 +199,20 @@ func narrow(made map[string]interface{}, allowed []feel.Node) {
 
 // isSchema tells whether a schema says all of allowed values: they are literals, or a range of numbers.
 func isSchema(allowed []feel.Node) bool {
-	made := map[string]interface{}{}
-	narrow(made, allowed)
-	return made["enum"] != nil || len(made) == 2
+	if len(allowed) == 0 {
+		return false
+	}
+	if _, is := allowed[0].(*feel.Range); is && len(allowed) == 1 {
+		made := map[string]interface{}{}
+		narrow(made, allowed)
+		return len(made) == 2
+	}
+	for _, n := range allowed {
+		if _, is := literalValue(n); !is {
+			return false
+		}
+	}
+	return true
 }
 
 // limit adds an end of a range, where it is a number, or a date or a duration: minimum or exclusiveMinimum, and of these

@@ -25,12 +25,25 @@ type binding struct {
 // A scope is the names that an expression sees, canonical, inner ones before outer ones.
 type scope struct {
 	parent *scope
-	names  map[string]*binding
-	reads  *feel.Scope
+	// few are the first names, names has the others.
+	few   []boundName
+	names map[string]*binding
+	reads *feel.Scope
+	// isRead tells that the texts which see the names were read, so that reads doesn't have them.
+	isRead bool
 }
 
+// A boundName is a name with its binding.
+type boundName struct {
+	name string
+	*binding
+}
+
+// mostFew is how many names are looked through one by one.
+const mostFew = 4
+
 func newScope(parent *scope) *scope {
-	s := &scope{parent: parent, names: map[string]*binding{}}
+	s := &scope{parent: parent}
 	if parent != nil {
 		s.reads = feel.NewScope(parent.reads)
 	} else {
@@ -39,10 +52,32 @@ func newScope(parent *scope) *scope {
 	return s
 }
 
+// within is a scope for the names of a form within a text, which was read as a whole.
+func (s *scope) within() *scope { return &scope{parent: s, reads: s.reads, isRead: true} }
+
 // bind puts a name into scope.
 func (s *scope) bind(name string, b *binding) {
-	s.names[feel.Canonical(name)] = b
-	s.reads.Add(name)
+	s.put(feel.Canonical(name), b)
+	if !s.isRead {
+		s.reads.Add(name)
+	}
+}
+
+func (s *scope) put(canonical string, b *binding) {
+	for i := range s.few {
+		if s.few[i].name == canonical {
+			s.few[i].binding = b
+			return
+		}
+	}
+	if len(s.few) < mostFew {
+		s.few = append(s.few, boundName{canonical, b})
+		return
+	}
+	if s.names == nil {
+		s.names = map[string]*binding{}
+	}
+	s.names[canonical] = b
 }
 
 // bindWord puts a name into scope that has its value under a word.
@@ -52,6 +87,11 @@ func (s *scope) bindWord(name, word string, of *valueType) {
 
 func (s *scope) find(canonical string) *binding {
 	for ; s != nil; s = s.parent {
+		for i := range s.few {
+			if s.few[i].name == canonical {
+				return s.few[i].binding
+			}
+		}
 		if b, found := s.names[canonical]; found {
 			return b
 		}

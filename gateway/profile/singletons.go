@@ -17,13 +17,13 @@ func (t *translator) asScalars(n *feel.Call, name string, arguments []phrase) (s
 	}
 	for i, x := range arguments {
 		switch {
-		case x.of.kind == listKind && x.members == nil:
+		case x.of.kind == listKind && x.members() == nil:
 			t.refuse(n, "a list where "+name+" wants a scalar: the standard takes the member of a list of one", "a value that is no list")
 			return nil, false
-		case len(x.members) == 1 && x.of.kind == listKind:
-			x.members[0].of = x.of.element
-			arguments[i] = x.members[0]
-		case x.of.kind == anyKind && x.number == nil && x.over == nil:
+		case len(x.members()) == 1 && x.of.kind == listKind:
+			x.members()[0].of = x.of.element
+			arguments[i] = x.members()[0]
+		case x.of.kind == anyKind && x.number == nil && x.over() == nil:
 			arguments[i] = t.scalarOf(x, test, name == "not")
 		}
 	}

@@ -63,6 +63,10 @@ func dearExpressions() map[string]string {
 		"a sum with many decimals":  overX(finest + " + " + filled("1", " + ", dearSize)),
 		"deep lists":                overX("[" + filled(strings.Repeat("[", 240)+"x * 1.5"+strings.Repeat("]", 240), ", ", dearSize) + "]"),
 		"deep contexts":             overX("[" + filled(strings.Repeat("{a: ", 200)+"x * 1.5"+strings.Repeat("}", 200), ", ", dearSize) + "]"),
+		"powers":                    overX(filled("x**8", "+", dearSize)),
+		"powers of sums":            overX(filled("(x+0.5)**3", "+", dearSize)),
+		"quotients by many":         overX("[" + filled("x / 3, x / 7, x / 11, x / 13, x / 17, x / 19, x / 23", ", ", dearSize) + "]"),
+		"choices of quotients":      overX("[" + filled("if x > 1 then x * 0.5 else x / 3", ", ", dearSize) + "]"),
 		"names that begin alike without blanks": definitions(input("a", "number"), input(tight, "number"),
 			decision("q", "", literal(filled("a", "+", dearSize)), "a", tight)),
 		"names that begin alike": definitions(input("a", "number"), input(long, "number"),
@@ -99,9 +103,75 @@ func dearParts() map[string]string {
 	}
 }
 
+// dearTypes are files whose values have large types, or types with many values.
+func dearTypes() map[string]string {
+	var doubled, passed, chosen, wide []string
+	for i := 1; i < 40; i++ {
+		doubled = append(doubled, decision(fmt.Sprintf("d%d", i), "", literal(fmt.Sprintf("{a: d%d, b: d%[1]d}", i-1)), fmt.Sprintf("d:d%d", i-1)))
+	}
+	for i := 0; i < 300; i++ {
+		passed = append(passed, decision(fmt.Sprintf("q%d", i), "", literal("large0"), "large0"))
+		chosen = append(chosen, decision(fmt.Sprintf("q%d", i), "tText", literal(fmt.Sprintf(`if x > 0.5 then t else "v%d"`, i)), "t", "x"))
+	}
+	var texts, numbers []string
+	for i := 0; i < 5000; i++ {
+		texts, numbers = append(texts, fmt.Sprintf(`"v%d"`, i)), append(numbers, fmt.Sprintf("%d.5", i))
+	}
+	columns := make([]column, 20)
+	for i := range columns {
+		wide = append(wide, fmt.Sprintf("x%d", i))
+		columns[i] = column{text: wide[i], values: strings.Join(numbers[:1000], ", ")}
+	}
+	row := append(filledWith("1.5", len(columns)), "0.5")
+	return map[string]string{
+		"contexts that hold each other twice": definitions(append([]string{input("x", "number"),
+			decision("d0", "", literal("{a: x, b: x * 0.5}"), "x")}, doubled...)...),
+		"decisions of a large type":      definitions(append([]string{inputsOf(largeType(500), 1)}, passed...)...),
+		"decisions of many values":       definitions(append([]string{item("tText", amongst("string", strings.Join(texts, ", "))), input("t", "tText"), input("x", "number")}, chosen...)...),
+		"columns with many input values": definitions(append(inputsOfNumbers(wide), decision("q", "", table(first, columns, []column{{text: "r"}}, row), wide...))...),
+		"entries of a large input":       definitions(inputsOf(largeType(9000), 1), decision("q", "", literal("{"+manyEntries("large0", 4000)+"}"), "large0")),
+	}
+}
+
+// filledWith are so many texts.
+func filledWith(text string, count int) []string {
+	return strings.Split(strings.TrimSuffix(strings.Repeat(text+"|", count), "|"), "|")
+}
+
+func inputsOfNumbers(names []string) (all []string) {
+	for _, name := range names {
+		all = append(all, input(name, "number"))
+	}
+	return all
+}
+
+// manyEntries are entries of a context with the same value.
+func manyEntries(value string, count int) string {
+	all := make([]string, count)
+	for i := range all {
+		all[i] = fmt.Sprintf("a%d: %s", i, value)
+	}
+	return strings.Join(all, ", ")
+}
+
+// dearRelations are files that go through a relation again and again.
+func dearRelations() map[string]string {
+	columns := []string{"p", "q", "r", "s", "t"}
+	var rows [][]string
+	for i := 0; i < 40; i++ {
+		rows = append(rows, []string{fmt.Sprintf("%d.5", i), "1", "2", "3", "4"})
+	}
+	over := func(text string) string {
+		return definitions(input("x", "number"), decision("rows", "", relation(columns, rows...)),
+			decision("q", "", literal("["+filled(text, ", ", halfSize)+"]"), "x", "d:rows"))
+	}
+	return map[string]string{"members of a relation": over("for m in rows return m.p * x"), "first rows of a relation": over("rows[p > x][1].q"),
+		"rows of a relation": over("rows[7].q"), "sums over a relation": over("count(rows[p > x])")}
+}
+
 // TestDearShapes measures files of about a tenth of a megabyte, each of a shape that asks for much: whether they are taken or not.
 func TestDearShapes(t *testing.T) {
-	for _, shapes := range []map[string]string{dearContexts(), dearExpressions(), dearParts()} {
+	for _, shapes := range []map[string]string{dearContexts(), dearExpressions(), dearParts(), dearTypes(), dearRelations()} {
 		for name, file := range shapes {
 			t.Run(name, func(t *testing.T) {
 				before := processorTime(t)

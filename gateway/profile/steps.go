@@ -92,7 +92,7 @@ func (t *translator) chosen(n feel.Node, s *scope) phrase {
 
 // constantQuotient refuses a quotient by a variable.
 func (t *translator) constantQuotient(n feel.Node, p phrase) phrase {
-	if p.over == nil {
+	if p.over() == nil {
 		return p
 	}
 	return t.exact(n, p)

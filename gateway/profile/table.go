@@ -47,8 +47,8 @@ type tableReader struct {
 
 // table translates a decision table.
 func (t *translator) table(x *dmn.Table, s *scope) (*box, *valueType) {
-	r := &tableReader{translator: t, source: x, scope: s, named: map[string]bool{}, made: &box{kind: tableBox, table: &model.Table{
-		Inputs: []string{}, Outputs: []model.Output{}, Rules: []model.Rule{}}}}
+	r := &tableReader{translator: t, source: x, scope: s, named: map[string]bool{}, made: tableOf(&model.Table{
+		Inputs: []string{}, Outputs: []model.Output{}, Rules: []model.Rule{}})}
 	hit := r.hitPolicy()
 	if hit == "" || !r.isWhole() {
 		return boxOf(refused), refusedType
@@ -400,6 +400,7 @@ func (r *tableReader) typeOf(hit string) *valueType {
 		for i, o := range r.outputs {
 			of.setField(feel.Canonical(o.clause.Attribute("name")), r.outputType(i))
 		}
+		of = of.bounded(func(why, instead string) { r.refusals.refuse(r.source.Element, "", why, instead) })
 	}
 	switch hit {
 	case "C", "R", "O":

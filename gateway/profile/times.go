@@ -112,8 +112,8 @@ func (t *translator) joinedTime(n feel.Node, date, time phrase) phrase {
 		return t.refuse(n, "the date is of the type "+date.of.String(), "a date")
 	}
 	t.fractions = true
-	if date.moment != nil && time.moment != nil {
-		return momentOf(*date.moment*t.perDay()+*time.moment, of)
+	if date.moment() != nil && time.moment() != nil {
+		return momentOf(*date.moment()*t.perDay()+*time.moment(), of)
 	}
 	seconds := infix(date, "*", constant(fmt.Sprint(t.perDay()), numberType), rankProduct, numberType)
 	return infix(seconds, "+", time, rankSum, of)
@@ -122,8 +122,8 @@ func (t *translator) joinedTime(n feel.Node, date, time phrase) phrase {
 // dayOf is the date of a date and time without an offset.
 func (t *translator) dayOf(p phrase) phrase {
 	t.fractions = true
-	if p.moment != nil {
-		return momentOf(*p.moment/t.perDay(), dateType)
+	if p.moment() != nil {
+		return momentOf(*p.moment()/t.perDay(), dateType)
 	}
 	p = t.short(p)
 	return t.step("day", wholeQuotient(fmt.Sprintf("%[1]s - modulo(%[1]s, %[2]d)", p.text, t.perDay()), t.perDay()), dateType)
@@ -132,8 +132,8 @@ func (t *translator) dayOf(p phrase) phrase {
 // timeOf is the time of a date and time without an offset.
 func (t *translator) timeOf(p phrase) phrase {
 	t.fractions = true
-	if p.moment != nil {
-		return momentOf(*p.moment%t.perDay(), timeType)
+	if p.moment() != nil {
+		return momentOf(*p.moment()%t.perDay(), timeType)
 	}
 	return call("modulo", timeType, p, constant(fmt.Sprint(t.perDay()), numberType))
 }
@@ -143,10 +143,10 @@ func (t *translator) timeOf(p phrase) phrase {
 func (t *translator) secondsLater(n feel.Node, a phrase, operator string, length phrase) phrase {
 	of := &valueType{kind: a.of.kind, sort: a.of.sort}
 	sum := infix(a, operator, length, rankSum, of)
-	if a.moment != nil && length.moment != nil {
-		value, fine := addedNumbers(*a.moment, operator, *length.moment)
+	if a.moment() != nil && length.moment() != nil {
+		value, fine := addedNumbers(*a.moment(), operator, *length.moment())
 		if of.kind == timeKind {
-			value, fine = ((*a.moment+signed(operator, *length.moment)%t.perDay())%t.perDay()+t.perDay())%t.perDay(), true
+			value, fine = ((*a.moment()+signed(operator, *length.moment())%t.perDay())%t.perDay()+t.perDay())%t.perDay(), true
 		}
 		if !fine || of.kind == dateTimeKind && t.offsets.tick.DateTimeText(value) == "" {
 			return t.refuse(n, pastYears, "a date within these")
@@ -192,10 +192,10 @@ func (t *translator) timePart(p phrase, name string) phrase {
 	parts := map[string][2]int64{"hour": {t.perDay(), 3600 * second}, "minute": {3600 * second, 60 * second}, "second": {60 * second, 1}}
 	bounds, known := parts[name]
 	switch {
-	case known && p.moment != nil && bounds[1] == 1:
-		return t.secondsOf(*p.moment % bounds[0])
-	case known && p.moment != nil:
-		return partNumber(fmt.Sprint(*p.moment % bounds[0] / bounds[1]))
+	case known && p.moment() != nil && bounds[1] == 1:
+		return t.secondsOf(*p.moment() % bounds[0])
+	case known && p.moment() != nil:
+		return partNumber(fmt.Sprint(*p.moment() % bounds[0] / bounds[1]))
 	case known:
 		p = t.short(p)
 		within := fmt.Sprintf("modulo(%s, %d)", p.text, bounds[0])

@@ -83,6 +83,9 @@ func (t *translator) framed(translate func() *box) *box {
 
 // hoisted makes a box an entry in front of the expression, and gives its word.
 func (t *translator) hoisted(base string, b *box, of *valueType) phrase {
+	if t.full {
+		return constant(base, of)
+	}
 	return t.inFront(t.words.fresh(base), b, of)
 }
 
@@ -98,7 +101,7 @@ func (t *translator) inFront(word string, b *box, of *valueType) phrase {
 
 // short is a phrase that may be written more than once.
 func (t *translator) short(p phrase) phrase {
-	if p.isShort() || p.number != nil && t.counts || p.moment != nil {
+	if p.isShort() || p.number != nil && t.counts || p.moment() != nil {
 		return p
 	}
 	return t.part(p)
@@ -106,8 +109,14 @@ func (t *translator) short(p phrase) phrase {
 
 // part makes a phrase an entry in front of the expression, under the condition of its branch.
 func (t *translator) part(p phrase) phrase {
-	made := t.hoisted("part", t.boxed(t.conditioned(p)), p.of)
-	made.number, made.over, made.branches, made.inDays = p.number, p.over, p.branches, p.inDays
+	made := constant("part", p.of)
+	if !t.full {
+		made = t.hoisted("part", t.boxed(t.conditioned(p)), p.of)
+	}
+	made.number = p.number
+	if p.over() != nil || p.branches() != nil || p.inDays() != nil {
+		made.rare = &rare{over: p.over(), branches: p.branches(), inDays: p.inDays()}
+	}
 	return made
 }
 

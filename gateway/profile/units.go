@@ -125,10 +125,79 @@ func joinedParts(a, b units) (scale int, per int64) {
 	if a.scale == b.scale && a.per == b.per {
 		return a.scale, a.per
 	}
+	if first, second := a.fewParts(), b.fewParts(); first > 0 && second > 0 {
+		return unitsOfFewParts(first / commonDivisor(first, second) * second)
+	}
 	first, second := a.partsOfOne(), b.partsOfOne()
 	common := new(big.Int).GCD(nil, nil, first, second)
 	both, _ := unitsOfParts(first.Mul(first, second.Quo(second, common)))
 	return both.scale, both.per
+}
+
+// mostFewParts is a number of parts of which two may be multiplied.
+const mostFewParts = 1 << 31
+
+// fewParts is how many parts of 1 the numbers count; 0 where these are many.
+func (u units) fewParts() int64 {
+	parts := u.parts()
+	if u.scale < 0 || parts >= mostFewParts {
+		return 0
+	}
+	for i := 0; i < u.scale; i++ {
+		if parts *= 10; parts >= mostFewParts {
+			return 0
+		}
+	}
+	return parts
+}
+
+func commonDivisor(a, b int64) int64 {
+	for b != 0 {
+		a, b = b, a%b
+	}
+	return a
+}
+
+// unitsOfFewParts is unitsOfParts of a number of parts that is one of the engine's.
+func unitsOfFewParts(parts int64) (scale int, per int64) {
+	rest, twos, fives := parts, 0, 0
+	for ; rest%2 == 0; rest /= 2 {
+		twos++
+	}
+	for ; rest%5 == 0; rest /= 5 {
+		fives++
+	}
+	if rest == 1 && areDecimals(twos, fives) {
+		return maximum(twos, fives), 0
+	}
+	for scale = 0; scale < twos && scale < fives; scale++ {
+		parts /= 10
+	}
+	return scale, parts
+}
+
+// mostTwos and mostFives are how many more twos, or fives, than the other ones a number of parts may have whose parts are counted as
+// decimals: by them a number is multiplied by fives, or twos.
+const mostTwos, mostFives = 27, 62
+
+// areDecimals tells whether parts of twos and fives are counted as decimals.
+func areDecimals(twos, fives int) bool { return twos-fives <= mostTwos && fives-twos <= mostFives }
+
+// factorBetween is by what a number of some units is multiplied to be counted in others that aren't coarser; nil where that is no
+// whole number.
+func factorBetween(from, to units) *big.Int {
+	finer := units{scale: to.scale - from.scale, per: to.per}
+	if few := finer.fewParts(); few > 0 {
+		if few%from.parts() != 0 {
+			return nil
+		}
+		return big.NewInt(few / from.parts())
+	}
+	factor, rest := finer.partsOfOne(), new(big.Int)
+	if factor.QuoRem(factor, big.NewInt(from.parts()), rest); rest.Sign() != 0 {
+		return nil
+	}
+	return factor
 }
 
 // partsOfOne is how many parts of 1 the numbers count.
@@ -138,7 +207,7 @@ func (u units) partsOfOne() *big.Int {
 }
 
 // unitsOfParts are the units of numbers that count so many parts of 1, which may have to be made finer by a factor: to decimals where
-// the number of parts has twos and fives alone, and where it is past the range.
+// the number of parts has twos and fives alone, and not too many of one, and where it is past the range.
 func unitsOfParts(parts *big.Int) (u units, finer *big.Int) {
 	rest := new(big.Int).Set(parts)
 	twos, fives := removed(rest, 2), removed(rest, 5)
@@ -146,7 +215,8 @@ func unitsOfParts(parts *big.Int) (u units, finer *big.Int) {
 	if u.scale = twos; fives < twos {
 		u.scale = fives
 	}
-	if per.Quo(parts, decimal.Power(u.scale)); rest.IsInt64() && rest.Int64() == 1 || !isNumber(per) {
+	isEnding := rest.IsInt64() && rest.Int64() == 1 && areDecimals(twos, fives)
+	if per.Quo(parts, decimal.Power(u.scale)); isEnding || !isNumber(per) {
 		u.scale = maximum(twos, fives)
 		per.Set(rest)
 	}

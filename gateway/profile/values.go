@@ -131,6 +131,9 @@ func literalText(n feel.Node) string {
 	case *feel.Null:
 		return "null"
 	case *feel.Number, *feel.Negation:
+		if number, is := n.(*feel.Number); is && isShortest(number.Text) {
+			return number.Text
+		}
 		value := rational(n)
 		if value != nil && value.IsInt() && value.Num().BitLen() < 64 {
 			return value.Num().String()
@@ -140,4 +143,11 @@ func literalText(n feel.Node) string {
 		}
 	}
 	return ""
+}
+
+// isShortest tells whether a numeric literal is in its shortest form, and surely in the range.
+func isShortest(text string) bool {
+	point := strings.IndexByte(text, '.')
+	isLong, hasEmptyEnd := len(text) >= len(largestNumber), point == 0 || text[len(text)-1] == '0' && point > 0
+	return !isLong && !hasEmptyEnd && (text[0] != '0' || len(text) == 1 || point == 1)
 }

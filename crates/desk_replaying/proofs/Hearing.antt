@@ -24,12 +24,13 @@ use Rattle.desk_replaying.specs.declared.state.Effect.{Effect}
 use Rattle.desk_replaying.specs.declared.state.Effect.TheVariants as effect
 use Rattle.desk_replaying.proofs.Fewness.{no_line}
 use Rattle.desk_replaying.proofs.Turning.{quiet, taken_in}
+use Rattle.model_marks.specs.declared.mark.Catalog.{Ghosts}
 
 -- a report at the end of a text
 one_said : (text : List ℕ) (report : Report) → text ++ ended (report_text report) ≡ text ++ flat_map ended (texts_of (report ∷ []))
 one_said text report = ap (λ l. text ++ l) (sym (append-nil (ended (report_text report))))
 
-told_same : (k : ℕ) (says : Line) (event : broker.Event Request) (text : List ℕ) (eff : Effect) → told_of k says eff ∷ [] ≡ reports_on k (Says says) (deed_of event text eff)
+told_same : {C : Type 0} (k : ℕ) (says : Line) (event : broker.Event Request) (text : List ℕ) (eff : Effect C) → told_of k says eff ∷ [] ≡ reports_on k (Says says) (deed_of event text eff)
 told_same k says event text effect.Loaded = refl
 told_same k says event text (effect.Faulty fault) = refl
 told_same k says event text (effect.Reported told) = refl
@@ -37,7 +38,7 @@ told_same k says event text (effect.Refused why) = refl
 
 -- ---- a line as it is read
 
-module _ (state : State) (k : ℕ) (bytes text text' : List ℕ) where
+module _ {C : Type 0} {G : Ghosts C} (state : State C G) (k : ℕ) (bytes text text' : List ℕ) where
   pub heard_blank : Reads bytes Blank → text' ≡ text → HearsText state k bytes text text' state
   heard_blank reads e = (
     [],
@@ -67,7 +68,7 @@ module _ (state : State) (k : ℕ) (bytes text text' : List ℕ) where
   )
 
 -- what is no object
-pub heard_no_object : (state : State) (k : ℕ) (how : Heard) (it text text' : List ℕ) → ((members : Vec (Bor (List ℕ) × Value) Global) → how ≢ heard.Object members) → IsHeardAs it how
+pub heard_no_object : {C : Type 0} {G : Ghosts C} (state : State C G) (k : ℕ) (how : Heard) (it text text' : List ℕ) → ((members : Vec (Bor (List ℕ) × Value) Global) → how ≢ heard.Object members) → IsHeardAs it how
     → text' ≡ text ++ refusal_text k how → HearsText state k it text text' state
 heard_no_object state k heard.Long it text text' none h is = heard_long state k it text text' h is
 heard_no_object state k heard.Blank it text text' none h is = heard_blank state k it text text' h (is ∙ append-nil text)
@@ -76,14 +77,14 @@ heard_no_object state k heard.Other it text text' none h is = heard_shape state 
 heard_no_object state k (heard.Object members) it text text' none h is = absurd (none members refl)
 
 -- the object of these members is none of the lines
-pub heard_strange : (state : State) (k : ℕ) (how : Heard) (members : Vec (Bor (List ℕ) × Value) Global) (it text text' : List ℕ) → how ≡ heard.Object members
+pub heard_strange : {C : Type 0} {G : Ghosts C} (state : State C G) (k : ℕ) (how : Heard) (members : Vec (Bor (List ℕ) × Value) Global) (it text text' : List ℕ) → how ≡ heard.Object members
     → ((line : Line) → ¬ IsLine line (object (members_of members.items))) → IsHeardAs it how → text' ≡ text ++ refusal_text k how → HearsText state k it text text' state
 heard_strange state k how members it text text' same none h is =
     let hears = rw same at h in
     heard_shape state k it text text' (hears.0, hears.1, hears.2, (_, hears.3, λ line lawful e. none line (e, lawful))) (rw same at is)
 
 -- a line that says something
-pub heard_line : (old new : State) (k : ℕ) (bytes text text' : List ℕ) (says : Line) (eff : Effect) → HasEffect old says eff new → Reads bytes (Says says)
+pub heard_line : {C : Type 0} {G : Ghosts C} (old new : State C G) (k : ℕ) (bytes text text' : List ℕ) (says : Line) (eff : Effect C) → HasEffect old says eff new → Reads bytes (Says says)
     → text' ≡ text ++ ended (report_text (told_of k says eff)) → HearsText old k bytes text text' new
 heard_line old new k bytes text text' says eff heard reads e = (
   told_of k says eff ∷ [],
@@ -93,7 +94,7 @@ heard_line old new k bytes text text' says eff heard reads e = (
 
 -- ---- a line after those before it
 
-pub after_line : (old new : State) (k : ℕ) (it text text' : List ℕ) (lines said : List (List ℕ)) → After old lines said → k ≡ length lines + 1 → HearsText old k it text text' new
+pub after_line : {C : Type 0} {G : Ghosts C} (old new : State C G) (k : ℕ) (it text text' : List ℕ) (lines said : List (List ℕ)) → After old lines said → k ≡ length lines + 1 → HearsText old k it text text' new
     → (more : List (List ℕ)) × After new (lines ++ it ∷ []) (said ++ more) × (text' ≡ text ++ flat_map ended more)
 after_line old new k it text text' lines said after number heard = (texts_of heard.0, taken_in old new k it heard.0 lines said heard.1 after number, heard.2)
 

@@ -1,5 +1,7 @@
 -- One turn more.
-use Rattle.std.proofs.Common.{◌≡◌, ℕ, suc, ◌+◌, Bool, true, false, if◌then◌else◌, cond, not, bytes_eq, string_bytes, slice_get, option_map, List, [], ◌∷◌, ◌++◌, length, map, Option, Some, None, Result, Ok, Err, is_ok, ◌⊎◌, inl, inr, refl, ap, sym, ◌∙◌, subst, arith, append_assoc, append-nil}
+use mathlib.Core.HLevel.{is_prop→PathP}
+use Rattle.std.proofs.Math.Bridge.{le_prop}
+use Rattle.std.proofs.Common.{◌≡◌, ◌≤◌, ℕ, suc, ◌+◌, Bool, true, false, if◌then◌else◌, cond, not, bytes_eq, string_bytes, slice_get, option_map, List, [], ◌∷◌, ◌++◌, length, map, Option, Some, None, Result, Ok, Err, is_ok, ◌⊎◌, inl, inr, refl, ap, sym, ◌∙◌, subst, arith, append_assoc, append-nil}
 use Rattle.std.specs.List.{flat_map, position_or_len}
 use Rattle.std.proofs.lemmas.Grind.{flat_map-append}
 use Rattle.std.proofs.lemmas.List.{map-append, length-map}
@@ -7,9 +9,13 @@ use Rattle.serde_json.specs.Data.{Data}
 use Rattle.serde_json.specs.Written.{compact_text}
 use Rattle.box_core.specs.Answer.{Ticketed}
 use Rattle.box_core.specs.History as broker
+use Rattle.box_core.specs.Own.{AnswersOwn}
+use Rattle.box_core.specs.declared.faults.Answered.{Answered}
+use Rattle.box_core.specs.declared.faults.Answered.TheVariants as answered
 use Rattle.box_core.specs.Table.{Reports, LegalAfter, Legal, Step, ForClient, AnswerReport}
 use Rattle.box_core.specs.Views.{report_of}
 use Rattle.box_core.specs.declared.event.Report.{Report}
+use Rattle.box_core.specs.declared.event.Report.TheVariants as reports
 use Rattle.box_core.specs.Mail.{Mail, Status, status_in, Unknown, Waiting, Running, Settled, status_by, standing_at}
 use Rattle.box_core.proofs.Bridge.{continues_one, continues_none, standing_of_history, accepted_none}
 use Rattle.dmn_plan.specs.Request.{Request, request_result}
@@ -30,6 +36,7 @@ use Rattle.desk_replaying.specs.declared.state.Effect.{Effect}
 use Rattle.desk_replaying.specs.declared.state.Effect.TheVariants as effect
 use Rattle.desk_wire.specs.declared.word.Word.{Word}
 use Rattle.desk_wire.specs.declared.word.Word.TheVariants as word
+use Rattle.model_marks.specs.declared.mark.Catalog.{Ghosts}
 
 -- ---- what is read off the turns
 
@@ -47,7 +54,7 @@ in_force-more model (t ∷ turns) turn = in_force-more (newer model t.deed) turn
 
 -- ---- the state stands after one turn more
 
-pub one_more : (old new : State) (turns : List Turn) (turn : Turn) → Stands old turns
+pub one_more : {C : Type 0} {G : Ghosts C} (old new : State C G) (turns : List Turn) (turn : Turn) → Stands old turns
     → Legal (λ request. request) request_result (history turns ++ pair_of turn.deed)
     → broker.state request_result (history turns ++ pair_of turn.deed) ≡ new.broker
     → names_of new ≡ names_of old ++ opened_by turn.reading turn.deed
@@ -61,7 +68,7 @@ one_more old new turns turn stands legal state names model = record {
 }
 
 -- where the broker isn't asked
-pub quiet : (old new : State) (turns : List Turn) (turn : Turn) → Stands old turns
+pub quiet : {C : Type 0} {G : Ghosts C} (old new : State C G) (turns : List Turn) (turn : Turn) → Stands old turns
     → pair_of turn.deed ≡ [] → opened_by turn.reading turn.deed ≡ []
     → new.broker ≡ old.broker → names_of new ≡ names_of old → model_of new ≡ newer (model_of old) turn.deed
     → Stands new (turns ++ turn ∷ [])
@@ -80,7 +87,7 @@ legal_last x [] e r legal = rw (append-nil x) legal.0
 legal_last x (p ∷ h) e r legal = rw (append_assoc x (p ∷ []) h) at (legal_last (x ++ p ∷ []) h e r legal.1)
 
 -- where the broker is asked
-module _ (old new : State) (turns : List Turn) (stands : Stands old turns) (event : broker.Event Request) (report : broker.Report Request Outcome)
+module _ {C : Type 0} {G : Ghosts C} (old new : State C G) (turns : List Turn) (stands : Stands old turns) (event : broker.Event Request) (report : broker.Report Request Outcome)
     (step : Step (λ request. request) request_result old.broker event report new.broker) where
   longer : broker.History Request Outcome
   longer = history turns ++ (event, report) ∷ []
@@ -104,12 +111,12 @@ module _ (old new : State) (turns : List Turn) (stands : Stands old turns) (even
 -- ---- what is due
 
 -- what the state has of names and model is what is read off the turns
-same_due : (old : State) (turns : List Turn) (says : Line) → Stands old turns
+same_due : {C : Type 0} {G : Ghosts C} (old : State C G) (turns : List Turn) (says : Line) → Stands old turns
     → due_to (names_of old) (model_of old) (history turns) says ≡ due_to (opened turns) (in_force turns) (history turns) says
 same_due old turns says stands =
     ap (λ names. due_to names (model_of old) (history turns) says) stands.names ∙ ap (λ model. due_to (opened turns) model (history turns) says) stands.model
 
-abbrev IsDueTo : State → Line → Due → Type 0
+abbrev IsDueTo : {C : Type 0} {G : Ghosts C} → State C G → Line → Due → Type 0
 IsDueTo old says due = (turns : List Turn) → Stands old turns → due_to (names_of old) (model_of old) (history turns) says ≡ due
 
 abbrev OpensNothing : Line → Type 0
@@ -118,17 +125,17 @@ OpensNothing says = (event : broker.Event Request) (report : broker.Report Reque
 no_event : broker.Event Request
 no_event = broker.AddClient 0
 
-done : (old : State) (turns : List Turn) (says : Line) (due : Due) (deed : Deed) → Stands old turns
+done : {C : Type 0} {G : Ghosts C} (old : State C G) (turns : List Turn) (says : Line) (due : Due) (deed : Deed) → Stands old turns
     → due_to (names_of old) (model_of old) (history turns) says ≡ due → IsDone (history turns) due deed → IsDue turns says deed
 done old turns says due deed stands is d =
     let e : due ≡ due_to (opened turns) (in_force turns) (history turns) says = sym is ∙ same_due old turns says stands in
     let P : Due → Type 0 = λ x. IsDone (history turns) x deed in
     inl (subst P e d)
 
-same_names : (old new : State) → new.names ≡ old.names → names_of new ≡ names_of old
+same_names : {C : Type 0} {G : Ghosts C} (old new : State C G) → new.names ≡ old.names → names_of new ≡ names_of old
 same_names old new e = rw e refl
 
-same_model : (old new : State) → new.plan ≡ old.plan → model_of new ≡ model_of old
+same_model : {C : Type 0} {G : Ghosts C} (old new : State C G) → new.plan ≡ old.plan → model_of new ≡ model_of old
 same_model old new e = rw e refl
 
 -- a name's number is found among the names as they are held
@@ -136,17 +143,17 @@ position_or_len-map : {X Y : Type 0} (p : Y → Bool) (f : X → Y) (xs : List X
 position_or_len-map p f [] = refl
 position_or_len-map p f (x ∷ xs) = ap (λ n. cond (not (p (f x))) (1 + n) 0) (position_or_len-map p f xs)
 
-number_same : (state : State) (name : List ℕ) → number_of (names_of state) name ≡ number_in state name
+number_same : {C : Type 0} {G : Ghosts C} (state : State C G) (name : List ℕ) → number_of (names_of state) name ≡ number_in state name
 number_same state name =
     let place = position_or_len-map (λ (opened : List ℕ). bytes_eq opened name) string_bytes state.names.items in
     let count = length-map state.names.items string_bytes in
     rw (place, count) refl
 
-client_same : (state : State) (name : List ℕ) → client_of (names_of state) name ≡ client_in state name
+client_same : {C : Type 0} {G : Ghosts C} (state : State C G) (name : List ℕ) → client_of (names_of state) name ≡ client_in state name
 client_same state name = rw (number_same state name, length-map state.names.items string_bytes) refl
 
 -- the broker is asked
-pub heard_asked : (old new : State) (says : Line) (event : broker.Event Request) (eff : Effect) → OpensNothing says
+pub heard_asked : {C : Type 0} {G : Ghosts C} (old new : State C G) (says : Line) (event : broker.Event Request) (eff : Effect C) → OpensNothing says
     → IsDueTo old says (Asks event) → AsksFor old event eff new → HasEffect old says eff new
 heard_asked old new says event (effect.Reported report) none is h = λ turns stands.
     let due : IsDue turns says (Asked event (report_of report)) =
@@ -173,33 +180,33 @@ opens_none (Close name) why = refl
 opens_none (Resize name n) why = refl
 
 -- the front refuses
-heard_refused : (old new : State) (says : Line) (why : Word) → IsDueTo old says (Refuses why) → new ≡ old → HasEffect old says (effect.Refused why) new
+heard_refused : {C : Type 0} {G : Ghosts C} (old new : State C G) (says : Line) (why : Word) → IsDueTo old says (Refuses why) → new ≡ old → HasEffect old says (effect.Refused why) new
 heard_refused old new says why is same = λ turns stands. (
   no_event,
   [],
   done old turns says (Refuses why) (Refused why) stands (is turns stands) refl,
   λ k bytes. quiet old new turns (record { number = k; line = bytes; reading = Says says; deed = Refused why }) stands refl (opens_none says why)
-      (ap (λ (d : State). d.broker) same) (ap names_of same) (ap model_of same),
+      (ap (λ (d : State _ _). d.broker) same) (ap names_of same) (ap model_of same),
 )
 
 -- memory was refused
-heard_lack : (old new : State) (says : Line) → MayLackMemory says → new ≡ old → HasEffect old says (effect.Refused word.Memory) new
+heard_lack : {C : Type 0} {G : Ghosts C} (old new : State C G) (says : Line) → MayLackMemory says → new ≡ old → HasEffect old says (effect.Refused word.Memory) new
 heard_lack old new says may same = λ turns stands. (
   no_event,
   [],
   inr (may, refl),
   λ k bytes. quiet old new turns (record { number = k; line = bytes; reading = Says says; deed = Refused word.Memory }) stands refl (opens_none says word.Memory)
-      (ap (λ (d : State). d.broker) same) (ap names_of same) (ap model_of same),
+      (ap (λ (d : State _ _). d.broker) same) (ap names_of same) (ap model_of same),
 )
 
 -- memory was refused, or what is due is a refusal
-heard_unanswered : (old new : State) (says : Line) (due : Due) (why : Word) → MayLackMemory says → IsDueTo old says due
+heard_unanswered : {C : Type 0} {G : Ghosts C} (old new : State C G) (says : Line) (due : Due) (why : Word) → MayLackMemory says → IsDueTo old says due
     → (why ≡ word.Memory) ⊎ (due ≡ Refuses why) → new ≡ old → HasEffect old says (effect.Refused why) new
 heard_unanswered old new says due why may is (inl lack) same = rw lack (heard_lack old new says may same)
 heard_unanswered old new says due why may is (inr refuses) same = heard_refused old new says why (rw refuses at is) same
 
 -- the broker is asked, or the line is refused
-pub heard_answers : (old new : State) (says : Line) (due : Due) (eff : Effect) → OpensNothing says → MayLackMemory says
+pub heard_answers : {C : Type 0} {G : Ghosts C} (old new : State C G) (says : Line) (due : Due) (eff : Effect C) → OpensNothing says → MayLackMemory says
     → IsDueTo old says due → Answers old due eff new → HasEffect old says eff new
 heard_answers old new says due (effect.Reported report) none may is h =
     heard_asked old new says h.0 (effect.Reported report) none (rw h.1 at is) h.2
@@ -212,7 +219,7 @@ read_ok : {M : Type 0} (json : Data) (r : Result M ModelFault) → is_ok r ≡ t
 read_ok json (Ok m) h = refl
 read_ok json (Err f) h = let wrong : ⊥ = cc in absurd wrong
 
-pub heard_load : (old new : State) (json : Data) (eff : Effect) → LoadsModel old json eff new → HasEffect old (Model json) eff new
+pub heard_load : {C : Type 0} {G : Ghosts C} (old new : State C G) (json : Data) (eff : Effect C) → LoadsModel old json eff new → HasEffect old (Model json) eff new
 heard_load old new json effect.Loaded h = λ turns stands.
     let text = compact_text json in (
       no_event,
@@ -226,7 +233,7 @@ heard_load old new json (effect.Faulty f) h = λ turns stands. (
   [],
   done old turns (Model json) (Faults f) (Faulty f) stands (ap (due_to_model json) h.0) refl,
   λ k bytes. quiet old new turns (record { number = k; line = bytes; reading = Says (Model json); deed = Faulty f }) stands refl refl
-      (ap (λ (d : State). d.broker) h.1) (ap names_of h.1) (ap model_of h.1),
+      (ap (λ (d : State _ _). d.broker) h.1) (ap names_of h.1) (ap model_of h.1),
 )
 heard_load old new json (effect.Refused why) h = rw h.0 (heard_lack old new (Model json) tt h.1)
 heard_load old new json (effect.Reported r) h = absurd h
@@ -237,7 +244,7 @@ opened_same : (name : List ℕ) (n : ℕ) (event : broker.Event Request) (r : br
 opened_same name n event (broker.Added client) = refl
 opened_same name n event r = refl
 
-heard_opened : (old new : State) (name : List ℕ) (n : ℕ) (o : Option ℕ) (eff : Effect) → number_in old name ≡ o
+heard_opened : {C : Type 0} {G : Ghosts C} (old new : State C G) (name : List ℕ) (n : ℕ) (o : Option ℕ) (eff : Effect C) → number_in old name ≡ o
     → OpensAs old name n o eff new → HasEffect old (Open name n) eff new
 heard_opened old new name n (Some client) eff found h =
     rw h.0 (heard_refused old new (Open name n) word.Present (λ turns stands. ap (λ o. due_to_open o n) (number_same old name ∙ found)) h.1)
@@ -256,7 +263,7 @@ heard_opened old new name n None effect.Loaded found h = absurd h
 heard_opened old new name n None (effect.Faulty f) found h = absurd h
 heard_opened old new name n None (effect.Refused why) found h = absurd h
 
-pub heard_open : (old new : State) (name : List ℕ) (n : ℕ) (eff : Effect) → Opens old name n eff new → HasEffect old (Open name n) eff new
+pub heard_open : {C : Type 0} {G : Ghosts C} (old new : State C G) (name : List ℕ) (n : ℕ) (eff : Effect C) → Opens old name n eff new → HasEffect old (Open name n) eff new
 heard_open old new name n eff h = heard_opened old new name n (number_in old name) eff refl h
 
 -- the work that was taken answers
@@ -308,7 +315,7 @@ settled_reports t work (Some mail) h =
     let P : Status Request → Type 0 = λ s. AnswerReport {O = Outcome} (λ (r : Request). r) s work broker.Repeated in
     subst P (sym e) refl
 
-module _ (old new : State) (name : List ℕ) (t c : ℕ) (found : number_in old name ≡ Some c) where
+module _ {C : Type 0} {G : Ghosts C} (old new : State C G) (name : List ℕ) (t c : ℕ) (found : number_in old name ≡ Some c) where
   due_taken : (turns : List Turn) → due_to (names_of old) (model_of old) (history turns) (Answer name t) ≡ due_to_work c t (taken_work (history turns) c t)
   due_taken turns = ap (λ o. due_to_answer (history turns) t o) (number_same old name ∙ found)
 
@@ -320,7 +327,7 @@ module _ (old new : State) (name : List ℕ) (t c : ℕ) (found : number_in old 
   known : (turns : List Turn) → Stands old turns → (s : Status Request) → standing_at old.broker c t ≡ Some s → broker.status (history turns) c t ≡ s
   known turns stands s at = status_known (broker.status (history turns) c t) (slice_get (broker.added (history turns)) c) s (in_history turns stands (Some s) at)
 
-  strange : (eff : Effect) → ((turns : List Turn) → Stands old turns → taken_work (history turns) c t ≡ None)
+  strange : (eff : Effect C) → ((turns : List Turn) → Stands old turns → taken_work (history turns) c t ≡ None)
       → Answers old (Refuses word.Strange) eff new → HasEffect old (Answer name t) eff new
   strange eff none h =
       heard_answers old new (Answer name t) (Refuses word.Strange) eff (λ e r. refl) tt
@@ -333,7 +340,7 @@ module _ (old new : State) (name : List ℕ) (t c : ℕ) (found : number_in old 
       let w = taken_settled (slice_get (broker.accepted past c) t) (broker.is_taken past c t) (broker.kept past c t) (known turns stands Settled at) in
       let event : broker.Event Request = broker.Answer c (record { ticket = t; work = w.0 }) in
       let step : Step (λ (r : Request). r) request_result old.broker event (report_of report) new.broker =
-      rw told (record { reported = settled_reports t w.0 (slice_get old.broker c) at; left = ap (λ (d : State). d.broker) same }) in
+      rw told (record { reported = settled_reports t w.0 (slice_get old.broker c) at; left = ap (λ (d : State _ _). d.broker) same }) in
       let due : IsDue turns (Answer name t) (Asked event (report_of report)) =
       done old turns (Answer name t) (Asks event) (Asked event (report_of report)) stands
       (due_taken turns ∙ ap (due_to_work c t) w.1) (report_of report, is_due old new turns stands event (report_of report) step, refl) in (
@@ -344,7 +351,7 @@ module _ (old new : State) (name : List ℕ) (t c : ℕ) (found : number_in old 
             (ap names_of same ∙ sym (append-nil (names_of old))) (ap model_of same),
       )
 
-  heard_at : (s : Option (Status Request)) (eff : Effect) → standing_at old.broker c t ≡ s → AnswersAt old c t s eff new → HasEffect old (Answer name t) eff new
+  heard_at : (s : Option (Status Request)) (eff : Effect C) → standing_at old.broker c t ≡ s → AnswersAt old c t s eff new → HasEffect old (Answer name t) eff new
   heard_at (Some (Running work)) eff at h =
       heard_answers old new (Answer name t) (Asks (broker.Answer c (record { ticket = t; work = work }))) eff (λ e r. refl) tt
       (λ turns stands. due_taken turns ∙ ap (due_to_work c t)
@@ -362,18 +369,18 @@ module _ (old new : State) (name : List ℕ) (t c : ℕ) (found : number_in old 
       (accepted_none (λ (r : Request). r) request_result (history turns) stands.legal c
       (client_none (broker.status (history turns) c t) (slice_get (broker.added (history turns)) c) (in_history turns stands None at)))) h
 
-heard_by : (old new : State) (name : List ℕ) (t : ℕ) (o : Option ℕ) (eff : Effect) → number_in old name ≡ o
+heard_by : {C : Type 0} {G : Ghosts C} (old new : State C G) (name : List ℕ) (t : ℕ) (o : Option ℕ) (eff : Effect C) → number_in old name ≡ o
     → AnswersBy old t o eff new → HasEffect old (Answer name t) eff new
 heard_by old new name t None eff found h =
     heard_answers old new (Answer name t) (Refuses word.NoClient) eff (λ e r. refl) tt (λ turns stands. ap (λ o. due_to_answer (history turns) t o) (number_same old name ∙ found)) h
 heard_by old new name t (Some c) eff found h = heard_at old new name t c found (standing_at old.broker c t) eff refl h
 
-pub heard_answer : (old new : State) (name : List ℕ) (t : ℕ) (eff : Effect) → AnswersBy old t (number_in old name) eff new → HasEffect old (Answer name t) eff new
+pub heard_answer : {C : Type 0} {G : Ghosts C} (old new : State C G) (name : List ℕ) (t : ℕ) (eff : Effect C) → AnswersBy old t (number_in old name) eff new → HasEffect old (Answer name t) eff new
 heard_answer old new name t eff h = heard_by old new name t (number_in old name) eff refl h
 
 -- ---- each call of the state
 
-pub answers_of : (old new : State) (event : broker.Event Request) (eff : Effect) → AsksFor old event eff new → Answers old (Asks event) eff new
+pub answers_of : {C : Type 0} {G : Ghosts C} (old new : State C G) (event : broker.Event Request) (eff : Effect C) → AsksFor old event eff new → Answers old (Asks event) eff new
 answers_of old new event (effect.Reported told) h = (event, refl, h)
 answers_of old new event effect.Loaded h = absurd h
 answers_of old new event (effect.Faulty f) h = absurd h
@@ -385,38 +392,83 @@ ticketed done t work p q =
     let by_work : Request → Ticketed Request = λ y. record { ticket = t; work = y } in
     ap by_ticket p ∙ ap by_work q
 
-pub answered_by : (old new : State) (client t : ℕ) (work : Request) (done : Ticketed Request) (eff : Effect) → done.ticket ≡ t → done.work ≡ work
+pub answered_by : {C : Type 0} {G : Ghosts C} (old new : State C G) (client t : ℕ) (work : Request) (done : Ticketed Request) (eff : Effect C) → done.ticket ≡ t → done.work ≡ work
     → AsksFor old (broker.Answer client done) eff new → Answers old (Asks (broker.Answer client (record { ticket = t; work = work }))) eff new
 answered_by old new client t work done eff p q h =
     let P : Ticketed Request → Type 0 = λ d. Answers old (Asks (broker.Answer client d)) eff new in
     subst P (ticketed done t work p q) (answers_of old new (broker.Answer client done) eff h)
 
-pub made : (old new : State) (r : Result Request Word) (work : Request) (to_event : Request → broker.Event Request) (eff : Effect)
+pub made : {C : Type 0} {G : Ghosts C} (old new : State C G) (r : Result Request Word) (work : Request) (to_event : Request → broker.Event Request) (eff : Effect C)
     → r ≡ Ok work → Answers old (Asks (to_event work)) eff new → Answers old (asks_with r to_event) eff new
 made old new r work to_event eff is h =
     let P : Due → Type 0 = λ due. Answers old due eff new in
     subst P (sym (ap (λ x. asks_with x to_event) is)) h
 
-pub unmade : (old : State) (r : Result Request Word) (to_event : Request → broker.Event Request) (why : Word)
+pub unmade : {C : Type 0} {G : Ghosts C} (old : State C G) (r : Result Request Word) (to_event : Request → broker.Event Request) (why : Word)
     → IsUnmade r why → Answers old (asks_with r to_event) (effect.Refused why) old
 unmade old r to_event why (inl lack) = (inl lack, refl)
 unmade old r to_event why (inr is) = (inr (ap (λ x. asks_with x to_event) is), refl)
 
-pub lacks : (old : State) (client ticket : ℕ) (s : Option (Status Request)) → AnswersAt old client ticket s (effect.Refused word.Memory) old
+pub lacks : {C : Type 0} {G : Ghosts C} (old : State C G) (client ticket : ℕ) (s : Option (Status Request)) → AnswersAt old client ticket s (effect.Refused word.Memory) old
 lacks old client ticket (Some (Running work)) = (inl refl, refl)
 lacks old client ticket (Some Settled) = (refl, refl)
 lacks old client ticket (Some Unknown) = (inl refl, refl)
 lacks old client ticket (Some (Waiting work)) = (inl refl, refl)
 lacks old client ticket None = (inl refl, refl)
 
-pub heard_submit : (old new : State) (name service : List ℕ) (inputs : Data) (eff : Effect)
+-- states with the same parts are one: of what is said of a state there is one proof
+pub same_state : {C : Type 0} {G : Ghosts C} (new old : State C G) → new.broker ≡ old.broker → new.names ≡ old.names → new.plan ≡ old.plan → new.marks ≡ old.marks → new ≡ old
+same_state new old broker names plan marks = λ i. record {
+  broker = broker i;
+  names = names i;
+  plan = plan i;
+  marks = marks i;
+  counted = is_prop→PathP (λ j. length (names j).items ≤ length (broker j)) (λ j. le_prop) new.counted old.counted i;
+  few = is_prop→PathP (λ j. length (names j).items ≤ 64) (λ j. le_prop) new.few old.few i;
+}
+
+-- the broker found no memory for the work that was taken
+pub own_lacks : {C : Type 0} {G : Ghosts C} (old new : State C G) (client t : ℕ) (s : Option (Status Request)) → new ≡ old → AnswersAt old client t s (effect.Refused word.Memory) new
+own_lacks old new client t s same = rw same (lacks old client t s)
+
+-- no client has the number
+pub own_nobody : {C : Type 0} {G : Ghosts C} (old new : State C G) (client t : ℕ) (s : Option (Status Request)) (told : Option Answered)
+    → AnswersOwn (λ (r : Request). r) request_result old.broker client t s told new.broker → told ≡ None → (new.broker ≡ old.broker → new ≡ old)
+    → AnswersAt old client t s (effect.Refused word.Strange) new
+own_nobody old new client t None told own is same = (inr refl, same own.1)
+own_nobody old new client t (Some Unknown) told own is same = let wrong : ⊥ = cc in absurd wrong
+own_nobody old new client t (Some (Waiting work)) told own is same = let wrong : ⊥ = cc in absurd wrong
+own_nobody old new client t (Some (Running work)) told own is same = let wrong : ⊥ = cc in absurd wrong
+own_nobody old new client t (Some Settled) told own is same = let wrong : ⊥ = cc in absurd wrong
+
+-- nothing was taken under the ticket
+pub own_strange : {C : Type 0} {G : Ghosts C} (old new : State C G) (client t : ℕ) (s : Option (Status Request)) (told : Option Answered)
+    → AnswersOwn (λ (r : Request). r) request_result old.broker client t s told new.broker → told ≡ Some answered.Strange → (new.broker ≡ old.broker → new ≡ old)
+    → AnswersAt old client t s (effect.Refused word.Strange) new
+own_strange old new client t None told own is same = let wrong : ⊥ = cc in absurd wrong
+own_strange old new client t (Some Unknown) told own is same = (inr refl, same own.1)
+own_strange old new client t (Some (Waiting work)) told own is same = (inr refl, same own.1)
+own_strange old new client t (Some (Running work)) told own is same = let wrong : ⊥ = cc in absurd wrong
+own_strange old new client t (Some Settled) told own is same = let wrong : ⊥ = cc in absurd wrong
+
+-- an answer was kept before
+pub own_repeated : {C : Type 0} {G : Ghosts C} (old new : State C G) (client t : ℕ) (s : Option (Status Request)) (told : Option Answered)
+    → AnswersOwn (λ (r : Request). r) request_result old.broker client t s told new.broker → told ≡ Some answered.Repeated → (new.broker ≡ old.broker → new ≡ old)
+    → AnswersAt old client t s (effect.Reported reports.Repeated) new
+own_repeated old new client t None told own is same = let wrong : ⊥ = cc in absurd wrong
+own_repeated old new client t (Some Unknown) told own is same = let wrong : ⊥ = cc in absurd wrong
+own_repeated old new client t (Some (Waiting work)) told own is same = let wrong : ⊥ = cc in absurd wrong
+own_repeated old new client t (Some (Running work)) told own is same = let wrong : ⊥ = cc in absurd wrong
+own_repeated old new client t (Some Settled) told own is same = (refl, same own.1)
+
+pub heard_submit : {C : Type 0} {G : Ghosts C} (old new : State C G) (name service : List ℕ) (inputs : Data) (eff : Effect C)
     → Answers old (asks_with (request_under (model_of old) service inputs) (broker.Submit (client_in old name))) eff new
     → HasEffect old (Submit name service inputs) eff new
 heard_submit old new name service inputs eff h = heard_answers old new (Submit name service inputs)
     (asks_with (request_under (model_of old) service inputs) (broker.Submit (client_in old name))) eff (λ e r. refl) tt
     (λ turns stands. ap (λ c. asks_with (request_under (model_of old) service inputs) (broker.Submit c)) (client_same old name)) h
 
-pub heard_answer_with : (old new : State) (name : List ℕ) (t : ℕ) (service : List ℕ) (inputs : Data) (eff : Effect)
+pub heard_answer_with : {C : Type 0} {G : Ghosts C} (old new : State C G) (name : List ℕ) (t : ℕ) (service : List ℕ) (inputs : Data) (eff : Effect C)
     → Answers old (asks_with (request_under (model_of old) service inputs) (λ request. broker.Answer (client_in old name) (record { ticket = t; work = request }))) eff new
     → HasEffect old (AnswerWith name t service inputs) eff new
 heard_answer_with old new name t service inputs eff h = heard_answers old new (AnswerWith name t service inputs)
@@ -424,16 +476,16 @@ heard_answer_with old new name t service inputs eff h = heard_answers old new (A
     eff (λ e r. refl) tt
     (λ turns stands. ap (λ c. asks_with (request_under (model_of old) service inputs) (λ request. broker.Answer c (record { ticket = t; work = request }))) (client_same old name)) h
 
-pub heard_take : (old new : State) (name : List ℕ) (t : ℕ) (eff : Effect) → AsksFor old (broker.Take (client_in old name) t) eff new → HasEffect old (Take name t) eff new
+pub heard_take : {C : Type 0} {G : Ghosts C} (old new : State C G) (name : List ℕ) (t : ℕ) (eff : Effect C) → AsksFor old (broker.Take (client_in old name) t) eff new → HasEffect old (Take name t) eff new
 heard_take old new name t eff h = heard_asked old new (Take name t) (broker.Take (client_in old name) t) eff (λ e r. refl) (λ turns stands. ap (λ c. Asks (broker.Take c t)) (client_same old name)) h
 
-pub heard_release : (old new : State) (name : List ℕ) (eff : Effect) → AsksFor old (broker.Release (client_in old name)) eff new → HasEffect old (Release name) eff new
+pub heard_release : {C : Type 0} {G : Ghosts C} (old new : State C G) (name : List ℕ) (eff : Effect C) → AsksFor old (broker.Release (client_in old name)) eff new → HasEffect old (Release name) eff new
 heard_release old new name eff h = heard_asked old new (Release name) (broker.Release (client_in old name)) eff (λ e r. refl) (λ turns stands. ap (λ c. Asks (broker.Release c)) (client_same old name)) h
 
-pub heard_close : (old new : State) (name : List ℕ) (eff : Effect) → AsksFor old (broker.Close (client_in old name)) eff new → HasEffect old (Close name) eff new
+pub heard_close : {C : Type 0} {G : Ghosts C} (old new : State C G) (name : List ℕ) (eff : Effect C) → AsksFor old (broker.Close (client_in old name)) eff new → HasEffect old (Close name) eff new
 heard_close old new name eff h = heard_asked old new (Close name) (broker.Close (client_in old name)) eff (λ e r. refl) (λ turns stands. ap (λ c. Asks (broker.Close c)) (client_same old name)) h
 
-pub heard_resize : (old new : State) (name : List ℕ) (n : ℕ) (eff : Effect) → AsksFor old (broker.Resize (client_in old name) n) eff new → HasEffect old (Resize name n) eff new
+pub heard_resize : {C : Type 0} {G : Ghosts C} (old new : State C G) (name : List ℕ) (n : ℕ) (eff : Effect C) → AsksFor old (broker.Resize (client_in old name) n) eff new → HasEffect old (Resize name n) eff new
 heard_resize old new name n eff h = heard_asked old new (Resize name n) (broker.Resize (client_in old name) n) eff (λ e r. refl) (λ turns stands. ap (λ c. Asks (broker.Resize c n)) (client_same old name)) h
 
 -- ---- one turn more of a script
@@ -453,7 +505,7 @@ length-lines : (turns : List Turn) → length (map (λ (t : Turn). t.line) turns
 length-lines [] = refl
 length-lines (t ∷ turns) = ap suc (length-lines turns)
 
-pub taken_in : (old new : State) (k : ℕ) (it : List ℕ) (more : List wire.Report) (lines said : List (List ℕ)) → TakesTurn old k it more new
+pub taken_in : {C : Type 0} {G : Ghosts C} (old new : State C G) (k : ℕ) (it : List ℕ) (more : List wire.Report) (lines said : List (List ℕ)) → TakesTurn old k it more new
     → After old lines said → k ≡ length lines + 1 → After new (lines ++ it ∷ []) (said ++ texts_of more)
 taken_in old new k it more lines said takes after number =
     let script = after.script in
@@ -471,5 +523,5 @@ taken_in old new k it more lines said takes after number =
       stands = t.5;
     }
 
-pub at_start : (state : State) → Stands state [] → After state [] []
+pub at_start : {C : Type 0} {G : Ghosts C} (state : State C G) → Stands state [] → After state [] []
 at_start state stands = record { script = record { turns = []; each = refl; due = tt; said = refl }; stands = stands }

@@ -14,20 +14,22 @@ use crate::reports::report_on;
 use crate::state::{Effect, State};
 use box_core::{Answered, Broker, Done, Event, Report as BrokerReport};
 use desk_wire::{Heard, Listener, Word, add_refusal};
-use dmn_plan::{ModelFault, Plan, Task};
+use dmn_plan::{MarkedPlan, MarkedTask, ModelFault, Plan};
+use model_marks::{Catalog, Marks};
 use serde_json::Value;
 use std::alloc::{AllocError, Global};
 use std::sync::Arc;
 
-impl State {
+impl<C: Catalog> State<C> {
     /// A state at which nothing was said.
-    pub fn new(alloc: Global) -> State
+    pub fn new(alloc: Global, marks: Marks<C>) -> State<C>
         ensures { Stands result [] }
     {
         State {
             broker: Broker::new(alloc),
             names: Vec::new(alloc),
             plan: None,
+            marks,
         }
     }
 
@@ -54,17 +56,14 @@ impl State {
     }
 
     /// A work under the model in force.
-    fn work(&self, alloc: Global, service: &str, inputs: &Value) -> Result<Arc<Task>, Word>
+    fn work(&self, alloc: Global, service: &str, inputs: &Value) -> Result<Arc<MarkedTask<C>>, Word>
         ensures ok { IfOk result (λ work. request_under (model_of self.now) service.now (view inputs.now) ≡ Ok (arc_value work)) }
         ensures err { IfErr result (IsUnmade (request_under (model_of self.now) service.now (view inputs.now))) }
     {
         let Some(plan) = &self.plan else {
             return Err(Word::Model);
         };
-        let Ok(plan) = Arc::try_clone(plan) else {
-            return Err(Word::Memory);
-        };
-        match Task::new(alloc, plan, service, inputs) {
+        match plan.task(alloc, service, inputs) {
             Ok(task) => match Arc::new(alloc, task) {
                 Ok(work) => Ok(work),
                 Err(_) => Err(Word::Memory),
@@ -74,18 +73,18 @@ impl State {
     }
 
     /// Asks the broker.
-    fn ask(&mut self, event: Event<Task>) -> Effect
+    fn ask(&mut self, event: Event<MarkedTask<C>>) -> Effect<C>
         ensures { AsksFor self.old (event_of event) result self.new }
     {
         Effect::Reported(self.broker.apply(event))
     }
 
-    fn load(&mut self, alloc: Global, model: &Value) -> Effect
+    fn load(&mut self, alloc: Global, model: &Value) -> Effect<C>
         ensures { LoadsModel self.old (view model.now) result self.new }
     {
         match Plan::of(alloc, model) {
             Ok(plan) => {
-                let Ok(plan) = Arc::new(alloc, plan) else {
+                let Ok(plan) = MarkedPlan::of(alloc, &mut self.marks, plan) else {
                     return Effect::Refused(Word::Memory);
                 };
                 self.plan = Some(plan);
@@ -96,7 +95,7 @@ impl State {
         }
     }
 
-    fn open(&mut self, alloc: Global, name: &str, capacity: u32) -> Result<Effect, AllocError>
+    fn open(&mut self, alloc: Global, name: &str, capacity: u32) -> Result<Effect<C>, AllocError>
         ensures { IfOk result (λ effect. Opens self.old name.now capacity effect self.new) }
     {
         if self.number_of(name).is_some() {
@@ -109,7 +108,7 @@ impl State {
         Ok(Effect::Reported(report))
     }
 
-    fn submit(&mut self, alloc: Global, name: &str, service: &str, inputs: &Value) -> Effect
+    fn submit(&mut self, alloc: Global, name: &str, service: &str, inputs: &Value) -> Effect<C>
         ensures { Answers self.old (asks_with (request_under (model_of self.old) service.now (view inputs.now)) (broker.Submit (client_in self.old name.now))) result self.new }
     {
         match self.work(alloc, service, inputs) {
@@ -118,14 +117,20 @@ impl State {
         }
     }
 
-    fn take(&mut self, name: &str, ticket: u64) -> Effect
+    fn take(&mut self, name: &str, ticket: u64) -> Effect<C>
         ensures { AsksFor self.old (broker.Take (client_in self.old name.now) ticket) result self.new }
     {
         self.ask(Event::Take(self.client_of(name), ticket))
     }
 
     /// A work answers a ticket of a client.
-    fn answer_by(&mut self, alloc: Global, client: u32, ticket: u64, work: Arc<Task>) -> Effect
+    fn answer_by(
+        &mut self,
+        alloc: Global,
+        client: u32,
+        ticket: u64,
+        work: Arc<MarkedTask<C>>,
+    ) -> Effect<C>
         ensures { Answers self.old (Asks (broker.Answer client (record { ticket = ticket; work = arc_value work }))) result self.new }
     {
         match Done::of(alloc, ticket, work) {
@@ -135,7 +140,7 @@ impl State {
     }
 
     /// The work that was taken under a client's ticket answers it. An answer that was kept stays.
-    fn answer(&mut self, name: &str, ticket: u64) -> Effect
+    fn answer(&mut self, name: &str, ticket: u64) -> Effect<C>
         ensures { AnswersBy self.old ticket (number_in self.old name.now) result self.new }
     {
         let Some(client) = self.number_of(name) else {
@@ -144,7 +149,7 @@ impl State {
         self.answer_own(client, ticket)
     }
 
-    fn answer_own(&mut self, client: u32, ticket: u64) -> Effect
+    fn answer_own(&mut self, client: u32, ticket: u64) -> Effect<C>
         ensures { AnswersAt self.old client ticket (standing_at self.old.broker client ticket) result self.new }
     {
         let Ok(found) = self.broker.answer_own(client, ticket) else {
@@ -167,7 +172,7 @@ impl State {
         ticket: u64,
         service: &str,
         inputs: &Value,
-    ) -> Effect
+    ) -> Effect<C>
         ensures { Answers self.old (asks_with (request_under (model_of self.old) service.now (view inputs.now)) (λ request. broker.Answer (client_in self.old name.now) (record { ticket = ticket; work = request }))) result self.new }
     {
         match self.work(alloc, service, inputs) {
@@ -176,26 +181,26 @@ impl State {
         }
     }
 
-    fn release(&mut self, name: &str) -> Effect
+    fn release(&mut self, name: &str) -> Effect<C>
         ensures { AsksFor self.old (broker.Release (client_in self.old name.now)) result self.new }
     {
         self.ask(Event::Release(self.client_of(name)))
     }
 
-    fn close(&mut self, name: &str) -> Effect
+    fn close(&mut self, name: &str) -> Effect<C>
         ensures { AsksFor self.old (broker.Close (client_in self.old name.now)) result self.new }
     {
         self.ask(Event::Close(self.client_of(name)))
     }
 
-    fn resize(&mut self, name: &str, capacity: u32) -> Effect
+    fn resize(&mut self, name: &str, capacity: u32) -> Effect<C>
         ensures { AsksFor self.old (broker.Resize (client_in self.old name.now) capacity) result self.new }
     {
         self.ask(Event::Resize(self.client_of(name), capacity))
     }
 
     /// Does what is due to a line, and tells what became of it. Where the state itself finds no memory it is of no more use.
-    pub fn hear(&mut self, alloc: Global, line: &Line<'_>) -> Result<Effect, AllocError>
+    pub fn hear(&mut self, alloc: Global, line: &Line<'_>) -> Result<Effect<C>, AllocError>
         ensures { IfOk result (λ effect. HasEffect self.old (line_view line.now) effect self.new) }
     {
         match line {
@@ -214,7 +219,7 @@ impl State {
     }
 }
 
-impl Listener for State {
+impl<C: Catalog> Listener for State<C> {
     ghost use Rattle.desk_replaying.specs.Script.{Script};
     ghost use Rattle.desk_replaying.specs.StateView.{After};
 

@@ -11,7 +11,8 @@ use crate::line::Line;
 use crate::state::Effect;
 use box_core::Report as BrokerReport;
 use desk_wire::{Report, Told, Word};
-use dmn_plan::Task;
+use dmn_plan::MarkedTask;
+use model_marks::Catalog;
 
 /// The name on a line; a model line has none.
 fn name_on<'a>(line: &Line<'a>) -> &'a str
@@ -62,7 +63,11 @@ fn refused<'a>(number: u64, line: &Line<'a>, why: Word) -> Report<'a>
 }
 
 /// The broker's report to a line.
-fn reported<'a>(number: u64, line: &Line<'a>, told: &'a BrokerReport<Task>) -> Report<'a>
+fn reported<'a, C: Catalog>(
+    number: u64,
+    line: &Line<'a>,
+    told: &'a BrokerReport<MarkedTask<C>>,
+) -> Report<'a>
     ensures { report_view result ≡ reports.reported number (line_view line.now) (report_of told.now) }
 {
     let told = match told {
@@ -85,7 +90,7 @@ fn reported<'a>(number: u64, line: &Line<'a>, told: &'a BrokerReport<Task>) -> R
 }
 
 /// The report on a line, by what became of it.
-pub fn report_on<'a>(number: u64, line: &Line<'a>, effect: &'a Effect) -> Report<'a>
+pub fn report_on<'a, C: Catalog>(number: u64, line: &Line<'a>, effect: &'a Effect<C>) -> Report<'a>
     ensures { report_view result ≡ told_of number (line_view line.now) effect.now }
 {
     match effect {

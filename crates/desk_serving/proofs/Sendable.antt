@@ -130,7 +130,7 @@ pub Needs-send : IsSend Needs.the_row
 Needs-send = view_send _ _ _ _ _ NeedsInside-send
 
 pub Item-send : IsSend Item.the_row
-Item-send = declared_send Item.the_type (Text-send, (search (sendable, crosses) depth 20, (Needs-send, (option.the_send Logic.the_row Logic-send, tt))))
+Item-send = declared_send Item.the_type (Text-send, (search (sendable, crosses) depth 20, (Needs-send, (Needs-send, (option.the_send Logic.the_row Logic-send, tt)))))
 
 pub PlanInside-send : IsSend PlanInside.the_row
 PlanInside-send = declared_send PlanInside.the_type (maps.String-send, (Vec-send Item.the_row Item-send, ((search (maps.BTreeMap-send, maps.String-send, service.the_send, as_row_send) depth 20 fits 20000), tt)))
@@ -151,7 +151,7 @@ pub Needs-sync : IsSync Needs.the_row
 Needs-sync = view_sync _ _ _ _ _ NeedsInside-sync
 
 pub Item-sync : IsSync Item.the_row
-Item-sync = declared_sync Item.the_type (Text-sync, (search (sendable, crosses) depth 20, (Needs-sync, (option.the_sync Logic.the_row Logic-sync, tt))))
+Item-sync = declared_sync Item.the_type (Text-sync, (search (sendable, crosses) depth 20, (Needs-sync, (Needs-sync, (option.the_sync Logic.the_row Logic-sync, tt)))))
 
 pub PlanInside-sync : IsSync PlanInside.the_row
 PlanInside-sync = declared_sync PlanInside.the_type (maps.String-sync, (Vec-sync Item.the_row Item-sync, ((search (maps.BTreeMap-sync, maps.String-sync, service.the_sync, as_row_sync) depth 20 fits 20000), tt)))

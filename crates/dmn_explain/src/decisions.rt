@@ -63,7 +63,7 @@ fn add_decided(
 {
     add_name(alloc, item.name.as_str(), text)?;
     add_valued(alloc, true, Key::Value, value_at(found, place), text)?;
-    let Some(mut env) = Env::over(alloc, &item.named, found) else {
+    let Some(mut env) = Env::over_scope(alloc, &item.named, &item.scope, found) else {
         text.push(b'}')?;
         return Ok(());
     };

@@ -17,19 +17,19 @@ use std::alloc::Global;
 /// decision has no reading, otherwise `Table` where some table is refused.
 ///
 /// Input expressions, output entries and defaults of a table are expressions, its input entries unary tests, its listed output
-/// values literals. Each text is read once at most, a decision's under the needs at its index: there a name in it is looked for
-/// first when it is evaluated. Where `needs` is too short nothing is known of the names. It goes as deep as a boxed expression is.
+/// values literals. Each text is read once at most, a decision's under the names at its index: there a name in it is looked for
+/// first when it is evaluated. Where `names` is too short nothing is known of them. It goes as deep as a boxed expression is.
 pub fn read_decision_logic(
     alloc: Global,
     decisions: &[WrittenDecision],
-    needs: &[Needs],
+    names: &[&Needs],
 ) -> Result<Vec<Logic>, LogicFault>
     ensures read { IfOk result (λ v. option_map (map (λ d. d.logic)) (read_decisions (map decision_view decisions.now)) ≡ Some (map logic_view v.items)) }
     ensures texts { IfOk result (λ _. has_unread_text (map decision_view decisions.now) ≡ false) }
     ensures tables { IfOk result (λ _. has_refused_table (map decision_view decisions.now) ≡ false) }
     ensures err { IfErr result (IsDue (map decision_view decisions.now)) }
 {
-    match logics_of(alloc, decisions, needs)? {
+    match logics_of(alloc, decisions, names)? {
         Reading::Found(logics) => Ok(logics),
         Reading::Refused => Err(LogicFault::Table),
         Reading::Unread => Err(LogicFault::Expression),

@@ -1,13 +1,14 @@
 //! What boxed expressions come to.
 ghost use Rattle.std.specs.Prelude.{◌≡◌, Some, None, IfOk, if◌then◌else◌, take, length};
 ghost use Rattle.dmn_form.specs.Model.{list, context};
+ghost use Rattle.feel_text.specs.Meaning.{den};
 ghost use Rattle.dmn_logic.specs.Boxed.{boxed, entry_values as entry_values_of};
 ghost use Rattle.dmn_logic.specs.LogicView.{logic_view, members_view, entries_view};
 ghost use Rattle.dmn_logic.specs.Bound.{bound_behind};
 
 use crate::logic::Logic;
 use dmn_table::decide;
-use feel_lang::{Env, eval};
+use feel_lang::{Env, Expr, eval};
 use feel_value::{ContextEntries, Members, Outcome};
 use std::alloc::{AllocError, Global};
 use std::sync::ArcStr;
@@ -28,7 +29,7 @@ pub fn evaluate<'a>(
     ensures same { env.new ≡ env.old }
 {
     match logic {
-        Logic::Expression(expression) => eval(alloc, expression, env),
+        Logic::Expression(expression) => expression_outcome(alloc, expression, env),
         Logic::Table(table) => decide(alloc, table, env),
         Logic::List(members) => {
             let outcome = list_outcome(alloc, members, env)?;
@@ -48,6 +49,16 @@ pub fn evaluate<'a>(
             env.cut(outer);
             outcome
         }
+    }
+}
+
+/// The outcome of a FEEL expression. A literal is its value, whatever names are bound to.
+fn expression_outcome(alloc: Global, expression: &Expr, env: &Env) -> Result<Outcome, AllocError>
+    ensures { IfOk result (λ o. o ≡ den expression.now env.now) }
+{
+    match expression.constant() {
+        Some(value) => Ok(Outcome::Is(value.try_clone()?)),
+        None => eval(alloc, expression, env),
     }
 }
 

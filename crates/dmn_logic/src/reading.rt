@@ -131,21 +131,21 @@ fn entries_of(
     Ok(Reading::Found(entries))
 }
 
-/// The logic of each decision, read under the names that it needs, and under none where the list of them is too short.
+/// The logic of each decision, read under the names at its index, and under none where there are none.
 pub(crate) fn logics_of(
     alloc: Global,
     decisions: &[WrittenDecision],
-    needs: &[Needs],
+    names: &[&Needs],
 ) -> Result<Reading<Vec<Logic>>, AllocError>
     ensures { IfOk result (λ r. mapped (λ v. map logic_view v.items) r ≡ decisions_reading (map decision_view decisions.now)) }
 {
     let nothing = Needs::new(alloc);
-    let mut needs = needs.iter();
+    let mut names = names.iter();
     let mut logics = Vec::with_capacity(alloc, decisions.len())?;
     let mut is_refused = false;
     for decision in decisions {
-        let needed = needs.next().unwrap_or(&nothing);
-        match logic_of(alloc, needed, &decision.logic)? {
+        let known = names.next().copied().unwrap_or(&nothing);
+        match logic_of(alloc, known, &decision.logic)? {
             Reading::Found(logic) => logics.push(logic)?,
             Reading::Refused => is_refused = true,
             Reading::Unread => return Ok(Reading::Unread),

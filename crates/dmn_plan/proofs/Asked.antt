@@ -1,6 +1,6 @@
 -- What a plan answers for its text's services.
 use Rattle.std.proofs.Common.{◌≡◌, ℕ, List, length, Option, Some, None, option_map, refl, sym, ap, ◌∙◌, String, Global}
-use Rattle.std.specs.Prelude.{Result, Ok, Err}
+use Rattle.std.specs.Prelude.{Result, Ok, Err, nat_eq}
 use Rattle.std.specs.BTreeMap.{BTreeMap, get_by_text}
 use Rattle.std.specs.List.{zip}
 use Rattle.std.proofs.lemmas.List.{length-map}
@@ -9,13 +9,14 @@ use Rattle.feel_value.specs.declared.feel.Outcome.{Outcome}
 use Rattle.feel_text.specs.Expr.{Expr}
 use Rattle.dmn_table.specs.Table.{Table}
 use Rattle.dmn_form.specs.Model.{Name, Service, Model}
+use Rattle.dmn_graph.specs.Reach.{IsInOrder}
 use Rattle.dmn_plan.specs.Course.{HasReach}
 use Rattle.dmn_plan.specs.Indexed.{IsPlanAt, IsIndexed}
 use Rattle.dmn_plan.specs.ReadModel.{read_text}
 use Rattle.dmn_plan.specs.Request.{Request, request_result, outcome_under, service_in, service_named}
 use Rattle.dmn_plan.specs.declared.fault.ModelFault.{ModelFault}
 use Rattle.dmn_service.specs.Decision.{parameters_of, service_result}
-use Rattle.dmn_service.specs.Places.{name_at}
+use Rattle.dmn_service.specs.Places.{name_at, needs_at}
 use Rattle.dmn_service.specs.Plan.{HasPlacesWithin, IsPlanOf, IsServiceOutcome}
 use Rattle.dmn_service.specs.declared.plan.Item.{Item}
 use Rattle.dmn_service.specs.declared.plan.ServicePlan.{ServicePlan}
@@ -62,6 +63,7 @@ taken (Err f) items found n count h e = absurd h
 pub record Answers (r : Result (Model Expr Table) ModelFault) (items : List Item) (o : Option Service) (count : ℕ) (p : ServicePlan) : Type 0 where
   pub within : HasPlacesWithin items p
   pub counted : count ≡ length p.parameters.items
+  pub behind : IsInOrder nat_eq (needs_at items) p.parameters.items p.order.items
   pub outcome : (values : List Datum) (out : Outcome) → IsServiceOutcome items p values out → out ≡ outcome_under r o values
 
 at_place : (m : Model Expr Table) (items : List Item) (so : Option Service) (o : Option ServicePlan) (count : ℕ) → IsPlanAt m items so o → option_map (λ s. length (parameters_of s)) so ≡ Some count
@@ -75,6 +77,7 @@ at_place m items (Some s) (Some p) count h e =
       record {
         within = h.1;
         counted = sym many ∙ ap length h.2.parameters ∙ length-map p.parameters.items (name_at items);
+        behind = h.2.behind;
         outcome = λ values out f. f m s h.2;
       },
     )

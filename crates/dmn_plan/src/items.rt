@@ -31,6 +31,7 @@ fn input_items(alloc: Global, model: &WrittenModel) -> Result<Vec<Item>, AllocEr
             name,
             needs: Vec::new(alloc),
             named: Needs::new(alloc),
+            scope: Needs::new(alloc),
             logic: None,
         })?;
     }
@@ -97,12 +98,14 @@ pub(crate) fn needs_of_decisions(
 }
 
 /// The inputs, and then the decisions with what each needs and its logic. `needs` has a list for each input and each decision,
-/// those of inputs being empty, `named` the same under names for each decision, and `logics` the logic of each decision.
+/// those of inputs being empty, `named` the same under names for each decision, `scopes` the names that its logic may bind, if it
+/// is long enough, and `logics` the logic of each decision.
 pub(crate) fn items_of(
     alloc: Global,
     model: &WrittenModel,
     mut needs: Vec<Vec<usize>>,
     named: Vec<Needs>,
+    scopes: Vec<Needs>,
     logics: Vec<Logic>,
 ) -> Result<Vec<Item>, AllocError>
     requires needs { IsAfterInputs (model_view model.now) (needs_view needs.items) }
@@ -113,6 +116,7 @@ pub(crate) fn items_of(
     let mut items = input_items(alloc, model)?;
     let mut needs = needs.split_off(model.inputs.len())?.into_iter();
     let mut named = named.into_iter();
+    let mut scopes = scopes.into_iter();
     let mut logics = logics.into_iter();
     for decision in &model.decisions {
         let Some(needs) = needs.next() else {
@@ -125,10 +129,12 @@ pub(crate) fn items_of(
             break;
         };
         let name = ArcStr::from_str(alloc, decision.name.as_str())?;
+        let scope = scopes.next().unwrap_or(Needs::new(alloc));
         items.push(Item {
             name,
             needs,
             named,
+            scope,
             logic: Some(logic),
         })?;
     }

@@ -6,15 +6,18 @@ mod course;
 mod fault;
 mod index;
 mod items;
+mod marked;
 mod plan;
 mod planning;
 mod requirements;
 mod same;
+mod scopes;
 mod services;
 mod task;
 mod values;
 
 pub use course::Course;
 pub use fault::{ModelFault, TaskFault};
+pub use marked::{MarkedPlan, MarkedTask};
 pub use plan::Plan;
 pub use task::Task;

@@ -12,7 +12,7 @@ use crate::planning::plan_of;
 use crate::values::{names_at, values_at};
 use dmn_form::{WrittenModel, read_form};
 use dmn_logic::Logic;
-use dmn_service::{Item, ServicePlan, service_evaluation, service_outcome};
+use dmn_service::{Item, ServicePlan, service_evaluation, service_outcome_in_order};
 use feel_value::{Feel, Outcome};
 use std::alloc::{AllocError, Global};
 use std::collections::BTreeMap;
@@ -124,7 +124,7 @@ impl Plan {
         let Some(plan) = self.services.get(service) else {
             return Ok(Outcome::Limit);
         };
-        let outcome = service_outcome(alloc, &self.items, plan, values)?;
+        let outcome = service_outcome_in_order(alloc, &self.items, plan, values)?;
         Ok(outcome)
     }
 

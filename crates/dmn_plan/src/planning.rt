@@ -14,6 +14,7 @@ ghost use Rattle.dmn_plan.specs.ReadModel.{unless, first_fault};
 use crate::fault::ModelFault;
 use crate::items::{items_of, needs_of_decisions};
 use crate::requirements::requirement_order;
+use crate::scopes::{known_names, scopes_of};
 use crate::services::service_plans;
 use dmn_form::WrittenModel;
 use dmn_logic::{Logic, read_decision_logic};
@@ -54,11 +55,12 @@ fn check_names(alloc: Global, model: &WrittenModel) -> Result<(), ModelFault>
 }
 
 /// The logic of each decision of a model whose names are lawful and stand once each, or the model's first fault. It is read under
-/// what the decisions need.
+/// what the decisions need and may bind.
 fn readable_logic(
     alloc: Global,
     model: &WrittenModel,
-    needs: &[Needs],
+    named: &[Needs],
+    scopes: &[Needs],
 ) -> Result<Vec<Logic>, ModelFault>
     requires lawful { has_bad_name_in (model_view model.now) ≡ false }
     requires once { has_name_twice_in (model_view model.now) ≡ false }
@@ -66,7 +68,8 @@ fn readable_logic(
     ensures logic { IfOk result (λ v. AreLogicsOf (model_view model.now) (map logic_view v.items)) }
     ensures err { IfErr result (IsDue (reading_of (model_view model.now))) }
 {
-    let logics = read_decision_logic(alloc, &model.decisions, needs)?;
+    let names = known_names(alloc, named, scopes)?;
+    let logics = read_decision_logic(alloc, &model.decisions, &names)?;
     Ok(logics)
 }
 
@@ -96,8 +99,8 @@ fn requirements_of(
     Ok(Requirements { needs, services })
 }
 
-/// The items and plans of a model that has the form, or its first fault. What a decision needs is listed by names once: its texts
-/// are read under this list, and evaluated over it.
+/// The items and plans of a model that has the form, or its first fault. What a decision needs, and what its logic may bind, is
+/// listed by names once: its texts are read under these lists, and evaluated over them.
 pub(crate) fn plan_of(alloc: Global, model: &WrittenModel) -> Result<ModelPlan, ModelFault>
     ensures ok { IfOk result (λ p. IsPlanned (unless (first_fault (model_view model.now)) (model_view model.now)) p.items.items p.services.items) }
     ensures logic { IfOk result (λ p. HaveLogicOf (unless (first_fault (model_view model.now)) (model_view model.now)) p.items.items) }
@@ -107,12 +110,13 @@ pub(crate) fn plan_of(alloc: Global, model: &WrittenModel) -> Result<ModelPlan, 
     let places = Places::new(alloc, model)?;
     let needs = places.needs(alloc)?;
     let named = needs_of_decisions(alloc, model, &needs)?;
-    let logics = readable_logic(alloc, model, &named)?;
+    let scopes = scopes_of(alloc, &model.decisions)?;
+    let logics = readable_logic(alloc, model, &named, &scopes)?;
     let requirements = requirements_of(alloc, model, &places, needs)?;
     if is_large(model) {
         return Err(ModelFault::Large);
     }
-    let items = items_of(alloc, model, requirements.needs, named, logics)?;
+    let items = items_of(alloc, model, requirements.needs, named, scopes, logics)?;
     Ok(ModelPlan {
         items,
         services: requirements.services,

@@ -37,7 +37,7 @@ impl Model for Task {
 }
 
 impl Task {
-    ghost use Rattle.std.specs.Prelude.{◌≡◌, Ok, IfOk, IfErr, IfSome, is_some, true};
+    ghost use Rattle.std.specs.Prelude.{◌≡◌, ◌↔◌, Ok, IfOk, IfErr, IfSome, IsTrue, is_some, true};
     ghost use Rattle.std.specs.Arc.{arc_value};
     ghost use Rattle.dmn_plan.specs.Course.{IsCourseOf};
     ghost use Rattle.serde_json.specs.View.{view};
@@ -64,6 +64,17 @@ impl Task {
         })
     }
 
+    /// Whether two tasks under one model stand for one request.
+    pub(crate) fn has_same_values(&self, other: &Task) -> bool
+        requires { self.now.text ≡ other.now.text }
+        ensures { IsTrue result ↔ (self.now ≡ other.now) }
+    {
+        if self.service != other.service {
+            return false;
+        }
+        same_values(&self.values, &other.values)
+    }
+
     /// How the request is answered, with the outcome of each decision on the way. There is always one.
     pub fn course<'a>(&'a self, alloc: Global) -> Result<Option<Course<'a>>, AllocError>
         ensures there { IfOk result (λ c. is_some c ≡ true) }
@@ -88,9 +99,10 @@ impl Work for Task {
     ghost result_of = { request.request_result };
 
     fn same(&self, other: &Self) -> bool {
-        self.plan.text() == other.plan.text()
-            && self.service == other.service
-            && same_values(&self.values, &other.values)
+        if self.plan.text() != other.plan.text() {
+            return false;
+        }
+        self.has_same_values(other)
     }
 
     fn run(&self, alloc: Global) -> Result<Outcome, AllocError> {

@@ -4,3 +4,4 @@ pub mod Given
 pub mod Decisions
 pub mod Result
 pub mod OneOrContext
+pub mod Known

@@ -1,5 +1,5 @@
 -- Internal: no public contract cites these words. What a run finds at the places of a plan.
-use Rattle.std.specs.Prelude.{ℕ, List, [], ◌∷◌, map, Option, None, Some, option_map, nat_eq, slice_index_or}
+use Rattle.std.specs.Prelude.{◌≡◌, true, is_some, ℕ, List, [], ◌∷◌, map, Option, None, Some, option_map, nat_eq, slice_index_or}
 use Rattle.std.specs.Map.{update}
 use Rattle.std.specs.List.{slice_get}
 use Rattle.feel_value.specs.Datum.{Datum, null}
@@ -12,6 +12,7 @@ use Rattle.feel_value.specs.Found.{value_of, ◌>>=◌, each, outcome_from}
 use Rattle.dmn_table.specs.Hits.{one_or_context}
 use Rattle.dmn_table.specs.Table.{Table}
 use Rattle.dmn_form.specs.Model.{Name, Boxed}
+use Rattle.dmn_graph.specs.Reach.{IsInOrder, has_same}
 use Rattle.dmn_logic.specs.Boxed.{boxed}
 use Rattle.dmn_logic.specs.LogicView.{logic_view}
 use Rattle.dmn_service.specs.Places.{name_at, needs_at}
@@ -65,3 +66,9 @@ given_at (q ∷ qs) (v ∷ vs) found = given_at qs vs (kept_at found q (Is v))
 -- the value of the one output, or the context of all
 abbrev pub outputs_at : (ℕ → Name) → Found → List ℕ → Outcome
 outputs_at name found qs = outcome_from (one_or_context (map name qs)) (each found qs)
+
+-- Each of these places comes after all that it needs, but for places at which values were found.
+pub record AreKnown (items : List Item) (found : Found) (qs : List ℕ) : Type 0 where
+  pub seen : List ℕ
+  pub behind : IsInOrder nat_eq (needs_at items) seen qs
+  pub all : (q : ℕ) → has_same nat_eq seen q ≡ true → is_some (found q) ≡ true

@@ -7,4 +7,4 @@ mod plan;
 mod service;
 
 pub use plan::{Item, ServicePlan};
-pub use service::{Evaluation, service_evaluation, service_outcome};
+pub use service::{Evaluation, service_evaluation, service_outcome, service_outcome_in_order};

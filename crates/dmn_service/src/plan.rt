@@ -12,6 +12,9 @@ pub struct Item {
     pub needs: Vec<usize>,
     /// The same places, each under the name of what stands there.
     pub named: Needs,
+    /// A hint, under which names the logic was read: those of `named`, and then those that entries of its boxed contexts bind. It is
+    /// empty where there are no such entries.
+    pub scope: Needs,
     /// None for an input.
     pub logic: Option<Logic>,
 }

@@ -1,10 +1,13 @@
 //! The result of a decision service.
-ghost use Rattle.std.specs.Prelude.{◌≡◌, ◌<◌, IfOk, OnOk, length, option_map};
-ghost use Rattle.std.specs.List.{All};
+ghost use Rattle.std.specs.Prelude.{◌≡◌, ◌<◌, ◌&&◌, IfOk, OnOk, true, is_some, nat_eq, length, option_map};
+ghost use Rattle.std.specs.List.{All, list_all};
+ghost use Rattle.feel_value.specs.Found.{value_of};
+ghost use Rattle.feel_text.specs.Needed.{is_found};
+ghost use Rattle.dmn_graph.specs.Reach.{IsInOrder};
 ghost use Rattle.dmn_logic.specs.LogicView.{logic_view};
-ghost use Rattle.dmn_service.specs.Places.{name_at, named_places};
+ghost use Rattle.dmn_service.specs.Places.{name_at, needs_at, named_places};
 ghost use Rattle.dmn_service.specs.Outcomes.{AreOutcomesOf};
-ghost use Rattle.dmn_service.specs.Run.{values_in, nothing_found, outcome_under, filled_by, given_at};
+ghost use Rattle.dmn_service.specs.Run.{values_in, nothing_found, outcome_under, filled_by, given_at, AreKnown};
 ghost use Rattle.dmn_service.specs.Plan.{HasPlacesWithin, IsServiceOutcome, IsOutcomeWithin, IsRecursionOutcome};
 
 use crate::found::{keep, nothing};
@@ -47,6 +50,26 @@ pub fn service_outcome(
     Ok(outcome)
 }
 
+/// The same, where each decision of the plan's order is known to come after all that it needs. So long as no limit is broken, a
+/// value was found for each need, and none is looked at before the decision's logic asks for it.
+pub fn service_outcome_in_order(
+    alloc: Global,
+    items: &[Item],
+    service: &ServicePlan,
+    values: &[Feel],
+) -> Result<Outcome, AllocError>
+    requires places { HasPlacesWithin items.now service.now }
+    requires values { length values.now ≡ length service.now.parameters.items }
+    requires order { IsInOrder nat_eq (needs_at items.now) service.now.parameters.items service.now.order.items }
+    ensures result { IfOk result (IsServiceOutcome items.now service.now values.now) }
+    ensures steps { IfOk result (IsOutcomeWithin items.now service.now values.now) }
+    ensures recursion { IfOk result (IsRecursionOutcome items.now service.now values.now) }
+{
+    let found = found_in_order(alloc, items, service, values)?;
+    let value = output_outcome(alloc, items, &service.outputs, &found)?;
+    Ok(value)
+}
+
 /// The same with the outcome of each decision on the way.
 pub fn service_evaluation(
     alloc: Global,
@@ -84,6 +107,24 @@ fn found_along(
     Ok(found)
 }
 
+/// The same, where each decision comes after all that it needs.
+fn found_in_order(
+    alloc: Global,
+    items: &[Item],
+    service: &ServicePlan,
+    values: &[Feel],
+) -> Result<Vec<Outcome>, AllocError>
+    requires places { HasPlacesWithin items.now service.now }
+    requires values { length values.now ≡ length service.now.parameters.items }
+    requires order { IsInOrder nat_eq (needs_at items.now) service.now.parameters.items service.now.order.items }
+    ensures { IfOk result (λ found. values_in found.items ≡ filled_by items.now service.now.order.items (given_at service.now.parameters.items values.now nothing_found)) }
+{
+    let mut found = nothing(alloc, items.len())?;
+    give(&service.parameters, values, &mut found)?;
+    fill_in_order(alloc, items, &service.order, &mut found)?;
+    Ok(found)
+}
+
 /// Keeps at each parameter a copy of the value given for it.
 fn give(parameters: &[usize], values: &[Feel], found: &mut Vec<Outcome>) -> Result<(), AllocError>
     requires parameters { All (λ q. q < length found.old.items) parameters.now }
@@ -117,6 +158,36 @@ fn fill(
     Ok(())
 }
 
+/// The same, where each comes after all that it needs, and values were found at the other places that are needed.
+fn fill_in_order(
+    alloc: Global,
+    items: &[Item],
+    order: &[usize],
+    found: &mut Vec<Outcome>,
+) -> Result<(), AllocError>
+    requires order { All (λ q. q < length items.now) order.now }
+    requires named { All (λ x. x.named ≡ named_places (name_at items.now) x.needs.items) items.now }
+    requires count { length found.old.items ≡ length items.now }
+    requires known { AreKnown items.now (values_in found.old.items) order.now }
+    ensures { OnOk result (values_in found.new.items ≡ filled_by items.now order.now (values_in found.old.items)) }
+{
+    // No limit was broken so far.
+    let mut all = true;
+    for place in order {
+        let outcome = outcome_known(alloc, &items[*place], found, all)?;
+        all = are_all(all, &outcome);
+        keep(found, *place, outcome);
+    }
+    Ok(())
+}
+
+/// Whether all before have a value, and this one.
+fn are_all(all: bool, outcome: &Outcome) -> bool
+    ensures { result ≡ (all && is_some (value_of outcome.now)) }
+{
+    all && outcome.value().is_some()
+}
+
 /// The outcome of a decision's logic, from what was found for its needs, which is looked at where it lies; null for an input.
 fn item_outcome(alloc: Global, item: &Item, found: &[Outcome]) -> Result<Outcome, AllocError>
     ensures { IfOk result (λ o. o ≡ outcome_under found.now item.now.named (option_map logic_view item.now.logic)) }
@@ -124,8 +195,28 @@ fn item_outcome(alloc: Global, item: &Item, found: &[Outcome]) -> Result<Outcome
     let Some(logic) = &item.logic else {
         return Ok(Outcome::null());
     };
-    let Some(mut env) = Env::over(alloc, &item.named, found) else {
+    let Some(mut env) = Env::over_scope(alloc, &item.named, &item.scope, found) else {
         return Ok(Outcome::Limit);
     };
     evaluate(alloc, logic, &mut env)
+}
+
+/// The same, where `all` says that a value was found for each need.
+fn outcome_known(
+    alloc: Global,
+    item: &Item,
+    found: &[Outcome],
+    all: bool,
+) -> Result<Outcome, AllocError>
+    requires { all ≡ true → list_all (is_found found.now) item.now.named ≡ true }
+    ensures { IfOk result (λ o. o ≡ outcome_under found.now item.now.named (option_map logic_view item.now.logic)) }
+{
+    if !all {
+        return item_outcome(alloc, item, found);
+    }
+    let Some(logic) = &item.logic else {
+        return Ok(Outcome::null());
+    };
+    let mut known = Env::over_found(alloc, &item.named, &item.scope, found);
+    evaluate(alloc, logic, &mut known)
 }

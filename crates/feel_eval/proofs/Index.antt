@@ -1,4 +1,4 @@
--- Names with values, found by a map, one binding after the other.
+-- Names with values, found by what has the place of each name, one binding after the other.
 use Rattle.std.proofs.Common.{◌≡◌, ◌∙◌, sym, ap, refl, subst, ℕ, ◌<◌, ◌≤◌, Bool, true, false, List, [], ◌∷◌, ◌++◌, take, length, get_or, Option, Some, None, Result, Ok, Err, Global, bytes_eq, if◌then◌else◌, arith, inl, inr, Ordering}
 use Rattle.feel_value.specs.Datum.{Datum}
 use Rattle.std.specs.Prelude.{IsSome, OnOk, OnErr}
@@ -14,7 +14,8 @@ use Rattle.std.proofs.lemmas.Bool.{cases_Bool, cases_lt}
 use Rattle.std.proofs.lemmas.List.{map-append, length-map, get_or_append_left, get_or_push, take-append-le, take_all, length_push}
 use Rattle.feel_text.specs.Meaning.{Bindings, bound, first_some}
 use Rattle.feel_text.specs.Places.{place_after, last_place}
-use Rattle.feel_eval.specs.Index.{bindings_of, place_in, IsIndexed}
+use Rattle.feel_eval.specs.Index.{bindings_of, named_place, place_in, IsIndexed}
+use Rattle.feel_eval.specs.declared.places.Places.{Places}
 use Rattle.feel_eval.specs.declared.indexed.Binding.{Binding}
 use Rattle.feel_text.proofs.Bindings.{same_text, text_itself, bytes_eq-turned, last_place-push}
 
@@ -37,12 +38,12 @@ apart bs cs ks n y = is_eq-slice_cmp cs ks ∙ other_text bs cs ks n (sym (is_eq
 
 -- what a change at one name leaves at any name
 updated : (bs : List ℕ) (old new : BTreeMap (CowStr Global) ℕ) (w : Option ℕ) → UpdatesBy name_cmp (λ k. slice_cmp nat_cmp bs (cow_str_bytes k)) old new w
-    → (q : List ℕ) → place_in new q ≡ (if bytes_eq bs q then w else place_in old q)
+    → (q : List ℕ) → named_place new q ≡ (if bytes_eq bs q then w else named_place old q)
 updated bs old new w h q =
     elim (cases_Bool (bytes_eq bs q)) [
-      | inl e ↦ ap (place_in new) (sym (same_text bs q e)) ∙ h.1 ∙ sym (ap (λ t. if t then w else place_in old q) e)
+      | inl e ↦ ap (named_place new) (sym (same_text bs q e)) ∙ h.1 ∙ sym (ap (λ t. if t then w else named_place old q) e)
       | inr e ↦ others_kept _ _ _ _ h.3 _ (λ x y. (eq_by_cmp_equiv nat_list_cmp_total).congr q (cow_str_bytes x) (cow_str_bytes y)) (λ k. apart bs q (cow_str_bytes k) e)
-          ∙ sym (ap (λ t. if t then w else place_in old q) e)
+          ∙ sym (ap (λ t. if t then w else named_place old q) e)
     ]
 
 some_is_not_none : (o : Option ℕ) → o ≡ None → IsSome o → ⊥
@@ -51,19 +52,19 @@ some_is_not_none (Some i) e h = cc
 
 -- a key takes its new place
 pub takes_place : (old new : BTreeMap (CowStr Global) ℕ) (key : CowStr Global) (name : List ℕ) (place at : ℕ) → Updates name_cmp old new key (Some place) → cow_str_bytes key ≡ name → place ≡ at
-    → (q : List ℕ) → place_in new q ≡ (if bytes_eq name q then Some at else place_in old q)
+    → (q : List ℕ) → named_place new q ≡ (if bytes_eq name q then Some at else named_place old q)
 takes_place old new key name place at updates named is q =
     updated (cow_str_bytes key) old new (Some place) updates q
-    ∙ ap (λ n. if bytes_eq (cow_str_bytes key) q then Some n else place_in old q) is ∙ ap (λ n. if bytes_eq n q then Some at else place_in old q) named
+    ∙ ap (λ n. if bytes_eq (cow_str_bytes key) q then Some n else named_place old q) is ∙ ap (λ n. if bytes_eq n q then Some at else named_place old q) named
 
 -- a key that is there takes its new value
 pub replaced : {E : Type 0} (r : Result (Option ℕ) E) (old new : BTreeMap (CowStr Global) ℕ) (name : CowStr Global) (place : ℕ) → OnOk r (Updates name_cmp old new name (Some place)) → OnErr r (get name_cmp old name ≡ None)
-    → IsSome (place_in old (cow_str_bytes name)) → (q : List ℕ) → place_in new q ≡ (if bytes_eq (cow_str_bytes name) q then Some place else place_in old q)
+    → IsSome (named_place old (cow_str_bytes name)) → (q : List ℕ) → named_place new q ≡ (if bytes_eq (cow_str_bytes name) q then Some place else named_place old q)
 replaced (Ok o) old new name place h absent there q = updated (cow_str_bytes name) old new (Some place) h q
-replaced (Err e) old new name place h absent there q = let none : place_in old (cow_str_bytes name) ≡ None = absent in absurd (some_is_not_none (place_in old (cow_str_bytes name)) none there)
+replaced (Err e) old new name place h absent there q = let none : named_place old (cow_str_bytes name) ≡ None = absent in absurd (some_is_not_none (named_place old (cow_str_bytes name)) none there)
 
 -- a key that is taken out
-pub removed : (bs : List ℕ) (old new : BTreeMap (CowStr Global) ℕ) → UpdatesBy name_cmp (λ k. slice_cmp nat_cmp bs (cow_str_bytes k)) old new None → (q : List ℕ) → place_in new q ≡ (if bytes_eq bs q then None else place_in old q)
+pub removed : (bs : List ℕ) (old new : BTreeMap (CowStr Global) ℕ) → UpdatesBy name_cmp (λ k. slice_cmp nat_cmp bs (cow_str_bytes k)) old new None → (q : List ℕ) → named_place new q ≡ (if bytes_eq bs q then None else named_place old q)
 removed bs old new h q = updated bs old new None h q
 
 -- The last binding of the name is the last one, or it is among the others: one binding of the code after the other.
@@ -103,7 +104,7 @@ hides_last xs x i b h e =
     ∙ ap (λ (y : Binding). last_place (cow_str_bytes y.name) (take i (bindings_of (xs ++ x ∷ [])))) (sym (get_or_push xs x b i (sym h)))
 
 -- one more binding
-pub bound_more : (xs : List Binding) (x : Binding) (old new : BTreeMap (CowStr Global) ℕ) → IsIndexed xs old
+pub bound_more : (xs : List Binding) (x : Binding) (old new : Places) → IsIndexed xs old
     → ((q : List ℕ) → place_in new q ≡ (if bytes_eq (cow_str_bytes x.name) q then Some (length xs) else place_in old q)) → x.hidden ≡ place_in old (cow_str_bytes x.name) → IsIndexed (xs ++ x ∷ []) new
 bound_more xs x old new h placed hides =
     let at : (q : List ℕ) → place_in new q ≡ last_place q (bindings_of (xs ++ x ∷ [])) =
@@ -114,8 +115,12 @@ bound_more xs x old new h placed hides =
       hidden = λ i b within. elim (cases_lt i (length xs)) [ inl less ↦ hides_more xs x i b less (h.hidden i b less) | inr more ↦ hides_last xs x i b (omega (arith, length_push xs x)) first ];
     }
 
--- one binding less: the map has the place that it hid
-pub bound_less : (xs : List Binding) (x : Binding) (old new : BTreeMap (CowStr Global) ℕ) → IsIndexed (xs ++ x ∷ []) old → ((q : List ℕ) → place_in new q ≡ (if bytes_eq (cow_str_bytes x.name) q then x.hidden else place_in old q))
+-- where nothing changes
+pub bound_same : (xs : List Binding) (old new : Places) → IsIndexed xs old → ((q : List ℕ) → place_in new q ≡ place_in old q) → IsIndexed xs new
+bound_same xs old new h same = record { last = λ q. same q ∙ h.last q; hidden = h.hidden }
+
+-- one binding less: there is the place that it hid
+pub bound_less : (xs : List Binding) (x : Binding) (old new : Places) → IsIndexed (xs ++ x ∷ []) old → ((q : List ℕ) → place_in new q ≡ (if bytes_eq (cow_str_bytes x.name) q then x.hidden else place_in old q))
     → IsIndexed xs new
 bound_less xs x old new h cut =
     let p = cow_str_bytes x.name in
@@ -134,8 +139,8 @@ bound_less xs x old new h cut =
       hidden = λ i b within. hides_less xs x i b within (h.hidden i b (omega (arith, length_push xs x)));
     }
 
--- the last name is in the map
-pub last_is_there : (xs : List Binding) (x : Binding) (old : BTreeMap (CowStr Global) ℕ) → IsIndexed (xs ++ x ∷ []) old → IsSome (place_in old (cow_str_bytes x.name))
+-- the last name is there
+pub last_is_there : (xs : List Binding) (x : Binding) (old : Places) → IsIndexed (xs ++ x ∷ []) old → IsSome (place_in old (cow_str_bytes x.name))
 last_is_there xs x old h =
     let there : place_in old (cow_str_bytes x.name) ≡ Some (length xs) =
     h.last (cow_str_bytes x.name) ∙ last_place-more (cow_str_bytes x.name) xs x ∙ ap (λ t. if t then Some (length xs) else last_place (cow_str_bytes x.name) (bindings_of xs)) (text_itself (cow_str_bytes x.name)) in
@@ -156,6 +161,6 @@ value_at_place : (name : List ℕ) (xs : List Binding) → IsValueAt (bound name
 value_at_place name [] = refl
 value_at_place name (x ∷ xs) = value_after (bytes_eq name (cow_str_bytes x.name)) x xs (bound name (bindings_of xs)) (last_place name (bindings_of xs)) (value_at_place name xs)
 
--- what the map has says what the name is bound to
-pub found_at : (name : List ℕ) (xs : List Binding) (places : BTreeMap (CowStr Global) ℕ) (o : Option ℕ) → IsIndexed xs places → o ≡ place_in places name → IsValueAt (bound name (bindings_of xs)) xs o
+-- what there is says what the name is bound to
+pub found_at : (name : List ℕ) (xs : List Binding) (places : Places) (o : Option ℕ) → IsIndexed xs places → o ≡ place_in places name → IsValueAt (bound name (bindings_of xs)) xs o
 found_at name xs places o h e = subst (λ p. IsValueAt (bound name (bindings_of xs)) xs p) (sym (e ∙ h.last name)) (value_at_place name xs)

@@ -1,4 +1,5 @@
 pub mod Index
+pub mod Slots
 pub mod Few
 pub mod Modulo
 pub mod ListMembers

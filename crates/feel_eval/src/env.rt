@@ -1,8 +1,9 @@
 //! Names with values.
-ghost use Rattle.std.specs.Prelude.{◌≡◌, ◌≤◌, ◌<◌, ◌+◌, ◌^◌, [], ◌∷◌, ◌++◌, length, take, option_map, unwrap_or, MatchResult};
+ghost use Rattle.std.specs.Prelude.{◌≡◌, ◌≤◌, ◌<◌, ◌+◌, ◌^◌, [], ◌∷◌, ◌++◌, length, take, option_map, unwrap_or, MatchResult, Some, true};
 ghost use Rattle.std.specs.Cow.{cow_str_bytes};
+ghost use Rattle.std.specs.List.{list_all};
 ghost use Rattle.feel_text.specs.Meaning.{bound};
-ghost use Rattle.feel_text.specs.Needed.{bindings_from};
+ghost use Rattle.feel_text.specs.Needed.{bindings_from, is_found};
 
 use crate::added::Added;
 use crate::lent::Lent;
@@ -21,6 +22,8 @@ pub struct Env<'a> {
     lent: Option<Lent<'a>>,
     // Those behind it, once there are some.
     added: Option<Added<'a>>,
+    // The names that may be bound, where they are known beforehand. It is a hint.
+    scope: Option<&'a Needs>,
     alloc: Global,
 }
 
@@ -45,6 +48,7 @@ impl<'a> Env<'a> {
         Env {
             lent: None,
             added: None,
+            scope: None,
             alloc,
         }
     }
@@ -58,8 +62,46 @@ impl<'a> Env<'a> {
         Some(Env {
             lent: Some(lent),
             added: None,
+            scope: None,
             alloc,
         })
+    }
+
+    /// The same, where the names that may be bound are known beforehand: a name of the scope that is bound is found by its
+    /// position in it. Any other name may be bound too.
+    pub fn over_scope(
+        alloc: Global,
+        needs: &'a Needs,
+        scope: &'a Needs,
+        found: &'a [Outcome],
+    ) -> Option<Env<'a>>
+        ensures { result ≡ bindings_from found.now needs.now }
+    {
+        let lent = Lent::of(needs, found)?;
+        Some(Env {
+            lent: Some(lent),
+            added: None,
+            scope: Some(scope),
+            alloc,
+        })
+    }
+
+    /// The same, where a value is known to be found for each of the needed names.
+    pub fn over_found(
+        alloc: Global,
+        needs: &'a Needs,
+        scope: &'a Needs,
+        found: &'a [Outcome],
+    ) -> Env<'a>
+        requires { list_all (is_found found.now) needs.now ≡ true }
+        ensures { bindings_from found.now needs.now ≡ Some result }
+    {
+        Env {
+            lent: Some(Lent::of_found(needs, found)),
+            added: None,
+            scope: Some(scope),
+            alloc,
+        }
     }
 
     /// Binds a name to a value, which hides what the name was bound to before. Where memory is refused nothing changes,
@@ -85,7 +127,7 @@ impl<'a> Env<'a> {
         if let Some(added) = &mut self.added {
             return added.bind(name, value);
         }
-        let mut added = Added::new(self.alloc);
+        let mut added = Added::new(self.alloc, self.scope);
         added.bind(name, value)?;
         self.added = Some(added);
         Ok(())
@@ -108,7 +150,7 @@ impl<'a> Env<'a> {
     pub(crate) fn find_at(&self, reference: &Reference) -> Option<&Feel>
         ensures { option_map (λ v. v.now) result ≡ bound reference.now.name self.now }
     {
-        if let Some(value) = find_added(&self.added, reference.name.as_str()) {
+        if let Some(value) = find_added_at(&self.added, reference) {
             return Some(value);
         }
         self.lent.as_ref()?.find_at(reference)
@@ -131,7 +173,7 @@ impl<'a> Env<'a> {
             cut_added(&mut self.added, len - lent);
             return;
         }
-        self.added = None;
+        cut_added(&mut self.added, 0);
         if let Some(lent) = &mut self.lent {
             lent.cut(len);
         }
@@ -143,6 +185,13 @@ fn find_added<'b>(added: &'b Option<Added<'_>>, name: &str) -> Option<&'b Feel>
     ensures { option_map (λ v. v.now) result ≡ bound name.now (unwrap_or added.now []) }
 {
     added.as_ref()?.find(name)
+}
+
+// The same of a name as it stands in a text.
+fn find_added_at<'b>(added: &'b Option<Added<'_>>, reference: &Reference) -> Option<&'b Feel>
+    ensures { option_map (λ v. v.now) result ≡ bound reference.now.name (unwrap_or added.now []) }
+{
+    added.as_ref()?.find_at(reference)
 }
 
 // Drops all bindings behind what is lent but the first so many.

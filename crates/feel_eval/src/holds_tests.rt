@@ -1,15 +1,16 @@
 //! Whether a value meets unary tests.
-ghost use Rattle.std.specs.Prelude.{◌≡◌, IfOk, IsTrue, Some, option_map};
+ghost use Rattle.std.specs.Prelude.{◌≡◌, IfOk, IfSome, IsTrue, Some, option_map};
 ghost use Rattle.feel_value.specs.Logic.{and_of, or_of, decided as decided_of};
 ghost use Rattle.feel_value.specs.View.{datum_of};
 ghost use Rattle.feel_text.specs.Meaning.{den};
 ghost use Rattle.feel_eval.specs.Operands.{answer_of};
-ghost use Rattle.feel_text.specs.Satisfied.{satisfied, held_of, tested, tested_any, answer, joined, stands_to, is_in, is_listed, opposite_answer};
+ghost use Rattle.feel_text.specs.Satisfied.{satisfied, held_of, tested, tested_any, answer, Told, joined, stands_to, is_in, is_listed, opposite_answer};
 ghost use Rattle.feel_text.specs.TestsView.{tests_view, test_view, test_views, bound_view};
 ghost use Rattle.feel_text.specs.View.{view};
 
 use crate::env::Env;
 use crate::eval_expr::operand;
+use crate::scalar::{Scalar, scalar_value};
 use feel_text::{Bound, Held, Test, TestsTree, Tree, contains, high_end, low_end};
 use feel_value::{Feel, Truth, Value, and3, decided, not3, or3};
 use std::alloc::{AllocError, Global};
@@ -156,9 +157,25 @@ fn matched(alloc: Global, input: &Feel, expr: &Tree, env: &Env) -> Result<Option
     if let Tree::Constant(constant) = expr {
         return Ok(Some(decided(found(input.value(), constant.value().value()))));
     }
+    if let Some(is_same) = same_number(input.value(), expr, env) {
+        return Ok(Some(decided(is_same)));
+    }
     match operand(alloc, expr, env)? {
         Some(operand) => Ok(Some(decided(found(input.value(), operand.value())))),
         None => Ok(None),
+    }
+}
+
+// Whether the input is the value of an expression, where both are numbers, and nothing has to be formed for it. None says nothing.
+fn same_number(input: &Value, expr: &Tree, env: &Env) -> Option<bool>
+    ensures { IfSome result (λ b. answer (den (view expr.now) env.now) (λ d. decided_of (is_in (datum_of input.now) d)) ≡ Told (decided_of b)) }
+{
+    let Value::Number(input) = input else {
+        return None;
+    };
+    match scalar_value(expr, env) {
+        Scalar::Number(value) => Some(*input == value),
+        _ => None,
     }
 }
 

@@ -1,7 +1,8 @@
 //! Needed names with the values that were found for them.
-ghost use Rattle.std.specs.Prelude.{◌≡◌, ◌≤◌, ◌<◌, ◌^◌, Some, length, take, option_map};
+ghost use Rattle.std.specs.Prelude.{◌≡◌, ◌≤◌, ◌<◌, ◌^◌, Some, true, length, take, option_map};
+ghost use Rattle.std.specs.List.{list_all};
 ghost use Rattle.feel_text.specs.Meaning.{bound};
-ghost use Rattle.feel_text.specs.Needed.{bindings_from, value_at};
+ghost use Rattle.feel_text.specs.Needed.{bindings_from, is_found, value_at};
 ghost use Rattle.feel_text.specs.Places.{last_place};
 
 use feel_text::{Needs, Reference, value_found};
@@ -42,12 +43,21 @@ impl<'a> Lent<'a> {
         if !needs.are_found(found) {
             return None;
         }
+        let lent = Lent::of_found(needs, found);
+        Some(lent)
+    }
+
+    /// The same, where a value is known to be found for each.
+    pub(crate) fn of_found(needs: &'a Needs, found: &'a [Outcome]) -> Lent<'a>
+        requires { list_all (is_found found.now) needs.now ≡ true }
+        ensures { bindings_from found.now needs.now ≡ Some result }
+    {
         let count = needs.len();
-        Some(Lent {
+        Lent {
             needs,
             found,
             count,
-        })
+        }
     }
 
     /// The value of the last of the names that is this one.

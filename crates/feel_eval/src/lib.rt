@@ -14,6 +14,7 @@ mod holds_tests;
 mod indexed;
 mod lent;
 mod operands;
+mod places;
 mod scalar;
 
 pub use env::Env;

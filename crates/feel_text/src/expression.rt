@@ -1,10 +1,13 @@
 //! Expressions as callers see them.
 
-ghost use Rattle.std.specs.Prelude.{◌≡◌};
+ghost use Rattle.std.specs.Prelude.{◌≡◌, IfSome};
+ghost use Rattle.feel_value.specs.declared.feel.Outcome.TheVariants.{Is};
+ghost use Rattle.feel_text.specs.Meaning.{Bindings, den};
 ghost use Rattle.feel_text.specs.Spells.{HasText};
 ghost use Rattle.feel_text.specs.View.{view};
 
 use crate::expr::Tree;
+use feel_value::Feel;
 use std::marker::Model;
 
 /// A FEEL expression that some text spells. So it is at most 64 deep, and its numbers are in range.
@@ -43,5 +46,14 @@ impl Expr {
         ensures { view result.now ≡ self.now }
     {
         &self.tree
+    }
+    /// The value of an expression that is a literal, whatever names are bound to. None says nothing.
+    pub fn constant(&self) -> Option<&Feel>
+        ensures { IfSome result (λ v. (m : Bindings) → den self.now m ≡ Is v.now) }
+    {
+        match &self.tree {
+            Tree::Constant(constant) => Some(constant.value()),
+            _ => None,
+        }
     }
 }

@@ -156,6 +156,16 @@ impl Needs {
         }
     }
 
+    /// The same of the bytes of a name.
+    pub fn is_at(&self, position: usize, name: &str) -> bool
+        ensures { IsTrue result → last_place name.now self.now ≡ Some position }
+    {
+        match self.needs.get(position) {
+            Some(need) => name == need.name.as_str() && self.is_ordered,
+            None => false,
+        }
+    }
+
     /// The place of the need at a position.
     pub fn place(&self, position: usize) -> usize
         requires { position < length self.now }

@@ -14,4 +14,6 @@ mod refused_tests;
 #[cfg(test)]
 mod repeated_tests;
 #[cfg(test)]
+mod scope_tests;
+#[cfg(test)]
 mod value_tests;

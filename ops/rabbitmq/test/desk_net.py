@@ -61,6 +61,9 @@ class NetCluster(Cluster):
         for number in BROKERS:
             SlowProxy(port + number, f"{NETWORK}.{number}", self.late).start()
 
+    def address(self, number: int) -> str:
+        return f"{NETWORK}.{number}"
+
     @staticmethod
     def neighbour(one: int, what: str, other: int, *words: str) -> None:
         """Changes where the one broker believes the other to be in their network."""

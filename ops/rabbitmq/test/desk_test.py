@@ -24,6 +24,7 @@ ROOT = HERE.parents[1]
 PACKAGES = ["rabbitmq-server", "python3-pika"]
 PROGRAM = ""
 CLIENTS = 64
+BACK = 300  # seconds after which a broker that starts is taken to hang
 NO_LINES = 7  # so many messages of the sender x are no lines
 Record = tuple[int, dict[str, Any], bytes]  # offset, headers, body
 Place = tuple[int, int]
@@ -125,8 +126,8 @@ class Cluster:
         """The environment of a program that knows one address alone."""
         return {**self.environment, "DESK_BROKERS": f"amqp://127.0.0.1:{port}"}
 
-    def run(self, *words: str) -> None:
-        subprocess.run([str(HERE / "cluster"), *words], check=True, timeout=3700, env=self.environment,
+    def run(self, *words: str, within: float = 3700) -> None:
+        subprocess.run([str(HERE / "cluster"), *words], check=True, timeout=within, env=self.environment,
                        stdout=subprocess.DEVNULL)
 
     def declare(self) -> None:
@@ -229,7 +230,28 @@ class Cluster:
             self.kill_broker(number)
 
     def come_back(self) -> None:
-        self.run("brokers")
+        """Starts the brokers that don't run. One that hangs while it starts is killed and started again, as by its supervisor: after
+        a cut of the network Erlang's module global may wait for ever."""
+        within = BACK
+        while True:
+            try:
+                return self.run("brokers", within=within)
+            except subprocess.TimeoutExpired:
+                hanging = [number for number in (1, 2, 3) if not self.listens(number)]
+                print(f"brokers {hanging} are not there after {within} s, and are started again", flush=True)
+                for number in hanging:
+                    with contextlib.suppress(OSError):  # it may have ended
+                        self.kill_broker(number)
+                within *= 2
+
+    def address(self, _: int) -> str:
+        """Where a broker listens."""
+        return "127.0.0.1"
+
+    def listens(self, number: int) -> bool:
+        with contextlib.suppress(OSError), socket.create_connection((self.address(number), self.port + number), 10):
+            return True
+        return False
 
     def keep(self, policy: dict[str, int], kinds: str = "lines|answers") -> None:
         """Sets what the brokers keep of the streams."""

@@ -16,7 +16,7 @@ pub returns-in_default : goal.returns-in_default
 returns-in_default c =
     let t1 = c.add_name.new.text in
     let t2 = c.add_valued.new.text in
-    let none : None ≡ bindings_from c.args.found.now c.args.item.now.named = sym c.in_default.is ∙ c.over.ensures in
+    let none : None ≡ bindings_from c.args.found.now c.args.item.now.named = sym c.in_default.is ∙ c.over_scope.ensures in
     named_added_by c.args.text.now t1 t2 c.push.new.self (arc_str_bytes c.args.item.now.name) (codes "value") (found_at c.args.found.now c.args.place)
     (how_under c.args.with_misses (bindings_from c.args.found.now c.args.item.now.named) (logic_view c.args.logic.now))
     (c.in_ok-add_name.ensures ∙ ap (λ (n : List ℕ). longer c.args.text.now (name_text n)) c.as_str.ensures.value)
@@ -27,7 +27,7 @@ pub returns : goal.returns
 returns c =
     let t1 = c.add_name.new.text in
     let t2 = c.add_valued.new.text in
-    let some : Some c.in-Some.env ≡ bindings_from c.args.found.now c.args.item.now.named = sym c.in-Some.is ∙ c.over.ensures in
+    let some : Some c.in-Some.env ≡ bindings_from c.args.found.now c.args.item.now.named = sym c.in-Some.is ∙ c.over_scope.ensures in
     named_added_by c.args.text.now t1 t2 c.add_how.new.text (arc_str_bytes c.args.item.now.name) (codes "value") (found_at c.args.found.now c.args.place)
     (how_under c.args.with_misses (bindings_from c.args.found.now c.args.item.now.named) (logic_view c.args.logic.now))
     (c.in_ok-add_name.ensures ∙ ap (λ (n : List ℕ). longer c.args.text.now (name_text n)) c.as_str.ensures.value)

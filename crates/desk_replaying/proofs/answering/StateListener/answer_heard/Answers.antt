@@ -7,7 +7,7 @@ use Rattle.desk_replaying.proofs.Hearing.{after_line, heard_line, heard_no_objec
 use Rattle.desk_replaying.proofs.answering.StateListener.answer_heard.Goals as goal
 
 pub returns-in_default-clause-answers : goal.returns-in_default-clause-answers
-returns-in_default-clause-answers c =
+returns-in_default-clause-answers g c =
     let old = c.args.self.now in
     let text = c.args.text.now.items in
     on_ok_weaker c.add_refusal.result
@@ -15,7 +15,7 @@ returns-in_default-clause-answers c =
     c.add_refusal.ensures
 
 pub returns-in_default-line_in-clause-answers : goal.returns-in_default-line_in-clause-answers
-returns-in_default-line_in-clause-answers c =
+returns-in_default-line_in-clause-answers g c =
     let old = c.args.self.now in
     let text = c.args.text.now.items in
     let none = rw c.in_default-line_in.is at c.line_in.ensures.other in
@@ -25,7 +25,7 @@ returns-in_default-line_in-clause-answers c =
     c.add_refusal-in_default-line_in.ensures
 
 pub returns-clause-answers : goal.returns-clause-answers
-returns-clause-answers c =
+returns-clause-answers g c =
     let old = c.args.self.now in
     let new = c.hear.new.self in
     let text = c.args.text.now.items in

@@ -6,7 +6,7 @@ use Rattle.desk_replaying.proofs.Finding.{position_at}
 use Rattle.desk_replaying.proofs.state.State.number_of.Goals as goal
 
 pub returns-then-eq : goal.returns-then-eq
-returns-then-eq c =
+returns-then-eq g c =
     let names = c.args.self.now.names.items in
     let within : c.loop-number.number < length c.args.self.now.names.items = first_of (omega arith, search rules) in
     let here : c.opened-item.result ≡ get_or c.args.self.now.names.items c.loop-number.number c.opened-item.result = cc (c.opened-item.is, c.deref-opened-items.ensures.value) in

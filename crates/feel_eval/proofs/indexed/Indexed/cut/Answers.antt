@@ -14,6 +14,6 @@ loop-self-preserved-in-Some c =
     let shorter : c.args.len ≤ length xs = omega (arith, ap length c.in-Some.ensures.items, length_push xs x) in
     record {
       within = shorter;
-      indexed = bound_less xs x c.loop-self.self-inside.places c.uncover.new.places (rw c.in-Some.ensures.items at c.loop-self.invariant.indexed) c.uncover.ensures;
+      indexed = bound_less xs x c.loop-self.self-inside.places c.uncover.new.self (rw c.in-Some.ensures.items at c.loop-self.invariant.indexed) c.uncover.ensures;
       kept = sym (before c.args.len xs x shorter) ∙ ap (λ ys. take c.args.len (bindings_of ys)) (sym c.in-Some.ensures.items) ∙ c.loop-self.invariant.kept;
     }
