@@ -88,7 +88,7 @@ func (t *translator) number(n *feel.Number) phrase {
 		return t.refuse(n, "the number is past "+largestNumber, "")
 	}
 	made := constant(whole, numberType)
-	made.number, _ = new(big.Rat).SetString(whole)
+	made.number, _ = numberOfText(whole)
 	t.constants[n.Text] = made
 	return made
 }

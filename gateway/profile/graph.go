@@ -65,6 +65,8 @@ type graph struct {
 	offsets *offsets
 	// constants are the numbers that texts have, by their digits.
 	constants map[string]phrase
+	// folds are the calculations with literals alone, which are the same in each pass.
+	folds map[feel.Node]fold
 	// changes counts those of the types of inputs that declare none.
 	changes *changes
 	// partsOfInputs counts the parts of the types of all inputs.
@@ -72,7 +74,8 @@ type graph struct {
 }
 
 func newGraph(files []*dmn.File, r *refusals, w *words, options Options) *graph {
-	g := &graph{refusals: r, words: w, byID: map[string]interface{}{}, constants: map[string]phrase{}, changes: &changes{}}
+	g := &graph{refusals: r, words: w, byID: map[string]interface{}{}, constants: map[string]phrase{}, folds: map[feel.Node]fold{},
+		changes: &changes{}}
 	g.clock = newClock(g, options.Clock)
 	for i, file := range files {
 		r.know(file, i)

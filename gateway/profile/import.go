@@ -89,7 +89,7 @@ func translate(g *graph, trees map[*dmn.Text]*tree, counts bool) (fractions bool
 		files[i] = s.file
 	}
 	t := &translator{words: g.words, refusals: g.refusals, members: membersOf(files), trees: trees, frame: &frame{},
-		active: map[*knowledge]bool{}, free: g.free, clock: g.clock, offsets: g.offsets, counts: counts, said: g.said, constants: g.constants, folds: map[*feel.Chain]fold{},
+		active: map[*knowledge]bool{}, free: g.free, clock: g.clock, offsets: g.offsets, counts: counts, said: g.said, constants: g.constants, folds: g.folds,
 		kept: newKept()}
 	for _, n := range g.ordered {
 		t.decision(n)

@@ -26,7 +26,7 @@ func (t *translator) fraction(n *feel.Number) phrase {
 	if scale > mostDecimals {
 		return t.refuse(n, fmt.Sprintf("the number has over %d decimals, which no number of the standard has", mostDecimals), "fewer decimals")
 	}
-	value, fine := new(big.Rat).SetString(n.Text)
+	value, fine := numberOfText(n.Text)
 	if !fine || len(strings.Trim(strings.ReplaceAll(n.Text, ".", ""), "0")) > decimal.Digits {
 		return t.refuse(n, fmt.Sprintf("the number has over %d digits, to which the standard rounds", decimal.Digits), "fewer digits")
 	}
@@ -46,6 +46,9 @@ func decimalsOf(text string) int {
 
 // constantNumber is a number that ends, in the coarsest unit that it has.
 func constantNumber(value *big.Rat) phrase {
+	if few, is := fewDigitsOf(value); is {
+		return few.constant(value)
+	}
 	rest := new(big.Int).Set(value.Denom())
 	scale := maximum(removed(rest, 2), removed(rest, 5))
 	return constantAt(value, units{scale: scale})
@@ -75,6 +78,9 @@ func constantAt(value *big.Rat, u units) phrase {
 }
 
 func wholeConstant(digits *big.Int) phrase {
+	if digits.IsInt64() {
+		return wholeConstant64(digits.Int64())
+	}
 	if digits.Sign() < 0 {
 		return phrase{text: digits.String(), rank: rankNegation, depth: 2, of: numberType}
 	}
@@ -274,6 +280,9 @@ func folded(operator string, operands []phrase, operators []string) *big.Rat {
 			return nil
 		}
 	}
+	if few := foldedFew(operator, operands, operators); few != nil {
+		return few
+	}
 	value := new(big.Rat)
 	for i, o := range operands {
 		switch {
@@ -296,13 +305,24 @@ func folded(operator string, operands []phrase, operators []string) *big.Rat {
 // shortPower is a power of ten that a number of 19 digits may be multiplied by without having more than 34.
 const shortPower = 1_000_000_000_000_000
 
+// mostBitsOfDigits is how many bits a number may have that surely has at most 34 digits, mostBitsOfParts how many 10^72 has.
+const mostBitsOfDigits, mostBitsOfParts = 112, 240
+
 // ends tells whether a number has at most 34 digits.
 func ends(value *big.Rat) bool {
 	if value.Num().IsInt64() && value.Denom().IsInt64() && shortPower%value.Denom().Int64() == 0 {
 		return true
 	}
-	at := scaledBy(value, 2*mostScale)
-	return at.IsInt() && len(strings.Trim(at.Num().String(), "-0")) <= decimal.Digits
+	if value.Denom().BitLen() > mostBitsOfParts {
+		return false
+	}
+	rest := new(big.Int).Set(value.Denom())
+	scale := maximum(removed(rest, 2), removed(rest, 5))
+	if !rest.IsInt64() || rest.Int64() != 1 || scale > 2*mostScale {
+		return false
+	}
+	digits := scaledBy(value, scale).Num()
+	return digits.BitLen() <= mostBitsOfDigits || len(strings.Trim(digits.String(), "-0")) <= decimal.Digits
 }
 
 // countedSum is the sum of operands that are counted in units.
@@ -526,6 +546,14 @@ func (t *translator) fractional(u units) units {
 
 // partsBy are the units of the quotient of a number of some decimals by a constant, and by what the number is multiplied for them.
 func partsBy(divisor *big.Rat, scale int) (u units, factor *big.Int) {
+	if u, few, is := partsByFew(divisor, scale); is {
+		return u, big.NewInt(few)
+	}
+	return partsByMany(divisor, scale)
+}
+
+// partsByMany is partsBy of any divisor.
+func partsByMany(divisor *big.Rat, scale int) (u units, factor *big.Int) {
 	factor, parts := new(big.Int).Set(divisor.Denom()), decimal.Power(scale)
 	parts.Mul(parts, divisor.Num())
 	if parts.Sign() < 0 {

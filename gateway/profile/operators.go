@@ -4,38 +4,44 @@ import (
 	"gateway/feel"
 )
 
-// chain translates operands with operators of one rank between them. What has literals alone is calculated once.
+// chain translates operands with operators of one rank between them.
 func (t *translator) chain(n *feel.Chain, s *scope) phrase {
-	if known, is := t.folds[n]; is {
-		t.finest = maximum(t.finest, known.finest)
-		return known.value
-	}
-	before := t.finest
-	t.finest = 0
-	made := t.chained(n, s)
-	if made.number != nil && t.isFolded(n) {
-		t.folds[n] = fold{made, t.finest}
-	}
-	t.finest = maximum(t.finest, before)
-	return made
+	return t.once(n, n.Operands, func() phrase { return t.chained(n, s) })
 }
 
-// A fold is the value of a chain of literals, with the most decimals on the way to it.
+// A fold is the value of a calculation with literals, the most decimals on the way to it, and whether it asks for fractions.
 type fold struct {
-	value  phrase
-	finest int
+	value     phrase
+	finest    int
+	fractions bool
 }
 
-// isFolded tells whether each operand is a literal, or such a chain itself.
-func (t *translator) isFolded(n *feel.Chain) bool {
-	for _, operand := range n.Operands {
-		switch operand := operand.(type) {
-		case *feel.Number:
-		case *feel.Chain:
-			if _, is := t.folds[operand]; !is {
-				return false
-			}
-		default:
+// once calculates with operands. What has literals alone is calculated once, unless it puts entries in front, which this frame alone has.
+func (t *translator) once(n feel.Node, operands []feel.Node, calculate func() phrase) phrase {
+	known, is := t.folds[n]
+	if !is {
+		finest, fractions, written := t.finest, t.fractions, t.written
+		t.finest, t.fractions = 0, false
+		known = fold{calculate(), t.finest, t.fractions}
+		if known.value.number != nil && t.written == written && !t.full && t.areLiterals(operands) {
+			t.folds[n] = known
+		}
+		t.finest, t.fractions = finest, fractions
+	}
+	t.finest, t.fractions = maximum(t.finest, known.finest), t.fractions || known.fractions
+	return known.value
+}
+
+// areLiterals tells whether each operand is a literal, or a calculation with literals.
+func (t *translator) areLiterals(operands []feel.Node) bool {
+	for _, operand := range operands {
+		if negation, is := operand.(*feel.Negation); is {
+			operand = negation.Operand
+		}
+		if _, is := operand.(*feel.Number); is {
+			continue
+		}
+		if _, is := t.folds[operand]; !is {
 			return false
 		}
 	}
@@ -105,7 +111,7 @@ func (t *translator) sum(n *feel.Chain, operands []phrase) phrase {
 // binary translates a comparison.
 func (t *translator) binary(n *feel.Binary, s *scope) phrase {
 	if n.Operator == "**" {
-		return t.powered(n, s)
+		return t.once(n, []feel.Node{n.Left, n.Right}, func() phrase { return t.powered(n, s) })
 	}
 	return t.compare(n, t.maybeQuotient(n.Left, s), n.Operator, t.maybeQuotient(n.Right, s))
 }

@@ -307,6 +307,17 @@ func TestChainsDeeperThanTheEngineReads(t *testing.T) {
 		strings.Repeat("]", 80)}})
 }
 
+// TestDeepLiterals has literals so deep that some stand in front, in one decision and in business knowledge that two decisions invoke.
+func TestDeepLiterals(t *testing.T) {
+	deep := strings.Repeat("(", 80) + "1" + strings.Repeat(" + 2) * 1", 80)
+	answers(t, expression("a + "+deep, "", input("a", "number")), "d", [][2]string{{`{"a":1}`, "162"}})
+	answers(t, expression("a * 0.5 + "+deep, "", input("a", "number")), "d", [][2]string{{`{"a":100}`, "161500"}})
+	file := definitions(input("a", "number"), knowledge("f", []string{"p:number"}, literal("p + "+deep)),
+		decision("d", "", literal("f(a)"), "a", "k:f"), decision("e", "", literal("f(a) + 1"), "a", "k:f"))
+	answers(t, file, "d", [][2]string{{`{"a":1}`, "162"}})
+	answers(t, file, "e", [][2]string{{`{"a":1}`, "163"}})
+}
+
 func TestDecisionServices(t *testing.T) {
 	service := `<decisionService id="s" name="my service"><outputDecision href="#d"/><encapsulatedDecision href="#e"/>` +
 		`<inputDecision href="#g"/><inputData href="#a"/></decisionService>`

@@ -53,8 +53,8 @@ type translator struct {
 	offsets *offsets
 	// constants are the numbers that were read, by their texts.
 	constants map[string]phrase
-	// folds are the sums and products of literals alone: business knowledge may have long ones, and be invoked many times.
-	folds map[*feel.Chain]fold
+	// folds are the calculations with literals alone: business knowledge may have long ones, and be invoked many times.
+	folds map[feel.Node]fold
 	// kept has what was found of contexts.
 	kept *kept
 	// civils are the parts of dates that were asked for.

@@ -105,7 +105,7 @@ func rational(n feel.Node) *big.Rat {
 	if !is || len(number.Text) > mostWord {
 		return nil
 	}
-	value, fine := new(big.Rat).SetString(number.Text)
+	value, fine := numberOfText(number.Text)
 	if !fine {
 		return nil
 	}

@@ -16,10 +16,12 @@ use desk_checking::{CheckFindings, CheckOptions, check};
 use desk_explaining::{ExplainOptions, explain};
 use desk_lines::{FrontFault, Sink, Source, write_all};
 use desk_replaying::replay;
-use desk_serving::{Options, serve};
+use desk_serving::{Options, serve_marked};
 use lanes::OpenGate;
+use model_marks::{Catalog, Marks, Slots};
 use std::alloc::{AllocError, Global};
 use std::io::{self, ErrorKind as IoKind};
+use std::marker::Brand;
 use std::sync::Wait;
 use std::thread::Threads;
 
@@ -82,6 +84,35 @@ fn tell_end<X: Drop, F: Sink>(end: Result<X, FrontFault>, faults: &mut F) -> u8
     tell_fault(fault, faults)
 }
 
+/// The same, with numbers of these slots for the models.
+fn run_serve_marked<C, T, R, W, F>(
+    alloc: Global,
+    rt: &T,
+    slots: Slots,
+    options: Options,
+    reader: &mut R,
+    writer: &mut W,
+    faults: &mut F,
+) -> u8
+where
+    C: Catalog + Send + Sync,
+    T: Threads + Wait + Sync,
+    R: Source,
+    W: Sink,
+    F: Sink,
+    requires slots { slots ≡ C.slots }
+    requires lawful { fault_in options.clients options.workers options.capacity ≡ None }
+    requires read_counts { (R.seen reader.old).faults < 2 ^ 64 - 1 }
+    requires write_counts { (W.seen writer.old).faults < 2 ^ 64 - 1 }
+    requires fault_counts { (F.seen faults.old).faults < 2 ^ 64 - 1 }
+    ensures { EndsBy (ServedWith (R.seen reader.old) (R.seen reader.new) (W.seen writer.old) (W.seen writer.new) options.clients)
+        status_of (F.seen faults.old) (F.seen faults.new) result }
+{
+    let marks = Marks::<C>::of(slots);
+    let end = serve_marked(alloc, rt, marks, reader, writer, &OpenGate, options);
+    tell_end(end, faults)
+}
+
 /// Serves the lines of the reader, and tells the fault that ends it, if one does.
 fn run_serve<T: Threads + Wait + Sync, R: Source, W: Sink, F: Sink>(
     alloc: Global,
@@ -98,8 +129,8 @@ fn run_serve<T: Threads + Wait + Sync, R: Source, W: Sink, F: Sink>(
     ensures { EndsBy (ServedWith (R.seen reader.old) (R.seen reader.new) (W.seen writer.old) (W.seen writer.new) options.clients)
         status_of (F.seen faults.old) (F.seen faults.new) result }
 {
-    let end = serve(alloc, rt, reader, writer, &OpenGate, options);
-    tell_end(end, faults)
+    let slots = Slots::new(alloc);
+    run_serve_marked::<Brand, T, R, W, F>(alloc, rt, slots, options, reader, writer, faults)
 }
 
 /// The status of what was found of a model.

@@ -14,7 +14,7 @@ use crate::reports::report_on;
 use crate::state::{Effect, State};
 use box_core::{Answered, Broker, Done, Event, Report as BrokerReport};
 use desk_wire::{Heard, Listener, Word, add_refusal};
-use dmn_plan::{MarkedPlan, MarkedTask, ModelFault, Plan};
+use dmn_plan::{MarkedPlan, ModelFault, Plan, Task};
 use model_marks::{Catalog, Marks};
 use serde_json::Value;
 use std::alloc::{AllocError, Global};
@@ -56,7 +56,7 @@ impl<C: Catalog> State<C> {
     }
 
     /// A work under the model in force.
-    fn work(&self, alloc: Global, service: &str, inputs: &Value) -> Result<Arc<MarkedTask<C>>, Word>
+    fn work(&self, alloc: Global, service: &str, inputs: &Value) -> Result<Arc<Task<C>>, Word>
         ensures ok { IfOk result (λ work. request_under (model_of self.now) service.now (view inputs.now) ≡ Ok (arc_value work)) }
         ensures err { IfErr result (IsUnmade (request_under (model_of self.now) service.now (view inputs.now))) }
     {
@@ -73,7 +73,7 @@ impl<C: Catalog> State<C> {
     }
 
     /// Asks the broker.
-    fn ask(&mut self, event: Event<MarkedTask<C>>) -> Effect<C>
+    fn ask(&mut self, event: Event<Task<C>>) -> Effect<C>
         ensures { AsksFor self.old (event_of event) result self.new }
     {
         Effect::Reported(self.broker.apply(event))
@@ -129,7 +129,7 @@ impl<C: Catalog> State<C> {
         alloc: Global,
         client: u32,
         ticket: u64,
-        work: Arc<MarkedTask<C>>,
+        work: Arc<Task<C>>,
     ) -> Effect<C>
         ensures { Answers self.old (Asks (broker.Answer client (record { ticket = ticket; work = arc_value work }))) result self.new }
     {

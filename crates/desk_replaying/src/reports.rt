@@ -11,7 +11,7 @@ use crate::line::Line;
 use crate::state::Effect;
 use box_core::Report as BrokerReport;
 use desk_wire::{Report, Told, Word};
-use dmn_plan::MarkedTask;
+use dmn_plan::Task;
 use model_marks::Catalog;
 
 /// The name on a line; a model line has none.
@@ -66,7 +66,7 @@ fn refused<'a>(number: u64, line: &Line<'a>, why: Word) -> Report<'a>
 fn reported<'a, C: Catalog>(
     number: u64,
     line: &Line<'a>,
-    told: &'a BrokerReport<MarkedTask<C>>,
+    told: &'a BrokerReport<Task<C>>,
 ) -> Report<'a>
     ensures { report_view result ≡ reports.reported number (line_view line.now) (report_of told.now) }
 {

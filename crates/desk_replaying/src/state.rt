@@ -3,14 +3,14 @@ ghost use Rattle.std.specs.Prelude.{◌≤◌, length};
 
 use box_core::{Broker, Report};
 use desk_wire::Word;
-use dmn_plan::{MarkedPlan, MarkedTask, ModelFault};
+use dmn_plan::{MarkedPlan, ModelFault, Task};
 use model_marks::{Catalog, Marks};
 
 /// What stands between the lines: the broker, the opened names by their clients' numbers, and the model in force. A model
 /// stays in force until another one is read.
 #[derive(Drop)]
 pub struct State<C: Catalog> {
-    pub(crate) broker: Broker<MarkedTask<C>>,
+    pub(crate) broker: Broker<Task<C>>,
     pub(crate) names: Vec<String>,
     pub(crate) plan: Option<MarkedPlan<C>>,
     /// The marks that are left for later models.
@@ -28,7 +28,7 @@ pub enum Effect<C: Catalog> {
     /// The model on it has a fault.
     Faulty(ModelFault),
     /// The broker was asked, and reports.
-    Reported(Report<MarkedTask<C>>),
+    Reported(Report<Task<C>>),
     /// The line is refused, and the broker asked nothing.
     Refused(Word),
 }

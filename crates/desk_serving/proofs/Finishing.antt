@@ -25,6 +25,7 @@ use Rattle.desk_lines.proofs.Talking.{replays_weaker}
 use Rattle.desk_serving.proofs.Running.{ends_of, err_is, failed, goes_without}
 use Rattle.desk_serving.proofs.Saying.{ends_cut_off, ends_more, ends_stop, replays_more}
 use Rattle.desk_requests.proofs.Callers.{quiet}
+use Rattle.model_marks.specs.declared.mark.Catalog.{Ghosts}
 
 -- where not all lines heard were answered, nothing is said of those that were
 stopped : (Whole Whole' Part : List (List ℕ) → List (List ℕ) → Type 0) (left left' wrote wrote' : Option (List ℕ)) (fault : FrontFault) → ¬ GoesOn {X = Unit {0}} (Err fault)
@@ -35,12 +36,12 @@ stopped Whole Whole' Part left left' wrote wrote' Write n e = e
 stopped Whole Whole' Part left left' wrote wrote' Memory n e = e
 
 -- the same ends are so many lanes
-lanes_kept : (old new : Lanes) → links_in new ≡ links_in old → length (lanes_in new) ≡ length (lanes_in old)
+lanes_kept : {C : Type 0} {G : Ghosts C} → (old new : Lanes C G) → links_in new ≡ links_in old → length (lanes_in new) ≡ length (lanes_in old)
 lanes_kept old new same =
     length-map new.clients.items (λ client. lane_of client) ∙ sym (length-map new.clients.items (λ client. client_links client)) ∙ ap length same
     ∙ length-map old.clients.items (λ client. client_links client) ∙ sym (length-map old.clients.items (λ client. lane_of client))
 
-pub lanes_begun : (lanes : Lanes) (ends : Vec (ClientEnd Request Outcome) Global) (clients : ℕ) → lanes.clients ≡ ends → length ends.items ≡ clients → length (lanes_in lanes) ≡ clients
+pub lanes_begun : {C : Type 0} {G : Ghosts C} → (lanes : Lanes C G) (ends : Vec (ClientEnd Request Outcome) Global) (clients : ℕ) → lanes.clients ≡ ends → length ends.items ≡ clients → length (lanes_in lanes) ≡ clients
 lanes_begun lanes ends clients is count = length-map lanes.clients.items (λ client. lane_of client) ∙ ap (λ v. length v.items) is ∙ count
 
 -- the writer failed at the rest, or memory was refused for it
@@ -58,7 +59,7 @@ ended_before names lanes wrote wrote' ended fault (inl h) write memory = absurd 
 ended_before names lanes wrote wrote' ended fault (inr (inl h)) write memory = absurd (memory h.1)
 ended_before names lanes wrote wrote' ended fault (inr (inr h)) write memory = h.0
 
-module _ {R : Type 0} (old : Lanes) (state : State R) (clients : ℕ) (begun : length (lanes_in old) ≡ clients) (kept : links_in state.lanes ≡ links_in old)
+module _ {C R : Type 0} {G : Ghosts C} (old : Lanes C G) (state : State C R G) (clients : ℕ) (begun : length (lanes_in old) ≡ clients) (kept : links_in state.lanes ≡ links_in old)
     (reader reader' : Reader) (writer mid writer' : Writer) (ended : Result (Unit {0}) FrontFault)
     (ran : Ran (After state) (ServedInPart (length (lanes_in old))) reader reader' writer mid ended) where
   few : length (lanes_in state.lanes) ≡ clients

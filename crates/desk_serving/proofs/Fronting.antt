@@ -19,6 +19,7 @@ use Rattle.desk_serving.proofs.Owing.{of_client-append, due-whole, length-unhand
 use Rattle.desk_serving.proofs.EndingLanes.{whole_owes}
 use Rattle.desk_serving.proofs.Standing.{stands_handed}
 use Rattle.lanes.specs.Ends.{SettledEnd}
+use Rattle.model_marks.specs.declared.mark.Catalog.{Ghosts}
 
 -- of each client a beginning is said, and some more of what is owed
 in_part_of : (readings : List (Reading Line)) (names : List (List ℕ)) (model : Option (List ℕ)) (lanes : List Lane) (said more : List Report) → Stands readings readings names model lanes said
@@ -29,8 +30,8 @@ in_part_of readings names model lanes said more s f who =
       ap (λ t. t ++ r.0) (of_client-append who said more) ∙ append_assoc (of_client who said) (of_client who more) r.0 ∙ ap (λ t. of_client who said ++ t) r.1 ∙ s.owed who,
     )
 
-module _ {R : Type 0} where
-  pub in_part : (state : State R) (lines output : List (List ℕ)) → After state lines output → ServedInPart (length (lanes_in state.lanes)) lines output
+module _ {C R : Type 0} {G : Ghosts C} where
+  pub in_part : (state : State C R G) (lines output : List (List ℕ)) → After state lines output → ServedInPart (length (lanes_in state.lanes)) lines output
   in_part state lines output a = record {
     readings = a.readings;
     read = a.read;
@@ -39,7 +40,7 @@ module _ {R : Type 0} where
     each = λ who. (due_to who (names_in state.lanes) (lanes_in state.lanes), a.stands.owed who);
   }
 
-  pub in_part_more : (state : State R) (lines output : List (List ℕ)) (more : List Report) → After state lines output → AreFirst (names_in state.lanes) (lanes_in state.lanes) more
+  pub in_part_more : (state : State C R G) (lines output : List (List ℕ)) (more : List Report) → After state lines output → AreFirst (names_in state.lanes) (lanes_in state.lanes) more
       → ServedInPart (length (lanes_in state.lanes)) lines (output ++ texts_of more)
   in_part_more state lines output more a f = record {
     readings = a.readings;
@@ -50,7 +51,7 @@ module _ {R : Type 0} where
   }
 
   -- the same with other lanes, once some of what was owed is handed out
-  pub after_more : (old new : State R) (lines output : List (List ℕ)) (more : List Report) → After old lines output → names_in new.lanes ≡ names_in old.lanes → new.plan ≡ old.plan
+  pub after_more : (old new : State C R G) (lines output : List (List ℕ)) (more : List Report) → After old lines output → names_in new.lanes ≡ names_in old.lanes → new.plan ≡ old.plan
       → AreHanded (names_in old.lanes) (lanes_in old.lanes) (lanes_in new.lanes) more → After new lines (output ++ texts_of more)
   after_more old new lines output more a names plan h =
       let s = stands_handed a.readings a.readings (names_in old.lanes) _ (lanes_in old.lanes) (lanes_in new.lanes) a.said more a.stands h in
@@ -63,7 +64,7 @@ module _ {R : Type 0} where
       }
 
   -- nothing is read or said yet
-  pub after_none : (state : State R) → names_in state.lanes ≡ [] → state.plan ≡ None → AreBooked [] (lanes_in state.lanes) [] → After state [] []
+  pub after_none : (state : State C R G) → names_in state.lanes ≡ [] → state.plan ≡ None → AreBooked [] (lanes_in state.lanes) [] → After state [] []
   after_none state names plan booked = record {
     readings = [];
     read = tt;
@@ -106,7 +107,7 @@ due_to_whole names ends w None = refl
 due_to_whole names ends w (Some m) = due_to_whole_name m names ends (whole_at ends w)
 
 -- everything that was owed is handed out
-pub served_more : {R : Type 0} (state : State R) (new : List Lane) → ((who : Option (List ℕ)) → due_to who (names_in state.lanes) new ≡ []) → (lines output : List (List ℕ)) (more : List Report)
+pub served_more : {C R : Type 0} {G : Ghosts C} (state : State C R G) (new : List Lane) → ((who : Option (List ℕ)) → due_to who (names_in state.lanes) new ≡ []) → (lines output : List (List ℕ)) (more : List Report)
     → After state lines output → AreHanded (names_in state.lanes) (lanes_in state.lanes) new more → Served (length (lanes_in state.lanes)) lines (output ++ texts_of more)
 served_more state new none lines output more a h =
     let s = stands_handed a.readings a.readings (names_in state.lanes) _ (lanes_in state.lanes) new a.said more a.stands h in
@@ -121,7 +122,7 @@ served_more state new none lines output more a h =
     }
 
 -- and each end is whole
-pub served_by : {R : Type 0} (state : State R) (ends : List (SettledEnd Request Outcome)) (lines output : List (List ℕ)) (more : List Report) → After state lines output
+pub served_by : {C R : Type 0} {G : Ghosts C} (state : State C R G) (ends : List (SettledEnd Request Outcome)) (lines output : List (List ℕ)) (more : List Report) → After state lines output
     → AreHanded (names_in state.lanes) (lanes_in state.lanes) (ends_lanes ends) more → All IsWhole ends
     → ServedBy (length (lanes_in state.lanes)) ends lines (output ++ texts_of more)
 unfolding served_more

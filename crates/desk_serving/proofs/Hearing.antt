@@ -45,6 +45,7 @@ use Rattle.desk_serving.proofs.Standing.{stands_handed}
 use Rattle.desk_requests.proofs.Callers.{requests-few}
 use Rattle.desk_serving.proofs.Replying.{IsHeard, due_to_closed, heard_blank, heard_close, heard_no_task, heard_none, heard_put, heard_resize, named_close, named_request, named_resize}
 use Rattle.desk_requests.proofs.Readings.{read-length}
+use Rattle.model_marks.specs.declared.mark.Catalog.{Ghosts}
 
 -- two facts of a call that went well
 pub on_ok_both : {T E : Type 0} (r : Result T E) {A B C : Type 0} → (A → B → C) → OnOk r A → OnOk r B → OnOk r C
@@ -91,12 +92,12 @@ pub task_some : {Z : Type 0} (force : Option (List ℕ)) (s : List ℕ) (i : Dat
 task_some force s i (Ok q) h = (h.0, h.1)
 task_some force s i (Err f) h = (h.0, h.1)
 
-module _ {R : Type 0} where
-  counted : (state : State R) (lines output : List (List ℕ)) (a : After state lines output) → length a.readings ≡ length lines
+module _ {C R : Type 0} {G : Ghosts C} where
+  counted : (state : State C R G) (lines output : List (List ℕ)) (a : After state lines output) → length a.readings ≡ length lines
   counted state lines output a = read-length (reverse lines) a.readings a.read ∙ length-reverse lines
 
   -- after so few lines each lane has tickets left
-  pub has_room : (old new : State R) (lines output : List (List ℕ)) → After old lines output → unhanded (lanes_in new.lanes) ≡ unhanded (lanes_in old.lanes) → length lines < 2 ^ 60 → HasRoom new
+  pub has_room : (old new : State C R G) (lines output : List (List ℕ)) → After old lines output → unhanded (lanes_in new.lanes) ≡ unhanded (lanes_in old.lanes) → length lines < 2 ^ 60 → HasRoom new
   has_room old new lines output a same few = λ c lane la.
       let was = unhanded_at (lanes_in old.lanes) (lanes_in new.lanes) c lane (sym same) la in
       let size : length was.0.put ≡ length lane.put = ap length was.2 in
@@ -106,20 +107,20 @@ module _ {R : Type 0} where
 
   -- ## Lines by their bytes
 
-  pub heard_long : (old : State R) (k : ℕ) (it text text' : List ℕ) → Reads it Long → text' ≡ text ++ ended (report_text (Refused k word.Long)) → HearsText old k it text text' old
+  pub heard_long : (old : State C R G) (k : ℕ) (it text text' : List ℕ) → Reads it Long → text' ≡ text ++ ended (report_text (Refused k word.Long)) → HearsText old k it text text' old
   heard_long old k it text text' reads is = (Long, reads, λ earlier said st num. heard_none Long word.Long k earlier _ _ _ said text text' refl st num is)
 
-  pub heard_skip : (old : State R) (k : ℕ) (it text : List ℕ) → Reads it Blank → HearsText old k it text text old
+  pub heard_skip : (old : State C R G) (k : ℕ) (it text : List ℕ) → Reads it Blank → HearsText old k it text text old
   heard_skip old k it text reads = (Blank, reads, λ earlier said st num. heard_blank earlier _ _ _ said text st)
 
-  pub heard_syntax : (old : State R) (k : ℕ) (it text text' : List ℕ) → Reads it Syntax → text' ≡ text ++ ended (report_text (Refused k word.Syntax)) → HearsText old k it text text' old
+  pub heard_syntax : (old : State C R G) (k : ℕ) (it text text' : List ℕ) → Reads it Syntax → text' ≡ text ++ ended (report_text (Refused k word.Syntax)) → HearsText old k it text text' old
   heard_syntax old k it text text' reads is = (Syntax, reads, λ earlier said st num. heard_none Syntax word.Syntax k earlier _ _ _ said text text' refl st num is)
 
-  pub heard_shape : (old : State R) (k : ℕ) (it text text' : List ℕ) → Reads it Shape → text' ≡ text ++ ended (report_text (Refused k word.Shape)) → HearsText old k it text text' old
+  pub heard_shape : (old : State C R G) (k : ℕ) (it text text' : List ℕ) → Reads it Shape → text' ≡ text ++ ended (report_text (Refused k word.Shape)) → HearsText old k it text text' old
   heard_shape old k it text text' reads is = (Shape, reads, λ earlier said st num. heard_none Shape word.Shape k earlier _ _ _ said text text' refl st num is)
 
   -- a lawful line
-  pub heard_said : (old new : State R) (k : ℕ) (heard : Heard) (line : held.Line) (it text text' : List ℕ) → IsHeardAs it heard → IsLineOf heard (Some line)
+  pub heard_said : (old new : State C R G) (k : ℕ) (heard : Heard) (line : held.Line) (it text text' : List ℕ) → IsHeardAs it heard → IsLineOf heard (Some line)
       → Hears old k (Says (line_view line)) text text' new → HearsText old k it text text' new
   heard_said old new k (heard.Object members) line it text text' h is f =
       (Says (line_view line), (h.0, h.1, h.2, h.3 ∙ ap Some (sym is.0), is.1), f)
@@ -129,7 +130,7 @@ module _ {R : Type 0} where
   heard_said old new k heard.Other line it text text' h is f = absurd is
 
   -- what is none of the lines
-  pub heard_other : (old : State R) (k : ℕ) (heard : Heard) (it text text' : List ℕ) → IsHeardAs it heard → IsLineOf heard None → text' ≡ text ++ refusal_text k heard
+  pub heard_other : (old : State C R G) (k : ℕ) (heard : Heard) (it text text' : List ℕ) → IsHeardAs it heard → IsLineOf heard None → text' ≡ text ++ refusal_text k heard
       → HearsText old k it text text' old
   heard_other old k heard.Long it text text' h none is = heard_long old k it text text' h is
   heard_other old k heard.Blank it text text' h none is = subst (λ t. HearsText old k it text t old) (sym (is ∙ append-nil text)) (heard_skip old k it text h)
@@ -139,21 +140,21 @@ module _ {R : Type 0} where
 
   -- ## Lines that need a lane
 
-  pub stands_request : (old : State R) (mid : Lanes) (n s : List ℕ) (i : Data) (t : List ℕ) (earlier : List (Reading Line)) (said : List Report) → StandsAs old earlier said → model_of old ≡ Some t
+  pub stands_request : (old : State C R G) (mid : Lanes C G) (n s : List ℕ) (i : Data) (t : List ℕ) (earlier : List (Reading Line)) (said : List Report) → StandsAs old earlier said → model_of old ≡ Some t
       → lanes_in mid ≡ lanes_in old.lanes → names_in mid ≡ with_lane (length (lanes_in old.lanes)) n (names_in old.lanes)
       → Stands (Says (Request n s i) ∷ earlier) earlier (names_in mid) (model_of old) (lanes_in mid) said
   stands_request old mid n s i t earlier said st some lanes names =
       subst (λ ls. Stands (Says (Request n s i) ∷ earlier) earlier (names_in mid) (model_of old) ls said) (sym lanes)
       (named_request n s i t earlier (names_in old.lanes) (names_in mid) (model_of old) (lanes_in old.lanes) said st some names)
 
-  pub stands_close : (old : State R) (mid : Lanes) (n : List ℕ) (earlier : List (Reading Line)) (said : List Report) → StandsAs old earlier said
+  pub stands_close : (old : State C R G) (mid : Lanes C G) (n : List ℕ) (earlier : List (Reading Line)) (said : List Report) → StandsAs old earlier said
       → lanes_in mid ≡ lanes_in old.lanes → names_in mid ≡ with_lane (length (lanes_in old.lanes)) n (names_in old.lanes)
       → Stands (Says (Close n) ∷ earlier) earlier (names_in mid) (model_of old) (lanes_in mid) said
   stands_close old mid n earlier said st lanes names =
       subst (λ ls. Stands (Says (Close n) ∷ earlier) earlier (names_in mid) (model_of old) ls said) (sym lanes)
       (named_close n earlier (names_in old.lanes) (names_in mid) (model_of old) (lanes_in old.lanes) said st names)
 
-  pub stands_resize : (old : State R) (mid : Lanes) (n : List ℕ) (size : ℕ) (earlier : List (Reading Line)) (said : List Report) → StandsAs old earlier said
+  pub stands_resize : (old : State C R G) (mid : Lanes C G) (n : List ℕ) (size : ℕ) (earlier : List (Reading Line)) (said : List Report) → StandsAs old earlier said
       → lanes_in mid ≡ lanes_in old.lanes → names_in mid ≡ with_lane (length (lanes_in old.lanes)) n (names_in old.lanes)
       → Stands (Says (Resize n size) ∷ earlier) earlier (names_in mid) (model_of old) (lanes_in mid) said
   stands_resize old mid n size earlier said st lanes names =
@@ -161,7 +162,7 @@ module _ {R : Type 0} where
       (named_resize n size earlier (names_in old.lanes) (names_in mid) (model_of old) (lanes_in old.lanes) said st names)
 
   -- a request is put into its lane, or refused there
-  pub put_request : (old : State R) (mid new : Lanes) (n s : List ℕ) (i : Data) (t : List ℕ) (k c : ℕ) (q : plan.Request) (text text' : List ℕ) (earlier : List (Reading Line)) (said : List Report)
+  pub put_request : (old : State C R G) (mid new : Lanes C G) (n s : List ℕ) (i : Data) (t : List ℕ) (k c : ℕ) (q : plan.Request) (text text' : List ℕ) (earlier : List (Reading Line)) (said : List Report)
       → StandsAs old earlier said → k ≡ number_after earlier → model_of old ≡ Some t
       → lanes_in mid ≡ lanes_in old.lanes → names_in mid ≡ with_lane (length (lanes_in old.lanes)) n (names_in old.lanes) → slice_get (names_in mid) c ≡ Some n
       → plan.request_of t s i ≡ Ok q → names_in new ≡ names_in mid
@@ -177,7 +178,7 @@ module _ {R : Type 0} where
       named some found at.1 num good (hands at.0 at.1) (puts at.0 at.1))
 
   -- there is no task for a request
-  pub refused_request : (old : State R) (mid new : Lanes) (n s : List ℕ) (i : Data) (t : List ℕ) (k c : ℕ) (f : TaskFault) (text text' : List ℕ) (earlier : List (Reading Line)) (said : List Report)
+  pub refused_request : (old : State C R G) (mid new : Lanes C G) (n s : List ℕ) (i : Data) (t : List ℕ) (k c : ℕ) (f : TaskFault) (text text' : List ℕ) (earlier : List (Reading Line)) (said : List Report)
       → StandsAs old earlier said → k ≡ number_after earlier → model_of old ≡ Some t
       → lanes_in mid ≡ lanes_in old.lanes → names_in mid ≡ with_lane (length (lanes_in old.lanes)) n (names_in old.lanes) → slice_get (names_in mid) c ≡ Some n
       → plan.request_of t s i ≡ Err f → names_in new ≡ names_in mid → unhanded (lanes_in new) ≡ unhanded (lanes_in mid)
@@ -190,7 +191,7 @@ module _ {R : Type 0} where
       named some (among_at n (names_in mid) c found) num bad hands same)
 
   -- the lane is closed, if it was open, and then its earlier results are handed out
-  pub closed_lane : (old : State R) (mid shut new : Lanes) (n : List ℕ) (k c : ℕ) (was_open : Bool) (text text' : List ℕ) (earlier : List (Reading Line)) (said : List Report)
+  pub closed_lane : (old : State C R G) (mid shut new : Lanes C G) (n : List ℕ) (k c : ℕ) (was_open : Bool) (text text' : List ℕ) (earlier : List (Reading Line)) (said : List Report)
       → StandsAs old earlier said → k ≡ number_after earlier
       → lanes_in mid ≡ lanes_in old.lanes → names_in mid ≡ with_lane (length (lanes_in old.lanes)) n (names_in old.lanes) → slice_get (names_in mid) c ≡ Some n
       → names_in shut ≡ names_in mid
@@ -210,7 +211,7 @@ module _ {R : Type 0} where
       (λ who. ap (due_to who (names_in mid)) shuts.1 ∙ due_to_closed (names_in mid) (lanes_in mid) c at.0 at.1 who) h)
 
   -- the lane is whole, and then it is given a capacity, or why not
-  pub resized_lane : (old : State R) (mid whole new : Lanes) (n : List ℕ) (size k c : ℕ) (why : Option Refusal) (text between text' : List ℕ) (earlier : List (Reading Line)) (said : List Report)
+  pub resized_lane : (old : State C R G) (mid whole new : Lanes C G) (n : List ℕ) (size k c : ℕ) (why : Option Refusal) (text between text' : List ℕ) (earlier : List (Reading Line)) (said : List Report)
       → StandsAs old earlier said → k ≡ number_after earlier
       → lanes_in mid ≡ lanes_in old.lanes → names_in mid ≡ with_lane (length (lanes_in old.lanes)) n (names_in old.lanes) → slice_get (names_in mid) c ≡ Some n
       → names_in whole ≡ names_in mid → Hands (names_in mid) (lanes_in mid) (lanes_in whole) text between
@@ -236,7 +237,7 @@ module _ {R : Type 0} where
   -- ## After the lines
 
   -- as many lanes are so many lanes still
-  pub kept_script : (old new : State R) (lines said : List (List ℕ)) → links_in new.lanes ≡ links_in old.lanes → ServedInPart (length (lanes_in new.lanes)) lines said → ServedInPart (length (lanes_in old.lanes)) lines said
+  pub kept_script : (old new : State C R G) (lines said : List (List ℕ)) → links_in new.lanes ≡ links_in old.lanes → ServedInPart (length (lanes_in new.lanes)) lines said → ServedInPart (length (lanes_in old.lanes)) lines said
   kept_script old new lines said same h =
       let count : length (lanes_in new.lanes) ≡ length (lanes_in old.lanes) =
       length-map new.lanes.clients.items (λ client. lane_of client) ∙ sym (length-map new.lanes.clients.items (λ client. client_links client)) ∙ ap length same
@@ -244,7 +245,7 @@ module _ {R : Type 0} where
       subst (λ k. ServedInPart k lines said) count h
 
   -- some of what was owed is handed out, and then a line is answered
-  pub after_line : (old mid new : State R) (k : ℕ) (it text text' : List ℕ) (lines said : List (List ℕ)) → After old lines said → k ≡ length lines + 1
+  pub after_line : (old mid new : State C R G) (k : ℕ) (it text text' : List ℕ) (lines said : List (List ℕ)) → After old lines said → k ≡ length lines + 1
       → names_in mid.lanes ≡ names_in old.lanes → model_of mid ≡ model_of old → Hands (names_in old.lanes) (lanes_in old.lanes) (lanes_in mid.lanes) [] text
       → HearsText mid k it text text' new → (more : List (List ℕ)) × After new (lines ++ it ∷ []) (said ++ more) × (text' ≡ flat_map ended more)
   after_line old mid new k it text text' lines said a num names model h heard =

@@ -22,6 +22,7 @@ use Rattle.feel_value.specs.Distinct.{is_among}
 use Rattle.desk_requests.proofs.Callers.{distinct-push}
 use Rattle.desk_serving.proofs.Owing.{of_client-append, of_other, of_same, lines-append, due_to_own, due_to_other, due-whole, set_at, own_hands, hands_then_report, unhanded_at, unhanded_with}
 use Rattle.desk_requests.proofs.Names.{same_name, name_itself, turned_name, or_false, get_map, get_at}
+use Rattle.model_marks.specs.declared.mark.Catalog.{Ghosts}
 
 -- ## Lists of lanes
 
@@ -80,7 +81,7 @@ polled_next n old now client client' lt is p polled =
     subst (λ (k : ℕ). ArePolled k old (slice_set now n client')) next (polled_suc n old now client client' lt is p polled)
 
 -- a place with a name has a lane
-pub lanes_inside : (lanes : Lanes) (place : ℕ) → place < length (names_in lanes) → (place < length lanes.clients.items) × (place < length (lanes_in lanes))
+pub lanes_inside : {C : Type 0} {G : Ghosts C} → (lanes : Lanes C G) (place : ℕ) → place < length (names_in lanes) → (place < length lanes.clients.items) × (place < length (lanes_in lanes))
 lanes_inside lanes place h =
     let inside = inside_of string_bytes lanes.names.items lanes.clients.items place h lanes.named in
     (inside, let n = length-map lanes.clients.items (λ client. lane_of client) in omega (arith, n, inside))

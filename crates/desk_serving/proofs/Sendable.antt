@@ -38,6 +38,9 @@ use Rattle.dmn_plan.specs.contracts.plan.Plan as Plan
 use Rattle.dmn_plan.specs.contracts.plan.Plan.TheInside as PlanInside
 use Rattle.dmn_plan.specs.contracts.task.Task as Task
 use Rattle.dmn_plan.specs.contracts.task.Task.TheInside as TaskInside
+use denote.RattleType.{RattleType}
+use Rattle.model_marks.specs.declared.mark.Catalog.{Ghosts}
+use Rattle.model_marks.proofs.mark.Mark.TheSendSync as mark
 
 pub ConstantInside-send : IsSend ConstantInside.the_row
 ConstantInside-send = declared_send ConstantInside.the_type (Feel-send, tt)
@@ -159,14 +162,8 @@ PlanInside-sync = declared_sync PlanInside.the_type (maps.String-sync, (Vec-sync
 pub Plan-sync : IsSync Plan.the_row
 Plan-sync = view_sync _ _ _ _ _ PlanInside-sync
 
-pub TaskInside-send : IsSend TaskInside.the_row
-TaskInside-send = declared_send TaskInside.the_type (Arc-send Plan.the_row Plan-send Plan-sync, (maps.String-send, (Vec-send Feel.the_row Feel-send, tt)))
+pub Task-send : (C : RattleType) (G : Ghosts C.Denot) → IsSend (Task.the_row C G)
+Task-send C G = view_send _ _ _ _ _ (declared_send (TaskInside.the_type C G) (Arc-send Plan.the_row Plan-send Plan-sync, (maps.String-send, (Vec-send Feel.the_row Feel-send, (option.the_send _ (mark.the_send C G), tt)))))
 
-pub Task-send : IsSend Task.the_row
-Task-send = view_send _ _ _ _ _ TaskInside-send
-
-pub TaskInside-sync : IsSync TaskInside.the_row
-TaskInside-sync = declared_sync TaskInside.the_type (Arc-sync Plan.the_row Plan-send Plan-sync, (maps.String-sync, (Vec-sync Feel.the_row Feel-sync, tt)))
-
-pub Task-sync : IsSync Task.the_row
-Task-sync = view_sync _ _ _ _ _ TaskInside-sync
+pub Task-sync : (C : RattleType) (G : Ghosts C.Denot) → IsSync (Task.the_row C G)
+Task-sync C G = view_sync _ _ _ _ _ (declared_sync (TaskInside.the_type C G) (Arc-sync Plan.the_row Plan-send Plan-sync, (maps.String-sync, (Vec-sync Feel.the_row Feel-sync, (option.the_sync _ (mark.the_sync C G), tt)))))

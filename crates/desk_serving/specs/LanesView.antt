@@ -8,16 +8,18 @@ use Rattle.lanes.specs.Links.{Link}
 use Rattle.lanes.specs.Polls.{Polls}
 use Rattle.desk_serving.specs.Owed.{Lane, lane_of}
 use Rattle.desk_serving.specs.declared.named_lanes.Lanes.{Lanes}
+use Rattle.model_marks.specs.declared.mark.Catalog.{Ghosts}
 
-abbrev pub names_in : Lanes → List (List ℕ)
-names_in lanes = map string_bytes lanes.names.items
+module _ {C : Type 0} {G : Ghosts C} where
+  abbrev pub names_in : Lanes C G → List (List ℕ)
+  names_in lanes = map string_bytes lanes.names.items
 
-abbrev pub lanes_in : Lanes → List Lane
-lanes_in lanes = map (λ client. lane_of client) lanes.clients.items
+  abbrev pub lanes_in : Lanes C G → List Lane
+  lanes_in lanes = map (λ client. lane_of client) lanes.clients.items
 
--- which ends the lanes have
-abbrev pub links_in : Lanes → List (List Link)
-links_in lanes = map (λ client. client_links client) lanes.clients.items
+  -- which ends the lanes have
+  abbrev pub links_in : Lanes C G → List (List Link)
+  links_in lanes = map (λ client. client_links client) lanes.clients.items
 
 -- a client took in the answers that it found, and then handed out its next result, unless that had not come
 abbrev pub IsPolled : ClientEnd Request Outcome → ClientEnd Request Outcome → Type 0

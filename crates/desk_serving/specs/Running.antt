@@ -14,6 +14,7 @@ use Rattle.desk_lines.specs.declared.fault.FrontFault.{FrontFault}
 use Rattle.desk_lines.specs.declared.fault.FrontFault.TheVariants.{Read, Write, Long, Memory}
 use Rattle.desk_serving.specs.declared.run.ServeRun.{ServeRun}
 use Rattle.lanes.specs.Ends.{SettledEnd}
+use Rattle.model_marks.specs.declared.mark.Catalog.{Ghosts}
 
 -- all lines heard were answered
 abbrev pub GoesOn : {X : Type 0} → Result X FrontFault → Type 0
@@ -23,9 +24,9 @@ GoesOn (Err Long) = Unit {0}
 GoesOn (Err Write) = ⊥
 GoesOn (Err Memory) = ⊥
 
-module _ {T R W : Type 0} (seen_reader : R → Reader) (seen_writer : W → Writer) where
+module _ {C T R W : Type 0} {G : Ghosts C} (seen_reader : R → Reader) (seen_writer : W → Writer) where
   -- The lines heard are answered, but for what the lanes owe. The front keeps its ends, its reader and its writer.
-  pub record Runs {X : Type 0} (old new : ServeRun T R W) (ended : Result X FrontFault) : Type 0 where
+  pub record Runs {X : Type 0} (old new : ServeRun C T R W G) (ended : Result X FrontFault) : Type 0 where
     pub ran : Ran (After new.state) (ServedInPart (length (lanes_in old.state.lanes))) (seen_reader old.reader.now) (seen_reader new.reader.now) (seen_writer old.writer.now) (seen_writer new.writer.now) ended
     pub writes : (ended ≢ Err Write) → (seen_writer new.writer.now).faults ≡ (seen_writer old.writer.now).faults
     pub links : links_in new.state.lanes ≡ links_in old.state.lanes

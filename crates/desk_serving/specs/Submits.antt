@@ -6,7 +6,7 @@ use Rattle.desk_serving.specs.Owed.{Lane, with_put}
 use Rattle.desk_serving.specs.declared.named_lanes.Submitted.{Submitted}
 use Rattle.desk_serving.specs.declared.named_lanes.Submitted.TheVariants.{Accepted, Closed, Full}
 
-abbrev pub Submits : Lane → Request → Submitted → Lane → Type 0
+abbrev pub Submits : {C : Type 0} → Lane → Request → Submitted C → Lane → Type 0
 Submits old request Accepted new = (old.closed ≡ false) × (new ≡ with_put old request)
 Submits old request Closed new = (old.closed ≡ true) × (new ≡ old)
 Submits old request (Full work) new = (arc_value work ≡ request) × (new ≡ old)

@@ -18,8 +18,9 @@ use crate::waiting::hand_out_until;
 use desk_lines::{Clerk, FrontFault, LineText, Sink, Unwritten};
 use desk_requests::{Line, line_heard};
 use desk_wire::{Heard, Report, Told, Word, add_refusal, hear};
-use dmn_plan::{ModelFault, Plan, Task, TaskFault};
+use dmn_plan::{MarkedPlan, ModelFault, Plan, Task, TaskFault};
 use json_reader::JsonReader;
+use model_marks::Catalog;
 use serde_json::Value;
 use std::alloc::{AllocError, Global};
 use std::mem;
@@ -36,7 +37,7 @@ fn takes_long(line: &LineText) -> bool {
     }
 }
 
-impl<'a, R: Wait> State<'a, R> {
+impl<'a, C: Catalog, R: Wait> State<'a, C, R> {
     /// The model on a line is in force from the next line on, or its fault is told.
     fn answer_model(
         &mut self,
@@ -50,7 +51,7 @@ impl<'a, R: Wait> State<'a, R> {
     {
         match Plan::of(alloc, model) {
             Ok(plan) => {
-                self.plan = Some(Arc::new(alloc, plan)?);
+                self.plan = Some(MarkedPlan::of(alloc, &mut self.marks, plan)?);
                 Report::Loaded(number).add_to(alloc, text)
             }
             Err(fault) => match fault {
@@ -66,14 +67,13 @@ impl<'a, R: Wait> State<'a, R> {
         alloc: Global,
         service: &str,
         inputs: &Value,
-    ) -> Result<Option<Result<Arc<Task>, TaskFault>>, AllocError>
+    ) -> Result<Option<Result<Arc<Task<C>>, TaskFault>>, AllocError>
         ensures { IfOk result (λ task. IsTaskOf (model_of self.now) service.now (view inputs.now) task) }
     {
         let Some(plan) = &self.plan else {
             return Ok(None);
         };
-        let plan = Arc::try_clone(plan)?;
-        match Task::new(alloc, plan, service, inputs) {
+        match plan.task(alloc, service, inputs) {
             Ok(task) => {
                 let work = Arc::new(alloc, task)?;
                 Ok(Some(Ok(work)))
@@ -90,7 +90,7 @@ impl<'a, R: Wait> State<'a, R> {
         &self,
         alloc: Global,
         says: &Option<Line<'_>>,
-    ) -> Result<Option<Result<Arc<Task>, TaskFault>>, AllocError>
+    ) -> Result<Option<Result<Arc<Task<C>>, TaskFault>>, AllocError>
         ensures { IfOk result (λ task. IfSome says.now (λ line. IsTaskFor (model_of self.now) line task)) }
     {
         let Some(says) = says else {
@@ -108,7 +108,7 @@ impl<'a, R: Wait> State<'a, R> {
     fn turn_of(
         &self,
         says: &Option<Line<'_>>,
-        task: &Option<Result<Arc<Task>, TaskFault>>,
+        task: &Option<Result<Arc<Task<C>>, TaskFault>>,
     ) -> Until {
         match says {
             Some(Line::Request(name, _, _)) => match task {
@@ -146,7 +146,7 @@ impl<'a, R: Wait> State<'a, R> {
         alloc: Global,
         number: u64,
         name: &str,
-        task: Option<Result<Arc<Task>, TaskFault>>,
+        task: Option<Result<Arc<Task<C>>, TaskFault>>,
         text: &mut Vec<u8>,
     ) -> Result<(), AllocError>
         requires few { HasRoom self.old }
@@ -218,7 +218,7 @@ impl<'a, R: Wait> State<'a, R> {
         alloc: Global,
         number: u64,
         says: &Line<'_>,
-        task: Option<Result<Arc<Task>, TaskFault>>,
+        task: Option<Result<Arc<Task<C>>, TaskFault>>,
         text: &mut Vec<u8>,
     ) -> Result<(), AllocError>
         requires few { HasRoom self.old }
@@ -243,7 +243,7 @@ impl<'a, R: Wait> State<'a, R> {
         number: u64,
         heard: &Heard<'_>,
         says: &Option<Line<'_>>,
-        task: Option<Result<Arc<Task>, TaskFault>>,
+        task: Option<Result<Arc<Task<C>>, TaskFault>>,
         text: &mut Vec<u8>,
     ) -> Result<(), AllocError>
         requires few { HasRoom self.old }
@@ -259,7 +259,7 @@ impl<'a, R: Wait> State<'a, R> {
     }
 }
 
-impl<'a, R: Wait> Clerk for State<'a, R> {
+impl<'a, C: Catalog, R: Wait> Clerk for State<'a, C, R> {
     ghost use Rattle.lanes.specs.Links.{Link};
     ghost use Rattle.desk_serving.specs.LanesView.{lanes_in, links_in, names_in};
     ghost use Rattle.desk_serving.specs.Owed.{due_to};

@@ -19,15 +19,16 @@ use desk_lines::{FrontFault, Sink, Unwritten, is_cut};
 use desk_wire::Report;
 use dmn_plan::Task;
 use lanes::{Settled, Worker, settle};
+use model_marks::Catalog;
 use std::alloc::{AllocError, Global};
 use std::sync::Wait;
 
 /// Hands out results, round by round, while workers run. What is said last may wait to be written.
-fn hand_out_beside<R: Wait, W: Sink>(
+fn hand_out_beside<C: Catalog, R: Wait, W: Sink>(
     rt: &R,
     alloc: Global,
     crew: &Crew,
-    lanes: &mut Lanes,
+    lanes: &mut Lanes<C>,
     writer: &mut W,
     unwritten: &mut Unwritten,
 ) -> Result<(), FrontFault>
@@ -50,11 +51,11 @@ fn hand_out_beside<R: Wait, W: Sink>(
 }
 
 /// Tells the workers to stop, and hands out results until they have ended.
-pub fn end_workers<R: Wait, W: Sink>(
+pub fn end_workers<C: Catalog, R: Wait, W: Sink>(
     rt: &R,
     alloc: Global,
     crew: &Crew,
-    lanes: &mut Lanes,
+    lanes: &mut Lanes<C>,
     writer: &mut W,
 ) -> Result<(), FrontFault>
     requires counts { (W.seen writer.old).faults < 2 ^ 64 - 1 }
@@ -74,7 +75,7 @@ pub fn end_workers<R: Wait, W: Sink>(
 }
 
 /// Runs each job that no worker answered, and takes the answers in.
-fn run_left(alloc: Global, end: &mut Settled<Task>) -> Result<(), AllocError>
+fn run_left<C: Catalog>(alloc: Global, end: &mut Settled<Task<C>>) -> Result<(), AllocError>
     requires ready { IsReady end.old }
     ensures lane { lane_in end.new ≡ lane_in end.old }
     ensures run { OnOk result (IsRun end.new) }
@@ -91,9 +92,9 @@ fn run_left(alloc: Global, end: &mut Settled<Task>) -> Result<(), AllocError>
 }
 
 /// Says a reply, as a line at the end of a text.
-fn say_reply(
+fn say_reply<C: Catalog>(
     alloc: Global,
-    handed: Reply<Task>,
+    handed: Reply<Task<C>>,
     name: &str,
     text: &mut Vec<u8>,
 ) -> Result<(), AllocError>
@@ -103,9 +104,9 @@ fn say_reply(
 }
 
 /// Hands out the rest of a client's results. What is said last may wait to be written.
-fn hand_rest<W: Sink>(
+fn hand_rest<C: Catalog, W: Sink>(
     alloc: Global,
-    end: &mut Settled<Task>,
+    end: &mut Settled<Task<C>>,
     name: &str,
     writer: &mut W,
     unwritten: &mut Unwritten,
@@ -126,9 +127,9 @@ fn hand_rest<W: Sink>(
 }
 
 /// Runs what is left of a client, and hands out the rest of its results. What is said last may wait to be written.
-fn hand_out_end<W: Sink>(
+fn hand_out_end<C: Catalog, W: Sink>(
     alloc: Global,
-    end: &mut Settled<Task>,
+    end: &mut Settled<Task<C>>,
     name: &str,
     writer: &mut W,
     unwritten: &mut Unwritten,
@@ -144,10 +145,10 @@ fn hand_out_end<W: Sink>(
 }
 
 /// Runs what is left of each client, and hands out the rest of its results. What is said last may wait to be written.
-fn hand_out_ends<W: Sink>(
+fn hand_out_ends<C: Catalog, W: Sink>(
     alloc: Global,
     names: &Vec<String>,
-    ends: &mut Vec<Settled<Task>>,
+    ends: &mut Vec<Settled<Task<C>>>,
     writer: &mut W,
     unwritten: &mut Unwritten,
 ) -> Result<(), FrontFault>
@@ -174,10 +175,10 @@ fn hand_out_ends<W: Sink>(
 }
 
 /// Runs what is left of each client, and hands out the rest of its results.
-fn hand_out_rest<W: Sink>(
+fn hand_out_rest<C: Catalog, W: Sink>(
     alloc: Global,
     names: &Vec<String>,
-    ends: &mut Vec<Settled<Task>>,
+    ends: &mut Vec<Settled<Task<C>>>,
     writer: &mut W,
 ) -> Result<(), FrontFault>
     requires named { length names.now.items ≤ length ends.old.items }
@@ -199,12 +200,12 @@ fn hand_out_rest<W: Sink>(
 }
 
 /// Brings all ends together, runs what is left, and hands out the rest of the results.
-pub fn end_lanes<W: Sink>(
+pub fn end_lanes<C: Catalog, W: Sink>(
     alloc: Global,
-    lanes: Lanes,
-    workers: Vec<Worker<Task>>,
+    lanes: Lanes<C>,
+    workers: Vec<Worker<Task<C>>>,
     writer: &mut W,
-) -> Result<Vec<Settled<Task>>, FrontFault>
+) -> Result<Vec<Settled<Task<C>>>, FrontFault>
     requires ends { AreOfOneCall (links_in lanes) (map worker_links workers.items) }
     // No request was put into a lane without a name.
     requires new { (place : ℕ) (lane : Lane) → length (names_in lanes) ≤ place → slice_get (lanes_in lanes) place ≡ Some lane → lane.put ≡ [] }

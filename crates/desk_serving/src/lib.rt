@@ -16,4 +16,4 @@ mod waiting;
 
 pub use laws::own_lines_decide;
 pub use options::Options;
-pub use run::serve;
+pub use run::{serve, serve_marked};

@@ -16,6 +16,7 @@ use box_core::Refusal;
 use desk_wire::{Report, Told, Word};
 use dmn_plan::Task;
 use lanes::{Client, MOST_CLIENTS};
+use model_marks::Catalog;
 use std::alloc::{AllocError, Global};
 use std::sync::{Arc, Wait};
 
@@ -24,20 +25,20 @@ const MOST: usize = MOST_CLIENTS as usize;
 
 /// What became of a request that was put.
 #[derive(Drop)]
-pub enum Submitted {
+pub enum Submitted<C: Catalog> {
     /// It was accepted.
     Accepted,
     /// The lane is closed.
     Closed,
     /// There is no place for it, and it comes back.
-    Full(Arc<Task>),
+    Full(Arc<Task<C>>),
 }
 
 /// The clients' ends of the lanes, and the names of the first of them: lane by lane.
 #[derive(Drop)]
-pub struct Lanes {
+pub struct Lanes<C: Catalog> {
     pub(crate) names: Vec<String>,
-    pub(crate) clients: Vec<Client<Task>>,
+    pub(crate) clients: Vec<Client<Task<C>>>,
     /// How many requests of each may be outstanding; of a closed lane none.
     rooms: [u32; MOST],
     /// The lane whose turn it is to be looked at.
@@ -47,12 +48,12 @@ pub struct Lanes {
 }
 
 /// One client's lane.
-impl Lanes {
+impl<C: Catalog> Lanes<C> {
     ghost use Rattle.desk_serving.specs.LanesView.{IsPolled};
     ghost use Rattle.desk_serving.specs.Submits.{Submits};
 
     /// Puts a request.
-    fn submit(client: &mut Client<Task>, work: Arc<Task>) -> Result<Submitted, AllocError>
+    fn submit(client: &mut Client<Task<C>>, work: Arc<Task<C>>) -> Result<Submitted<C>, AllocError>
         requires few { length (lane_of client.old).put < 2 ^ 60 }
         ensures same { client_links client.new ≡ client_links client.old }
         ensures submits { IfOk result (λ submitted. Submits (lane_of client.old) (arc_value work) submitted (lane_of client.new)) }
@@ -69,7 +70,7 @@ impl Lanes {
     /// Hands out the next result, if it is there, as a line at the end of the text. A whole lane costs a look at two numbers.
     fn hand_out_next(
         alloc: Global,
-        client: &mut Client<Task>,
+        client: &mut Client<Task<C>>,
         name: &str,
         text: &mut Vec<u8>,
     ) -> Result<(), AllocError>
@@ -87,11 +88,11 @@ impl Lanes {
     }
 }
 
-impl Lanes {
+impl<C: Catalog> Lanes<C> {
     ghost use Rattle.desk_serving.specs.LanesView.{ArePolled, lanes_in, links_in, names_in};
 
     /// Lanes of this capacity without a name.
-    pub fn new(alloc: Global, clients: Vec<Client<Task>>, capacity: u32) -> Lanes
+    pub fn new(alloc: Global, clients: Vec<Client<Task<C>>>, capacity: u32) -> Lanes<C>
         ensures { (result.names.items ≡ []) × (result.clients ≡ clients) }
     {
         Lanes {
@@ -281,7 +282,7 @@ impl Lanes {
         rt: &R,
         alloc: Global,
         place: usize,
-        work: Arc<Task>,
+        work: Arc<Task<C>>,
         text: &mut Vec<u8>,
     ) -> Result<bool, AllocError>
         requires place { place < length (names_in self.old) }
@@ -318,7 +319,7 @@ impl Lanes {
         number: u64,
         name: &str,
         place: usize,
-        work: Arc<Task>,
+        work: Arc<Task<C>>,
         text: &mut Vec<u8>,
     ) -> Result<(), AllocError>
         requires place { slice_get (names_in self.old) place ≡ Some name.now }

@@ -1,9 +1,10 @@
 //! The front waits for answers, and wakes the workers before it does something that takes long.
 use crate::named_lanes::Lanes;
+use model_marks::Catalog;
 use std::alloc::AllocError;
 use std::sync::Wait;
 
-impl Lanes {
+impl<C: Catalog> Lanes<C> {
     /// How many answers were posted to the lanes so far.
     pub fn answers(&self) -> u64 {
         match self.clients.first() {

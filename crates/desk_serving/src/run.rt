@@ -21,15 +21,16 @@ use desk_lines::{FrontFault, Sink, Source, answer_lines};
 use dmn_plan::Task;
 use json_reader::JsonReader;
 use lanes::{Gate, Settled, Worker, lanes};
+use model_marks::{Catalog, Marks, Slots, Unmarked};
 use std::alloc::Global;
 use std::sync::Wait;
 use std::thread::Threads;
 
 /// What reads, answers and writes beside the workers.
 #[derive(Drop)]
-struct ServeRun<'t, 'r, 'w, T, R, W> {
+struct ServeRun<'t, 'r, 'w, C: Catalog, T, R, W> {
     alloc: Global,
-    state: State<'t, T>,
+    state: State<'t, C, T>,
     reader: &'r mut R,
     writer: &'w mut W,
 }
@@ -41,7 +42,8 @@ fn goes_on(ended: &Result<(), FrontFault>) -> bool
     !matches!(ended, Err(FrontFault::Write) | Err(FrontFault::Memory))
 }
 
-impl<'t, 'r, 'w, T: Wait, R: Source, W: Sink> Host for ServeRun<'t, 'r, 'w, T, R, W> {
+impl<'t, 'r, 'w, C: Catalog, T: Wait, R: Source, W: Sink> Host
+    for ServeRun<'t, 'r, 'w, C, T, R, W> {
     type Out = Result<(), FrontFault>;
 
     ghost ready = { λ run. ((R.seen run.reader.now).faults < 2 ^ 64 - 1) × ((W.seen run.writer.now).faults < 2 ^ 64 - 1) × After run.state [] [] };
@@ -82,6 +84,34 @@ pub fn serve<T: Threads + Wait + Sync, R: Source, W: Sink, G: Gate + Sync>(
     ensures ends { IfOk result (λ ends. Replays (ServedBy options.clients ends.items)
         (R.seen reader.old).remaining (R.seen reader.new).remaining (W.seen writer.old).contents (W.seen writer.new).contents) }
 {
+    let marks = Marks::<Unmarked>::of(Slots::none(alloc));
+    serve_marked(alloc, rt, marks, reader, writer, gate, options)
+}
+
+/// The same, with marks for the models, so that answers under one model compare no texts.
+pub fn serve_marked<
+    C: Catalog + Send + Sync,
+    T: Threads + Wait + Sync,
+    R: Source,
+    W: Sink,
+    G: Gate + Sync,
+>(
+    alloc: Global,
+    rt: &T,
+    marks: Marks<C>,
+    reader: &mut R,
+    writer: &mut W,
+    gate: &G,
+    options: Options,
+) -> Result<Vec<Settled<Task<C>>>, FrontFault>
+    requires lawful { fault_in options.clients options.workers options.capacity ≡ None }
+    requires read_counts { (R.seen reader.old).faults < 2 ^ 64 - 1 }
+    requires write_counts { (W.seen writer.old).faults < 2 ^ 64 - 1 }
+    ensures ran { Ran (Served options.clients) (ServedInPart options.clients)
+        (R.seen reader.old) (R.seen reader.new) (W.seen writer.old) (W.seen writer.new) result }
+    ensures ends { IfOk result (λ ends. Replays (ServedBy options.clients ends.items)
+        (R.seen reader.old).remaining (R.seen reader.new).remaining (W.seen writer.old).contents (W.seen writer.new).contents) }
+{
     let Ok((clients, workers)) = lanes(alloc, options.clients, options.workers, options.capacity)
     else {
         return Err(FrontFault::Memory);
@@ -92,6 +122,7 @@ pub fn serve<T: Threads + Wait + Sync, R: Source, W: Sink, G: Gate + Sync>(
             rt,
             lanes: Lanes::new(alloc, clients, options.capacity),
             plan: None,
+            marks,
             texts: JsonReader::new(),
         },
         reader,
@@ -110,13 +141,13 @@ pub fn serve<T: Threads + Wait + Sync, R: Source, W: Sink, G: Gate + Sync>(
 }
 
 /// Hands out the rest once all workers are back, where all lines heard were answered.
-fn finish<W: Sink>(
+fn finish<C: Catalog, W: Sink>(
     alloc: Global,
-    lanes: Lanes,
-    workers: Vec<Worker<Task>>,
+    lanes: Lanes<C>,
+    workers: Vec<Worker<Task<C>>>,
     writer: &mut W,
     ended: Result<(), FrontFault>,
-) -> Result<Vec<Settled<Task>>, FrontFault>
+) -> Result<Vec<Settled<Task<C>>>, FrontFault>
     requires ends { AreOfOneCall (links_in lanes) (map worker_links workers.items) }
     requires new { GoesOn ended → (place : ℕ) (lane : Lane) → length (names_in lanes) ≤ place → slice_get (lanes_in lanes) place ≡ Some lane → lane.put ≡ [] }
     requires counts { GoesOn ended → (W.seen writer.old).faults < 2 ^ 64 - 1 }

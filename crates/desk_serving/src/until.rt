@@ -1,5 +1,6 @@
 //! What has to come before the front goes on.
 use crate::named_lanes::Lanes;
+use model_marks::Catalog;
 
 /// What may have to come before the front goes on.
 #[derive(Clone, Copy)]
@@ -26,7 +27,7 @@ impl Until {
     }
 }
 
-impl Lanes {
+impl<C: Catalog> Lanes<C> {
     /// What has to come before a request of this name finds a place.
     pub fn until_room(&self, name: &str) -> Until {
         match self.place_of(name) {

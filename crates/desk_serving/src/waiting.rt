@@ -7,14 +7,15 @@ ghost use Rattle.desk_serving.specs.Telling.{HandsOut};
 use crate::named_lanes::Lanes;
 use crate::until::Until;
 use desk_lines::{FrontFault, Sink, Unwritten};
+use model_marks::Catalog;
 use std::alloc::Global;
 use std::sync::Wait;
 
 /// Hands out at most one result from each lane, and tells whether there was one. Where there was none, all that waits is written.
 /// As that may take long, a worker is woken before for what waits in the lanes.
-pub fn hand_out_round<W: Sink>(
+pub fn hand_out_round<C: Catalog, W: Sink>(
     alloc: Global,
-    lanes: &mut Lanes,
+    lanes: &mut Lanes<C>,
     writer: &mut W,
     unwritten: &mut Unwritten,
 ) -> Result<bool, FrontFault>
@@ -37,10 +38,10 @@ pub fn hand_out_round<W: Sink>(
 
 /// Hands out results, round by round, until it has come. Where nothing comes since the workers find no memory for what they hold,
 /// that is the end.
-pub fn hand_out_until<R: Wait, W: Sink>(
+pub fn hand_out_until<C: Catalog, R: Wait, W: Sink>(
     rt: &R,
     alloc: Global,
-    lanes: &mut Lanes,
+    lanes: &mut Lanes<C>,
     until: Until,
     writer: &mut W,
     unwritten: &mut Unwritten,

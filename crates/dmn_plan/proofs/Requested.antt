@@ -12,6 +12,7 @@ use Rattle.dmn_form.specs.Model.{Name, Service, Model}
 use Rattle.dmn_plan.specs.Indexed.{IsPlanAt, IsIndexed}
 use Rattle.dmn_plan.specs.ReadModel.{read_text}
 use Rattle.dmn_plan.specs.Request.{Request, TakesValues, service_in, service_named, value_under, values_under, request_with, request_to, request_of}
+use Rattle.dmn_plan.specs.Served.{IsServicePlan}
 use Rattle.dmn_plan.specs.declared.fault.ModelFault.{ModelFault}
 use Rattle.dmn_plan.specs.declared.fault.TaskFault.TheVariants as fault
 use Rattle.dmn_service.specs.Decision.{parameters_of}
@@ -70,6 +71,21 @@ pub serves : (r : Result (Model Expr Table) ModelFault) (items : List Item) (fou
     → IsIndexed r items found → Some p ≡ get_by_text found n → Serves r items n p
 serves (Ok m) items found n p h e = serves_at m items n (service_named m.services n) (get_by_text found n) p refl (h n) (sym e)
 serves (Err f) items found n p h e = absurd h
+
+served_at : (m : Model Expr Table) (items : List Item) (n : Name) (so : Option Service) (o : Option ServicePlan) (p : ServicePlan) → service_named m.services n ≡ so → IsPlanAt m items so o → o ≡ Some p
+    → IsServicePlan (Ok m) n items p
+served_at m items n None None p is h e = cc
+served_at m items n None (Some q) p is h e = absurd h
+served_at m items n (Some s) None p is h e = absurd h
+served_at m items n (Some s) (Some q) p is h e =
+    let same : q ≡ p = cc in
+    subst (IsServicePlan (Ok m) n items) same (record { model = m; is = refl; service = s; named = is; within = h.1; plan = h.2 })
+
+-- the plan that is found is that of the service
+pub served : (r : Result (Model Expr Table) ModelFault) (items : List Item) (found : BTreeMap (String Global) ServicePlan) (n : Name) (p : ServicePlan)
+    → IsIndexed r items found → Some p ≡ get_by_text found n → IsServicePlan r n items p
+served (Ok m) items found n p h e = served_at m items n (service_named m.services n) (get_by_text found n) p refl (h n) (sym e)
+served (Err f) items found n p h e = absurd h
 
 lacks_at : (m : Model Expr Table) (items : List Item) (so : Option Service) (o : Option ServicePlan) → IsPlanAt m items so o → o ≡ None → so ≡ None
 lacks_at m items None o h e = refl

@@ -3,6 +3,7 @@ pub mod ReadModel
 pub mod Request
 pub mod Due
 pub mod Course
+pub mod Served
 pub mod Plans
 pub mod ServicesByPlace
 pub mod Items

@@ -18,6 +18,6 @@ mod values;
 
 pub use course::Course;
 pub use fault::{ModelFault, TaskFault};
-pub use marked::{MarkedPlan, MarkedTask};
+pub use marked::MarkedPlan;
 pub use plan::Plan;
 pub use task::Task;

@@ -57,6 +57,7 @@ impl Plan {
     ghost use Rattle.dmn_service.specs.Decision.{parameters_of};
     ghost use Rattle.std.specs.Prelude.{length, map, Ok, IfSome, is_some};
     ghost use Rattle.dmn_plan.specs.Course.{IsCourseOf};
+    ghost use Rattle.dmn_plan.specs.Served.{IsServicePlan};
 
     /// The plan of a model in JSON, or its first fault: Shape, Name, Twice, Expression, Table, Unknown, Cycle, Service, Large, in
     /// this order. Its text is the compact text of the value, with the keys of each object in the order of their bytes.
@@ -185,6 +186,15 @@ impl Plan {
         };
         let names = names_at(alloc, &self.items, &plan.parameters)?;
         Ok(Some(names))
+    }
+
+    /// The items of the model, and the plan of the service of this name among them. None where there is no such service.
+    pub fn service_plan(&self, service: &str) -> Option<(&[Item], &ServicePlan)>
+        ensures plan { IfSome result (λ p. IsServicePlan (read_text self.now) service.now p.0.now p.1.now) }
+        ensures there { is_some result ≡ is_some (service_in (read_text self.now) service.now) }
+    {
+        let plan = self.services.get(service)?;
+        Some((&self.items, plan))
     }
 
     /// The logic of each decision, in the order of the model.

@@ -42,7 +42,7 @@ by_range false h = cc
 number_of : (z : ℤ) → is_value (number z) ≡ true → inside everything z ≡ true
 number_of z h = number_in_all z (by_range (in_range z) h)
 
-any_in : (x : Datum) → is_value x ≡ true → lies_in anything x ≡ true
+pub any_in : (x : Datum) → is_value x ≡ true → lies_in anything x ≡ true
 any_in null h = refl
 any_in (boolean true) h = refl
 any_in (boolean false) h = refl

@@ -1,4 +1,4 @@
--- Internal: what is told of the places of a plan, one after another, each from what is told of those that it needs.
+-- Internal but for `not_found` and `told_at`: what is told of the places of a plan, one after another, each from what is told of those that it needs.
 use Rattle.std.specs.Prelude.{◌≡◌, ℕ, suc, List, [], ◌∷◌, map, Bool, true, Option, None, Some, unwrap_or, slice_set}
 use Rattle.std.specs.List.{list_any, slice_get}
 use Rattle.feel_value.specs.Found.{outcome_from}

@@ -35,6 +35,8 @@ pub use expression::range_of_expression;
 pub use interval::Interval;
 pub use outcomes::Outcomes;
 pub use range::{NamedRange, Range};
-pub use service::{range_of_service, ranges_of_decisions};
+pub use service::{
+    ServiceRanges, range_of_service, ranges_of_decisions, ranges_of_service, told_at,
+};
 pub use size::Size;
 pub use table::range_of_table;

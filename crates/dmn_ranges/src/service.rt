@@ -57,6 +57,35 @@ pub fn ranges_of_decisions(
     Ok(told)
 }
 
+/// What a service and its decisions can give.
+#[derive(Drop)]
+pub struct ServiceRanges {
+    /// At the place of each decision that the service needs what it can give. Other places say nothing.
+    pub decisions: Vec<Outcomes>,
+    /// What the service can give.
+    pub result: Outcomes,
+}
+
+/// What a service and its decisions can give, where the values of its parameters lie in these domains.
+pub fn ranges_of_service(
+    alloc: Global,
+    items: &[Item],
+    service: &ServicePlan,
+    domains: &[Range],
+) -> Result<ServiceRanges, AllocError>
+    requires places { HasPlacesWithin items.now service.now }
+    requires domains { length domains.now ≡ length service.now.parameters.items }
+    ensures decisions { IfOk result (λ r. AreRangesOf items.now service.now domains.now r.decisions.items) }
+    ensures result { IfOk result (λ r. (m : Model ExprData TableData) (s : Service) (values : List Datum) → IsPlanOf m s items.now service.now → AreWithin domains.now values → covers r.result (service_result m s (zip (parameters_of s) values)) ≡ true) }
+{
+    let told = ranges_along(alloc, items, service, domains)?;
+    let result = outputs_outcomes(&service.outputs, &told);
+    Ok(ServiceRanges {
+        decisions: told,
+        result,
+    })
+}
+
 /// What the parameters and the decisions of a service can give, each at its place, where the values of its parameters lie in these
 /// domains.
 pub(crate) fn ranges_along(
@@ -146,8 +175,8 @@ fn fill(
     Ok(())
 }
 
-// What is told of a place.
-fn told_at(told: &[Outcomes], place: usize) -> Outcomes
+/// What is told of a place; of a place of which nothing is told that a limit is broken, and no value given.
+pub fn told_at(told: &[Outcomes], place: usize) -> Outcomes
     ensures { result ≡ told_at_of told.now place }
 {
     match told.get(place) {

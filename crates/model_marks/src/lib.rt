@@ -5,6 +5,6 @@ mod mark;
 mod marks;
 mod slots;
 
-pub use mark::{Catalog, Mark};
+pub use mark::{Catalog, Mark, Unmarked};
 pub use marks::Marks;
 pub use slots::{MOST, Slots};

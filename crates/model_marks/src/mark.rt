@@ -18,6 +18,15 @@ impl Catalog for Brand {
     ghost slots = { [] };
 }
 
+/// No slots: nothing has a number.
+pub struct Unmarked;
+
+impl Catalog for Unmarked {
+    ghost use Rattle.std.specs.Prelude.{[]};
+
+    ghost slots = { [] };
+}
+
 /// A number of a text. Contracts see the bytes of that text.
 #[derive(Drop)]
 pub struct Mark<C: Catalog> {

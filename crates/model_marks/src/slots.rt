@@ -1,4 +1,6 @@
 //! The slots that numbers are of.
+ghost use Rattle.std.specs.Prelude.{◌≡◌, []};
+
 use boxcar::slot::{OnceSlot, SlotRule};
 use boxcar::tag::{Names, Tag};
 use std::alloc::{AllocError, Global};
@@ -54,5 +56,14 @@ impl Slots {
             Err(_) => Vec::new(alloc),
         };
         Slots { slots }
+    }
+
+    /// None at all. They take no memory.
+    pub fn none(alloc: Global) -> Slots
+        ensures { result ≡ [] }
+    {
+        Slots {
+            slots: Vec::new(alloc),
+        }
     }
 }

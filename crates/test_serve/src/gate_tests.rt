@@ -12,7 +12,7 @@ use std::test::Fail;
 use std::thread::{self, Threads};
 
 /// How often ticket 0 looks whether ticket 1 has left, at most.
-const TURNS: u64 = 10_000_000;
+pub const TURNS: u64 = 10_000_000;
 
 /// Counts how often each ticket enters and leaves, and keeps ticket 0 from its run until ticket 1 has left.
 #[derive(Drop)]
@@ -64,6 +64,11 @@ impl Holding {
             thread::yield_now();
         }
         self.gave_up.store(true, Ordering::SeqCst);
+    }
+
+    /// Whether ticket 0 was kept for as long as it took.
+    pub fn was_patient(&self) -> bool {
+        !self.gave_up.load(Ordering::SeqCst)
     }
 
     /// Whether a ticket entered once and left once.

@@ -9,6 +9,10 @@ mod gate_tests;
 #[cfg(test)]
 mod growing_tests;
 #[cfg(test)]
+mod marked_runs;
+#[cfg(test)]
+mod models_tests;
+#[cfg(test)]
 mod refused_tests;
 #[cfg(test)]
 mod runs;

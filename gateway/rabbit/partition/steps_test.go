@@ -12,36 +12,44 @@ import (
 	"gateway/rabbit/process"
 )
 
-// Where nothing moves in a takeover it is late; where something does it isn't, however long it lasts.
+// Where nothing moves in a takeover it is late; where something does it isn't, however long it lasts. A machine that itself
+// pauses for longer than the patience shows nothing, so more patience is tried.
 func TestATakeoverThatDoesNotMove(t *testing.T) {
-	const patience = 300 * time.Millisecond
-	late := make(chan struct{}, 10)
-	begun := time.Now()
-	s := beginSteps(patience, func() { late <- struct{}{} })
-	if pause := movedUntil(s, begun, 4*patience); len(late) > 0 && pause < patience {
-		t.Errorf("it is late while something moves at least each %v", pause)
-	}
-	s.Passed("the streams are there")
-	<-late // it comes, or the test's own deadline ends it
-	s.end()
-	if text := s.String(); !regexp.MustCompile(`^[\d.]+m?s \(the streams are there [\d.]+m?s\)$`).MatchString(text) {
-		t.Error(text)
+	for patience := 50 * time.Millisecond; ; patience *= 2 {
+		late, begun := make(chan struct{}, 10), time.Now()
+		s := beginSteps(patience, func() { late <- struct{}{} })
+		isLate, pause := moved(s, late, begun, 4*patience)
+		if isLate && pause < patience {
+			t.Fatalf("it is late after pauses of at most %v, with a patience of %v", pause, patience)
+		}
+		if isLate {
+			s.end()
+			continue
+		}
+		s.Passed("the streams are there")
+		<-late // it comes, or the test's own deadline ends it
+		s.end()
+		if text := s.String(); !regexp.MustCompile(`^[\d.]+m?s \(the streams are there [\d.]+m?s\)$`).MatchString(text) {
+			t.Error(text)
+		}
+		return
 	}
 }
 
-// movedUntil moves again and again until so much time has passed, and gives the longest pause between two moves: on a busy
-// machine it may be longer than the patience.
-func movedUntil(s *steps, begun time.Time, length time.Duration) (longest time.Duration) {
-	for last := begun; time.Since(begun) < length; {
-		before := time.Now()
-		s.Moved()
+// moved moves again and again until so much time has passed or it is late, and gives the longest pause between two moves, or
+// between the last one and the answer whether it is late.
+func moved(s *steps, late <-chan struct{}, begun time.Time, length time.Duration) (isLate bool, longest time.Duration) {
+	for last := begun; ; time.Sleep(time.Millisecond) {
+		isLate = len(late) > 0
 		if pause := time.Since(last); pause > longest {
 			longest = pause
 		}
-		last = before
-		time.Sleep(time.Millisecond)
+		if isLate || time.Since(begun) > length {
+			return isLate, longest
+		}
+		last = time.Now()
+		s.Moved()
 	}
-	return longest
 }
 
 // Patience grows from one takeover to the next, as slow as brokers may be, and has an end.

@@ -5,6 +5,7 @@ import (
 	"errors"
 	"fmt"
 	"sync"
+	"time"
 
 	"gateway/rabbit/bus"
 )
@@ -20,7 +21,10 @@ type message struct {
 type Reader struct {
 	options   Options
 	partition int
-	last      int64 // the offset of the last message that was handed on, or -1
+	pause     time.Duration // after which it is looked at whether there is something to read
+	last      int64         // the offset of the last message that was handed on, or -1
+	end       int64         // the end of the stream for which a broker was left that sent nothing
+	left      string        // the address of that broker
 	messages  chan<- message
 	faults    chan<- error // takes an error with which all ends
 	mutex     sync.Mutex
@@ -33,6 +37,9 @@ func (r *Reader) work(ctx context.Context) {
 	log := r.options.Log.OfPartition(r.partition)
 	err := bus.Again(ctx, r.options.Bus, log, func(ctx context.Context) error {
 		err := r.run(ctx)
+		for errors.Is(err, errSilent) {
+			err = r.run(ctx)
+		}
 		r.failed(err)
 		return err
 	})
@@ -77,8 +84,16 @@ func (r *Reader) run(ctx context.Context) error {
 	}
 	defer link.Close()
 	r.failed(nil)
+	silence, ticker := newSilence(link, r.queue()), time.NewTicker(r.pause)
+	defer ticker.Stop()
 	for {
 		select {
+		case <-ticker.C:
+			silence.look(r.last)
+		case end := <-silence.ends:
+			if err := r.leave(link, silence, end); err != nil {
+				return err
+			}
 		case next, open := <-stream.Arrivals():
 			if !open {
 				return stream.Ended()
@@ -97,12 +112,11 @@ func (r *Reader) run(ctx context.Context) error {
 
 // Open connects, and reads on.
 func (r *Reader) Open(ctx context.Context) (bus.Link, bus.Reader, error) {
-	link, err := r.options.Bus.Connect(ctx, "desk receive", "")
+	link, err := r.options.Bus.Connect(ctx, "desk receive", r.left)
 	if err != nil {
 		return nil, nil, err
 	}
-	queue := r.options.Settings.Queue(bus.Answers, r.partition)
-	stream, err := link.Read(bus.Reading{Stream: queue, From: r.from(), Window: bus.OpenOf(r.options.Settings.Partitions)})
+	stream, err := link.Read(bus.Reading{Stream: r.queue(), From: r.from(), Window: bus.OpenOf(r.options.Settings.Partitions)})
 	if err == nil {
 		err = r.pin(link)
 	}
@@ -112,6 +126,8 @@ func (r *Reader) Open(ctx context.Context) (bus.Link, bus.Reader, error) {
 	}
 	return link, stream, nil
 }
+
+func (r *Reader) queue() string { return r.options.Settings.Queue(bus.Answers, r.partition) }
 
 // Took takes in that a message was handed on.
 func (r *Reader) Took(message bus.Message) { r.last = message.Offset }

@@ -148,7 +148,7 @@ func New(options Options) (*Receiver, error) {
 		return r, err
 	}
 	for partition, last := range r.streams {
-		r.readers = append(r.readers, &Reader{options: options, partition: partition, last: last})
+		r.readers = append(r.readers, &Reader{options: options, partition: partition, pause: pauseOf(options), last: last, end: -1})
 	}
 	return r, nil
 }

@@ -4,7 +4,7 @@ use Rattle.desk_serving.proofs.EndingLanes.{ready_answered, answered_lane, same_
 use Rattle.desk_serving.proofs.ending.run_left.Goals as goal
 
 pub loop-job-preserved : goal.loop-job-preserved
-loop-job-preserved c =
+loop-job-preserved g c =
     let old = c.loop-job.end in let mid = c.next_left.new.self in let new = c.answer.new.self in
     record {
       ready = ready_answered old mid new c.in-Ok.done c.answer.result c.loop-job.invariant.ready

@@ -5,10 +5,10 @@ use Rattle.desk_serving.specs.Owed.{lane_in}
 use Rattle.desk_serving.proofs.ending.run_left.Given as goal
 
 abbrev pub invariant-loop-job : goal.invariant-loop-job
-invariant-loop-job l = record {
+invariant-loop-job g l = record {
   ready : IsReady l.end;
   lane : lane_in l.end ≡ lane_in l.initial.end;
 }
 
 abbrev pub decreases-loop-job : goal.decreases-loop-job
-decreases-loop-job l = length (left_in l.end)
+decreases-loop-job g l = length (left_in l.end)

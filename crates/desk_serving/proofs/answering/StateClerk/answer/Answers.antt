@@ -42,18 +42,18 @@ pub answer_heard-requires-clause-few : goal.answer_heard-requires-clause-few
 answer_heard-requires-clause-few g c =
     let old = c.args.self.now in let st = c.requires.stands in
     let few : length st.0 < 2 ^ 60 = omega (arith, st.3, c.requires.few) in
-    has_room old (record { rt = old.rt; lanes = c.hand_out_some.new.self; plan = old.plan; texts = old.texts }) st.0 st.1 st.2
+    has_room old (record { rt = old.rt; lanes = c.hand_out_some.new.self; plan = old.plan; marks = old.marks; texts = old.texts }) st.0 st.1 st.2
     (c.in_ok-hand_out_some.ensures.hands.handed.lanes ∙ c.in_ok-hand_out_until.ensures.handed.ok.are.lanes) few
 
 pub returns-in_err-hand_out_until-clause-keeps : goal.returns-in_err-hand_out_until-clause-keeps
 returns-in_err-hand_out_until-clause-keeps g c = λ lines said.
     let old = c.args.self.now in
-    kept_script old (record { rt = old.rt; lanes = c.hand_out_until.new.lanes; plan = old.plan; texts = old.texts }) lines said c.hand_out_until.ensures.same
+    kept_script old (record { rt = old.rt; lanes = c.hand_out_until.new.lanes; plan = old.plan; marks = old.marks; texts = old.texts }) lines said c.hand_out_until.ensures.same
 
 pub returns-in_err-hand_out_some-clause-keeps : goal.returns-in_err-hand_out_some-clause-keeps
 returns-in_err-hand_out_some-clause-keeps g c = λ lines said.
     let old = c.args.self.now in
-    kept_script old (record { rt = old.rt; lanes = c.hand_out_some.new.self; plan = old.plan; texts = old.texts }) lines said (c.hand_out_some.ensures.same ∙ c.hand_out_until.ensures.same)
+    kept_script old (record { rt = old.rt; lanes = c.hand_out_some.new.self; plan = old.plan; marks = old.marks; texts = old.texts }) lines said (c.hand_out_some.ensures.same ∙ c.hand_out_until.ensures.same)
 
 pub returns-in_err-answer_heard-clause-keeps : goal.returns-in_err-answer_heard-clause-keeps
 returns-in_err-answer_heard-clause-keeps g c = λ lines said.
@@ -66,8 +66,8 @@ returns-clause-keeps g c = λ lines said.
 pub returns-clause-answers : goal.returns-clause-answers
 returns-clause-answers g c =
     let old = c.args.self.now in
-    line_answered old (record { rt = old.rt; lanes = c.hand_out_until.new.lanes; plan = old.plan; texts = old.texts })
-    (record { rt = old.rt; lanes = c.hand_out_some.new.self; plan = old.plan; texts = old.texts }) _ c.args.line.now c.args.number
+    line_answered old (record { rt = old.rt; lanes = c.hand_out_until.new.lanes; plan = old.plan; marks = old.marks; texts = old.texts })
+    (record { rt = old.rt; lanes = c.hand_out_some.new.self; plan = old.plan; marks = old.marks; texts = old.texts }) _ c.args.line.now c.args.number
     c.hand_out_some.new.text.items c.answer_heard.new.text.items
     c.hand_out_until.ensures.names refl c.hand_out_some.ensures.names refl c.in_ok-hand_out_until.ensures.handed.ok (rw (sym c.new-text.ensures.items) c.in_ok-hand_out_some.ensures.hands)
     (λ it e. c.in_ok-answer_heard.ensures.hears it (c.in_ok-heard.ensures it e))

@@ -8,10 +8,10 @@ use Rattle.desk_serving.proofs.Putting.{inside_of, lane_at, lanes_set, some_same
 use Rattle.desk_serving.proofs.named_lanes.Lanes.close.Goals as goal
 
 pub returns-clause-same : goal.returns-clause-same
-returns-clause-same c = c.set_room.ensures.same ∙ links_kept client_links c.args.self.now.clients.items c.args.place c.index_mut.result.now c.close-was_open.new.self c.index_mut.ensures.value c.close-was_open.ensures.same
+returns-clause-same g c = c.set_room.ensures.same ∙ links_kept client_links c.args.self.now.clients.items c.args.place c.index_mut.result.now c.close-was_open.new.self c.index_mut.ensures.value c.close-was_open.ensures.same
 
 pub returns-clause-closes : goal.returns-clause-closes
-returns-clause-closes c = λ lane at.
+returns-clause-closes g c = λ lane at.
     let self = c.args.self.now in let old = c.index_mut.result.now in
     let inside = inside_of string_bytes self.names.items self.clients.items c.args.place c.requires.place self.named in
     let is : lane_of old ≡ lane = some_same _ (lane_of old) lane (lane_at self.clients.items c.args.place old inside c.index_mut.ensures.value) at in (

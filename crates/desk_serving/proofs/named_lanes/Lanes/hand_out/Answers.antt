@@ -9,12 +9,12 @@ use Rattle.desk_serving.proofs.named_lanes.Lanes.hand_out.Goals as goal
 use Rattle.desk_requests.proofs.Names.{get_map, get_at}
 
 pub returns-in_err-hand_out_next-clause-same : goal.returns-in_err-hand_out_next-clause-same
-returns-in_err-hand_out_next-clause-same c =
+returns-in_err-hand_out_next-clause-same g c =
     links_kept client_links c.loop-place.self.clients.items c.loop-place.place c.index_mut.result.now c.hand_out_next.new.client c.index_mut.ensures.value c.hand_out_next.ensures.same
     ∙ c.loop-place.invariant.links
 
 pub loop-place-preserved : goal.loop-place-preserved
-loop-place-preserved c =
+loop-place-preserved g c =
     let was = c.args.self.now in let self = c.loop-place.self in let place = c.loop-place.place in let inv = c.loop-place.invariant in
     let ns = names_in was in
     let same : length (names_in self) ≡ length ns = ap (λ (xs : List (List ℕ)). length xs) inv.names in

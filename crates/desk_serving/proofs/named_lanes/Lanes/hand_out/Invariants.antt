@@ -4,7 +4,7 @@ use Rattle.desk_serving.specs.Owed.{Hands}
 use Rattle.desk_serving.proofs.named_lanes.Lanes.hand_out.Given as goal
 
 abbrev pub invariant-loop-place : goal.invariant-loop-place
-invariant-loop-place l = record {
+invariant-loop-place g l = record {
   links : links_in l.self ≡ links_in l.fn.self;
   names : names_in l.self ≡ names_in l.fn.self;
   polled : ArePolled l.place l.fn.self.clients.items l.self.clients.items;

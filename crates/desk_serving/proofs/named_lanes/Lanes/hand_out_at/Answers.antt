@@ -9,11 +9,11 @@ use Rattle.desk_serving.proofs.named_lanes.Lanes.hand_out_at.Goals as goal
 use Rattle.desk_requests.proofs.Names.{get_map, get_at}
 
 pub returns-clause-same : goal.returns-clause-same
-returns-clause-same c =
+returns-clause-same g c =
     links_kept client_links c.args.self.now.clients.items c.args.place c.index_mut.result.now c.hand_out_next.new.client c.index_mut.ensures.value c.hand_out_next.ensures.same
 
 pub returns-clause-hands : goal.returns-clause-hands
-returns-clause-hands c =
+returns-clause-hands g c =
     let was = c.args.self.now in let place = c.args.place in let ns = names_in was in
     let own : place < length was.names.items = omega (arith, was.names.ok.0) in
     let few : place < length ns = omega (arith, own, length-map was.names.items string_bytes) in

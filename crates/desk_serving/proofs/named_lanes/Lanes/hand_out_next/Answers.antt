@@ -7,7 +7,7 @@ use Rattle.desk_serving.proofs.Laning.{own_none, own_one, poll_handed, poll_noth
 use Rattle.desk_serving.proofs.named_lanes.Lanes.hand_out_next.Goals as goal
 
 pub returns-clause-hands : goal.returns-clause-hands
-returns-clause-hands c =
+returns-clause-hands g c =
     let old = c.args.client.now in let new = c.poll.new.self in let told = c.in-Some.ensures in
     let h = poll_handed (λ (q : Request). q) request_result old new (Some c.in-Some.reply) told.put told.polls in
     let r = poll_right (λ (q : Request). q) request_result old new (Some c.in-Some.reply) told.polls told.right in
@@ -16,17 +16,17 @@ returns-clause-hands c =
     c.add_to.ensures
 
 pub returns-in_default-clause-hands : goal.returns-in_default-clause-hands
-returns-in_default-clause-hands c =
+returns-in_default-clause-hands g c =
     let old = c.args.client.now in let new = c.poll.new.self in let told = c.in_default.ensures in
     own_none c.args.name.now (lane_of old) (lane_of new) c.args.text.now.items (poll_nothing (λ (q : Request). q) request_result old new None told.put told.polls)
 
 pub returns-clause-polled : goal.returns-clause-polled
-returns-clause-polled c = (reply_of c.poll.result, c.poll.ensures.polls)
+returns-clause-polled g c = (reply_of c.poll.result, c.poll.ensures.polls)
 
 pub returns-in_default-clause-polled : goal.returns-in_default-clause-polled
-returns-in_default-clause-polled c = (reply_of c.poll.result, c.poll.ensures.polls)
+returns-in_default-clause-polled g c = (reply_of c.poll.result, c.poll.ensures.polls)
 
 pub returns-then-is_whole-clause-polled : goal.returns-then-is_whole-clause-polled
-returns-then-is_whole-clause-polled c =
+returns-then-is_whole-clause-polled g c =
     let client = c.args.client.now in
     (None, unpolled (λ (q : Request). q) request_result (came_to client) (mail_of client) (c.is_whole.ensures.0 c.if-is_whole.true))

@@ -6,7 +6,7 @@ use Rattle.desk_serving.proofs.Owing.{hands_then}
 use Rattle.desk_serving.proofs.named_lanes.Lanes.hand_out_some.Goals as goal
 
 pub returns-clause-hands : goal.returns-clause-hands
-returns-clause-hands c =
+returns-clause-hands g c =
     let was = c.args.self.now in let mid = c.hand_out_at.new.self in let next = c.next_turn-turn.new.self in let new = c.hand_out_at-2.new.self in
     let ns = names_in was in let first = c.hand_out_at.new.text.items in let last = c.hand_out_at-2.new.text.items in
     on_ok_weaker c.hand_out_at-2.result

@@ -7,12 +7,12 @@ use Rattle.desk_serving.proofs.Putting.{with_lane-known, pushed_names}
 use Rattle.desk_serving.proofs.named_lanes.Lanes.place_for.Goals as goal
 
 pub returns-in-Some-clause-names : goal.returns-in-Some-clause-names
-returns-in-Some-clause-names c =
+returns-in-Some-clause-names g c =
     let self = c.args.self.now in
     sym (with_lane-known (length (lanes_in self)) c.args.name.now (names_in self) (among_at c.args.name.now (names_in self) c.in-Some.place c.in-Some.ensures.found))
 
 pub invariant_of-self-2 : goal.invariant_of-self-2
-invariant_of-self-2 c =
+invariant_of-self-2 g c =
     let self = c.args.self.now in let s = c.in_ok-from_str.field-0 in
     let is : c.args.name.now ≡ string_bytes c.in_ok-from_str.field-0 = cc (c.in_ok-from_str.ensures.ok) in
     let new : is_among (names_in self) (string_bytes s) ≡ false = subst (λ (n : List ℕ). is_among (names_in self) n ≡ false) is c.in_default.ensures.none in
@@ -21,7 +21,7 @@ invariant_of-self-2 c =
     record { named = made.0; distinct = made.1 }
 
 pub returns-clause-found : goal.returns-clause-found
-returns-clause-found c =
+returns-clause-found g c =
     let self = c.args.self.now in let s = c.in_ok-from_str.field-0 in
     let is : string_bytes c.in_ok-from_str.field-0 ≡ c.args.name.now = cc (c.in_ok-from_str.ensures.ok) in
     let all : map string_bytes c.push.new.self.items ≡ names_in self ++ string_bytes s ∷ [] = ap (map string_bytes) c.in_ok-push.ensures.items ∙ map-append string_bytes self.names.items (s ∷ []) in

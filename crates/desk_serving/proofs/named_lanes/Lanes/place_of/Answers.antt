@@ -7,7 +7,7 @@ use Rattle.desk_requests.proofs.Names.{same_name, get_map, get_at, among_take}
 use Rattle.desk_serving.proofs.named_lanes.Lanes.place_of.Goals as goal
 
 pub returns-then-eq-clause-found : goal.returns-then-eq-clause-found
-returns-then-eq-clause-found c =
+returns-then-eq-clause-found g c =
     let names = c.args.self.now.names.items in let place = c.loop-place.place in
     let within : place < length c.args.self.now.names.items = first_of (omega arith, search rules) in
     let here : c.known-item.result ≡ get_or c.args.self.now.names.items c.loop-place.place c.known-item.result = cc (c.known-item.is, c.deref-known-items.ensures.value) in
@@ -16,7 +16,7 @@ returns-then-eq-clause-found c =
     ∙ ap (λ (n : List ℕ). Some n) (same_name (string_bytes c.known-item.result) c.args.name.now same)
 
 pub loop-place-preserved : goal.loop-place-preserved
-loop-place-preserved c =
+loop-place-preserved g c =
     let names = c.args.self.now.names.items in let place = c.loop-place.place in
     let within : place < length c.args.self.now.names.items = first_of (omega arith, search rules) in
     let here : c.known-item.result ≡ get_or c.args.self.now.names.items c.loop-place.place c.known-item.result = cc (c.known-item.is, c.deref-known-items.ensures.value) in

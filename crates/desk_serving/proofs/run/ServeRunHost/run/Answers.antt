@@ -20,7 +20,7 @@ returns-in_ok-end_workers g c =
     let goes = c.goes_on.ensures.0 c.if-goes_on.true in
     let mid = c.answer_lines-ended.new.clerk in
     let ends = ends_more _ _ _ _ _ _ _ (AreHanded (names_in mid.lanes) (lanes_in mid.lanes) (lanes_in c.end_workers.new.lanes)) _
-    (λ lines said more x h. after_more mid (record { rt = mid.rt; lanes = c.end_workers.new.lanes; plan = mid.plan; texts = mid.texts }) lines said more x e.names refl h)
+    (λ lines said more x h. after_more mid (record { rt = mid.rt; lanes = c.end_workers.new.lanes; plan = mid.plan; marks = mid.marks; texts = mid.texts }) lines said more x e.names refl h)
     result goes (ends_of _ _ _ _ _ _ result a.ran.ok a.ran.fault) written.ok in
     record {
       ran = record {

@@ -10,15 +10,15 @@ use Rattle.desk_requests.proofs.Models.{due_model, loaded_model, faulty_model}
 use Rattle.desk_serving.proofs.Replying.{heard_model}
 use Rattle.desk_serving.proofs.state.State.answer_model.Goals as goal
 
-pub returns-in_ok-new-in-Ok-clause-hears : goal.returns-in_ok-new-in-Ok-clause-hears
-returns-in_ok-new-in-Ok-clause-hears g c =
+pub returns-in_ok-of-in-Ok-clause-hears : goal.returns-in_ok-of-in-Ok-clause-hears
+returns-in_ok-of-in-Ok-clause-hears g c =
     let old = c.args.self.now in
     let json = view c.args.model.now in
     on_ok_weaker c.add_to.result (λ is earlier said st num.
     let loads = loaded_model json (read_model json) (in_force earlier) c.args.number c.in-Ok.ensures.read in
     heard_model json c.args.number (Loaded c.args.number) earlier (names_in old.lanes) (model_of old) _ (lanes_in old.lanes) said _ _ st num refl
     (sym loads.1) is
-    (ap Some (c.in_ok-new-in-Ok.ensures.ok ∙ c.in-Ok.ensures.compact) ∙ sym loads.0))
+    (ap Some (c.in_ok-of-in-Ok.ensures.plan ∙ c.in-Ok.ensures.compact) ∙ sym loads.0))
     c.add_to.ensures
 
 pub returns-in_default : goal.returns-in_default

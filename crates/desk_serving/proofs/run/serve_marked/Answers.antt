@@ -1,27 +1,29 @@
 use Rattle.std.proofs.Common.{arith, length, ◌≡◌, None, ap, refl, sym, ◌∙◌, map, string_bytes}
-use denote.Param.Send.{sendable}
+use denote.Exit.{no}
+use denote.Param.{param}
+use denote.Param.Send.{arg_send, arg_sync, param_send, param_sync}
 use Rattle.std.proofs.lemmas.Result.{IfOk-weaker, err_from_is_err_and}
 use Rattle.desk_serving.proofs.EndingLanes.{booked_rest}
 use Rattle.desk_serving.proofs.Finishing.{ends_whole, lanes_begun, served_ran}
 use Rattle.desk_serving.proofs.Fronting.{after_none}
 use Rattle.desk_serving.proofs.Running.{ends_of, new_booked, nothing_served, ran_stopped, some_answered, stops_same, stops_unread}
 use Rattle.desk_serving.proofs.Sendable.{Task-send, Task-sync}
-use Rattle.desk_serving.proofs.run.serve.Goals as goal
+use Rattle.desk_serving.proofs.run.serve_marked.Goals as goal
 
 pub returns-in_default-clause-ran : goal.returns-in_default-clause-ran
 returns-in_default-clause-ran g c = ran_stopped _ _ _ _ _ _ (stops_unread _ _ _ (nothing_served c.args.options.clients)) refl
 
 pub beside-ran-requires-send-W : goal.beside-ran-requires-send-W
-beside-ran-requires-send-W g c κs within = search (Task-send, sendable) depth 20 fits 20000
+beside-ran-requires-send-W g c κs within = param_send _ _ (arg_send _ no _ (Task-send (param 0 g.row.C) _))
 
 pub beside-ran-requires-sync-W : goal.beside-ran-requires-sync-W
-beside-ran-requires-sync-W g c κs within = search (Task-sync, sendable) depth 20 fits 20000
+beside-ran-requires-sync-W g c κs within = param_sync _ _ (arg_sync _ no _ (Task-sync (param 0 g.row.C) _))
 
 pub beside-ran-requires-clause-ready : goal.beside-ran-requires-clause-ready
 beside-ran-requires-clause-ready g c κs within = (
   c.requires.read_counts,
   c.requires.write_counts,
-  after_none (record { rt = c.args.rt; lanes = c.new.result; plan = None; texts = _ }) (ap (map string_bytes) c.new.ensures.0) refl
+  after_none (record { rt = c.args.rt; lanes = c.new.result; plan = None; marks = c.args.marks; texts = _ }) (ap (map string_bytes) c.new.ensures.0) refl
       (rw (c.new.ensures.1) (new_booked _ c.in-Ok.clients.items c.in-Ok.ensures.new.0)),
 )
 
