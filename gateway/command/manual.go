@@ -145,7 +145,7 @@ addresses with commas between.
 Without it amqp://127.0.0.1.
 .TP
 .B DESK_PARTITIONS
-How many partitions there are.
+How many partitions desk partition \-\-declare makes.
 Without it 1.
 .TP
 .B NO_COLOR

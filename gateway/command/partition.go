@@ -2,6 +2,7 @@ package command
 
 import (
 	"context"
+	"fmt"
 	"strconv"
 	"time"
 
@@ -14,12 +15,13 @@ import (
 	"gateway/rabbit/metrics"
 	"gateway/rabbit/partition"
 	"gateway/rabbit/process"
+	"gateway/rabbit/rescale"
 )
 
 // brokerHelp describes the environment of send, partition and receive.
 const brokerHelp = `Environment:
   DESK_BROKERS     the brokers, addresses with commas between [default: amqp://127.0.0.1]
-  DESK_PARTITIONS  how many partitions there are [default: 1]
+  DESK_PARTITIONS  how many partitions desk partition --declare makes [default: 1]
 
 ops/rabbitmq/README.md describes the protocol, settings and alarms.`
 
@@ -57,7 +59,7 @@ func partitionCommand() *cobra.Command {
 		Args:  noFiles,
 		RunE:  func(c *cobra.Command, _ []string) error { return runPartition(c, options) },
 	}
-	c.AddCommand(repairCommand())
+	c.AddCommand(repairCommand(), rescaleCommand())
 	flags := c.Flags()
 	flags.IntVar(&options.engine.Workers, "workers", 1, "Use this `NUMBER` of workers in the engine, 1 to 8")
 	flags.Var(&options.deadline, "deadline", "Give the evaluation of a line this long, from 1s on")
@@ -70,7 +72,8 @@ func partitionCommand() *cobra.Command {
 }
 
 func repairCommand() *cobra.Command {
-	return &cobra.Command{
+	epoch := int64(-1)
+	c := &cobra.Command{
 		Use:   "repair NUMBER",
 		Short: "Makes the log of a partition anew, where it is lost for good",
 		Long: `What is answered stays answered, and what wasn't is told as lost. Stop the senders of the partition before, and send their
@@ -78,26 +81,100 @@ batches again as new ones. It waits until nobody owns the partition.
 
 ` + brokerHelp,
 		Args: cobra.ExactArgs(1),
-		RunE: func(c *cobra.Command, words []string) error { return runRepair(c, words[0]) },
+		RunE: func(c *cobra.Command, words []string) error { return runRepair(c, words[0], epoch) },
 	}
+	c.Flags().Int64Var(&epoch, "epoch", -1, "Repair one of an earlier number of partitions, which has this `EPOCH` [default: the newest]")
+	return c
 }
 
-func runRepair(c *cobra.Command, text string) error {
+func runRepair(c *cobra.Command, text string, epoch int64) error {
 	on, settings, err := broker.Read()
 	if err != nil {
 		return wrong("%w", err)
 	}
+	ctx, stop := untilTold(c)
+	defer stop()
+	scale, err := bus.StartWatch(ctx, on, partitionLog(c), "desk partition repair", settings)
+	if err != nil {
+		return err
+	}
+	known, err := scale.Look(ctx)
+	if err != nil {
+		return err
+	}
+	repair, err := repairOf(known, text, epoch)
+	if err != nil {
+		return err
+	}
+	repair.Program, repair.Log = version, partitionLog(c)
+	if err := on.Repair(ctx, repair); err != nil {
+		return err
+	}
+	c.PrintErrf("desk partition: partition %v is repaired\n", repair.Partition)
+	return nil
+}
+
+// repairOf says what is repaired: a partition of the newest number of them, or of the epoch that is given.
+func repairOf(known bus.Scaling, text string, epoch int64) (repair broker.Repair, err error) {
+	last := int64(len(known.All) - 1)
+	if epoch < 0 {
+		epoch = last
+	}
+	if epoch > last {
+		return repair, wrong("there is no epoch %d: the newest is %d", epoch, last)
+	}
+	settings := known.All[epoch]
 	number, err := strconv.Atoi(text)
 	if err != nil || number < 0 || number >= settings.Partitions {
-		return wrong("%q is no partition: they have the numbers 0 to %d", text, settings.Partitions-1)
+		return repair, wrong("%q is no partition: they have the numbers 0 to %d", text, settings.Partitions-1)
+	}
+	repair.Partition = settings.Each()[number]
+	if epoch < last {
+		repair.After = known.All[epoch+1]
+	}
+	return repair, nil
+}
+
+func rescaleCommand() *cobra.Command {
+	return &cobra.Command{
+		Use:   "rescale NUMBER",
+		Short: "Changes how many partitions there are, while they answer",
+		Long: `What is sent before the change is answered before it, and tickets go on. Senders of before end with status 1 and the new number.
+Run again, it goes on where it was killed.
+
+` + brokerHelp,
+		Args: cobra.ExactArgs(1),
+		RunE: func(c *cobra.Command, words []string) error { return runRescale(c, words[0]) },
+	}
+}
+
+func runRescale(c *cobra.Command, text string) error {
+	number, err := strconv.Atoi(text)
+	if err != nil || number < 1 || number > bus.MaximumPartitions {
+		return wrong("%q is no number of partitions from 1 to %d", text, bus.MaximumPartitions)
+	}
+	on, _, err := broker.Read()
+	if err != nil {
+		return wrong("%w", err)
 	}
 	ctx, stop := untilTold(c)
 	defer stop()
-	if err := on.Repair(ctx, broker.Repair{Settings: settings, Partition: number, Program: version, Log: partitionLog(c)}); err != nil {
+	options := rescaling(c, on)
+	options.To = number
+	change, err := rescale.Run(ctx, options)
+	if err != nil {
 		return err
 	}
-	c.PrintErrf("desk partition: partition %d is repaired\n", number)
+	c.PrintErrf("desk partition: there are %d partitions now (epoch %d); each needs a process\n", change.To.Partitions, change.To.Epoch)
 	return nil
+}
+
+// rescaling is how the number of partitions is changed, or declared.
+func rescaling(c *cobra.Command, on broker.Broker) rescale.Options {
+	log := partitionLog(c)
+	return rescale.Options{Bus: on, Log: log, Leave: on.Leave, Declare: func(ctx context.Context, settings bus.Settings) error {
+		return on.Declare(ctx, settings, log)
+	}}
 }
 
 // partitionLog is the log of desk partition.
@@ -156,9 +233,13 @@ func runPartition(c *cobra.Command, o partitionOptions) error {
 
 // declare makes what the partitions need at the brokers.
 func declare(ctx context.Context, c *cobra.Command, on broker.Broker, settings bus.Settings) error {
-	if err := on.Declare(ctx, settings, partitionLog(c)); err != nil {
+	newest, err := rescale.Declare(ctx, rescaling(c, on), settings)
+	if err != nil {
 		return err
 	}
-	c.PrintErrf("desk partition: %d partitions are declared\n", settings.Partitions)
+	if newest.Epoch == 0 && newest != settings {
+		return fmt.Errorf("there are %d partitions, which are declared: desk partition rescale changes the number", newest.Partitions)
+	}
+	c.PrintErrf("desk partition: %d partitions are declared\n", newest.Partitions)
 	return nil
 }

@@ -71,7 +71,7 @@ func runReceive(c *cobra.Command, o receiveOptions) error {
 	if err != nil {
 		return wrong("%w", err)
 	}
-	options := receiver.Options{Bus: on, Settings: settings, Place: o.place, Output: os.Stdout,
+	options := receiver.Options{Bus: on, Place: o.place, Output: os.Stdout,
 		Idle: time.Duration(o.idle), Log: logs.New(c.ErrOrStderr(), "desk receive"), Gauges: receiver.NewGauges()}
 	if options.From, err = fromOf(o.from); err != nil {
 		return err
@@ -87,6 +87,9 @@ func runReceive(c *cobra.Command, o receiveOptions) error {
 	ctx, stop := untilTold(c)
 	defer stop()
 	if err := serveMetrics(ctx, o.metrics, options.Gauges); err != nil {
+		return err
+	}
+	if options.Scale, err = bus.StartWatch(ctx, on, options.Log, "desk receive", settings); err != nil {
 		return err
 	}
 	return receiver.Receive(ctx, options)

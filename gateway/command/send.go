@@ -62,9 +62,11 @@ func runSend(c *cobra.Command, o sendOptions) error {
 	if err != nil {
 		return err
 	}
-	if options.Bus, options.Settings, err = broker.Read(); err != nil {
+	on, settings, err := broker.Read()
+	if err != nil {
 		return wrong("%w", err)
 	}
+	options.Bus = on
 	path, err := engine.Path()
 	if err != nil {
 		return err
@@ -73,18 +75,13 @@ func runSend(c *cobra.Command, o sendOptions) error {
 	ctx, stop := untilTold(c)
 	defer stop()
 	options.Check = func(model []byte) error { return checkBeforeSending(ctx, path, model) }
-	if !options.Named {
-		if options.Name, err = bus.NewMark(); err != nil {
-			return err
-		}
-	}
-	if options.Named && options.Batch == "" {
-		if options.Batch, err = bus.NewMark(); err != nil {
-			return err
-		}
-		c.PrintErrf("desk send: batch %s\n", options.Batch)
+	if err := nameBatch(c, &options); err != nil {
+		return err
 	}
 	if err := serveMetrics(ctx, o.metrics, options.Gauges); err != nil {
+		return err
+	}
+	if err := lookAtScale(ctx, &options, settings); err != nil {
 		return err
 	}
 	tally, err := sender.Send(ctx, options)
@@ -94,6 +91,36 @@ func runSend(c *cobra.Command, o sendOptions) error {
 		return ended(statusRefused)
 	}
 	return err
+}
+
+// nameBatch makes the names that the user didn't give.
+func nameBatch(c *cobra.Command, options *sender.Options) (err error) {
+	if !options.Named {
+		options.Name, err = bus.NewMark()
+		return err
+	}
+	if options.Batch == "" {
+		if options.Batch, err = bus.NewMark(); err != nil {
+			return err
+		}
+		c.PrintErrf("desk send: batch %s\n", options.Batch)
+	}
+	return nil
+}
+
+// lookAtScale finds out how many partitions there are, and were; the settings say it where the brokers don't.
+func lookAtScale(ctx context.Context, options *sender.Options, settings bus.Settings) error {
+	scale, err := bus.StartWatch(ctx, options.Bus, options.Log, "desk send, "+options.Name, settings)
+	if err != nil {
+		return err
+	}
+	known, err := scale.Look(ctx)
+	if err != nil {
+		return err
+	}
+	newest, _ := known.Newest()
+	options.Scale, options.Settings, options.Earlier = scale, newest, known.All[:len(known.All)-1]
+	return nil
 }
 
 // checkBeforeSending lets the engine check a model.

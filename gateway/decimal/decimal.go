@@ -99,19 +99,24 @@ func shorten(digits *big.Int, power int) error {
 	return nil
 }
 
-// mostPower is the greatest n of which 10^n is an int64.
-const mostPower = 18
+// mostPower is the greatest n of which 10^n is kept.
+const mostPower = 80
 
-// Power is 10^n.
+// powers are 10^0 to 10^mostPower.
+var powers = func() (all [mostPower + 1]*big.Int) {
+	all[0] = big.NewInt(1)
+	for n := 1; n <= mostPower; n++ {
+		all[n] = new(big.Int).Mul(all[n-1], big.NewInt(10))
+	}
+	return all
+}()
+
+// Power is 10^n, which is the caller's own.
 func Power(n int) *big.Int {
 	if n < 0 || n > mostPower {
 		return new(big.Int).Exp(big.NewInt(10), big.NewInt(int64(n)), nil)
 	}
-	power := int64(1)
-	for ; n > 0; n-- {
-		power *= 10
-	}
-	return big.NewInt(power)
+	return new(big.Int).Set(powers[n])
 }
 
 // Text is a whole number of a unit as a decimal in its shortest form. A quotient that doesn't end has 34 significant digits,

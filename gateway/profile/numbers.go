@@ -49,9 +49,13 @@ func constantNumber(value *big.Rat) phrase {
 	if few, is := fewDigitsOf(value); is {
 		return few.constant(value)
 	}
+	if many, is := manyDigitsOf(value); is {
+		made := wholeConstant(many.digits)
+		made.number, made.of = value, numberOf(units{scale: many.scale})
+		return made
+	}
 	rest := new(big.Int).Set(value.Denom())
-	scale := maximum(removed(rest, 2), removed(rest, 5))
-	return constantAt(value, units{scale: scale})
+	return constantAt(value, units{scale: maximum(removed(rest, 2), removed(rest, 5))})
 }
 
 // scaledBy is a number times 10^scale.
@@ -283,6 +287,9 @@ func folded(operator string, operands []phrase, operators []string) *big.Rat {
 	if few := foldedFew(operator, operands, operators); few != nil {
 		return few
 	}
+	if value, is := foldedMany(operator, operands, operators); is {
+		return value
+	}
 	value := new(big.Rat)
 	for i, o := range operands {
 		switch {
@@ -308,21 +315,16 @@ const shortPower = 1_000_000_000_000_000
 // mostBitsOfDigits is how many bits a number may have that surely has at most 34 digits, mostBitsOfParts how many 10^72 has.
 const mostBitsOfDigits, mostBitsOfParts = 112, 240
 
+// mostDecimalsOnTheWay is how many decimals a constant may have on the way.
+const mostDecimalsOnTheWay = 2 * mostScale
+
 // ends tells whether a number has at most 34 digits.
 func ends(value *big.Rat) bool {
 	if value.Num().IsInt64() && value.Denom().IsInt64() && shortPower%value.Denom().Int64() == 0 {
 		return true
 	}
-	if value.Denom().BitLen() > mostBitsOfParts {
-		return false
-	}
-	rest := new(big.Int).Set(value.Denom())
-	scale := maximum(removed(rest, 2), removed(rest, 5))
-	if !rest.IsInt64() || rest.Int64() != 1 || scale > 2*mostScale {
-		return false
-	}
-	digits := scaledBy(value, scale).Num()
-	return digits.BitLen() <= mostBitsOfDigits || len(strings.Trim(digits.String(), "-0")) <= decimal.Digits
+	made, is := manyDigitsOf(value)
+	return is && made.fits()
 }
 
 // countedSum is the sum of operands that are counted in units.
@@ -460,9 +462,8 @@ func powerOfTen(value *big.Rat) (int, bool) {
 	if digits.BitLen() > mostBits || !value.IsInt() && !value.Num().IsInt64() {
 		return 0, false
 	}
-	rest := new(big.Int).Set(digits)
-	power := removed(rest, 10)
-	is := rest.IsInt64() && rest.Int64() == 1 && (value.IsInt() || value.Num().Int64() == 1)
+	power, fivesOf, is := endingParts(digits)
+	is = is && power == fivesOf && (value.IsInt() || value.Num().Int64() == 1)
 	return sign * power, is && power <= decimal.Digits
 }
 
@@ -514,14 +515,18 @@ func (t *translator) divided(n feel.Node, a, b phrase) phrase {
 // dividedBy is a number divided by a constant: where the divisor has twos and fives alone, a number with more decimals, else a
 // quotient of parts.
 func (t *translator) dividedBy(n feel.Node, a phrase, divisor *big.Rat) phrase {
-	if a.number != nil {
+	others := withoutTens(divisor.Num())
+	if a.number != nil && (a.number.Sign() == 0 || others.CmpAbs(a.number.Num()) <= 0) {
 		if value := new(big.Rat).Quo(a.number, divisor); ends(value) {
 			return constantNumber(value)
 		}
 	}
-	u, factor := t.kept.parted(divisor, a.of.units.scale)
+	u, factor := units{per: tooManyParts}, (*big.Int)(nil)
+	if isNumber(others) {
+		u, factor = t.kept.parted(divisor, a.of.units.scale)
+	}
 	u.meets = t.fractional(a.of.units).meets
-	if !isNumber(factor) || u.per == tooManyParts || u.scale > mostScale {
+	if factor == nil || !isNumber(factor) || u.per == tooManyParts || u.scale > mostScale {
 		return t.refuse(n, "the divisor has too many digits", "a divisor with fewer digits")
 	}
 	a.number = nil
@@ -533,6 +538,14 @@ func (t *translator) dividedBy(n feel.Node, a phrase, divisor *big.Rat) phrase {
 		a = t.part(a)
 	}
 	return times(a, factor, t.kept.numberOf(u))
+}
+
+// withoutTens is the size of a number without its twos and fives: a quotient ends where the dividend has what is left.
+func withoutTens(n *big.Int) *big.Int {
+	rest := new(big.Int).Abs(n)
+	removed(rest, 2)
+	removed(rest, 5)
+	return rest
 }
 
 // fractional notes that fractions meet a number. Where none are counted nobody asks which do.
@@ -560,23 +573,20 @@ func partsByMany(divisor *big.Rat, scale int) (u units, factor *big.Int) {
 		factor.Neg(factor)
 		parts.Neg(parts)
 	}
-	common := new(big.Int).GCD(nil, nil, new(big.Int).Abs(factor), parts)
+	common := commonParts(factor, parts, scale)
 	factor.Quo(factor, common)
 	parts.Quo(parts, common)
 	u, finer := unitsOfParts(parts)
 	return u, factor.Mul(factor, finer)
 }
 
-// removed takes a factor out of a number as often as it is in it, and gives how often.
-func removed(n *big.Int, factor int64) int {
-	by, rest := big.NewInt(factor), new(big.Int)
-	for count := 0; ; count++ {
-		quotient, _ := new(big.Int).QuoRem(n, by, rest)
-		if rest.Sign() != 0 || n.Sign() == 0 {
-			return count
-		}
-		n.Set(quotient)
+// commonParts is the common divisor of the denominator of a number, which may be below 0, and of its numerator times 10^scale.
+func commonParts(denominator, parts *big.Int, scale int) *big.Int {
+	size := new(big.Int).Abs(denominator)
+	if twosOf, fivesOf, is := endingParts(size); is && scale >= 0 {
+		return size.Lsh(powerOfFive(minimum(fivesOf, scale)), uint(minimum(twosOf, scale)))
 	}
+	return size.GCD(nil, nil, size, parts)
 }
 
 func power(base int64, exponent int) *big.Int {

@@ -100,7 +100,7 @@ impl<'a> Slots<'a> {
         let Some(position) = listed_at(self.scope, self.next, name.as_str()) else {
             return put_named(&mut self.others, name, place);
         };
-        make(&mut self.slots, self.scope.len())?;
+        make(&mut self.slots, self.scope.len().min(position + 1))?;
         self.next = position + 1;
         let hidden = self.slots[position];
         self.slots[position] = Some(place);

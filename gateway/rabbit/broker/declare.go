@@ -25,6 +25,33 @@ func (b Broker) Declare(ctx context.Context, settings bus.Settings, log *logs.Lo
 	return bus.Again(ctx, b, log, d.run)
 }
 
+// Leave leads no more lines to the logs of these partitions, which are closed. So a line that is sent there all the same comes back.
+func (b Broker) Leave(ctx context.Context, settings bus.Settings) error {
+	link, err := b.connect(ctx, "desk partition rescale", "")
+	if err != nil {
+		return err
+	}
+	defer link.Close()
+	return link.leave(settings.Each())
+}
+
+// leave leads no more lines to the logs of these partitions.
+func (l *Link) leave(partitions []bus.Partition) error {
+	channel, err := l.channel()
+	if err != nil {
+		return err
+	}
+	for _, partition := range partitions {
+		for _, topic := range []bus.Topic{bus.TopicLines, bus.TopicModels} {
+			route := partition.Route(bus.RequestsExchange, topic)
+			if err := channel.QueueUnbind(partition.Queue(bus.Lines), route.Key, route.Exchange, nil); err != nil {
+				return l.Because(fmt.Errorf("partition %v: %w", partition, err))
+			}
+		}
+	}
+	return l.end(channel)
+}
+
 // errSegment says that streams are there with files of another length, perhaps. They are left as they are.
 var errSegment = errors.New("a queue is there with other arguments, and is tried without the length of files")
 
@@ -129,5 +156,6 @@ func arguments(s bus.Settings, partition int, segment int64) map[string]amqp.Tab
 		s.Queue(bus.Answers, partition): stream,
 		s.Queue(bus.Lease, partition):   {"x-queue-type": "quorum", "x-single-active-consumer": true, "x-max-length": int64(1)},
 		bus.Registry:                    {"x-queue-type": "stream", "x-queue-leader-locator": "least-leaders"},
+		bus.Scale:                       {"x-queue-type": "stream", "x-queue-leader-locator": "least-leaders"},
 	}
 }

@@ -34,7 +34,7 @@ const mostAsks = 3
 
 // A held is the lease of one partition, once it is this process's.
 type held struct {
-	partition  int
+	partition  bus.Partition
 	route      bus.Route
 	link       *Link
 	channel    *amqp.Channel
@@ -46,16 +46,15 @@ type held struct {
 
 // Own waits until one of these partitions is free, and takes its lease. It is kept until the link fails, or the link fails
 // since it can't be kept. Missing is told, again and again, which of the partitions have no queues.
-func (l *Link) Own(ctx context.Context, settings bus.Settings, partitions []int, missing func([]int)) (int, error) {
-	w := &waiting{link: l, settings: settings,
-		won: make(chan *held), asked: make(chan asked), over: make(chan struct{})}
+func (l *Link) Own(ctx context.Context, partitions []bus.Partition, missing func([]bus.Partition)) (bus.Partition, error) {
+	w := &waiting{link: l, won: make(chan *held), asked: make(chan asked), over: make(chan struct{})}
 	defer close(w.over)
 	for _, at := range rand.Perm(len(partitions)) {
 		go w.seek(partitions[at])
 	}
 	won, err := w.wait(ctx, missing)
 	if err != nil {
-		return 0, err
+		return bus.Partition{}, err
 	}
 	go won.keep()
 	return won.partition, nil
@@ -64,16 +63,15 @@ func (l *Link) Own(ctx context.Context, settings bus.Settings, partitions []int,
 // A waiting waits for the lease of any partition, of each on a channel of its own, and takes the first. What befalls the
 // queue of one, as that it has no leader, neither holds up another nor ends the link.
 type waiting struct {
-	link     *Link
-	settings bus.Settings
-	won      chan *held
-	asked    chan asked
-	over     chan struct{} // is closed once a lease is won, or none is waited for any more
+	link  *Link
+	won   chan *held
+	asked chan asked
+	over  chan struct{} // is closed once a lease is won, or none is waited for any more
 }
 
 // An asked says of a partition's lease that was asked for why that failed, if it did, and how often in a row.
 type asked struct {
-	partition int
+	partition bus.Partition
 	failure   error
 	failures  int
 }
@@ -84,12 +82,12 @@ func (a asked) final() error {
 	if isMissing(a.failure) || is == bus.Passing && a.failures < mostAsks {
 		return nil
 	}
-	return fmt.Errorf("the lease of partition %d: %w", a.partition, a.failure)
+	return fmt.Errorf("the lease of partition %v: %w", a.partition, a.failure)
 }
 
-func (w *waiting) wait(ctx context.Context, missing func([]int)) (*held, error) {
+func (w *waiting) wait(ctx context.Context, missing func([]bus.Partition)) (*held, error) {
 	var gathered <-chan time.Time
-	missed := make(map[int]bool)
+	missed := make(map[bus.Partition]bool)
 	for {
 		select {
 		case lease := <-w.won:
@@ -113,22 +111,21 @@ func (w *waiting) wait(ctx context.Context, missing func([]int)) (*held, error) 
 	}
 }
 
-// those are the numbers for which it is so.
-func those(is map[int]bool) []int {
-	var numbers []int
-	for number, so := range is {
+// those are the partitions for which it is so.
+func those(is map[bus.Partition]bool) []bus.Partition {
+	var found []bus.Partition
+	for partition, so := range is {
 		if so {
-			numbers = append(numbers, number)
+			found = append(found, partition)
 		}
 	}
-	return numbers
+	return found
 }
 
 // seek asks for the lease of a partition, again and again, until some lease is won.
-func (w *waiting) seek(partition int) {
+func (w *waiting) seek(partition bus.Partition) {
 	for failures := 0; ; {
-		route := w.settings.Route(bus.AnswersExchange, bus.TopicLease, partition)
-		lease := &held{partition: partition, link: w.link, route: route}
+		lease := &held{partition: partition, link: w.link, route: partition.Route(bus.AnswersExchange, bus.TopicLease)}
 		failure := w.ask(lease)
 		if failures++; failure == nil {
 			failures = 0
@@ -183,8 +180,7 @@ func (w *waiting) ask(l *held) (err error) {
 	if err := l.channel.Qos(1, 0, false); err != nil {
 		return err
 	}
-	queue := w.settings.Queue(bus.Lease, l.partition)
-	l.deliveries, err = l.channel.Consume(queue, strconv.Itoa(l.partition), false, false, false, false, nil)
+	l.deliveries, err = l.channel.Consume(l.partition.Queue(bus.Lease), strconv.Itoa(l.partition.Number), false, false, false, false, nil)
 	return err
 }
 
@@ -252,7 +248,7 @@ func (l *held) giveUp() {
 	case <-closed:
 	case <-l.link.Done():
 	case <-late.C:
-		l.link.Fail(fmt.Errorf("the lease of partition %d: it was not given back for %v", l.partition, bus.Patience))
+		l.link.Fail(fmt.Errorf("the lease of partition %v: it was not given back for %v", l.partition, bus.Patience))
 	}
 }
 
@@ -265,7 +261,7 @@ func (l *held) keep() {
 	for err == nil {
 		err = l.renew()
 	}
-	l.link.Fail(fmt.Errorf("the lease of partition %d: %w", l.partition, err))
+	l.link.Fail(fmt.Errorf("the lease of partition %v: %w", l.partition, err))
 }
 
 // renew replaces the message by a new one, after a while.

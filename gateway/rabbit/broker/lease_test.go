@@ -31,8 +31,8 @@ func TestALeaseBesideQueuesThatDoNotConfirm(t *testing.T) {
 	b.Full = b.Confirms
 	b.Counts = b.Confirms
 	link, settings := linked(t, b, 8)
-	held, err := link.Own(context.Background(), settings, settings.All(), func([]int) {})
-	if err != nil || held != 3 {
+	held, err := link.Own(context.Background(), settings.Each(), func([]bus.Partition) {})
+	if err != nil || held.Number != 3 {
 		t.Fatalf("%+v, %v", held, err)
 	}
 	given := time.Now()
@@ -50,8 +50,8 @@ func TestALeaseBesideQueuesWithoutALeader(t *testing.T) {
 	b.Dies = func(queue string) bool { return !b.Confirms(queue) }
 	b.Stands = b.Dies
 	link, settings := linked(t, b, 8)
-	held, err := link.Own(context.Background(), settings, settings.All(), func([]int) {})
-	if err != nil || held != 3 {
+	held, err := link.Own(context.Background(), settings.Each(), func([]bus.Partition) {})
+	if err != nil || held.Number != 3 {
 		t.Fatalf("%+v, %v", held, err)
 	}
 	channel, err := link.channel()
@@ -72,8 +72,8 @@ func TestGivingUpAChannelThatStands(t *testing.T) {
 	b.Confirms = func(string) bool { return false }
 	b.Stands = func(string) bool { return true }
 	link, settings := linked(t, b, 1)
-	w := &waiting{link: link, settings: settings, over: make(chan struct{})}
-	lease := &held{link: link, route: settings.Route(bus.AnswersExchange, bus.TopicLease, 0)}
+	w := &waiting{link: link, over: make(chan struct{})}
+	lease := &held{link: link, partition: settings.Each()[0], route: settings.Route(bus.AnswersExchange, bus.TopicLease, 0)}
 	go func() {
 		for len(b.Published()) == 0 {
 			time.Sleep(time.Millisecond)
@@ -107,13 +107,13 @@ func TestALeaseBesideAQueueThatIsMissing(t *testing.T) {
 	b := brokertest.Start(t)
 	b.Missing = func(queue string) bool { return !brokertest.Is(queue, "lease", "1") }
 	link, settings := linked(t, b, 2)
-	told := make(chan []int, 1)
-	waited := make(chan int, 1)
+	told := make(chan []bus.Partition, 1)
+	waited := make(chan bus.Partition, 1)
 	go func() {
-		held, _ := link.Own(context.Background(), settings, settings.All(), func(missing []int) { told <- missing })
+		held, _ := link.Own(context.Background(), settings.Each(), func(missing []bus.Partition) { told <- missing })
 		waited <- held
 	}()
-	if missing := <-told; len(missing) != 1 || missing[0] != 0 {
+	if missing := <-told; len(missing) != 1 || missing[0].Number != 0 {
 		t.Errorf("%v are missing", missing)
 	}
 	select {
@@ -130,7 +130,7 @@ func TestTheOthersAreGivenUp(t *testing.T) {
 		return brokertest.Is(queue, "lease", "1") || brokertest.Is(queue, "lease", "2")
 	}
 	link, settings := linked(t, b, 4)
-	if _, err := link.Own(context.Background(), settings, settings.All(), func([]int) {}); err != nil {
+	if _, err := link.Own(context.Background(), settings.Each(), func([]bus.Partition) {}); err != nil {
 		t.Fatal(err)
 	}
 	givenUp(t, b)
@@ -142,7 +142,7 @@ func TestAWaitingThatTheBrokerEnds(t *testing.T) {
 	b.Ends = func(queue string) bool { return brokertest.Is(queue, "lease", "1") && len(b.GivenUp()) == 0 }
 	b.Full = func(queue string) bool { return brokertest.Is(queue, "lease", "1") && len(b.GivenUp()) > 0 }
 	link, settings := linked(t, b, 2)
-	if held, err := link.Own(context.Background(), settings, settings.All(), func([]int) {}); err != nil || held != 1 {
+	if held, err := link.Own(context.Background(), settings.Each(), func([]bus.Partition) {}); err != nil || held.Number != 1 {
 		t.Errorf("%v, %v", held, err)
 	}
 }
@@ -154,11 +154,11 @@ func TestALeaseThatCanNotBeAskedFor(t *testing.T) {
 		asked
 		isFinal bool
 	}{
-		{asked{0, nil, 0}, false},
-		{asked{0, silent, mostAsks - 1}, false},
-		{asked{0, silent, mostAsks}, true},
-		{asked{0, bus.ErrMissing, mostAsks}, false},
-		{asked{0, &amqp.Error{Code: amqp.AccessRefused, Server: true}, 1}, true},
+		{asked{bus.Partition{}, nil, 0}, false},
+		{asked{bus.Partition{}, silent, mostAsks - 1}, false},
+		{asked{bus.Partition{}, silent, mostAsks}, true},
+		{asked{bus.Partition{}, bus.ErrMissing, mostAsks}, false},
+		{asked{bus.Partition{}, &amqp.Error{Code: amqp.AccessRefused, Server: true}, 1}, true},
 	} {
 		if is := c.final() != nil; is != c.isFinal {
 			t.Errorf("%+v: %v", c.asked, is)

@@ -2,6 +2,7 @@ package broker
 
 import (
 	"context"
+	"errors"
 	"fmt"
 
 	"gateway/rabbit/answer"
@@ -16,41 +17,83 @@ const fillOpen = 1000
 // A Repair makes the log of a partition anew, from its answers and their last snapshot. The offsets of the new log go on behind
 // those of the old one, so that places stay in order: up to there it is filled with marks.
 type Repair struct {
-	Settings  bus.Settings
-	Partition int
-	Program   string // the version of this one
-	Log       *logs.Log
+	Partition bus.Partition
+	// After is set where there is another number of partitions since. The new log is closed then, as the old one was or would have been.
+	After   bus.Settings
+	Program string // the version of this one
+	Log     *logs.Log
 }
+
+// Reasons why a partition is not repaired.
+var (
+	errAnswered = errors.New("all its lines are answered, and its log is closed: nothing is to be repaired")
+	errUnbegun  = errors.New("it has not begun: it does once it is owned, and the partitions from which its keys come are answered up to the change")
+)
 
 // Repair repairs a partition. It owns the partition meanwhile.
 func (b Broker) Repair(ctx context.Context, r Repair) error {
+	if err := b.repair(ctx, r); err != nil {
+		return fmt.Errorf("partition %v: %w", r.Partition, err)
+	}
+	return nil
+}
+
+func (b Broker) repair(ctx context.Context, r Repair) error {
 	link, err := b.connectDeclared(ctx, r)
 	if err != nil {
-		return fmt.Errorf("partition %d: %w", r.Partition, err)
+		return err
 	}
 	defer link.Close()
-	waiting := func([]int) {}
-	if _, err := link.Own(ctx, r.Settings, []int{r.Partition}, waiting); err != nil {
-		return fmt.Errorf("partition %d: %w", r.Partition, err)
+	waiting := func([]bus.Partition) {}
+	if _, err := link.Own(ctx, []bus.Partition{r.Partition}, waiting); err != nil {
+		return err
 	}
 	publisher, err := link.publisher()
 	if err != nil {
 		return err
 	}
-	h, err := bus.ReadHistory(bus.HistoryOptions{Link: link, Settings: r.Settings, Partition: r.Partition, Open: bus.MostOpen}, publisher)
+	h, err := bus.ReadHistory(bus.HistoryOptions{Link: link, Partition: r.Partition, Open: bus.MostOpen}, publisher)
 	if err != nil {
-		return fmt.Errorf("partition %d: its answers can't be read, and nothing else says where it stands: %w", r.Partition, err)
+		return fmt.Errorf("its answers can't be read, and nothing else says where it stands: %w", err)
 	}
+	switch {
+	case h.Closed != bus.Settings{}:
+		if err := link.leave([]bus.Partition{r.Partition}); err != nil {
+			return err
+		}
+		return errAnswered
+	case r.Partition.Of.Epoch > 0 && !h.HasSnapshot:
+		return errUnbegun
+	}
+	gap := lostAfter(h)
+	r.Log.OfPartition(r.Partition).Info("answered up to line %v; the log is made anew from offset %d on", h.Upto(), gap.To+1)
+	if err := r.again(link, publisher, gap.To); err != nil {
+		return err
+	}
+	if err := r.publish(publisher, h, gap); err != nil || r.After == (bus.Settings{}) {
+		return err
+	}
+	if err := r.close(publisher); err != nil {
+		return err
+	}
+	return link.leave([]bus.Partition{r.Partition})
+}
+
+// lostAfter is the gap after what is answered.
+func lostAfter(h *bus.History) ledger.Gap {
 	first := h.Upto().Offset + 1
 	if h.More {
 		first--
 	}
-	gap := ledger.Gap{From: first, To: h.Upto().Offset + 1}
-	r.Log.OfPartition(r.Partition).Info("answered up to line %v; the log is made anew from offset %d on", h.Upto(), gap.To+1)
-	if err := r.again(link, publisher, gap.To); err != nil {
-		return fmt.Errorf("partition %d: %w", r.Partition, err)
+	return ledger.Gap{From: first, To: h.Upto().Offset + 1}
+}
+
+// close closes the log.
+func (r Repair) close(publisher *Publisher) error {
+	if err := publisher.Append(r.Partition.Route(bus.RequestsExchange, bus.TopicMarks), bus.CloseHeaders(r.After), nil); err != nil {
+		return err
 	}
-	return r.publish(publisher, h, gap)
+	return publisher.Settle()
 }
 
 // connectDeclared connects, and makes the queues that aren't there. Streams may be there with files of another length.
@@ -59,7 +102,7 @@ func (b Broker) connectDeclared(ctx context.Context, r Repair) (link *Link, err 
 		if link, err = b.connect(ctx, "desk partition repair", ""); err != nil {
 			return nil, err
 		}
-		if err = link.declare(r.Settings, r.Partition, segment); err == nil {
+		if err = link.declare(r.Partition.Of, r.Partition.Number, segment); err == nil {
 			return link, nil
 		}
 		if link.Close(); !isOther(err) {
@@ -75,17 +118,17 @@ func (r Repair) again(link *Link, publisher *Publisher, upto int64) error {
 	if err != nil {
 		return err
 	}
-	lines := r.Settings.Queue(bus.Lines, r.Partition)
+	lines := r.Partition.Queue(bus.Lines)
 	if _, err := channel.QueueDelete(lines, false, false, false); err != nil {
 		return link.Because(fmt.Errorf("deleting %s: %w", lines, err))
 	}
-	if err := declareQueue(channel, r.Settings, r.Partition, lines, arguments(r.Settings, r.Partition, SegmentBytes)[lines]); err != nil {
+	if err := declareQueue(channel, r.Partition.Of, r.Partition.Number, lines, arguments(r.Partition.Of, r.Partition.Number, SegmentBytes)[lines]); err != nil {
 		return link.Because(err)
 	}
 	if err := link.end(channel); err != nil {
 		return err
 	}
-	marks := r.Settings.Route(bus.RequestsExchange, bus.TopicMarks, r.Partition)
+	marks := r.Partition.Route(bus.RequestsExchange, bus.TopicMarks)
 	for offset := int64(0); offset <= upto; offset++ {
 		if err := publisher.Append(marks, bus.Headers{bus.MarkHeader: "repaired"}, nil); err != nil {
 			return err
@@ -102,7 +145,7 @@ func (r Repair) again(link *Link, publisher *Publisher, upto int64) error {
 
 // publish says in the answers what is lost, and publishes a snapshot that goes on behind it.
 func (r Repair) publish(publisher *Publisher, h *bus.History, gap ledger.Gap) error {
-	route := r.Settings.Route(bus.AnswersExchange, bus.TopicAnswers, r.Partition)
+	route := r.Partition.Route(bus.AnswersExchange, bus.TopicAnswers)
 	part := bus.Part{After: h.Upto(), Upto: gap.Place(), SnapshotAt: h.At}
 	if err := publisher.Append(route, bus.PartHeaders(part), answer.AppendLost(nil, gap)); err != nil {
 		return err

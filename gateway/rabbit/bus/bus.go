@@ -67,7 +67,7 @@ type Link interface {
 	//
 	// Kafka: a consumer group over the partitions of the log. Answers, and offsets by sendOffsetsToTransaction, are one transaction
 	// there; here each message of answers says up to which line it goes.
-	Own(ctx context.Context, settings Settings, partitions []int, missing func([]int)) (int, error)
+	Own(ctx context.Context, partitions []Partition, missing func([]Partition)) (Partition, error)
 	// Address says where the link leads to.
 	Address() string
 	// Done is closed once the link has ended, and Err is why.
@@ -204,9 +204,9 @@ const (
 
 // LineGather and AnswerGather are how long a message of lines, and one of answers, waits at most after the one before it, unless it is
 // full. What a message costs the brokers is most of what a line costs, so of lines that come one by one several share a message;
-// one that comes after a pause waits for nothing.
+// one that comes after a pause waits for nothing, nor does one where no other line joins those that wait.
 const (
-	LineGather   = 25 * time.Millisecond
+	LineGather   = 40 * time.Millisecond
 	AnswerGather = 10 * time.Millisecond
 )
 

@@ -29,6 +29,7 @@ const TokenHeader = "token"
 // A Superseded error says that a newer process has claimed the name.
 type Superseded struct {
 	Name  string
+	Epoch int64 // that of the newer process
 	Since time.Time
 }
 
@@ -117,7 +118,7 @@ func (c *Claim) Reader() Reader { return c.reader }
 func (c *Claim) Look(message Message) error {
 	from, err := ReadOrigin(message)
 	if err == nil && from.Kind == ledger.Claim && from.Sender == c.name && epochOf(message) > c.Epoch {
-		return &Superseded{Name: c.name, Since: from.Sent}
+		return &Superseded{Name: c.name, Epoch: epochOf(message), Since: from.Sent}
 	}
 	return nil
 }

@@ -39,6 +39,13 @@ const (
 	moreHeader        = "more"
 	kindAnswers       = "answers"
 	kindSnapshot      = "snapshot"
+	kindClose         = "close" // of a log
+)
+
+// The headers of the last snapshot of a partition: how many partitions there are after it.
+const (
+	closedEpochHeader      = "closed-epoch"
+	closedPartitionsHeader = "closed-partitions"
 )
 
 // ErrForeign tells that a message's topic or headers are not those that the programs write.
@@ -109,14 +116,24 @@ type Part struct {
 	More     bool         // answers: whether the message of the last has further lines
 	// SnapshotAt is an offset of the stream: the last snapshot before the message is there, or soon after. -1 says nothing.
 	SnapshotAt int64
+	// Closed is set in the last snapshot of a partition: these settings are after it.
+	Closed Settings
 }
+
+// IsFirst says of a snapshot whether it is that before the first line.
+func (p Part) IsFirst() bool { return p.Snapshot && p.Upto == ledger.Start }
 
 // PartHeaders are the headers of a message of answers, or of a snapshot.
 func PartHeaders(part Part) Headers {
-	headers := Headers{kindHeader: kindAnswers, offsetHeader: part.Upto.Offset, indexHeader: part.Upto.Index,
-		snapshotAtHeader: part.SnapshotAt, moreHeader: part.More}
+	headers := Headers{kindHeader: kindAnswers, snapshotAtHeader: part.SnapshotAt, moreHeader: part.More}
 	if part.Snapshot {
 		headers[kindHeader] = kindSnapshot
+	}
+	if part.Closed != (Settings{}) {
+		headers[closedEpochHeader], headers[closedPartitionsHeader] = part.Closed.Epoch, int64(part.Closed.Partitions)
+	}
+	if part.Upto != ledger.Start {
+		headers[offsetHeader], headers[indexHeader] = part.Upto.Offset, part.Upto.Index
 	}
 	if part.After != ledger.Start { // some libraries read no number below 0
 		headers[afterOffsetHeader], headers[afterIndexHeader] = part.After.Offset, part.After.Index
@@ -148,8 +165,15 @@ func ReadPart(message Message) (part Part, is bool, err error) {
 	part.Snapshot = kind == kindSnapshot
 	part.More, _ = headers[moreHeader].(bool)
 	part.SnapshotAt = SnapshotAt(message)
+	if part.Snapshot {
+		part.Closed, _ = settingsOf(headers, closedEpochHeader, closedPartitionsHeader)
+	}
 	names, places := []string{offsetHeader, indexHeader}, []*int64{&part.Upto.Offset, &part.Upto.Index}
 	part.After = ledger.Start
+	if _, has := headers[offsetHeader]; !has && part.Snapshot {
+		part.Upto = ledger.Start
+		return part, true, nil
+	}
 	if _, has := headers[afterOffsetHeader]; has {
 		names = append(names, afterOffsetHeader, afterIndexHeader)
 		places = append(places, &part.After.Offset, &part.After.Index)

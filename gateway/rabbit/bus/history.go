@@ -27,7 +27,12 @@ type History struct {
 	Unread []error
 	// At is the offset of the snapshot in the stream of answers, and End that of the last message that was read.
 	At, End int64
-	pointer int64 // where the messages that were read say that the last snapshot is, or -1
+	// HasSnapshot says whether there is one. A partition of a later number of partitions has one before its first line.
+	HasSnapshot bool
+	// Closed is set where the snapshot is the last one, since the log is closed: these settings are after it.
+	Closed  Settings
+	Sent    time.Time // when the snapshot was published
+	pointer int64     // where the messages that were read say that the last snapshot is, or -1
 	keep    time.Duration
 	chain   ledger.Chain
 	found   bool // whether there is a snapshot, or the stream's beginning was read
@@ -61,8 +66,7 @@ type Progress interface {
 // HistoryOptions say which stream of answers is read, and how.
 type HistoryOptions struct {
 	Link      Link
-	Settings  Settings
-	Partition int
+	Partition Partition
 	Open      int           // how many messages are on their way at a time
 	Keep      time.Duration // how long named senders are known after their last message
 	Progress  Progress
@@ -82,7 +86,7 @@ func ReadHistory(options HistoryOptions, publisher Appender) (*History, error) {
 	if err != nil {
 		return nil, err
 	}
-	route := options.Settings.Route(AnswersExchange, TopicMarks, options.Partition)
+	route := options.Partition.Route(AnswersExchange, TopicMarks)
 	if err := publisher.Append(route, Headers{MarkHeader: mark}, nil); err != nil {
 		return nil, err
 	}
@@ -125,7 +129,7 @@ func newHistoryReader(options HistoryOptions) *historyReader {
 	if options.Progress == nil {
 		options.Progress = unwatched{}
 	}
-	return &historyReader{HistoryOptions: options, queue: options.Settings.Queue(Answers, options.Partition)}
+	return &historyReader{HistoryOptions: options, queue: options.Partition.Queue(Answers)}
 }
 
 // begin begins to read the last messages.
@@ -219,7 +223,7 @@ func (h *History) Take(message Message) error {
 		return err
 	}
 	if part.Snapshot {
-		return h.takeSnapshot(part, message.Body)
+		return h.takeSnapshot(part, message)
 	}
 	if !h.found || !h.chain.Fits(part.After, part.Upto) {
 		return nil
@@ -238,17 +242,19 @@ func (h *History) Take(message Message) error {
 	return nil
 }
 
-// takeSnapshot takes a snapshot in, where it reaches further than the one before.
-func (h *History) takeSnapshot(part Part, body []byte) error {
-	if h.found && !h.Ledger.Place.Before(part.Upto) {
+// takeSnapshot takes a snapshot in, where it reaches further than the one before. That before the first line may come late, behind
+// others, so it counts where the stream is read from its beginning.
+func (h *History) takeSnapshot(part Part, message Message) error {
+	isNew := h.Ledger.Place.Before(part.Upto) || part.IsFirst() && !h.HasSnapshot && h.chain.Upto == ledger.Start
+	if h.found && !isNew || !h.found && part.IsFirst() {
 		return nil
 	}
-	l, err := ledger.Read(body, h.keep)
+	l, err := ledger.Read(message.Body, h.keep)
 	if err != nil { // the snapshot before it counts, which may stand further back
 		h.Unread = append(h.Unread, err)
 		return nil
 	}
-	h.found, h.Ledger, h.Messages = true, l, 0
+	h.found, h.HasSnapshot, h.Closed, h.Ledger, h.Messages, h.Sent = true, true, part.Closed, l, 0, message.Sent
 	if h.chain.Reach(part.Upto); h.chain.Upto == part.Upto {
 		h.More = l.Part
 	}

@@ -17,6 +17,8 @@ const (
 	TopicLines   Topic = "lines"   // requests, claims of names, ends of batches
 	TopicModels  Topic = "models"  // lines with models, and requests among them
 	TopicSenders Topic = "senders" // the registry, which has no partition
+	TopicScale   Topic = "scale"   // how many partitions there are
+	TopicLooks   Topic = "looks"   // of who looks at that: it carries nothing. Senders may publish it, and so it is none of the marks
 	TopicAnswers Topic = "answers" // answers and snapshots
 	TopicLease   Topic = "lease"
 	TopicMarks   Topic = "marks" // messages that carry nothing
@@ -30,7 +32,7 @@ var RegistryRoute = Route{RequestsExchange, string(TopicSenders)}
 
 // Route is where messages of a topic are published for a partition.
 func (s Settings) Route(exchange string, topic Topic, partition int) Route {
-	return Route{exchange, fmt.Sprintf("%s.%d.of.%d", topic, partition, s.Partitions)}
+	return Route{exchange, fmt.Sprintf("%s.%s", topic, s.name(partition))}
 }
 
 // A Binding leads messages of a route to a stream or a lease.
@@ -47,6 +49,6 @@ func (s Settings) Bindings(partition int) []Binding {
 	return []Binding{
 		of(Lines, RequestsExchange, TopicLines), of(Lines, RequestsExchange, TopicModels), of(Lines, RequestsExchange, TopicMarks),
 		of(Answers, AnswersExchange, TopicAnswers), of(Answers, AnswersExchange, TopicMarks),
-		of(Lease, AnswersExchange, TopicLease), {Registry, RegistryRoute},
+		of(Lease, AnswersExchange, TopicLease), {Registry, RegistryRoute}, {Scale, ScaleRoute}, {Scale, LookRoute},
 	}
 }

@@ -14,6 +14,7 @@ import (
 	"gateway/rabbit/answer"
 	"gateway/rabbit/bus"
 	"gateway/rabbit/logs"
+	"gateway/rabbit/metrics"
 	"gateway/rabbit/receiver"
 	"gateway/rabbit/sender"
 )
@@ -21,7 +22,7 @@ import (
 // Options say where is asked, and by which model.
 type Options struct {
 	Bus      bus.Bus
-	Settings bus.Settings
+	Settings bus.Settings // where the brokers don't say how many partitions there are
 	Log      *logs.Log
 	Model    []byte        // the line by which the model is put in force for all calls of this process
 	Keep     time.Duration // how long an answer is kept
@@ -32,17 +33,22 @@ type Options struct {
 // Calls are those of one process.
 type Calls struct {
 	options Options
-	input   *feed
 	done    chan struct{} // is closed once nothing more is sent
 	err     error         // why
 	end     context.CancelFunc
-	gauges  []gauges // of what is sent, and of what is received
+	sends   *metrics.Partitions
+	gets    *receiver.Gauges
+	looks   looks
+	scale   *bus.Watch // once it is known how many partitions there are
 	mutex   sync.Mutex
+	input   *feed
+	closed  bool  // whether nothing more is put in
+	reached bool  // whether it is known how many partitions there are
+	epoch   int64 // of that number
+	count   int64 // of requests that were put in
 	waiting map[request]*waiter
 	answers kept
 }
-
-type gauges interface{ Ready() (bool, string) }
 
 // A request is one of those of a call.
 type request struct {
@@ -55,6 +61,10 @@ type waiter struct {
 	job       *engine.Job
 	since     time.Time
 	confirmed bool
+	line      []byte
+	order     int64 // its number among all requests
+	partition int
+	number    int64 // among the lines that were sent to its partition, or -1 where it wasn't
 }
 
 // name is the id of a request's line, as JSON.
@@ -81,34 +91,33 @@ func Start(ctx context.Context, options Options) (*Calls, error) {
 	}
 	ctx, end := context.WithCancel(ctx)
 	c := &Calls{options: options, input: newFeed(), done: make(chan struct{}), end: end, waiting: map[request]*waiter{},
-		answers: kept{most: options.Bytes, byCall: map[string]*Kept{}}}
-	id, err := bus.NewMark()
-	if err != nil {
-		end()
-		return nil, err
-	}
-	receives, sends := receiver.NewGauges(), sender.NewGauges()
-	c.gauges = []gauges{sends, receives}
-	go c.receive(ctx, receives)
+		answers: kept{most: options.Bytes, byCall: map[string]*Kept{}}, sends: sender.NewGauges(), gets: receiver.NewGauges()}
 	c.input.add(options.Model)
 	go func() {
-		tally, err := sender.Send(ctx, sender.Options{Bus: options.Bus, Settings: options.Settings, Name: id, Input: c.input,
-			Log: options.Log, Gauges: sends, Confirmed: c.confirm, Check: func([]byte) error { return nil }})
-		if err == nil && tally.Refused+tally.Unsent > 0 {
-			err = fmt.Errorf("%d lines could not be sent", tally.Refused+tally.Unsent)
-		}
-		c.err = err
+		c.err = c.work(ctx)
 		close(c.done)
 	}()
 	go c.expire(ctx)
 	return c, nil
 }
 
+// work begins to read answers, once it is known how many partitions there are, and sends until the context ends or nothing more comes.
+func (c *Calls) work(ctx context.Context) error {
+	scale, err := bus.StartWatch(ctx, c.options.Bus, c.options.Log, "desk http", c.options.Settings)
+	if err != nil {
+		return err
+	}
+	c.mutex.Lock()
+	c.scale = scale
+	c.mutex.Unlock()
+	go c.receive(ctx, scale)
+	return c.send(ctx, scale)
+}
+
 // receive takes answers in until the context ends. One that was kept before the process was started is among them.
-func (c *Calls) receive(ctx context.Context, gauges *receiver.Gauges) {
+func (c *Calls) receive(ctx context.Context, scale *bus.Watch) {
 	from := bus.From{Place: bus.Since, Since: c.options.Now().Add(-c.options.Keep)}
-	err := receiver.Receive(ctx, receiver.Options{Bus: c.options.Bus, Settings: c.options.Settings, From: from, Log: c.options.Log,
-		Gauges: gauges, Each: c.take})
+	err := receiver.Receive(ctx, receiver.Options{Bus: c.options.Bus, Scale: scale, From: from, Log: c.options.Log, Gauges: c.gets, Each: c.take})
 	if err != nil && ctx.Err() == nil {
 		c.options.Log.Error("no more answers are read: %v", err)
 	}
@@ -116,10 +125,17 @@ func (c *Calls) receive(ctx context.Context, gauges *receiver.Gauges) {
 
 // Ready says whether each partition can be reached, and in words.
 func (c *Calls) Ready() (bool, string) {
-	for _, of := range c.gauges {
-		if is, said := of.Ready(); !is {
-			return false, said
-		}
+	c.mutex.Lock()
+	reached := c.reached
+	c.mutex.Unlock()
+	if !reached {
+		return false, "no broker is reached"
+	}
+	if is, said := c.sends.Ready(); !is {
+		return false, said
+	}
+	if is, said := c.gets.Ready(); !is {
+		return false, said
 	}
 	return true, "each partition is reached"
 }
@@ -138,7 +154,10 @@ func (c *Calls) Err() error {
 // Close sends what was put in, and ends.
 func (c *Calls) Close(ctx context.Context) error {
 	defer c.end()
+	c.mutex.Lock()
+	c.closed = true
 	c.input.close()
+	c.mutex.Unlock()
 	select {
 	case <-c.done:
 		return c.err
@@ -154,49 +173,53 @@ func (c *Calls) Put(call Call, jobs []*engine.Job) error {
 		return fmt.Errorf("asking the partitions: %w", err)
 	}
 	of := name{Call: call.ID, Of: len(jobs), IsList: call.IsList, Service: call.Service}
-	var lines []byte
-	now := c.options.Now()
-	c.mutex.Lock()
-	for at, job := range jobs {
-		c.waiting[request{call.ID, at}] = &waiter{job: job, since: now}
-	}
-	c.mutex.Unlock()
+	lines := make([][]byte, len(jobs))
 	for at, job := range jobs {
 		of.At = at
 		id, err := json.Marshal(of)
 		if err != nil {
 			return fmt.Errorf("asking the partitions: %w", err)
 		}
-		lines = append(append(append(append(lines, `{"id":`...), id...), `,"key":`...), key...)
-		lines = append(append(append(lines, ','), job.Rest...), '\n')
+		line := append(append(append(append([]byte(`{"id":`), id...), `,"key":`...), key...), ',')
+		lines[at] = append(append(line, job.Rest...), '\n')
 	}
-	c.input.add(lines)
+	now := c.options.Now()
+	c.mutex.Lock()
+	defer c.mutex.Unlock()
+	for at, job := range jobs {
+		c.count++
+		c.waiting[request{call.ID, at}] = &waiter{job: job, since: now, line: lines[at], order: c.count, number: -1}
+		c.input.add(lines[at])
+	}
 	return nil
 }
 
 // confirm takes in that a line is in the log of its partition.
 func (c *Calls) confirm(line []byte) {
-	var read struct{ ID name }
-	if err := json.Unmarshal(line, &read); err != nil || read.ID.Call == "" {
-		return // it is the model
-	}
+	asked, is := idOf(line)
 	c.mutex.Lock()
 	defer c.mutex.Unlock()
-	if w := c.waiting[request{read.ID.Call, read.ID.At}]; w != nil {
+	if w := c.waiting[asked]; is && w != nil {
 		w.confirmed = true
 	}
 }
 
 // IsSent says whether the partitions have each request of a call: then it is answered, whatever becomes of this process.
 func (c *Calls) IsSent(id string, requests int) bool {
+	epoch, is := c.isConfirmed(id, requests)
+	return is && c.looks.isSame(epoch, c.look)
+}
+
+// isConfirmed says whether each request of a call is confirmed, and with how many partitions.
+func (c *Calls) isConfirmed(id string, requests int) (epoch int64, is bool) {
 	c.mutex.Lock()
 	defer c.mutex.Unlock()
 	for at := 0; at < requests; at++ {
 		if w := c.waiting[request{id, at}]; w != nil && !w.confirmed {
-			return false
+			return 0, false
 		}
 	}
-	return true
+	return c.epoch, true
 }
 
 // Find is what is kept of a call, or nil.
@@ -210,7 +233,7 @@ func (c *Calls) Find(id string) *Kept {
 func (c *Calls) IsOver(made time.Time) bool { return c.options.Now().Sub(made) > c.options.Keep }
 
 // take takes an answer in.
-func (c *Calls) take(_ int, text []byte, _ answer.Record) error {
+func (c *Calls) take(text []byte, _ answer.Record) error {
 	key, id, outcome, is := read(text)
 	if !is {
 		return nil

@@ -49,6 +49,11 @@ type Batch struct {
 	// Adrift says that a model of the batch is among those that are missing: the model of its next lines isn't known.
 	Adrift bool
 	Sent   time.Time
+	// Had is how many models of the batch came before its first line, since each partition from which its keys come had them.
+	Had int64
+	// Sections say what partitions had taken of it whose keys these were, before the number of partitions changed. Count and what
+	// belongs to it count the lines that none of them took.
+	Sections []Section
 }
 
 // skip takes in that the next line has this number, and that so many models come before it; -1 where that isn't known. It
@@ -99,5 +104,6 @@ func (b *Batch) Mark(count int64) (Digest, bool) {
 func (b *Batch) clone() *Batch {
 	copied := *b
 	copied.Marks = append([]Digest(nil), b.Marks...)
+	copied.Sections = append([]Section(nil), b.Sections...)
 	return &copied
 }

@@ -9,8 +9,12 @@ import (
 	"gateway/rabbit/line"
 )
 
-// SnapshotVersion is the version of the form of snapshots that this program writes and reads.
-const SnapshotVersion = 2
+// SnapshotVersion is the version of the form of snapshots that this program writes and reads. Where batches have sections it is
+// sectionsVersion, so that no program takes it that doesn't know these.
+const (
+	SnapshotVersion = 2
+	sectionsVersion = 3
+)
 
 // snapshot is a ledger in JSON. Each model is in it once, and is named by its number; -1 says that there is none, and -2 that it
 // is lost.
@@ -46,6 +50,18 @@ type batchRecord struct {
 	Adrift  bool     `json:"adrift,omitempty"`
 	Sent    int64    `json:"sent"`
 	Model   int      `json:"model"` // of an open batch
+	// Had is how many models it had at first, and Sections are what closed partitions took of it.
+	Had      int64           `json:"had,omitempty"`
+	Sections []sectionRecord `json:"sections,omitempty"`
+}
+
+type sectionRecord struct {
+	Origination
+	Count   int64    `json:"count"`
+	Models  int64    `json:"models,omitempty"`
+	Missing int64    `json:"missing,omitempty"`
+	Marks   [][]byte `json:"marks,omitempty"`
+	Last    []byte   `json:"last,omitempty"`
 }
 
 // Snapshot is the ledger as the body of a message, written by this version of the program.
@@ -66,6 +82,9 @@ func (l *Ledger) Snapshot(program string) ([]byte, error) {
 		s.Senders = append(s.Senders, record)
 	}
 	s.Models = w.models
+	if w.hasSections {
+		s.Version = sectionsVersion
+	}
 	var body bytes.Buffer
 	encoder := json.NewEncoder(&body)
 	encoder.SetEscapeHTML(false) // a model stays as it was sent
@@ -83,8 +102,9 @@ const (
 
 // A snapshotWriter gives each model a number.
 type snapshotWriter struct {
-	models  []json.RawMessage
-	numbers map[string]int
+	models      []json.RawMessage
+	numbers     map[string]int
+	hasSections bool
 }
 
 func (w *snapshotWriter) number(model []byte) int {
@@ -105,14 +125,33 @@ func (w *snapshotWriter) number(model []byte) int {
 
 func (w *snapshotWriter) batch(batch *Batch, model []byte) batchRecord {
 	record := batchRecord{ID: batch.ID, Count: batch.Count, Last: append([]byte(nil), batch.Last[:]...), Ended: batch.Ended,
-		Missing: batch.Missing, Models: batch.Models, Adrift: batch.Adrift, Sent: batch.Sent.UnixMilli(), Model: noModel}
-	for _, mark := range batch.Marks {
-		record.Marks = append(record.Marks, append([]byte(nil), mark[:]...))
+		Missing: batch.Missing, Models: batch.Models, Adrift: batch.Adrift, Sent: batch.Sent.UnixMilli(), Model: noModel, Had: batch.Had}
+	record.Marks = written(batch.Marks)
+	for _, section := range batch.Sections {
+		w.hasSections = true
+		record.Sections = append(record.Sections, sectionRecord{Origination: section.Origination, Count: section.Count, Models: section.Models,
+			Missing: section.Missing, Marks: written(section.Marks), Last: append([]byte(nil), section.Last[:]...)})
 	}
 	if !batch.Ended {
 		record.Model = w.number(model)
 	}
 	return record
+}
+
+func written(digests []Digest) (marks [][]byte) {
+	for _, digest := range digests {
+		marks = append(marks, append([]byte(nil), digest[:]...))
+	}
+	return marks
+}
+
+func read(marks [][]byte) (digests []Digest) {
+	for _, mark := range marks {
+		var digest Digest
+		copy(digest[:], mark)
+		digests = append(digests, digest)
+	}
+	return digests
 }
 
 // Read reads a snapshot. Named senders are known for so long after their last message.
@@ -121,9 +160,9 @@ func Read(body []byte, keep time.Duration) (*Ledger, error) {
 	if err := json.Unmarshal(body, &s); err != nil {
 		return nil, fmt.Errorf("reading a snapshot: %w", err)
 	}
-	if s.Version != SnapshotVersion {
-		return nil, fmt.Errorf("reading a snapshot of the program's version %q: its form has version %d, and this program reads %d",
-			s.Program, s.Version, SnapshotVersion)
+	if s.Version != SnapshotVersion && s.Version != sectionsVersion {
+		return nil, fmt.Errorf("reading a snapshot of the program's version %q: its form has version %d, and this program reads %d and %d",
+			s.Program, s.Version, SnapshotVersion, sectionsVersion)
 	}
 	l := &Ledger{Place: s.Place, Part: s.Part, Lines: s.Lines, Models: NewModels()}
 	for name, ticket := range s.Tickets {
@@ -180,12 +219,13 @@ func (r senderRecord) sender() Sender {
 	sender := Sender{Name: r.Name, Named: r.Named, Epoch: r.Epoch, Sent: time.UnixMilli(r.Sent)}
 	for _, record := range r.Batches {
 		batch := &Batch{ID: record.ID, Count: record.Count, Ended: record.Ended, Missing: record.Missing,
-			Models: record.Models, Adrift: record.Adrift, Sent: time.UnixMilli(record.Sent)}
+			Models: record.Models, Adrift: record.Adrift, Sent: time.UnixMilli(record.Sent), Had: record.Had}
 		copy(batch.Last[:], record.Last)
-		for _, digest := range record.Marks {
-			var mark Digest
-			copy(mark[:], digest)
-			batch.Marks = append(batch.Marks, mark)
+		batch.Marks = read(record.Marks)
+		for _, s := range record.Sections {
+			section := Section{Origination: s.Origination, Count: s.Count, Models: s.Models, Missing: s.Missing, Marks: read(s.Marks)}
+			copy(section.Last[:], s.Last)
+			batch.Sections = append(batch.Sections, section)
 		}
 		sender.Batches = append(sender.Batches, batch)
 	}

@@ -41,8 +41,8 @@ func New(output io.Writer, program string) *Log {
 // Of is a log whose lines begin with what they are about.
 func (l *Log) Of(what string) *Log { return &Log{to: l.to, prefix: l.prefix + what + ": "} }
 
-// OfPartition is the log of a partition.
-func (l *Log) OfPartition(number int) *Log { return l.Of(fmt.Sprintf("partition %d", number)) }
+// OfPartition is the log of a partition, which is a number or says more.
+func (l *Log) OfPartition(partition any) *Log { return l.Of(fmt.Sprintf("partition %v", partition)) }
 
 // Info writes a line of that level, as do Warning and Error.
 func (l *Log) Info(form string, words ...any) { l.write(Info, form, words) }

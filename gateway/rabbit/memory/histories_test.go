@@ -25,48 +25,123 @@ const (
 // A checker reads the answers as a receiver does, and believes nobody.
 type checker struct {
 	*world
+	parts    map[bus.Partition]*part
+	counts   map[int]int       // how often each request was answered
+	byKey    map[string]int    // of each batch and key, the last line that was answered
+	received map[counted]int64 // of each process, how many of its requests count; its sent isn't set
+	models   map[counted]map[int]bool
+	lost     bool // whether something was lost so far: then a line may be refused since its model is
+	gaps     []ledger.Gap
+}
+
+// A part is what the answers of one partition say.
+type part struct {
+	*checker
+	at      bus.Partition
 	chain   ledger.Chain
-	bodies  map[int64][]byte // of the log, by offset
-	written [][]byte         // the answers that count
-	gaps    []ledger.Gap
-	counts  map[int]int // how often each line was answered
+	log     map[int64]bus.Message // by offset
+	written [][]byte              // the answers that count
 	last    map[batch]int
-	started map[batch]int // of each batch, the addend in force at its first line
-	inForce int           // the addend, or 0
+	models  map[int]bool
+	started map[batch][]int // of each batch, the addends of which one is in force at its first line, or where it goes on
+	inForce int             // the addend, or 0
 	tickets map[string]int64
-	lost    bool // whether something was lost so far: then a line may be refused since its model is
+	firsts  [][]byte // the snapshots before the first line, which are all the same
+	lasts   [][]byte // and those at the end
 }
 
 // check reports the first thing that is wrong.
 func (w *world) check() error {
-	c := &checker{world: w, counts: map[int]int{}, last: map[batch]int{}, started: map[batch]int{}, tickets: map[string]int64{}, bodies: map[int64][]byte{}}
-	for _, message := range w.lines().Messages {
-		c.bodies[message.Offset] = message.Body
-	}
-	c.chain.Reach(ledger.Start)
-	for _, message := range w.answers().Messages {
-		part, is, err := bus.ReadPart(message)
-		if err != nil {
-			return err
-		}
-		if is && part.Snapshot {
-			c.chain.Reach(part.Upto)
-			continue
-		}
-		if !is || !c.chain.Fits(part.After, part.Upto) {
-			continue
-		}
-		for _, text := range bytes.Split(bytes.TrimSpace(message.Body), []byte("\n")) {
-			if err := c.take(text); err != nil {
-				return fmt.Errorf("%s: %w", text, err)
+	c := &checker{world: w, parts: map[bus.Partition]*part{}, counts: map[int]int{}, byKey: map[string]int{}, received: map[counted]int64{},
+		models: map[counted]map[int]bool{}}
+	scaling := w.scaling()
+	for _, of := range scaling.All {
+		for _, at := range of.Each() {
+			before, _ := scaling.Before(of.Epoch)
+			if err := c.begin(at, before).check(); err != nil {
+				return fmt.Errorf("partition %v: %w", at, err)
 			}
 		}
-		c.chain.Reach(part.Upto)
 	}
 	if err := c.complete(); err != nil {
 		return err
 	}
-	return c.received()
+	return c.isReceived()
+}
+
+// begin is a partition before its first line.
+func (c *checker) begin(at bus.Partition, before bus.Settings) *part {
+	p := &part{checker: c, at: at, last: map[batch]int{}, models: map[int]bool{}, started: map[batch][]int{}, tickets: map[string]int64{},
+		log: map[int64]bus.Message{}}
+	c.parts[at] = p
+	for _, message := range c.Stream(at.Queue(bus.Lines)).Messages {
+		p.log[message.Offset] = message
+	}
+	p.chain.Reach(ledger.Start)
+	if at.Of.Epoch == 0 {
+		return p
+	}
+	known := map[batch]bool{}
+	for _, number := range bus.Sources(before, at.Of, at.Number) {
+		for of := range c.parts[bus.Partition{Of: before, Number: number}].started {
+			known[of] = true
+		}
+	}
+	for index, number := range bus.Sources(before, at.Of, at.Number) {
+		source := c.parts[bus.Partition{Of: before, Number: number}]
+		if index == 0 {
+			p.inForce = source.inForce
+		}
+		for client, ticket := range source.tickets {
+			if p.tickets[client] < ticket {
+				p.tickets[client] = ticket
+			}
+		}
+		for of := range known {
+			if addends := source.started[of]; addends != nil {
+				p.started[of] = append(p.started[of], addends...)
+			} else {
+				p.started[of] = append(p.started[of], source.inForce)
+			}
+		}
+	}
+	return p
+}
+
+// check reads the answers.
+func (p *part) check() error {
+	for _, message := range p.Stream(p.at.Queue(bus.Answers)).Messages {
+		said, is, err := bus.ReadPart(message)
+		if err != nil {
+			return err
+		}
+		if is && said.Snapshot {
+			p.chain.Reach(said.Upto)
+			if said.IsFirst() {
+				p.firsts = append(p.firsts, message.Body)
+			} else if said.Closed != (bus.Settings{}) {
+				p.lasts = append(p.lasts, message.Body)
+			}
+			continue
+		}
+		if !is || !p.chain.Fits(said.After, said.Upto) {
+			continue
+		}
+		for _, text := range bytes.Split(bytes.TrimSpace(message.Body), []byte("\n")) {
+			if err := p.take(text); err != nil {
+				return fmt.Errorf("%s: %w", text, err)
+			}
+		}
+		p.chain.Reach(said.Upto)
+	}
+	for _, same := range [][][]byte{p.firsts, p.lasts} {
+		for _, body := range same {
+			if !bytes.Equal(body, same[0]) {
+				return fmt.Errorf("two owners publish\n%s\n%s", same[0], body)
+			}
+		}
+	}
+	return nil
 }
 
 type simAnswer struct {
@@ -80,125 +155,189 @@ type simAnswer struct {
 }
 
 // take takes in a line of the answers.
-func (c *checker) take(text []byte) error {
+func (p *part) take(text []byte) error {
 	var read simAnswer
 	if err := json.Unmarshal(bytes.Replace(text, []byte(`"model":true`), []byte(`"model":1`), 1), &read); err != nil {
 		return err
 	}
 	if read.Lost != nil {
-		c.gaps, c.lost = append(c.gaps, *read.Lost), true
-		c.written = append(c.written, text)
+		p.gaps, p.lost = append(p.gaps, *read.Lost), true
+		p.written = append(p.written, text)
 		return nil
 	}
 	place := ledger.Place{Offset: read.Offset, Index: read.Place}
-	if !c.chain.Upto.Before(place) {
+	if !p.chain.Upto.Before(place) {
 		return nil
 	}
-	c.written = append(c.written, text)
-	number, err := c.numberAt(place)
+	p.written = append(p.written, text)
+	if at := p.closeOf(p.at); at >= 0 && place.Offset > at {
+		return fmt.Errorf("the log is closed at offset %d", at)
+	}
+	raw := bytes.Split(p.log[place.Offset].Body, []byte("\n"))[place.Index]
+	number := numberOf(raw)
+	if err := p.count(number, place); err != nil {
+		return err
+	}
+	return p.compare(number, read)
+}
+
+// count counts a line that is answered.
+func (p *part) count(number int, place ledger.Place) error {
+	sent := p.texts[number]
+	from, err := bus.ReadOrigin(p.log[place.Offset])
 	if err != nil {
 		return err
 	}
-	if c.counts[number]++; c.counts[number] > 1 {
+	by := counted{of: sent.of, epoch: from.Epoch}
+	if sent.addend > 0 {
+		if p.models[number] {
+			return fmt.Errorf("model %d is answered twice", number)
+		}
+		p.models[number] = true
+		if p.checker.models[by] == nil {
+			p.checker.models[by] = map[int]bool{}
+		}
+		p.checker.models[by][number] = true
+		return nil
+	}
+	if p.counts[number]++; p.counts[number] > 1 {
 		return fmt.Errorf("line %d is answered twice", number)
 	}
-	return c.compare(number, read)
-}
-
-// numberAt is the number of the line at a place of the log.
-func (c *checker) numberAt(place ledger.Place) (int, error) {
-	raw := bytes.Split(c.bodies[place.Offset], []byte("\n"))[place.Index]
-	var read struct {
-		ID    *int
-		Model struct{ Number int }
+	p.received[by]++
+	key := fmt.Sprintf("%v %s", sent.of, sent.key)
+	if last, is := p.byKey[key]; is && last >= sent.index {
+		return fmt.Errorf("line %d comes after line %d of its batch and key", sent.index, last)
 	}
-	if err := json.Unmarshal(raw, &read); err != nil {
-		return 0, err
-	}
-	if read.ID != nil {
-		return *read.ID, nil
-	}
-	return read.Model.Number, nil
+	p.byKey[key] = sent.index
+	return nil
 }
 
 // compare compares an answer with what is due to the line.
-func (c *checker) compare(number int, read simAnswer) error {
-	sent := c.texts[number]
-	if last, is := c.last[sent.of]; is && last >= sent.index {
+func (p *part) compare(number int, read simAnswer) error {
+	sent := p.texts[number]
+	if last, is := p.last[sent.of]; is && last >= sent.index {
 		return fmt.Errorf("line %d comes after line %d of its batch", sent.index, last)
 	}
-	if _, is := c.last[sent.of]; !is {
-		c.started[sent.of] = c.inForce
+	if _, is := p.started[sent.of]; !is {
+		p.started[sent.of] = []int{p.inForce}
 	}
-	c.last[sent.of] = sent.index
+	p.last[sent.of] = sent.index
 	if sent.addend > 0 {
-		c.inForce = sent.addend
+		p.inForce = sent.addend
 		return nil
 	}
-	due := c.due(sent)
-	switch {
-	case read.Answer.Refused == "lost" && c.retention:
-		return nil
-	case due == 0 && (read.Answer.Refused == "model" || c.retention):
-	case read.Answer.Refused != "" || read.Answer.Result != number*3+due:
-		return fmt.Errorf("%d is due", number*3+due)
+	if due := p.due(sent); !p.isDue(due, number, read) {
+		return fmt.Errorf("%d is due, and one of %v", number*3, due)
 	}
 	if read.Answer.Ticket == nil {
 		return nil
 	}
-	if *read.Answer.Ticket != c.tickets[read.Answer.Client] {
-		return fmt.Errorf("ticket %d is due", c.tickets[read.Answer.Client])
+	if *read.Answer.Ticket != p.tickets[read.Answer.Client] {
+		return fmt.Errorf("ticket %d is due", p.tickets[read.Answer.Client])
 	}
-	c.tickets[read.Answer.Client]++
+	p.tickets[read.Answer.Client]++
 	return nil
 }
 
-// due is the addend of the model that decides a request: the last of its batch before it, or the one in force at the batch's
-// first line.
-func (c *checker) due(sent line) int {
-	for index := sent.index; index >= 0; index-- {
-		if addend := c.texts[c.inputs[sent.of][index]].addend; addend > 0 {
-			return addend
+// isDue says whether an answer is that of a model with one of these addends.
+func (p *part) isDue(addends []int, number int, read simAnswer) bool {
+	if read.Answer.Refused == "lost" && p.retention {
+		return true
+	}
+	for _, addend := range addends {
+		switch {
+		case addend == 0 && (read.Answer.Refused == "model" || p.retention):
+			return true
+		case read.Answer.Refused == "" && read.Answer.Result == number*3+addend:
+			return true
 		}
 	}
-	return c.started[sent.of]
+	return false
 }
 
-// complete reports a line that a sender said it had sent, and that has no answer, and isn't said to be lost.
+// due are the addends of the model that decides a request: the last of its batch before it, or the one in force at the batch's
+// first line.
+func (p *part) due(sent line) []int {
+	for index := sent.index; index >= 0; index-- {
+		if addend := p.texts[p.inputs[sent.of][index]].addend; addend > 0 {
+			return []int{addend}
+		}
+	}
+	return p.started[sent.of]
+}
+
+// complete reports a line that a sender said it had sent, and that has no answer, and isn't said to be lost; and a process of which
+// others count than it said.
 func (c *checker) complete() error {
 	at := map[int][]int64{}
-	for _, message := range c.lines().Messages {
-		if from, err := bus.ReadOrigin(message); err != nil || from.Kind != ledger.Lines {
-			continue
-		}
-		for index := range bytes.Split(message.Body, []byte("\n")) {
-			number, err := c.numberAt(ledger.Place{Offset: message.Offset, Index: int64(index)})
-			if err != nil {
-				return err
+	for _, p := range c.parts {
+		for _, message := range p.log {
+			if from, err := bus.ReadOrigin(message); err != nil || from.Kind != ledger.Lines {
+				continue
 			}
-			at[number] = append(at[number], message.Offset)
+			for _, raw := range bytes.Split(message.Body, []byte("\n")) {
+				at[numberOf(raw)] = append(at[numberOf(raw)], message.Offset)
+			}
 		}
 	}
 	for number := range c.told {
-		if c.counts[number] == 0 && !c.isLost(at[number]) {
+		isAnswered := c.counts[number] > 0
+		for _, p := range c.parts {
+			isAnswered = isAnswered || p.models[number]
+		}
+		if !isAnswered && !c.isLost(at[number]) {
 			return fmt.Errorf("line %d (%s) is at offsets %v, and has no answer", number, c.texts[number].text, at[number])
+		}
+	}
+	for _, said := range c.counted {
+		by := counted{of: said.of, epoch: said.epoch}
+		if requests, models := c.received[by], int64(len(c.models[by])); !c.retention && (said.sent < requests || said.sent > requests+models) {
+			return fmt.Errorf("of the process with epoch %d %d lines of batch %v count, it said, and %d requests and %d models do", said.epoch, said.sent,
+				said.of, requests, models)
 		}
 	}
 	return nil
 }
 
-// received reports if a receiver, however often it was killed, has not written each answer that counts once, and in order.
-func (c *checker) received() error {
+// isReceived reports if a receiver, however often it was killed, has not written each answer that counts once, and in order.
+func (c *checker) isReceived() error {
 	text, err := os.ReadFile(c.output())
 	if err != nil {
 		return err
 	}
-	var due []byte
-	for _, line := range c.written {
-		due = append(append(append(due, `{"partition":0,`...), line[1:]...), '\n')
+	found := map[bus.Partition][]byte{}
+	epochs := map[string]int64{} // of each key, the last number of partitions under which it was answered
+	for _, written := range bytes.SplitAfter(text, []byte("\n")) {
+		var read struct {
+			Partition int
+			Epoch     int64
+			Key       string
+		}
+		if len(written) == 0 {
+			continue
+		}
+		if err := json.Unmarshal(written, &read); err != nil {
+			return err
+		}
+		if read.Key != "" && read.Epoch < epochs[read.Key] {
+			return fmt.Errorf("%s comes after answers of later partitions", written)
+		}
+		epochs[read.Key] = read.Epoch
+		at := bus.Partition{Of: c.scaling().All[read.Epoch], Number: read.Partition}
+		found[at] = append(found[at], written...)
 	}
-	if !bytes.Equal(text, due) {
-		return fmt.Errorf("%d bytes are received, and %d are due:\n%s\n%s", len(text), len(due), text, due)
+	for at, p := range c.parts {
+		prefix := fmt.Sprintf(`{"partition":%d,`, at.Number)
+		if at.Of.Epoch > 0 {
+			prefix += fmt.Sprintf(`"epoch":%d,`, at.Of.Epoch)
+		}
+		var due []byte
+		for _, line := range p.written {
+			due = append(append(append(due, prefix...), line[1:]...), '\n')
+		}
+		if !bytes.Equal(found[at], due) {
+			return fmt.Errorf("partition %v: %d bytes are received, and %d are due:\n%s\n%s", at, len(found[at]), len(due), found[at], due)
+		}
 	}
 	return nil
 }
@@ -221,13 +360,25 @@ func (c *checker) isLost(offsets []int64) bool {
 // tried runs a history.
 func tried(folder string, seed int64, retention bool, flaws flaws) (*world, error) {
 	w := newWorld(folder, seed, retention, flaws)
+	return w, w.try(historySteps)
+}
+
+// try runs a history of so many steps.
+func (w *world) try(steps int) error {
 	if err := w.clear(); err != nil {
-		return w, err
+		return err
 	}
-	if err := w.run(historySteps); err != nil {
-		return w, err
+	if err := w.run(steps); err != nil {
+		return err
 	}
-	return w, w.check()
+	return w.check()
+}
+
+// triedRescales runs a history in which the number of partitions changes.
+func triedRescales(folder string, seed int64, flaws flaws) (*world, error) {
+	w := newWorldOf(folder, seed, bus.Settings{Partitions: 1 + int(seed)%4}, false, flaws)
+	w.rescales = true
+	return w, w.try(3 * historySteps)
 }
 
 func count(t *testing.T) int64 {
@@ -275,6 +426,38 @@ func TestHistoriesWithFlaws(t *testing.T) {
 		seed := int64(0)
 		for ; found == nil && seed < 200; seed++ {
 			_, found = tried(folder, seed, false, flaws)
+		}
+		if found == nil {
+			t.Errorf("%s: nothing is found", name)
+		} else {
+			t.Logf("%s: seed %d: %s", name, seed-1, strings.SplitN(found.Error(), "\n", 2)[0])
+		}
+	}
+}
+
+// While the number of partitions changes, and whoever is at it is killed, what senders said they had sent is answered once, in the
+// order of its key and by the right model; tickets go on; and a batch that is sent again has each line once.
+func TestRescaleHistories(t *testing.T) {
+	folder := memoryFolder(t)
+	answered, told, changes := 0, 0, 0
+	for seed := int64(0); seed < count(t); seed++ {
+		w, err := triedRescales(folder, seed, flaws{})
+		if err != nil {
+			t.Fatalf("seed %d: %v", seed, err)
+		}
+		answered, told, changes = answered+len(w.answers().Messages), told+len(w.told), changes+len(w.scaling().All)-1
+	}
+	t.Logf("%d messages of answers of the first partition, %d lines told as sent, %d changes", answered, told, changes)
+}
+
+// The checker finds what goes wrong if a sender doesn't look at the number of partitions, and without the sections of batches.
+func TestRescaleHistoriesWithFlaws(t *testing.T) {
+	folder := memoryFolder(t)
+	for name, flaws := range map[string]flaws{"no look at the number": {noScale: true}, "no sections": {noSections: true}} {
+		var found error
+		seed := int64(0)
+		for ; found == nil && seed < 200; seed++ {
+			_, found = triedRescales(folder, seed, flaws)
 		}
 		if found == nil {
 			t.Errorf("%s: nothing is found", name)

@@ -18,7 +18,8 @@ import (
 type live struct {
 	*memory.Bus
 	mutex sync.Mutex
-	sick  int // the number of a partition, or -1
+	sick  int                         // the number of a partition, or -1
+	owned map[bus.Partition]*liveLink // who owned each last
 }
 
 var errSick = errors.New("the stream is down")
@@ -26,7 +27,7 @@ var errSick = errors.New("the stream is down")
 func newLive(partitions, sick int) *live {
 	b := memory.New(rand.New(rand.NewSource(1)), bus.Settings{Partitions: partitions})
 	b.Steady = true
-	return &live{Bus: b, sick: sick}
+	return &live{Bus: b, sick: sick, owned: map[bus.Partition]*liveLink{}}
 }
 
 // heal makes the sick partition well.
@@ -41,6 +42,43 @@ func (l *live) with(work func()) {
 // isSick says of a stream, or of a route's key, whether it is one of the sick partition.
 func (l *live) isSick(name string) bool {
 	return strings.Contains(name, fmt.Sprintf(".%d.of.", l.sick))
+}
+
+// declare makes the streams of partitions.
+func (l *live) declare(_ context.Context, settings bus.Settings) error {
+	l.with(func() { l.Declare(settings) })
+	return nil
+}
+
+// leave leads no more lines to the logs of partitions.
+func (l *live) leave(_ context.Context, settings bus.Settings) error {
+	l.with(func() { l.Leave(settings) })
+	return nil
+}
+
+// Own waits until nobody owns one of the partitions.
+func (l *liveLink) Own(ctx context.Context, partitions []bus.Partition, _ func([]bus.Partition)) (bus.Partition, error) {
+	for {
+		for _, partition := range partitions {
+			isFree := false
+			l.bus.with(func() {
+				owner := l.bus.owned[partition]
+				if isFree = !l.bus.IsMissing(partition.Queue(bus.Lease)) && (owner == nil || owner.Link.Err() != nil); isFree {
+					l.bus.owned[partition] = l
+				}
+			})
+			if isFree {
+				return partition, nil
+			}
+		}
+		select {
+		case <-ctx.Done():
+			return bus.Partition{}, ctx.Err()
+		case <-l.Done():
+			return bus.Partition{}, l.Err()
+		case <-time.After(time.Millisecond):
+		}
+	}
 }
 
 // bodies are those of the messages of a stream that have one.

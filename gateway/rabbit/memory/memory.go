@@ -18,12 +18,15 @@ type Bus struct {
 	Settings bus.Settings
 	Clock    time.Time
 	Steady   bool // whether nothing fails any more
+	// Older says that an older program declared the partitions, so that no stream says how many there are.
+	Older bool
 	// Rewrite changes what is appended, and Alter what is read; nil changes nothing. With them a test leaves out a rule.
 	Rewrite func(bus.Route, bus.Headers) bus.Headers
 	Alter   func(bus.Message) bus.Message
 	random  *rand.Rand
 	streams map[string]*Stream
-	late    []func() // appends messages that come later
+	led     map[bus.Route][]string // the streams to which each route leads
+	late    []func()               // appends messages that come later
 }
 
 // A Stream has all messages that there ever were. Those before Cut are cut.
@@ -33,16 +36,43 @@ type Stream struct {
 	next     int64 // the next offset
 }
 
-// New is a bus with empty streams, but for a mark in each stream of answers. All is decided by the seed.
+// New is a bus with empty streams, but for a mark in each stream of answers, and how many partitions there are. All is decided by
+// the seed.
 func New(random *rand.Rand, settings bus.Settings) *Bus {
-	b := &Bus{Settings: settings, Clock: time.Unix(1_700_000_000, 0), random: random, streams: map[string]*Stream{}}
-	for _, partition := range settings.All() {
-		for _, binding := range settings.Bindings(partition) {
-			b.Stream(binding.Queue)
-		}
-		b.append(settings.Route(bus.AnswersExchange, bus.TopicMarks, partition), bus.Headers{bus.MarkHeader: "declared"}, nil)
-	}
+	b := &Bus{Settings: settings, Clock: time.Unix(1_700_000_000, 0), random: random, streams: map[string]*Stream{}, led: map[bus.Route][]string{}}
+	b.Declare(settings)
+	b.append(bus.ScaleRoute, bus.DeclaredHeaders(settings.Partitions), nil)
 	return b
+}
+
+// Declare makes the streams of partitions where they aren't there.
+func (b *Bus) Declare(settings bus.Settings) {
+	for _, partition := range settings.Each() {
+		for _, binding := range settings.Bindings(partition.Number) {
+			b.Stream(binding.Queue)
+			b.lead(binding)
+		}
+		b.append(partition.Route(bus.AnswersExchange, bus.TopicMarks), bus.Headers{bus.MarkHeader: "declared"}, nil)
+	}
+}
+
+// Leave leads no more lines to the logs of partitions.
+func (b *Bus) Leave(settings bus.Settings) {
+	for _, partition := range settings.Each() {
+		for _, topic := range []bus.Topic{bus.TopicLines, bus.TopicModels} {
+			delete(b.led, partition.Route(bus.RequestsExchange, topic))
+		}
+	}
+}
+
+// lead leads messages of a route to a stream.
+func (b *Bus) lead(binding bus.Binding) {
+	for _, queue := range b.led[binding.Route] {
+		if queue == binding.Queue {
+			return
+		}
+	}
+	b.led[binding.Route] = append(b.led[binding.Route], binding.Queue)
 }
 
 // Stream is the stream of this name.
@@ -53,27 +83,24 @@ func (b *Bus) Stream(name string) *Stream {
 	return b.streams[name]
 }
 
+// IsMissing says whether a stream isn't there.
+func (b *Bus) IsMissing(name string) bool {
+	return b.streams[name] == nil || b.Older && name == bus.Scale
+}
+
 // Chance is true once in so many times.
 func (b *Bus) Chance(of int) bool { return b.random.Intn(of) == 0 }
 
 // append appends a message to the streams of its route. The bus takes an offset for itself now and then, as RabbitMQ does.
 func (b *Bus) append(to bus.Route, headers bus.Headers, body []byte) {
 	b.Clock = b.Clock.Add(time.Second)
-	for _, partition := range b.Settings.All() {
-		for _, binding := range b.Settings.Bindings(partition) {
-			if binding.Route != to {
-				continue
-			}
-			s := b.Stream(binding.Queue)
-			if len(s.Messages) > 0 && b.Chance(30) {
-				s.next++
-			}
-			s.Messages = append(s.Messages, bus.Message{Offset: s.next, At: to, Headers: headers, Body: body, Sent: b.Clock})
+	for _, queue := range b.led[to] {
+		s := b.Stream(queue)
+		if len(s.Messages) > 0 && b.Chance(30) {
 			s.next++
-			if binding.Queue == bus.Registry {
-				return
-			}
 		}
+		s.Messages = append(s.Messages, bus.Message{Offset: s.next, At: to, Headers: headers, Body: body, Sent: b.Clock})
+		s.next++
 	}
 }
 
@@ -92,8 +119,13 @@ func (b *Bus) Connect(ctx context.Context, name, last string) (bus.Link, error) 
 	return &Link{bus: b, done: make(chan struct{})}, nil
 }
 
-// Judge says that each failure may pass.
-func (b *Bus) Judge(error) bus.Judgement { return bus.Passing }
+// Judge says that each failure may pass, but where a stream isn't there.
+func (b *Bus) Judge(failure error) bus.Judgement {
+	if errors.Is(failure, bus.ErrMissing) {
+		return bus.Missing
+	}
+	return bus.Passing
+}
 
 // Pause lets time pass.
 func (b *Bus) Pause(_ context.Context, long time.Duration) { b.Clock = b.Clock.Add(long) }
@@ -123,6 +155,10 @@ func (l *Link) Appender() (bus.Appender, error) {
 // Read reads a stream.
 func (l *Link) Read(what bus.Reading) (bus.Reader, error) {
 	if l.err != nil {
+		return nil, l.err
+	}
+	if l.bus.IsMissing(what.Stream) {
+		l.Fail(fmt.Errorf("%s: %w", what.Stream, bus.ErrMissing))
 		return nil, l.err
 	}
 	s := l.bus.Stream(what.Stream)
@@ -168,7 +204,7 @@ func (s *Stream) Offset() (int64, error) { return s.next - 1, nil }
 func (s *Stream) AtMost(int64) {}
 
 // Own gives one of the partitions, whoever else owns it.
-func (l *Link) Own(_ context.Context, _ bus.Settings, partitions []int, _ func([]int)) (int, error) {
+func (l *Link) Own(_ context.Context, partitions []bus.Partition, _ func([]bus.Partition)) (bus.Partition, error) {
 	return partitions[l.bus.random.Intn(len(partitions))], l.err
 }
 
@@ -227,6 +263,16 @@ func (l *Link) Waits() bool {
 		}
 	}
 	return false
+}
+
+// IsTold says whether the link has ended, or has a confirm that wasn't taken in.
+func (l *Link) IsTold() bool {
+	for _, a := range l.appenders {
+		if a.confirmed > 0 {
+			return true
+		}
+	}
+	return l.err != nil
 }
 
 // Due says whether a message is there for a reader of the link.
@@ -289,8 +335,12 @@ func (a *Appender) one(lost int) {
 		return
 	}
 	m := a.open[0]
-	a.link.bus.append(m.to, m.headers, m.body)
 	a.confirmed++
+	if len(a.link.bus.led[m.to]) == 0 {
+		a.confirms <- fmt.Errorf("no queue for %s: %w", m.to.Key, bus.ErrMissing)
+		return
+	}
+	a.link.bus.append(m.to, m.headers, m.body)
 	a.confirms <- nil
 }
 

@@ -18,7 +18,7 @@ func TestALogThatWasMadeAnew(t *testing.T) {
 			if isAnew {
 				*w.lines() = memory.Stream{}
 			}
-			o, err := w.takeOver()
+			o, err := w.takeOver(settings.Each()[0])
 			if err != nil {
 				t.Fatal(err)
 			}

@@ -15,14 +15,14 @@ import (
 	"gateway/rabbit/bus"
 	"gateway/rabbit/logs"
 	"gateway/rabbit/memory"
-	"gateway/rabbit/partition"
+	owning "gateway/rabbit/partition"
 	engines "gateway/rabbit/process"
 	"gateway/rabbit/receiver"
 )
 
 // An owner owns the partition, or believes so.
 type owner struct {
-	*partition.Owner
+	*owning.Owner
 	world  *world
 	link   *memory.Link
 	engine *engine
@@ -30,20 +30,23 @@ type owner struct {
 	left   int // how often it may still find that a snapshot is due, once nothing else is to be done
 }
 
-// takeOver takes the partition over, and notes which messages were cut alone.
-func (w *world) takeOver() (*owner, error) {
+// looks is how often an owner looks at the time, once nothing else is to be done.
+const looks = 3
+
+// takeOver takes a partition over, and notes which messages were cut alone.
+func (w *world) takeOver(partition bus.Partition) (*owner, error) {
 	link, err := w.Connect(context.Background(), "", "")
 	if err != nil {
 		return nil, err
 	}
-	o := &owner{world: w, link: link.(*memory.Link), ticks: make(chan time.Time, 1), left: 3}
-	options := partition.Options{Bus: w.Bus, Settings: settings, Deadline: time.Hour * 24, Log: logs.New(io.Discard, "test"), Gauges: partition.NewGauges(),
+	o := &owner{world: w, link: link.(*memory.Link), ticks: make(chan time.Time, 1), left: looks}
+	options := owning.Options{Bus: w.Bus, Deadline: time.Hour * 24, Log: logs.New(io.Discard, "test"), Gauges: owning.NewGauges(),
 		Now: func() time.Time { return w.Clock }}
-	options.Begin = func(engines.Options) (partition.Evaluator, error) {
+	options.Begin = func(engines.Options) (owning.Evaluator, error) {
 		o.engine = &engine{tickets: map[string]int64{}, answers: make(chan []engines.Answer, 1)}
 		return o.engine, nil
 	}
-	if o.Owner, err = partition.Begin(options, link, 0); err != nil {
+	if o.Owner, err = owning.Begin(options, link, partition, w.scaling()); err != nil {
 		link.Close()
 		return nil, err
 	}
@@ -56,7 +59,7 @@ func (w *world) moveOwner(at int) error {
 		return nil
 	}
 	w.kill(at)
-	if errors.Is(err, memory.ErrLink) || strings.Contains(err.Error(), "retention has cut the log while it was read") {
+	if errors.Is(err, memory.ErrLink) || isOver(err) || strings.Contains(err.Error(), "retention has cut the log while it was read") {
 		return nil
 	}
 	return err
@@ -71,7 +74,7 @@ func (w *world) kill(at int) {
 func (o *owner) move(what int) error {
 	switch {
 	case what == 0:
-		o.world.Clock = o.world.Clock.Add(time.Duration(o.world.random.Intn(40)) * time.Second)
+		o.world.Clock = o.world.Clock.Add(time.Duration(1+o.world.random.Intn(40)) * time.Second)
 		o.left--
 		o.ticks <- time.Time{}
 	case what < 4 && o.link.Waits():
@@ -90,9 +93,12 @@ func (o *owner) move(what int) error {
 	return o.Step()
 }
 
-// isBusy says whether the owner has something to do.
+// isBusy says whether the owner has something to do. What it has done may let it do more once it looks at the time.
 func (o *owner) isBusy() bool {
-	return o.link.Waits() || o.link.Due() || o.engine != nil && !o.engine.ended && len(o.engine.waiting) > 0 || o.left > 0
+	if o.link.Waits() || o.link.Due() || o.engine != nil && !o.engine.ended && len(o.engine.waiting) > 0 {
+		o.left = looks
+	}
+	return o.left > 0
 }
 
 // noteSingles notes messages that were cut alone, before the first one that is left.
@@ -152,12 +158,12 @@ func (e *engine) answer(text []byte) string {
 	return fmt.Sprintf(`{"client":"%s","result":%d,"ticket":%d}`, read.Client, read.Inputs.A*3+e.addend, e.tickets[read.Client]-1)
 }
 
-// A receiving is a process of desk receive.
+// A receiving is a process of desk receive, with its connections.
 type receiving struct {
 	*receiver.Receiver
-	output *os.File
-	link   *memory.Link // or nil
-	stream bus.Reader
+	output  *os.File
+	links   map[*receiver.Reader]*memory.Link
+	streams map[*receiver.Reader]bus.Reader
 }
 
 // receive moves the receiver: it is started, reads a message, saves its place, loses its connection, or is killed.
@@ -166,18 +172,25 @@ func (w *world) receive() error {
 	if r == nil {
 		return w.startReceiver()
 	}
+	r.Rescaled()
+	readers := r.Readers()
+	if len(readers) == 0 {
+		return nil
+	}
+	reader := readers[w.random.Intn(len(readers))]
+	link := r.links[reader]
 	switch what := w.random.Intn(20); {
 	case what == 0:
 		w.killReceiver()
-	case what == 1 && r.link != nil:
-		r.link.Fail(memory.ErrLink)
-		r.link = nil
+	case what == 1 && link != nil:
+		link.Fail(memory.ErrLink)
+		delete(r.links, reader)
 	case what < 5:
 		return r.Save()
-	case r.link == nil:
-		return w.openReceiver()
-	case r.link.Due():
-		return r.read()
+	case link == nil:
+		return r.open(reader)
+	case link.Due():
+		return r.read(reader)
 	}
 	return nil
 }
@@ -187,9 +200,9 @@ func (w *world) startReceiver() error {
 	if err != nil {
 		return err
 	}
-	r, err := receiver.New(receiver.Options{Bus: w.Bus, Settings: settings, Place: filepath.Join(w.folder, "place"), Output: output,
+	r, err := receiver.New(receiver.Options{Bus: w.Bus, Scale: w, Place: filepath.Join(w.folder, "place"), Output: output,
 		File: true, Log: logs.New(io.Discard, "test")})
-	w.receiver = &receiving{Receiver: r, output: output}
+	w.receiver = &receiving{Receiver: r, output: output, links: map[*receiver.Reader]*memory.Link{}, streams: map[*receiver.Reader]bus.Reader{}}
 	return err
 }
 
@@ -198,37 +211,49 @@ func (w *world) killReceiver() {
 	w.receiver = nil
 }
 
-func (w *world) openReceiver() error {
-	link, stream, err := w.receiver.Readers()[0].Open(context.Background())
+func (r *receiving) open(reader *receiver.Reader) error {
+	link, stream, err := reader.Open(context.Background())
 	if errors.Is(err, memory.ErrLink) {
 		return nil
 	}
 	if err != nil {
 		return err
 	}
-	w.receiver.link, w.receiver.stream = link.(*memory.Link), stream
+	r.links[reader], r.streams[reader] = link.(*memory.Link), stream
 	return nil
 }
 
-func (r *receiving) read() error {
-	r.link.Deliver()
-	message := <-r.stream.Arrivals()
-	r.Readers()[0].Took(message)
-	return r.Add(0, message)
+func (r *receiving) read(reader *receiver.Reader) error {
+	r.links[reader].Deliver()
+	message := <-r.streams[reader].Arrivals()
+	reader.Took(message)
+	return r.Add(reader.Partition(), message)
 }
 
 // receiveAll lets the receiver read all that is there.
 func (w *world) receiveAll() error {
-	for w.receiver == nil || w.receiver.link == nil {
-		if err := w.receive(); err != nil {
-			return err
-		}
-	}
-	for w.receiver.link.Due() {
-		if err := w.receiver.read(); err != nil {
+	if w.receiver == nil {
+		if err := w.startReceiver(); err != nil {
 			return err
 		}
 	}
 	defer w.killReceiver()
+	w.receiver.Rescaled()
+	for isDue := true; isDue; {
+		isDue = false
+		for _, reader := range w.receiver.Readers() {
+			if w.receiver.links[reader] == nil {
+				if err := w.receiver.open(reader); err != nil {
+					return err
+				}
+			}
+			if w.receiver.links[reader].Due() {
+				isDue = true
+				if err := w.receiver.read(reader); err != nil {
+					return err
+				}
+			}
+		}
+	}
 	return w.receiver.Save()
 }

@@ -4,27 +4,26 @@ import (
 	"context"
 	"errors"
 	"fmt"
-	"io"
 	"math/rand"
 	"os"
 	"path/filepath"
-	"strings"
 	"time"
 
 	"gateway/rabbit/bus"
 	"gateway/rabbit/ledger"
-	"gateway/rabbit/logs"
 	"gateway/rabbit/memory"
 	"gateway/rabbit/sender"
 )
 
-// A world is one partition in memory, with owners, senders and receivers, which are those of the programs. A seeded scheduler
+// A world has partitions in memory, with owners, senders and receivers, which are those of the programs. A seeded scheduler
 // moves one of them at a time, by one step. What the network and the machines may do is a step too: messages come late or twice,
 // confirms are lost, processes die or are not moved for long, and retention cuts.
 type world struct {
 	*memory.Bus
 	random    *rand.Rand
 	flaws     flaws
+	rescales  bool // whether the number of partitions changes
+	change    *changing
 	owners    []*owner
 	senders   []*process
 	receiver  *receiving
@@ -32,13 +31,14 @@ type world struct {
 	inputs    map[batch][]int // of each batch, the numbers of its lines
 	texts     []line          // of these numbers
 	told      map[int]bool    // the lines that a sender said it had sent
+	counted   []counted       // how many lines of theirs processes said that count
 	singles   map[int64]bool  // offsets of messages that were cut alone: nobody can tell them from the bus's own
 	retention bool            // whether retention cuts
 	messages  int             // published so far, by which a flaw names batches
 }
 
 // flaws are rules that are left out, so that the checker has something to find.
-type flaws struct{ noLook, noBatches, noSenders bool }
+type flaws struct{ noLook, noBatches, noSenders, noScale, noSections bool }
 
 // A batch is one of a sender.
 type batch struct{ sender, id string }
@@ -47,21 +47,30 @@ type batch struct{ sender, id string }
 type line struct {
 	of     batch
 	index  int // in its batch
+	key    string
 	addend int // of a model, or 0
 	text   []byte
 }
 
+// settings are those of worlds in which the number of partitions doesn't change.
 var settings = bus.Settings{Partitions: 1}
 
 func newWorld(folder string, seed int64, retention bool, flaws flaws) *world {
+	return newWorldOf(folder, seed, settings, retention, flaws)
+}
+
+func newWorldOf(folder string, seed int64, of bus.Settings, retention bool, flaws flaws) *world {
 	random := rand.New(rand.NewSource(seed))
-	w := &world{Bus: memory.New(random, settings), random: random, flaws: flaws, folder: folder, inputs: map[batch][]int{},
+	w := &world{Bus: memory.New(random, of), random: random, flaws: flaws, folder: folder, inputs: map[batch][]int{},
 		told: map[int]bool{}, singles: map[int64]bool{}, retention: retention}
 	if flaws.noBatches {
 		w.Rewrite = w.withoutBatches
 	}
-	if flaws.noSenders {
+	switch {
+	case flaws.noSenders:
 		w.Alter = withoutSenders
+	case flaws.noSections:
+		w.Alter = withoutSections
 	}
 	return w
 }
@@ -77,12 +86,17 @@ func (w *world) withoutBatches(_ bus.Route, headers bus.Headers) bus.Headers {
 
 // withoutSenders takes the senders out of a snapshot: as if they had been forgotten.
 func withoutSenders(message bus.Message) bus.Message {
+	return altered(message, func(l *ledger.Ledger) { l.Senders = ledger.NewSenders(nil, time.Time{}, 0) })
+}
+
+// altered is a message with a change to its ledger, if it is a snapshot.
+func altered(message bus.Message, change func(*ledger.Ledger)) bus.Message {
 	if part, is, err := bus.ReadPart(message); err == nil && is && part.Snapshot {
 		l, err := ledger.Read(message.Body, 0)
 		if err != nil {
 			panic(err)
 		}
-		l.Senders = ledger.NewSenders(nil, time.Time{}, 0)
+		change(l)
 		if message.Body, err = l.Snapshot(""); err != nil {
 			panic(err)
 		}
@@ -90,8 +104,8 @@ func withoutSenders(message bus.Message) bus.Message {
 	return message
 }
 
-func (w *world) lines() *memory.Stream   { return w.Stream(settings.Queue(bus.Lines, 0)) }
-func (w *world) answers() *memory.Stream { return w.Stream(settings.Queue(bus.Answers, 0)) }
+func (w *world) lines() *memory.Stream   { return w.Stream(w.Settings.Queue(bus.Lines, 0)) }
+func (w *world) answers() *memory.Stream { return w.Stream(w.Settings.Queue(bus.Answers, 0)) }
 
 // input makes a batch of some lines.
 func (w *world) input(of batch) {
@@ -102,7 +116,8 @@ func (w *world) input(of batch) {
 			next.addend = 1000 * (1 + w.random.Intn(1000))
 			next.text = []byte(fmt.Sprintf(`{"model":{"addend":%d,"number":%d}}`, next.addend, number))
 		} else {
-			next.text = []byte(fmt.Sprintf(`{"key":"k%d","service":"s","inputs":{"a":%d},"id":%d}`, w.random.Intn(5), number, number))
+			next.key = fmt.Sprintf("k%d", w.random.Intn(5))
+			next.text = []byte(fmt.Sprintf(`{"key":"%s","service":"s","inputs":{"a":%d},"id":%d}`, next.key, number, number))
 		}
 		w.texts = append(w.texts, next)
 		w.inputs[of] = append(w.inputs[of], number)
@@ -121,16 +136,50 @@ func (w *world) run(steps int) error {
 		w.Come()
 	}
 	w.owners = nil
-	last, err := w.takeOver()
-	if err != nil {
-		return err
-	}
-	for last.isBusy() {
-		if err := last.move(w.random.Intn(10)); err != nil {
+	if w.rescales {
+		if err := w.repeatAll(); err != nil {
 			return err
 		}
 	}
+	if err := w.answerAll(); err != nil {
+		return err
+	}
 	return w.receiveAll()
+}
+
+// answerAll lets an owner of each partition answer what is there.
+func (w *world) answerAll() error {
+	for _, of := range w.scaling().All {
+		for _, partition := range of.Each() {
+			last, err := w.takeOver(partition)
+			for err == nil && last.isBusy() {
+				err = last.move(w.random.Intn(10))
+			}
+
+			if err != nil && !isOver(err) {
+				return err
+			}
+		}
+	}
+	return nil
+}
+
+// scaling is how many partitions there are.
+func (w *world) scaling() bus.Scaling {
+	var scaling bus.Scaling
+	for _, message := range w.Stream(bus.Scale).Messages {
+		scaling.Take(message)
+	}
+	return scaling
+}
+
+// Scaling and Newest are what a receiver is told of it.
+func (w *world) Scaling() bus.Scaling { return w.scaling() }
+
+func (w *world) Newest() (bus.Settings, <-chan struct{}) {
+	scaling := w.scaling()
+	newest, _ := scaling.Newest()
+	return newest, nil
 }
 
 func (w *world) step() error {
@@ -141,10 +190,10 @@ func (w *world) step() error {
 		return w.moveSender(w.random.Intn(len(w.senders)))
 	case at < 44 && len(w.senders) > 0:
 		w.killSender(w.random.Intn(len(w.senders)))
-	case at < 47 && len(w.owners) < 2:
-		if o, err := w.takeOver(); err == nil {
+	case at < 47 && len(w.owners) < w.mostOwners():
+		if o, err := w.takeOver(w.anyPartition()); err == nil {
 			w.owners = append(w.owners, o)
-		} else if !errors.Is(err, memory.ErrLink) {
+		} else if !errors.Is(err, memory.ErrLink) && !isOver(err) && !isUnbegun(err) {
 			return err
 		}
 	case at < 49 && len(w.owners) > 0:
@@ -153,6 +202,8 @@ func (w *world) step() error {
 		w.Come()
 	case at < 55 && w.retention:
 		w.cut()
+	case at < 55 && w.rescales:
+		return w.moveChange()
 	case at < 60:
 		return w.receive()
 	case len(w.owners) > 0:
@@ -186,138 +237,48 @@ func (w *world) cut() {
 // A process is one of desk send with one batch.
 type process struct {
 	*sender.Sender
-	opens  *recorder
-	of     batch
-	named  bool
-	link   *memory.Link // of the lane, or nil
-	woken  bool         // whether its lane knows of its lines
-	closed bool         // whether its lane has sent all
+	opens    *recorder
+	settings bus.Settings
+	of       batch
+	named    bool
+	lanes    []laneState
+	fed      bool  // whether the lanes have its lines
+	looked   bool  // whether it has looked at the number of partitions
+	reason   error // why it has to end
+	numbers  [][]int
+	upto     []int64
+}
+
+// A laneState is that of a lane.
+type laneState struct {
+	link   *memory.Link // or nil
+	closed bool         // whether it has sent all
 }
 
 // A recorder knows the link that was opened last: a process is moved through it.
 type recorder struct {
 	*memory.Bus
-	last *memory.Link
+	last       *memory.Link
+	hidesScale bool // whether nothing can be read of how many partitions there are
 }
 
 func (r *recorder) Connect(ctx context.Context, name, last string) (bus.Link, error) {
 	link, err := r.Bus.Connect(ctx, name, last)
 	r.last = link.(*memory.Link)
+	if r.hidesScale {
+		return scaleless{r.last}, nil
+	}
 	return link, err
 }
 
-// startSender starts a process with a new batch, or with one that was sent before, whole or in part.
-func (w *world) startSender() error {
-	p := &process{of: batch{fmt.Sprintf("nameless %d", len(w.texts)), ""}, named: !w.Chance(4), opens: &recorder{Bus: w.Bus}}
-	if p.named {
-		p.of = batch{[]string{"a", "b"}[w.random.Intn(2)], fmt.Sprint(w.random.Intn(4))}
-	}
-	if w.inputs[p.of] == nil {
-		w.input(p.of)
-	}
-	p.Sender = sender.New(sender.Options{Bus: p.opens, Settings: settings, Name: p.of.sender, Named: p.named, Batch: p.of.id,
-		Log: logs.New(io.Discard, "test"), Check: func([]byte) error { return nil }})
-	ctx := context.Background()
-	if err := p.Claim(ctx); err != nil {
-		return err
-	}
-	for _, number := range w.inputs[p.of] {
-		if err := p.Take(ctx, w.texts[number].text); err != nil {
-			return err
-		}
-	}
-	p.End()
-	w.senders = append(w.senders, p)
-	return nil
-}
+// A scaleless link reads no stream that says how many partitions there are.
+type scaleless struct{ *memory.Link }
 
-// moveSender moves a sender, and lets go of one that has ended.
-func (w *world) moveSender(at int) error {
-	p := w.senders[at]
-	more, err := w.move(p)
-	var final *bus.Final
-	var newer *bus.Superseded
-	switch {
-	case errors.As(err, &newer):
-		w.end(p, err)
-	case errors.As(err, &final): // lines of its batch are lost, so it can't be sent again
-		if !strings.Contains(err.Error(), "the broker has lost") {
-			return err
-		}
-	case err != nil && !errors.Is(err, memory.ErrLink):
-		return err
-	case err != nil || more:
-		return nil
+func (s scaleless) Read(what bus.Reading) (bus.Reader, error) {
+	if what.Stream == bus.Scale {
+		return nil, bus.ErrMissing
 	}
-	w.senders = append(w.senders[:at], w.senders[at+1:]...)
-	return nil
-}
-
-// move says whether the sender goes on.
-func (w *world) move(p *process) (more bool, err error) {
-	ctx, lane := context.Background(), p.Lanes()[0]
-	if p.named && !w.flaws.noLook && (p.closed || w.Chance(10)) {
-		if err := p.Check(ctx); err != nil || p.closed {
-			return false, w.ended(p, err)
-		}
-	}
-	switch {
-	case p.closed:
-		return false, w.ended(p, nil)
-	case p.link == nil:
-		return true, p.open(lane)
-	case p.link.Waits():
-		p.link.Confirm(4)
-		err = lane.Wait(ctx)
-	}
-	if err == nil {
-		more, err = lane.Step()
-	}
-	if err != nil {
-		p.link.Close()
-		p.link = nil
-		return true, err
-	}
-	p.closed = !more
-	return true, nil
-}
-
-// open opens the lane's connection.
-func (p *process) open(lane *sender.Lane) error {
-	if err := lane.Open(context.Background()); err != nil {
-		return err
-	}
-	p.link = p.opens.last
-	if p.woken {
-		return nil
-	}
-	p.woken = true
-	return lane.Wait(context.Background())
-}
-
-func (w *world) ended(p *process, err error) error {
-	if err == nil {
-		w.end(p, nil)
-	}
-	return err
-}
-
-// end takes in what a sender says at its end: of so many lines of its batch, the first ones, that they were sent.
-func (w *world) end(p *process, reason error) {
-	tally, err := p.Ended(context.Background(), reason)
-	if (err == nil) != (reason == nil) {
-		panic(fmt.Sprint(tally, err))
-	}
-	for _, number := range w.inputs[p.of][:tally.Sent+tally.Repeated] {
-		w.told[number] = true
-	}
-}
-
-func (w *world) killSender(at int) {
-	if p := w.senders[at]; p.link != nil {
-		p.link.Fail(memory.ErrLink)
-	}
-	w.senders = append(w.senders[:at], w.senders[at+1:]...)
+	return s.Link.Read(what)
 }
 
 // output is the file of the answers.

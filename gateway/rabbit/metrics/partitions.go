@@ -14,16 +14,16 @@ import (
 type Partitions struct {
 	program string // as the names of the metrics have it
 	mutex   sync.Mutex
-	failing map[int]error
+	failing map[any]error
 }
 
 // NewPartitions are those of a program: send or receive.
 func NewPartitions(program string) *Partitions {
-	return &Partitions{program: program, failing: make(map[int]error)}
+	return &Partitions{program: program, failing: make(map[any]error)}
 }
 
-// Failed takes in why a partition can't be reached, or nil once it is.
-func (p *Partitions) Failed(partition int, reason error) {
+// Failed takes in why a partition can't be reached, or nil once it is. It is a number, or says more.
+func (p *Partitions) Failed(partition any, reason error) {
 	p.mutex.Lock()
 	defer p.mutex.Unlock()
 	if reason == nil {
@@ -42,7 +42,7 @@ func (p *Partitions) Ready() (bool, string) {
 	}
 	var said []string
 	for partition, reason := range p.failing {
-		said = append(said, fmt.Sprintf("partition %d can't be reached: %v", partition, reason))
+		said = append(said, fmt.Sprintf("partition %v can't be reached: %v", partition, reason))
 	}
 	sort.Strings(said)
 	return false, strings.Join(said, "; ")

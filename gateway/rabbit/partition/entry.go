@@ -2,6 +2,7 @@ package partition
 
 import (
 	"gateway/rabbit/answer"
+	"gateway/rabbit/bus"
 	"gateway/rabbit/ledger"
 	"gateway/rabbit/line"
 )
@@ -28,7 +29,8 @@ type entry struct {
 	reason   answer.Reason // why it is refused in the engine's stead, or empty
 	text     []byte
 	outcome  ledger.Outcome
-	lost     *lost // it is no line, but stands for messages that are lost
+	lost     *lost         // it is no line, but stands for messages that are lost
+	closes   *bus.Settings // it is no line, but closes the log: there are partitions of these settings after it
 }
 
 // A lost is a gap in the log, with what the answers say of its first lines.

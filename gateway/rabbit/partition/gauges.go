@@ -18,7 +18,7 @@ import (
 type Gauges struct {
 	mutex     sync.Mutex
 	connected bool
-	partition int // -1 where none is owned
+	partition *bus.Partition // nil where none is owned
 	waiting   int
 	unread    int64
 	seconds   float64
@@ -28,9 +28,9 @@ type Gauges struct {
 	restarts  int64
 	unreads   int64 // snapshots that could not be read
 	lost      losses
-	waits     map[int]waiting // of partitions that wait for something to be done, what for
-	missing   []int           // the partitions that have no queues
-	moved     time.Time       // when a line was answered last, or nothing waited
+	waits     map[bus.Partition]waiting // of partitions that wait for something to be done, what for
+	missing   []bus.Partition           // the partitions that have no queues
+	moved     time.Time                 // when a line was answered last, or nothing waited
 }
 
 // A waiting is why a partition can't be owned. Another process may own it after a while, once somebody has acted.
@@ -48,7 +48,7 @@ type losses struct {
 
 // NewGauges are those of a process that owns nothing.
 func NewGauges() *Gauges {
-	return &Gauges{partition: -1, refusals: make(map[answer.Reason]int64), waits: make(map[int]waiting), moved: time.Now()}
+	return &Gauges{refusals: make(map[answer.Reason]int64), waits: make(map[bus.Partition]waiting), moved: time.Now()}
 }
 
 func (g *Gauges) with(change func()) {
@@ -59,28 +59,38 @@ func (g *Gauges) with(change func()) {
 
 func (g *Gauges) setConnected(connected bool) { g.with(func() { g.connected = connected }) }
 
-func (g *Gauges) takeover(partition int) {
+func (g *Gauges) takeover(partition bus.Partition) {
 	g.with(func() {
-		g.partition, g.takeovers, g.moved = partition, g.takeovers+1, time.Now()
+		g.partition, g.takeovers, g.moved = &partition, g.takeovers+1, time.Now()
 		delete(g.waits, partition)
 	})
 }
 
-func (g *Gauges) left() { g.with(func() { g.partition, g.waiting, g.unread, g.seconds = -1, 0, 0, 0 }) }
+func (g *Gauges) left() {
+	g.with(func() { g.partition, g.waiting, g.unread, g.seconds = nil, 0, 0, 0 })
+}
 
 // waitsFor takes in that a partition can't be owned before something is done.
-func (g *Gauges) waitsFor(partition int, reason error, until time.Time) {
+func (g *Gauges) waitsFor(partition bus.Partition, reason error, until time.Time) {
 	g.with(func() { g.waits[partition] = waiting{reason, until} })
 }
 
 // setMissing takes in which partitions have no queues, and says whether that is new.
-func (g *Gauges) setMissing(partitions []int) (isNew bool) {
-	sort.Ints(partitions)
+func (g *Gauges) setMissing(partitions []bus.Partition) (isNew bool) {
+	inOrder(partitions)
 	g.with(func() {
 		isNew = fmt.Sprint(partitions) != fmt.Sprint(g.missing)
 		g.missing = partitions
 	})
 	return isNew
+}
+
+// inOrder sorts partitions.
+func inOrder(partitions []bus.Partition) {
+	sort.Slice(partitions, func(a, b int) bool {
+		first, second := partitions[a], partitions[b]
+		return first.Of.Epoch < second.Of.Epoch || first.Of.Epoch == second.Of.Epoch && first.Number < second.Number
+	})
 }
 
 func (g *Gauges) lostLines(lines int64) { g.with(func() { g.lost.lines += lines }) }
@@ -138,19 +148,19 @@ func (g *Gauges) Ready() (bool, string) {
 	switch {
 	case !g.connected:
 		return false, "no broker is reached"
-	case g.partition >= 0 && time.Since(g.moved) > stuck:
-		return false, fmt.Sprintf("partition %d: no line was answered for %v", g.partition, stuck)
-	case g.partition < 0 && g.whatFor() != "":
+	case g.partition != nil && time.Since(g.moved) > stuck:
+		return false, fmt.Sprintf("partition %v: no line was answered for %v", g.partition, stuck)
+	case g.partition == nil && g.whatFor() != "":
 		return false, g.whatFor()
-	case g.partition < 0:
+	case g.partition == nil:
 		return true, "waits for a partition that is free" + g.lost.String()
 	}
-	return true, fmt.Sprintf("owns partition %d%s", g.partition, g.lost)
+	return true, fmt.Sprintf("owns partition %v%s", g.partition, g.lost)
 }
 
 // waiters are the partitions that wait for somebody to act, but for those without queues.
-func (g *Gauges) waiters() []int {
-	var found []int
+func (g *Gauges) waiters() []bus.Partition {
+	var found []bus.Partition
 	for partition, w := range g.waits {
 		if w.until.IsZero() || time.Now().Before(w.until) {
 			found = append(found, partition)
@@ -163,7 +173,7 @@ func (g *Gauges) waiters() []int {
 func (g *Gauges) whatFor() string {
 	var said []string
 	for _, partition := range g.waiters() {
-		said = append(said, fmt.Sprintf("partition %d waits: %v", partition, g.waits[partition].reason))
+		said = append(said, fmt.Sprintf("partition %v waits: %v", partition, g.waits[partition].reason))
 	}
 	sort.Strings(said)
 	if len(g.missing) > 0 {
@@ -189,7 +199,12 @@ func (g *Gauges) Collectors() []prometheus.Collector {
 			}
 			return 0
 		}),
-		g.gauge("owned", "The partition that is owned, or -1.", func() float64 { return float64(g.partition) }),
+		g.gauge("owned", "The partition that is owned, or -1.", func() float64 {
+			if g.partition == nil {
+				return -1
+			}
+			return float64(g.partition.Number)
+		}),
 		g.gauge("waiting_partitions", "Partitions that this process can't own before somebody acts.",
 			func() float64 { return float64(len(g.waiters()) + len(g.missing)) }),
 		g.gauge("lag_lines", "Lines that were read and have no answer.", func() float64 { return float64(g.waiting) }),

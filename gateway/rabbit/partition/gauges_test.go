@@ -36,25 +36,25 @@ func TestMetricsAreShown(t *testing.T) {
 		t.Errorf("%d %s", status, said)
 	}
 	g.setConnected(true)
-	if !g.setMissing([]int{4, 2}) || g.setMissing([]int{2, 4}) {
+	if !g.setMissing(partitions(4, 2)) || g.setMissing(partitions(2, 4)) {
 		t.Error("what is missing is new twice, or never")
 	}
 	if status, said := get("/readyz"); status != 503 || !strings.Contains(said, "partitions [2 4] have no queues") {
 		t.Errorf("%d %s", status, said)
 	}
 	g.setMissing(nil)
-	g.waitsFor(1, errOtherLog, time.Now().Add(-time.Second))
+	g.waitsFor(partitions(1)[0], errOtherLog, time.Now().Add(-time.Second))
 	if is, said := g.Ready(); !is {
 		t.Error(said)
 	}
-	g.waitsFor(1, errOtherLog, time.Now().Add(time.Hour))
+	g.waitsFor(partitions(1)[0], errOtherLog, time.Now().Add(time.Hour))
 	if is, said := g.Ready(); is || !strings.HasPrefix(said, "partition 1 waits: the log is not the one") {
 		t.Error(said)
 	}
 	if _, text := get("/metrics"); !strings.Contains(text, "\ndesk_partition_waiting_partitions 1\n") {
 		t.Error(text)
 	}
-	g.takeover(3)
+	g.takeover(partitions(3)[0])
 	var s settled
 	s.add(&entry{answered: true, reason: answer.Deadline})
 	s.add(&entry{skipped: true})

@@ -27,6 +27,8 @@ type intake struct {
 	lines   int64           // how many lines were given numbers
 	cut     bool            // whether messages of the log were lost
 	mark    string          // of this takeover, published once the log is read
+	of      bus.Settings    // how many partitions there are with this one
+	closed  bool            // whether the log is: no further message counts
 	fault   error           // why the log can't be gone on with
 }
 
@@ -41,8 +43,8 @@ var errOvertaken = errors.New("retention has cut the log while it was read")
 // errModel says that a model came under the topic of requests, under which everybody may send who may send at all.
 var errModel = errors.New("a model without the right to send models")
 
-func newIntake(log *logs.Log, gauges *Gauges, queue *queue, h *bus.History, first func() (int64, error)) *intake {
-	return &intake{log: log, gauges: gauges, first: first, queue: queue, senders: h.Ledger.Senders.Clone(), begin: h.Ledger.Place, part: h.Ledger.Part,
+func newIntake(log *logs.Log, gauges *Gauges, queue *queue, h *bus.History, of bus.Settings, first func() (int64, error)) *intake {
+	return &intake{log: log, of: of, gauges: gauges, first: first, queue: queue, senders: h.Ledger.Senders.Clone(), begin: h.Ledger.Place, part: h.Ledger.Part,
 		upto: h.Upto(), more: h.More, records: h.Records, offset: -1, lines: h.Ledger.Lines}
 }
 
@@ -65,9 +67,9 @@ func (in *intake) take(message bus.Message) {
 	}
 	in.offset = offset
 	if message.Topic(bus.RequestsExchange) == bus.TopicMarks {
-		if message.Headers[bus.MarkHeader] == in.mark && offset <= in.upto.Offset {
-			in.fault = errOtherLog
-		}
+		in.takeMark(message)
+	}
+	if message.Topic(bus.RequestsExchange) == bus.TopicMarks || in.closed {
 		return
 	}
 	from, err := bus.ReadOrigin(message)
@@ -98,10 +100,22 @@ func (in *intake) take(message bus.Message) {
 	in.tell(offset, from, counts)
 }
 
+// takeMark takes in a mark, or that the log is closed here.
+func (in *intake) takeMark(message bus.Message) {
+	if message.Headers[bus.MarkHeader] == in.mark && message.Offset <= in.upto.Offset {
+		in.fault = errOtherLog
+	}
+	place := ledger.Place{Offset: message.Offset}
+	if to, is := bus.ReadClose(message, in.of); is && !in.closed && in.begin.Before(place) {
+		in.closed = true
+		in.queue.add(&entry{place: place, from: ledger.Origin{Sent: message.Sent}, skipped: true, closes: &to})
+	}
+}
+
 // lookForGap finds out whether messages before this one are lost, and lets a line of the answers say so.
 func (in *intake) lookForGap(offset int64) {
 	gap, isLost := in.gapBefore(offset)
-	if !isLost || in.fault != nil {
+	if !isLost || in.fault != nil || in.closed {
 		return
 	}
 	if in.offset >= 0 {

@@ -8,7 +8,6 @@ import (
 	"regexp"
 	"strings"
 	"testing"
-	"time"
 
 	"gateway/rabbit/broker"
 	"gateway/rabbit/bus"
@@ -150,17 +149,17 @@ func TestAnEngineThatRefusesTheModelInForce(t *testing.T) {
 		t.Fatal(reason)
 	}
 	var log bytes.Buffer
-	taker := &taker{options: Options{Bus: broker.Broker{}, Settings: bus.Settings{Partitions: 2}, Log: logs.New(&log, "test"), Gauges: NewGauges()},
-		refused: map[int]error{}, rests: map[int]time.Time{}, fails: map[int]time.Time{}}
+	two := bus.Settings{Partitions: 2}
+	taker := newTaker(Options{Bus: broker.Broker{}, Log: logs.New(&log, "test"), Gauges: NewGauges()}, fixed(two))
 	var final *bus.Final
-	if err := taker.failed(1, reason); errors.As(err, &final) || fmt.Sprint(taker.partitions()) != "[0]" {
+	if err := taker.failed(two.Each()[1], reason); errors.As(err, &final) || fmt.Sprint(taker.partitions()) != "[0]" {
 		t.Errorf("%v; then %v", err, taker.partitions())
 	}
 	taker.options.Gauges.setConnected(true)
 	if is, said := taker.options.Gauges.Ready(); is || !strings.Contains(said, "partition 1 waits: the engine refuses the model in force") {
 		t.Error(said)
 	}
-	if err := taker.failed(0, reason); !errors.As(err, &final) || !errors.Is(err, errRefusedModel) {
+	if err := taker.failed(two.Each()[0], reason); !errors.As(err, &final) || !errors.Is(err, errRefusedModel) {
 		t.Error(err)
 	}
 }

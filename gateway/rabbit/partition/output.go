@@ -50,12 +50,14 @@ type output struct {
 
 	sinceBytes    int // of lines and answers since the last snapshot
 	sinceMessages int
-	size          int       // of the last snapshot
-	next          time.Time // when one is due whatever was answered, if it isn't zero
-	aged          bool      // whether that time has come
-	modelled      bool      // whether a model was put in force since the last snapshot
-	written       time.Time // when the last snapshot was
-	fresh         bool      // whether that is less than modelPause ago
+	size          int          // of the last snapshot
+	next          time.Time    // when one is due whatever was answered, if it isn't zero
+	aged          bool         // whether that time has come
+	modelled      bool         // whether a model was put in force since the last snapshot
+	written       time.Time    // when the last snapshot was
+	fresh         bool         // whether that is less than modelPause ago
+	closing       bus.Settings // which are after this partition, once all is settled up to where its log is closed
+	isClosed      bool         // whether the last snapshot is published
 }
 
 // room tells whether the next answer may be settled.
@@ -64,6 +66,9 @@ func (out *output) room() bool {
 }
 
 func (out *output) snapshotDue() bool {
+	if out.closing != (bus.Settings{}) {
+		return !out.isClosed
+	}
 	due := snapshotBytes
 	if out.size*snapshotFactor > due {
 		due = out.size * snapshotFactor
@@ -74,6 +79,9 @@ func (out *output) snapshotDue() bool {
 	}
 	return out.ledger.Place != ledger.Start && (out.sinceBytes >= due || out.sinceMessages >= messages || out.aged || out.modelled && !out.fresh)
 }
+
+// isOver says whether all is answered up to where the log is closed, and the last snapshot confirmed.
+func (out *output) isOver() bool { return out.isClosed && out.publisher.Open() == 0 }
 
 // tick looks at the time.
 func (out *output) tick(now time.Time) {
@@ -86,6 +94,11 @@ func (out *output) settle(e *entry) {
 	out.ledger.Part = e.part
 	if e.lost != nil {
 		out.settleLost(e)
+		return
+	}
+	if e.closes != nil {
+		out.closing = *e.closes
+		out.ledger.Skip(e.place)
 		return
 	}
 	if e.from.Kind != ledger.Lines {
@@ -186,14 +199,14 @@ func (out *output) publishSnapshot() error {
 	if err != nil {
 		return err
 	}
-	part := bus.Part{Snapshot: true, After: out.last, Upto: out.ledger.Place, SnapshotAt: out.snapshotAt}
+	part := bus.Part{Snapshot: true, After: out.last, Upto: out.ledger.Place, SnapshotAt: out.snapshotAt, Closed: out.closing}
 	if err := out.publisher.Append(out.route, bus.PartHeaders(part), body); err != nil {
 		return fmt.Errorf("publishing a snapshot: %w", err)
 	}
 	out.published++
 	out.snapshotAt = out.published
 	out.sinceBytes, out.sinceMessages, out.size = 0, 0, len(body)
-	out.written, out.fresh = out.now(), true
+	out.written, out.fresh, out.isClosed = out.now(), true, out.closing != (bus.Settings{})
 	out.next, out.aged, out.modelled = out.written.Add(snapshotPause), false, false
 	return nil
 }

@@ -72,7 +72,7 @@ func take(t *testing.T, l *log, from int, options process.Options, deadline int)
 	}
 	q := &queue{}
 	gauges := NewGauges()
-	o := &Owner{log: silent, gauges: gauges, queue: q, intake: newIntake(silent, gauges, q, h, l.firstKept),
+	o := &Owner{log: silent, gauges: gauges, queue: q, intake: newIntake(silent, gauges, q, h, settings, l.firstKept),
 		work:   &work{log: silent, options: options, deadline: deadline, queue: q, ledger: h.Ledger, models: h.Ledger.Models.Clone(), begin: beginProcess, restarts: func() {}},
 		output: &output{publisher: l, now: time.Now, route: settings.Route(bus.AnswersExchange, bus.TopicAnswers, 0), ledger: h.Ledger, last: h.Upto()}}
 	next := int(h.Ledger.Place.Offset)

@@ -38,7 +38,7 @@ func owned(t *testing.T) (o *Owner, link *memory.Link, log *memory.Stream) {
 		t.Fatal(err)
 	}
 	options := Options{Bus: b, Settings: settings, Log: silent, Gauges: NewGauges(), Now: time.Now}
-	if o, err = Begin(options, opened, 0); err != nil {
+	if o, err = Begin(options, opened, settings.Each()[0], bus.Scaling{}); err != nil {
 		t.Fatal(err)
 	}
 	o.tail = newTail(o.markEnd)

@@ -10,22 +10,37 @@ import (
 
 	"gateway/rabbit/broker"
 	"gateway/rabbit/brokertest"
+	"gateway/rabbit/bus"
 	"gateway/rabbit/logs"
 )
+
+// fixed is a number of partitions that doesn't change.
+type fixed bus.Settings
+
+func (f fixed) Scaling() bus.Scaling                    { return bus.Scaling{All: []bus.Settings{bus.Settings(f)}} }
+func (f fixed) Newest() (bus.Settings, <-chan struct{}) { return bus.Settings(f), nil }
+
+// partitions are those with these numbers.
+func partitions(numbers ...int) (found []bus.Partition) {
+	for _, number := range numbers {
+		found = append(found, bus.Partition{Of: bus.Settings{Partitions: 8}, Number: number})
+	}
+	return found
+}
 
 // taken tries to take a partition over at this broker, which fails, and gives the taker and what was logged.
 func taken(t *testing.T, b *brokertest.Broker, patience time.Duration) (*taker, string) {
 	t.Helper()
 	var log bytes.Buffer
 	on := broker.Broker{Addresses: []string{b.Address}}
-	taker := &taker{options: Options{Bus: on, Settings: settings, Log: logs.New(&log, "test"), Gauges: NewGauges()}, patience: patience,
-		rests: map[int]time.Time{}, fails: map[int]time.Time{}}
+	taker := newTaker(Options{Bus: on, Log: logs.New(&log, "test"), Gauges: NewGauges()}, fixed(settings))
+	taker.patience = patience
 	link, err := on.Connect(context.Background(), "test", "")
 	if err != nil {
 		t.Fatal(err)
 	}
 	defer link.Close()
-	if _, err := taker.take(link, 0); err == nil {
+	if _, err := taker.take(link, settings.Each()[0]); err == nil {
 		t.Fatal("it is taken over")
 	}
 	if taker.last != b.Address {
@@ -65,11 +80,11 @@ func TestAPartitionWhoseLogMayBeLost(t *testing.T) {
 	b.Refuses = func(queue string) bool { return brokertest.Is(queue, "answers", "0") }
 	taker, _ := taken(t, b, firstPatience)
 	reason := errors.New("no copy is here")
-	if err := taker.failed(0, reason); strings.Contains(err.Error(), "repair") {
+	if err := taker.failed(settings.Each()[0], reason); strings.Contains(err.Error(), "repair") {
 		t.Error(err)
 	}
-	taker.fails[0] = time.Now().Add(-2 * lasting)
-	if err := taker.failed(0, reason); !errors.Is(err, reason) || !strings.Contains(err.Error(), "desk partition repair 0") {
+	taker.fails[settings.Each()[0]] = time.Now().Add(-2 * lasting)
+	if err := taker.failed(settings.Each()[0], reason); !errors.Is(err, reason) || !strings.Contains(err.Error(), "desk partition repair 0") {
 		t.Error(err)
 	}
 	taker.options.Gauges.setConnected(true)

@@ -43,7 +43,7 @@ func TestASnapshotThatCanNotBeRead(t *testing.T) {
 	}
 	var log bytes.Buffer
 	options := Options{Bus: b, Settings: settings, Log: logs.New(&log, "test"), Gauges: NewGauges(), Now: time.Now}
-	o, err := Begin(options, link, 0)
+	o, err := Begin(options, link, settings.Each()[0], bus.Scaling{})
 	if err != nil {
 		t.Fatal(err)
 	}

@@ -20,13 +20,26 @@ type place struct {
 	Known  bool         `json:"known"`          // whether Upto is known
 	Upto   ledger.Place `json:"upto"`           // the last line whose answer was written
 	Hole   bool         `json:"hole,omitempty"` // whether offsets are missing since then
+	Over   bool         `json:"over,omitempty"` // whether nothing of it counts any more: its keys have other partitions
 }
 
 // places are what the file of --place holds.
 type places struct {
+	Partitions []place       `json:"partitions"`       // of the first number of partitions
+	Later      []epochPlaces `json:"epochs,omitempty"` // of later ones
+	Output     int64         `json:"output"`           // how many bytes of the output's file belong to it
+	Sum        string        `json:"sum"`              // SHA-256 of the last sumBytes of these
+}
+
+// epochPlaces are those of the partitions of one number of them.
+type epochPlaces struct {
+	Epoch      int64   `json:"epoch"`
 	Partitions []place `json:"partitions"`
-	Output     int64   `json:"output"` // how many bytes of the output's file belong to it
-	Sum        string  `json:"sum"`    // SHA-256 of the last sumBytes of these
+}
+
+// epochs are the places of each number of partitions.
+func (p *places) epochs() []epochPlaces {
+	return append([]epochPlaces{{Partitions: p.Partitions}}, p.Later...)
 }
 
 // sumBytes is how much of the end of an output is summed up: enough to know another file, and little to read back.

@@ -12,7 +12,8 @@ import (
 
 // A message of one partition.
 type message struct {
-	partition int
+	partition bus.Partition
+	over      bool // it is no message: there is nothing more of the partition
 	bus.Message
 }
 
@@ -20,7 +21,10 @@ type message struct {
 // go on.
 type Reader struct {
 	options   Options
-	partition int
+	partition bus.Partition
+	begin     bus.From      // where it is begun
+	quiet     time.Duration // how long the stream may say nothing at first; 0 is for ever
+	streams   int           // how many streams are read at once
 	pause     time.Duration // after which it is looked at whether there is something to read
 	last      int64         // the offset of the last message that was handed on, or -1
 	end       int64         // the end of the stream for which a broker was left that sent nothing
@@ -30,7 +34,25 @@ type Reader struct {
 	mutex     sync.Mutex
 	tried     bool  // whether the partition was read from, or could not be
 	failure   error // why the partition can't be read now
+	later     bool  // whether there is a later number of partitions
 }
+
+// setLater takes in whether there is a later number of partitions.
+func (r *Reader) setLater(is bool) {
+	r.mutex.Lock()
+	defer r.mutex.Unlock()
+	r.later = is
+}
+
+// isUnread says whether nothing was read of a partition that may be closed.
+func (r *Reader) isUnread() bool {
+	r.mutex.Lock()
+	defer r.mutex.Unlock()
+	return r.later && r.last < 0
+}
+
+// Partition is which one is read.
+func (r *Reader) Partition() bus.Partition { return r.partition }
 
 // work reads until the context ends.
 func (r *Reader) work(ctx context.Context) {
@@ -40,13 +62,15 @@ func (r *Reader) work(ctx context.Context) {
 		for errors.Is(err, errSilent) {
 			err = r.run(ctx)
 		}
-		r.failed(err)
+		if ctx.Err() == nil {
+			r.failed(err)
+		}
 		return err
 	})
 	var final *bus.Final
 	if errors.As(err, &final) {
 		select {
-		case r.faults <- fmt.Errorf("partition %d: %w", r.partition, final.Reason):
+		case r.faults <- fmt.Errorf("partition %v: %w", r.partition, final.Reason):
 		case <-ctx.Done():
 		}
 	}
@@ -73,19 +97,23 @@ func (r *Reader) fault() error {
 	if r.failure == nil {
 		return nil
 	}
-	return fmt.Errorf("partition %d can't be read: %w", r.partition, r.failure)
+	return fmt.Errorf("partition %v can't be read: %w", r.partition, r.failure)
 }
 
 // run reads with one connection.
 func (r *Reader) run(ctx context.Context) error {
 	link, stream, err := r.Open(ctx)
+	if errors.Is(err, errOver) {
+		return r.reportOver(ctx)
+	}
 	if err != nil {
 		return err
 	}
 	defer link.Close()
 	r.failed(nil)
-	silence, ticker := newSilence(link, r.queue()), time.NewTicker(r.pause)
+	silence, ticker := newSilence(link, r.partition.Queue(bus.Answers)), time.NewTicker(r.pause)
 	defer ticker.Stop()
+	quiet := after(r.quiet)
 	for {
 		select {
 		case <-ticker.C:
@@ -98,16 +126,50 @@ func (r *Reader) run(ctx context.Context) error {
 			if !open {
 				return stream.Ended()
 			}
-			select {
-			case r.messages <- message{r.partition, next}:
-				r.Took(next)
-			case <-link.Done():
-				return link.Err()
+			quiet = nil
+			if err := r.handOn(ctx, link, next); err != nil {
+				return err
 			}
+		case <-quiet:
+			return r.reportOver(ctx)
 		case <-link.Done():
 			return link.Err()
+		case <-ctx.Done():
+			return ctx.Err()
 		}
 	}
+}
+
+// after is when a time is over; never, where it is 0.
+func after(while time.Duration) <-chan time.Time {
+	if while == 0 {
+		return nil
+	}
+	return time.After(while)
+}
+
+// handOn hands a message on, unless the connection ends before.
+func (r *Reader) handOn(ctx context.Context, link bus.Link, next bus.Message) error {
+	select {
+	case r.messages <- message{partition: r.partition, Message: next}:
+		r.Took(next)
+		return nil
+	case <-link.Done():
+		return link.Err()
+	case <-ctx.Done():
+		return ctx.Err()
+	}
+}
+
+// reportOver reports that there is nothing more of the partition, and waits to be stopped.
+func (r *Reader) reportOver(ctx context.Context) error {
+	r.failed(nil)
+	select {
+	case r.messages <- message{partition: r.partition, over: true}:
+		<-ctx.Done()
+	case <-ctx.Done():
+	}
+	return ctx.Err()
 }
 
 // Open connects, and reads on.
@@ -116,41 +178,80 @@ func (r *Reader) Open(ctx context.Context) (bus.Link, bus.Reader, error) {
 	if err != nil {
 		return nil, nil, err
 	}
-	stream, err := link.Read(bus.Reading{Stream: r.queue(), From: r.from(), Window: bus.OpenOf(r.options.Settings.Partitions)})
+	stream, err := r.read(link)
 	if err == nil {
-		err = r.pin(link)
+		return link, stream, nil
 	}
-	if err != nil {
-		link.Close()
-		return nil, nil, err
+	link.Close()
+	if r.isUnread() && r.options.Bus.Judge(err) == bus.Missing {
+		err = errOver // it was deleted since
 	}
-	return link, stream, nil
+	return nil, nil, err
 }
 
-func (r *Reader) queue() string { return r.options.Settings.Queue(bus.Answers, r.partition) }
+// errOver says that nothing of a partition is to be read: its log is closed, and its answers are before where they are wanted.
+var errOver = errors.New("nothing of it is to be read")
+
+// read reads the stream of answers.
+func (r *Reader) read(link bus.Link) (bus.Reader, error) {
+	from := r.begin
+	if r.last >= 0 {
+		from = bus.FromOffset(r.last)
+	}
+	r.quiet = 0
+	if r.isUnread() && from.Place != bus.First {
+		h, err := r.history(link)
+		if err != nil {
+			return nil, err
+		}
+		if h.Closed != (bus.Settings{}) {
+			if from.Place == bus.Next || from.Place == bus.At && from.Offset > h.At || from.Place == bus.Since && !from.Since.Before(h.Sent) {
+				return nil, errOver
+			}
+			r.quiet = quietTime
+		}
+	}
+	stream, err := link.Read(bus.Reading{Stream: r.partition.Queue(bus.Answers), From: from, Window: bus.OpenOf(r.streams)})
+	if err != nil {
+		return nil, err
+	}
+	return stream, r.pin(link)
+}
+
+// history is what the end of the stream says.
+func (r *Reader) history(link bus.Link) (*bus.History, error) {
+	publisher, err := link.Appender()
+	if err != nil {
+		return nil, err
+	}
+	h, err := bus.ReadHistory(bus.HistoryOptions{Link: link, Partition: r.partition, Open: bus.MostOpen}, publisher)
+	if err != nil {
+		return nil, err
+	}
+	return h, publisher.Close()
+}
+
+// quietTime is how long a closed stream may say nothing, where it is read from a time on: then all of it is before that time.
+const quietTime = 10 * time.Second
 
 // Took takes in that a message was handed on.
-func (r *Reader) Took(message bus.Message) { r.last = message.Offset }
-
-// from is where the stream is to be read from.
-func (r *Reader) from() bus.From {
-	if r.last >= 0 {
-		return bus.FromOffset(r.last)
-	}
-	return r.options.From
+func (r *Reader) Took(message bus.Message) {
+	r.mutex.Lock()
+	defer r.mutex.Unlock()
+	r.last = message.Offset
 }
 
 // pin publishes a mark in a stream that is read from its end on, and of which nothing was read yet. So there is a place to
 // go on from, and what is answered while the receiver is away is not missed.
 func (r *Reader) pin(link bus.Link) error {
-	if r.options.From.Place != bus.Next || r.last >= 0 {
+	if r.begin.Place != bus.Next || r.last >= 0 {
 		return nil
 	}
 	publisher, err := link.Appender()
 	if err != nil {
 		return err
 	}
-	route := r.options.Settings.Route(bus.AnswersExchange, bus.TopicMarks, r.partition)
+	route := r.partition.Route(bus.AnswersExchange, bus.TopicMarks)
 	if err := publisher.Append(route, bus.Headers{bus.MarkHeader: "desk receive"}, nil); err != nil {
 		return err
 	}

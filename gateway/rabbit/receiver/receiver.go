@@ -23,11 +23,12 @@ const savePause = 250 * time.Millisecond
 // Options say what is received, and where it goes.
 type Options struct {
 	Bus      bus.Bus
-	Settings bus.Settings
-	From     bus.From // for partitions that the place doesn't know
-	Place    string   // the file that keeps the place, or empty
-	Output   *os.File // where answers go, unless Each is handed them
-	Each     func(partition int, line []byte, record answer.Record) error
+	Settings bus.Settings // how many partitions there were first
+	Scale    scale        // knows of later numbers; nil where there are none
+	From     bus.From     // for partitions that the place doesn't know
+	Place    string       // the file that keeps the place, or empty
+	Output   *os.File     // where answers go, unless Each is handed them
+	Each     func(line []byte, record answer.Record) error
 	File     bool          // whether Output is a file of its own, whose length belongs to the place
 	Idle     time.Duration // after so long without an answer it ends; 0 says never
 	Log      *logs.Log
@@ -40,13 +41,26 @@ type Receiver struct {
 	output  *bufio.Writer
 	written int64  // the length of the output's file
 	sum     string // of its end, as the place has it
-	streams []int64
-	chains  []ledger.Chain
-	holes   []bool // whether offsets are missing since the last answers or snapshot
-	readers []*Reader
+	epochs  []epoch
 	gaps    int       // of requests or answers that are lost, for each of which a line is written
 	dirty   bool      // whether something is written, and the place isn't
 	moved   time.Time // when the last answer came
+}
+
+// A received partition has been read so far.
+type received struct {
+	at     bus.Partition
+	stream int64        // the offset of the last message, or -1
+	chain  ledger.Chain // how far the answers go
+	hole   bool         // whether offsets are missing since the last answers or snapshot
+	over   bool         // whether its last snapshot was read, after which nothing counts
+	reader *Reader      // once it is read
+}
+
+// An epoch has the partitions of one number of them.
+type epoch struct {
+	bus.Settings
+	partitions []*received
 }
 
 // Receive writes answers until the context ends, or none came for a while. The error says which partitions could not be
@@ -58,16 +72,13 @@ func Receive(ctx context.Context, options Options) error {
 	}
 	reading, cancel := context.WithCancel(ctx)
 	defer cancel()
-	messages, faults := make(chan message), make(chan error)
-	for _, reader := range r.readers {
-		reader.messages, reader.faults = messages, faults
-		go reader.work(reading)
-	}
-	fault := r.write(ctx, messages, faults)
+	f := &feeding{Receiver: r, reading: reading, messages: make(chan message), faults: make(chan error)}
+	f.start()
+	fault := f.write(ctx)
 	if saved := r.Save(); fault == nil {
 		fault = saved
 	}
-	for _, reader := range r.readers {
+	for _, reader := range r.Readers() {
 		if fault == nil && ctx.Err() == nil {
 			fault = reader.fault()
 		}
@@ -80,13 +91,13 @@ func Receive(ctx context.Context, options Options) error {
 
 // write writes what comes until the context ends, a partition fails for good, or nothing came for a while. What is at hand is
 // written together.
-func (r *Receiver) write(ctx context.Context, messages <-chan message, faults <-chan error) error {
+func (r *feeding) write(ctx context.Context) error {
 	ticker := time.NewTicker(savePause)
 	defer ticker.Stop()
 	for {
 		select {
-		case m := <-messages:
-			if err := r.Add(m.partition, m.Message); err != nil {
+		case m := <-r.messages:
+			if err := r.take(m); err != nil {
 				return err
 			}
 			continue
@@ -96,10 +107,12 @@ func (r *Receiver) write(ctx context.Context, messages <-chan message, faults <-
 			return fmt.Errorf("writing answers: %w", err)
 		}
 		select {
-		case m := <-messages:
-			if err := r.Add(m.partition, m.Message); err != nil {
+		case m := <-r.messages:
+			if err := r.take(m); err != nil {
 				return err
 			}
+		case <-r.changed():
+			r.start()
 		case <-ticker.C:
 			if err := r.Save(); err != nil {
 				return err
@@ -107,7 +120,7 @@ func (r *Receiver) write(ctx context.Context, messages <-chan message, faults <-
 			if r.idled() {
 				return nil
 			}
-		case fault := <-faults:
+		case fault := <-r.faults:
 			return fault
 		case <-ctx.Done():
 			return nil
@@ -120,7 +133,7 @@ func (r *Receiver) idled() bool {
 	if r.options.Idle == 0 {
 		return false
 	}
-	for _, reader := range r.readers {
+	for _, reader := range r.Readers() {
 		if !reader.isTried() {
 			r.moved = time.Now()
 			return false
@@ -139,22 +152,15 @@ func New(options Options) (*Receiver, error) {
 		output = io.Discard
 	}
 	r := &Receiver{options: options, output: bufio.NewWriterSize(output, bus.MessageBytes), moved: time.Now()}
-	for partition := 0; partition < options.Settings.Partitions; partition++ {
-		r.streams = append(r.streams, -1)
-		r.chains = append(r.chains, ledger.Chain{})
-		r.holes = append(r.holes, false)
+	r.Rescaled()
+	if len(r.epochs) == 0 {
+		r.add(options.Settings)
 	}
 	if err := r.restore(); err != nil {
 		return r, err
 	}
-	for partition, last := range r.streams {
-		r.readers = append(r.readers, &Reader{options: options, partition: partition, pause: pauseOf(options), last: last, end: -1})
-	}
 	return r, nil
 }
-
-// Readers are those of each partition.
-func (r *Receiver) Readers() []*Reader { return r.readers }
 
 // ErrNotEmpty says that nothing tells how much of an output belongs to the answers.
 var ErrNotEmpty = errors.New("the output is not empty, and no place says where it goes on: give another file, or the --place that belongs to it")
@@ -185,13 +191,14 @@ func (r *Receiver) restore() error {
 
 // restorePlace reads the place, if there is one, and says so.
 func (r *Receiver) restorePlace() (bool, error) {
-	p, err := readPlaces(r.options.Place, len(r.streams))
+	p, err := readPlaces(r.options.Place, r.epochs[0].Partitions)
 	if err != nil || p == nil {
 		return false, err
 	}
-	for partition, at := range p.Partitions {
-		r.streams[partition], r.holes[partition] = at.Stream, at.Hole
-		r.chains[partition] = ledger.Chain{Known: at.Known, Upto: at.Upto}
+	for _, of := range p.epochs() {
+		if err := r.restoreEpoch(of); err != nil {
+			return false, err
+		}
 	}
 	r.written, r.sum = p.Output, p.Sum
 	return true, nil
@@ -225,17 +232,19 @@ func (r *Receiver) cutOutput(known bool) error {
 }
 
 // Add takes the next message of a partition's stream in, and writes the answers that it adds.
-func (r *Receiver) Add(partition int, message bus.Message) error {
-	offset := message.Offset
-	chain, before := &r.chains[partition], r.streams[partition]
-	if offset == 0 {
-		chain.Reach(ledger.Start)
+func (r *Receiver) Add(at bus.Partition, message bus.Message) error {
+	offset, partition := message.Offset, r.find(at)
+	if partition.over {
+		return nil
 	}
-	r.holes[partition] = r.holes[partition] || before >= 0 && offset > before+1
-	r.streams[partition], r.dirty = offset, true
+	if offset == 0 {
+		partition.chain.Reach(ledger.Start)
+	}
+	partition.hole = partition.hole || partition.stream >= 0 && offset > partition.stream+1
+	partition.stream, r.dirty = offset, true
 	part, is, err := bus.ReadPart(message)
 	if err != nil {
-		return fmt.Errorf("partition %d, offset %d: %w", partition, offset, err)
+		return fmt.Errorf("partition %v, offset %d: %w", at, offset, err)
 	}
 	if !is {
 		return nil
@@ -245,25 +254,28 @@ func (r *Receiver) Add(partition int, message bus.Message) error {
 	}
 	switch {
 	case part.Snapshot:
-		chain.Reach(part.Upto)
+		partition.chain.Reach(part.Upto)
+		if part.Closed != (bus.Settings{}) {
+			r.end(partition)
+		}
 		return nil
-	case !chain.Fits(part.After, part.Upto):
+	case !partition.chain.Fits(part.After, part.Upto):
 		return nil
 	}
-	return r.writeAnswers(partition, message.Body, chain, part)
+	return r.writeAnswers(partition, message.Body, part)
 }
 
 // lookForCut finds answers that were cut before they were received: where offsets are missing and the next message is not the
 // one that is due. Missing offsets alone say nothing: the broker takes some for itself. It writes a line that says so, and goes
 // on after them.
-func (r *Receiver) lookForCut(partition int, part bus.Part) error {
-	chain, begin := &r.chains[partition], part.After
-	isCut := r.holes[partition] && chain.Known && chain.Upto.Before(begin)
-	r.holes[partition] = false
+func (r *Receiver) lookForCut(partition *received, part bus.Part) error {
+	chain, begin := &partition.chain, part.After
+	isCut := partition.hole && chain.Known && chain.Upto.Before(begin)
+	partition.hole = false
 	if !isCut {
 		return nil
 	}
-	r.options.Log.OfPartition(partition).Error("retention has cut the answers after line %v and up to line %v before they were received",
+	r.options.Log.OfPartition(partition.at).Error("retention has cut the answers after line %v and up to line %v before they were received",
 		chain.Upto, begin)
 	text := answer.Unreceived(chain.Upto, begin)
 	chain.Reach(begin)
@@ -278,8 +290,11 @@ func (r *Receiver) lost() {
 }
 
 // writeLine writes a line of a partition's answers.
-func (r *Receiver) writeLine(partition int, text []byte) error {
-	prefix := fmt.Sprintf(`{"partition":%d,`, partition)
+func (r *Receiver) writeLine(partition *received, text []byte) error {
+	prefix := fmt.Sprintf(`{"partition":%d,`, partition.at.Number)
+	if epoch := partition.at.Of.Epoch; epoch > 0 {
+		prefix += fmt.Sprintf(`"epoch":%d,`, epoch)
+	}
 	r.output.WriteString(prefix)
 	r.output.Write(text[1:])
 	if err := r.output.WriteByte('\n'); err != nil {
@@ -290,20 +305,20 @@ func (r *Receiver) writeLine(partition int, text []byte) error {
 }
 
 // writeRecord writes a line of a partition's answers, or hands it on.
-func (r *Receiver) writeRecord(partition int, text []byte, record answer.Record) error {
+func (r *Receiver) writeRecord(partition *received, text []byte, record answer.Record) error {
 	if r.options.Each != nil {
-		return r.options.Each(partition, text, record)
+		return r.options.Each(text, record)
 	}
 	return r.writeLine(partition, text)
 }
 
-func (r *Receiver) writeAnswers(partition int, body []byte, chain *ledger.Chain, part bus.Part) error {
+func (r *Receiver) writeAnswers(partition *received, body []byte, part bus.Part) error {
 	for _, text := range bytes.Split(bytes.TrimSuffix(body, []byte("\n")), []byte("\n")) {
 		record, err := answer.ReadRecord(text)
 		if err != nil {
-			return fmt.Errorf("partition %d: %w: %.100q", partition, err, text)
+			return fmt.Errorf("partition %v: %w: %.100q", partition.at, err, text)
 		}
-		if !chain.Upto.Before(record.Place) {
+		if !partition.chain.Upto.Before(record.Place) {
 			continue
 		}
 		if record.Lost {
@@ -313,7 +328,7 @@ func (r *Receiver) writeAnswers(partition int, body []byte, chain *ledger.Chain,
 			return err
 		}
 	}
-	chain.Reach(part.Upto)
+	partition.chain.Reach(part.Upto)
 	r.moved = time.Now()
 	return nil
 }
@@ -335,12 +350,7 @@ func (r *Receiver) Save() error {
 			return fmt.Errorf("reading back the answers: %w", err)
 		}
 	}
-	p := &places{Output: r.written, Sum: r.sum}
-	for partition, chain := range r.chains {
-		at := place{Stream: r.streams[partition], Known: chain.Known, Upto: chain.Upto, Hole: r.holes[partition]}
-		p.Partitions = append(p.Partitions, at)
-	}
-	if err := p.write(r.options.Place); err != nil {
+	if err := r.places().write(r.options.Place); err != nil {
 		return err
 	}
 	r.dirty = false

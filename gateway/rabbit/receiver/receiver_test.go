@@ -59,7 +59,7 @@ func (f file) answers(t *testing.T, stream, behind, count int64) {
 	for line := behind + 1; line <= behind+count; line++ {
 		body = answer.Append(body, ledger.Place{Offset: line}, []byte(`"k"`), []byte(fmt.Sprint(line)), []byte(`{"ticket":0}`))
 	}
-	if err := f.Add(0, messageOf(stream, part, body)); err != nil {
+	if err := f.Add(first, messageOf(stream, part, body)); err != nil {
 		t.Fatal(err)
 	}
 }
@@ -88,14 +88,17 @@ func (f file) saved(t *testing.T) {
 	}
 }
 
+// first is the partition of which the tests receive.
+var first = bus.Partition{Of: bus.Settings{Partitions: 1}}
+
 // Answers that are published twice, with a gap before them or over again by a second owner are written once.
 func TestEachAnswerIsWrittenOnce(t *testing.T) {
 	f := opened(t, t.TempDir())
-	f.answers(t, 0, -1, 3)                                   // 0 to 2
-	f.answers(t, 1, -1, 3)                                   // the same again
-	f.answers(t, 2, 5, 1)                                    // behind a gap
-	f.answers(t, 3, 0, 4)                                    // 1 to 4
-	if err := f.Add(0, bus.Message{Offset: 4}); err != nil { // a mark
+	f.answers(t, 0, -1, 3)                                       // 0 to 2
+	f.answers(t, 1, -1, 3)                                       // the same again
+	f.answers(t, 2, 5, 1)                                        // behind a gap
+	f.answers(t, 3, 0, 4)                                        // 1 to 4
+	if err := f.Add(first, bus.Message{Offset: 4}); err != nil { // a mark
 		t.Fatal(err)
 	}
 	f.answers(t, 5, 4, 2) // 5 and 6
@@ -116,7 +119,7 @@ func TestAPlaceIsGoneBackTo(t *testing.T) {
 		t.Fatal(err)
 	}
 	again := opened(t, folder)
-	if from := again.streams[0]; from != 0 {
+	if from := again.find(first).stream; from != 0 {
 		t.Errorf("it goes on at %v", from)
 	}
 	again.answers(t, 0, -1, 3)
@@ -197,7 +200,7 @@ func TestLostRequestsAreWritten(t *testing.T) {
 	gap := ledger.Gap{From: 3, To: 8}
 	part := bus.Part{After: ledger.Place{Offset: 2}, Upto: gap.Place()}
 	for stream := int64(1); stream <= 2; stream++ {
-		if err := f.Add(0, messageOf(stream, part, answer.AppendLost(nil, gap))); err != nil {
+		if err := f.Add(first, messageOf(stream, part, answer.AppendLost(nil, gap))); err != nil {
 			t.Fatal(err)
 		}
 	}
@@ -213,7 +216,7 @@ func TestACutBeforeAMarkIsTold(t *testing.T) {
 	folder := t.TempDir()
 	f := opened(t, folder)
 	f.answers(t, 0, -1, 3)
-	if err := f.Add(0, bus.Message{Offset: 9}); err != nil {
+	if err := f.Add(first, bus.Message{Offset: 9}); err != nil {
 		t.Fatal(err)
 	}
 	f.saved(t)
@@ -274,15 +277,17 @@ func TestAPlaceOfOtherPartitions(t *testing.T) {
 func TestIdleTimeBeginsWithThePartitions(t *testing.T) {
 	f := opened(t, t.TempDir())
 	f.options.Idle = time.Nanosecond
-	f.readers = []*Reader{{options: f.options}, {options: f.options, partition: 1}}
-	f.readers[0].failed(nil)
+	f.epochs = nil
+	f.add(bus.Settings{Partitions: 2})
+	readers := f.Readers()
+	readers[0].failed(nil)
 	f.moved = time.Time{}
 	if f.idled() {
 		t.Error("it has ended before a partition was reached")
 	}
-	f.readers[1].failed(errors.New("it can't be reached"))
+	readers[1].failed(errors.New("it can't be reached"))
 	f.moved = time.Time{}
-	if !f.idled() || f.readers[0].fault() != nil || f.readers[1].fault() == nil {
+	if !f.idled() || readers[0].fault() != nil || readers[1].fault() == nil {
 		t.Error("it goes on")
 	}
 	if is, said := f.options.Gauges.Ready(); is || said != "partition 1 can't be reached: it can't be reached" {

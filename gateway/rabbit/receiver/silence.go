@@ -65,7 +65,7 @@ func pauseOf(options Options) time.Duration {
 // so this is done once for each end. What is read from now on, and from which nothing came yet, would be missed.
 func (r *Reader) leave(link bus.Link, s *silence, end int64) error {
 	s.asked = false
-	if end <= r.last || end == r.end || s.last != r.last || r.last < 0 && r.options.From.Place == bus.Next {
+	if end <= r.last || end == r.end || s.last != r.last || r.last < 0 && r.begin.Place == bus.Next {
 		return nil
 	}
 	r.end, r.left = end, link.Address()

@@ -87,8 +87,8 @@ func (r stuckReader) Close() error                 { return nil }
 // reading runs a reader of that bus, which begins there, and gives what it hands on. It ends with the test.
 func reading(t *testing.T, b *stuckBus, from bus.From, last int64) <-chan message {
 	messages := make(chan message)
-	r := &Reader{options: Options{Settings: bus.Settings{Partitions: 1}, From: from, Bus: b, Gauges: NewGauges(), Log: logs.New(io.Discard, "test")},
-		pause: time.Millisecond, last: last, end: -1, messages: messages}
+	r := &Reader{options: Options{Bus: b, Gauges: NewGauges(), Log: logs.New(io.Discard, "test")},
+		partition: bus.Partition{Of: bus.Settings{Partitions: 1}}, begin: from, streams: 1, pause: time.Millisecond, last: last, end: -1, messages: messages}
 	ctx, cancel := context.WithCancel(context.Background())
 	b.done = ctx.Done()
 	ended := make(chan struct{})

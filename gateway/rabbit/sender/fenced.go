@@ -3,6 +3,7 @@ package sender
 import (
 	"bytes"
 	"context"
+	"errors"
 	"fmt"
 	"sync"
 
@@ -28,7 +29,7 @@ func (c *fencedCount) add(requests, models int64) {
 }
 
 // takenBefore counts the lines of this process that were taken, over all partitions.
-func (s *Sender) takenBefore(ctx context.Context) (int64, error) {
+func (s *Sender) takenBefore(ctx context.Context, newer *bus.Superseded) (int64, error) {
 	var taken int64
 	err := bus.Again(ctx, s.options.Bus, s.options.Log, func(ctx context.Context) error {
 		link, err := s.connect(ctx)
@@ -36,7 +37,7 @@ func (s *Sender) takenBefore(ctx context.Context) (int64, error) {
 			return err
 		}
 		defer link.Close()
-		taken, err = s.takenOver(link)
+		taken, err = s.takenOver(link, newer)
 		return err
 	})
 	if err != nil {
@@ -46,74 +47,73 @@ func (s *Sender) takenBefore(ctx context.Context) (int64, error) {
 }
 
 // takenOver counts the lines of this process that were taken, with one connection.
-func (s *Sender) takenOver(link bus.Link) (int64, error) {
+func (s *Sender) takenOver(link bus.Link, newer *bus.Superseded) (int64, error) {
 	var count fencedCount
-	err := eachPartition(len(s.lanes), func(partition int) error {
+	err := eachPartition(len(s.lanes), s.options.AtOnce, func(partition int) error {
 		if l := s.lanes[partition]; !l.claimed || l.fenced {
 			return nil
 		}
-		requests, models, err := s.takenIn(link, s.lanes[partition])
-		count.add(requests, models)
+		if err := s.fence(link, partition, newer.Epoch); err != nil {
+			return err
+		}
+		found, err := s.takenIn(link, s.lanes[partition])
+		count.add(found.requests, found.models)
 		return err
 	})
 	return count.requests + count.models, err
 }
 
-// takenIn reads a partition's log from this process's claim on, up to the claim of a newer one or the end.
-func (s *Sender) takenIn(link bus.Link, l *Lane) (requests, models int64, err error) {
-	token, err := s.claimAgain(link, l)
-	if err != nil {
-		return 0, 0, err
-	}
+// A takenLines counts the lines of a process that a partition took.
+type takenLines struct{ requests, models, upto int64 } // upto counts those of earlier processes, too
+
+// takenIn reads a partition's log from this process's claim on, up to the claim of a newer one or where the log is closed.
+func (s *Sender) takenIn(link bus.Link, l *Lane) (takenLines, error) {
+	found := takenLines{upto: l.before}
 	stream, err := link.Read(bus.Reading{Stream: l.queue, From: bus.FromOffset(l.claim), Window: open})
 	if err != nil {
-		return 0, 0, err
+		return found, err
 	}
-	next := l.before
 	for {
 		message, err := stream.Next()
 		if err != nil {
-			return requests, models, err
+			return found, err
 		}
 		from, foreign := bus.ReadOrigin(message)
 		isNewer := foreign == nil && from.Sender == s.options.Name && from.Epoch > s.epoch
-		if isNewer || message.Headers[bus.TokenHeader] == token {
-			return requests, models, stream.Close()
+		if _, isClose := bus.ReadClose(message, s.options.Settings); isNewer || isClose {
+			return found, stream.Close()
 		}
 		if foreign != nil || from.Kind != ledger.Lines || from.Key() != s.origin().Key() || from.Epoch != s.epoch {
 			continue
 		}
-		lines := takenOf(message, from, next)
-		next += int64(len(lines))
+		lines := takenOf(message, from, found.upto)
+		found.upto += int64(len(lines))
 		for _, raw := range lines {
 			if isModel(raw) {
-				models++
+				found.models++
 			} else {
-				requests++
+				found.requests++
 			}
 		}
 	}
 }
 
-// claimAgain claims the name once more in a partition's log, which changes nothing and marks the log's end. It gives the token
-// of that message.
-func (s *Sender) claimAgain(link bus.Link, l *Lane) (string, error) {
+// fence claims the name in a partition's log for the newer process, which may not have done so yet. So a message of this one that comes
+// late, as the connection was lost while it was on its way, doesn't count. Nothing is led any more to a log that is closed, and needs none.
+func (s *Sender) fence(link bus.Link, partition int, epoch int64) error {
 	publisher, err := link.Appender()
 	if err != nil {
-		return "", err
+		return err
 	}
-	token, err := bus.NewMark()
-	if err != nil {
-		return "", err
+	claim := s.origin()
+	claim.Kind, claim.Epoch = ledger.Claim, epoch
+	if err := publisher.Append(linesRoute(s.options.Settings, partition), bus.OriginHeaders(claim), nil); err != nil {
+		return err
 	}
-	again := s.origin()
-	again.Kind = ledger.Claim
-	headers := bus.OriginHeaders(again)
-	headers[bus.TokenHeader] = token
-	if err := publisher.Append(linesRoute(s.options.Settings, l.partition), headers, nil); err != nil {
-		return "", err
+	if err := publisher.Settle(); !errors.Is(err, bus.ErrMissing) {
+		return err
 	}
-	return token, publisher.Settle()
+	return nil
 }
 
 // takenOf are the lines of a message that the partition takes, if it waits for the line with this number.

@@ -32,3 +32,49 @@ func TestLinesWaitForOthers(t *testing.T) {
 	l.close()
 	waits(false, "no more lines come")
 }
+
+// Where waits are in vain, one after the other, lines don't wait, but for one now and then; once one isn't, they do.
+func TestLinesDoNotWaitInVain(t *testing.T) {
+	var g gathering
+	last := time.Unix(1_700_000_000, 0)
+	// A line comes right after the message before, and another after some of the time that it waits.
+	send := func(another time.Duration) (waited bool) {
+		first := last.Add(time.Millisecond)
+		rest := g.rest(first, last)
+		came := first
+		if another < rest {
+			came = first.Add(another)
+		}
+		last = first.Add(rest)
+		g.sent(last, came)
+		return rest > 0
+	}
+	const late, early = bus.LineGather * 3 / 4, bus.LineGather / 4
+	for _, c := range []struct {
+		another time.Duration
+		waits   bool
+	}{{late, true}, {0, true}, {late, true}, {early, true}, {0, true}} {
+		if waited := send(c.another); waited != c.waits {
+			t.Fatalf("%v: %v", c, waited)
+		}
+	}
+	for round := 0; round < 3; round++ {
+		for at := 0; at < tryAfter; at++ {
+			if send(late) {
+				t.Fatalf("round %d: line %d waited", round, at)
+			}
+		}
+		if !send(early) {
+			t.Fatalf("round %d: it wasn't tried", round)
+		}
+	}
+	for at := 0; at < tryAfter; at++ {
+		send(0)
+	}
+	if !send(late) || !send(late) {
+		t.Error("lines don't wait though it isn't in vain any more")
+	}
+	if g.rest(last.Add(time.Hour), last) > 0 || !g.begun.IsZero() {
+		t.Error("a line waits after a pause")
+	}
+}

@@ -1,6 +1,7 @@
 package sender
 
 import (
+	"errors"
 	"fmt"
 	"sync"
 
@@ -22,8 +23,8 @@ type claimed struct {
 	fenced bool          // whether a newer process had claimed the name here before
 }
 
-// eachPartition does the work for every partition, a few of them at a time.
-func eachPartition(partitions int, work func(partition int) error) error {
+// eachPartition does the work for every partition, so many of them at a time.
+func eachPartition(partitions, atOnce int, work func(partition int) error) error {
 	faults := make([]error, partitions)
 	var asked sync.WaitGroup
 	turns := make(chan struct{}, atOnce)
@@ -52,7 +53,11 @@ func claimPartition(link bus.Link, settings bus.Settings, partition int, as ledg
 	if err != nil {
 		return claimed{}, err
 	}
-	h, err := bus.LookAtHistory(bus.HistoryOptions{Link: link, Settings: settings, Partition: partition, Open: open})
+	at := bus.Partition{Of: settings, Number: partition}
+	h, err := bus.LookAtHistory(bus.HistoryOptions{Link: link, Partition: at, Open: open})
+	if err == nil {
+		err = takesLines(h, settings)
+	}
 	if err != nil {
 		return claimed{}, err
 	}
@@ -70,12 +75,26 @@ func claimPartition(link bus.Link, settings bus.Settings, partition int, as ledg
 		return claimed{}, err
 	}
 	found := claimed{}
-	if found.offset, err = readOn(link, settings.Queue(bus.Lines, partition), token, h.Ledger); err != nil {
+	if found.offset, err = readOn(link, at, token, h.Ledger); err != nil {
 		return claimed{}, err
 	}
 	sender := h.Ledger.Senders.Find(as.Sender)
 	found.batch, found.fenced = sender.Batch(as.Batch), sender != nil && sender.Epoch > as.Epoch
 	return found, publisher.Close()
+}
+
+// errUnbegun says that a partition of a later number of partitions doesn't know yet what was sent before.
+var errUnbegun = errors.New("it has not begun: partitions from which its keys come are not answered up to the change")
+
+// takesLines says why a partition takes no lines now.
+func takesLines(h *bus.History, settings bus.Settings) error {
+	switch {
+	case h.Closed != (bus.Settings{}):
+		return &bus.Final{Reason: &bus.Rescaled{To: h.Closed}}
+	case settings.Epoch > 0 && !h.HasSnapshot:
+		return errUnbegun
+	}
+	return nil
 }
 
 // linesRoute is where requests, claims and ends of batches are published.
@@ -84,12 +103,8 @@ func linesRoute(settings bus.Settings, partition int) bus.Route {
 }
 
 // readOn takes the lines after the ledger's place in, up to the claim with the token, and gives the claim's offset.
-func readOn(link bus.Link, lines, token string, l *ledger.Ledger) (int64, error) {
-	var from bus.From
-	if l.Place.Offset >= 0 {
-		from = bus.FromOffset(l.Place.Offset)
-	}
-	stream, err := link.Read(bus.Reading{Stream: lines, From: from, Window: open})
+func readOn(link bus.Link, at bus.Partition, token string, l *ledger.Ledger) (int64, error) {
+	stream, err := readLog(link, at.Queue(bus.Lines), l)
 	if err != nil {
 		return 0, err
 	}
@@ -98,11 +113,23 @@ func readOn(link bus.Link, lines, token string, l *ledger.Ledger) (int64, error)
 		if err != nil {
 			return 0, err
 		}
+		if to, is := bus.ReadClose(message, at.Of); is {
+			return 0, &bus.Final{Reason: &bus.Rescaled{To: to}}
+		}
 		bus.TakeMessage(message, l)
 		if message.Headers[bus.TokenHeader] == token {
 			return message.Offset, stream.Close()
 		}
 	}
+}
+
+// readLog reads a log from the ledger's place on.
+func readLog(link bus.Link, lines string, l *ledger.Ledger) (bus.Reader, error) {
+	var from bus.From
+	if l.Place.Offset >= 0 {
+		from = bus.FromOffset(l.Place.Offset)
+	}
+	return link.Read(bus.Reading{Stream: lines, From: from, Window: open})
 }
 
 // isModel says whether a line is a model.

@@ -29,15 +29,19 @@ type Lane struct {
 	known    known
 	next     int64     // the number of the next message's first line
 	last     time.Time // when a message was published last
-	models   int64     // how many lines of the batch so far are models
+	waiting  gathering
+	models   int64 // how many lines of the batch so far are models
 	message  *message
 	link     bus.Link
 	appender bus.Appender
 
 	mutex    sync.Mutex
 	pending  []pending
-	bytes    int  // of what is pending or on its way
-	closed   bool // whether no further line comes
+	came     time.Time // when the last of these came
+	bytes    int       // of what is pending or on its way
+	closed   bool      // whether no further line comes
+	settled  bool      // whether all are confirmed then
+	ready    bool      // whether the name is claimed
 	done     bool
 	passed   bool      // whether lines were left out: no later one is sent
 	stuck    time.Time // since when nothing is confirmed, or zero
@@ -83,7 +87,7 @@ func (l *Lane) put(next pending) bool {
 	if l.bytes >= l.limit {
 		return false
 	}
-	l.pending = append(l.pending, next)
+	l.pending, l.came = append(l.pending, next), time.Now()
 	l.bytes += len(next.text)
 	if l.message == nil && (len(l.pending) == 1 || l.isFull()) { // what comes between waits for a message with them
 		signal(l.wake)
@@ -113,6 +117,34 @@ func (l *Lane) isStuck(long time.Duration) bool {
 	l.mutex.Lock()
 	defer l.mutex.Unlock()
 	return !l.done && !l.stuck.IsZero() && time.Since(l.stuck) >= long
+}
+
+// IsSettled says whether no further line comes, and all are confirmed.
+func (l *Lane) IsSettled() bool {
+	l.mutex.Lock()
+	defer l.mutex.Unlock()
+	return l.settled || l.done
+}
+
+// settle takes in that no further line comes, and all are confirmed.
+func (l *Lane) settle() {
+	l.mutex.Lock()
+	l.settled = true
+	l.mutex.Unlock()
+	l.sender.notice()
+}
+
+// IsClaimed says whether the name is claimed in the partition, so that it is known what that took of the batch.
+func (l *Lane) IsClaimed() bool {
+	l.mutex.Lock()
+	defer l.mutex.Unlock()
+	return l.ready
+}
+
+func (l *Lane) isPassed() bool {
+	l.mutex.Lock()
+	defer l.mutex.Unlock()
+	return l.passed
 }
 
 func (l *Lane) isDone() bool {
@@ -257,6 +289,10 @@ func (l *Lane) claimBatch(link bus.Link) error {
 	if found.batch != nil {
 		l.known, l.before, l.next = known{batch: found.batch}, found.batch.Count, found.batch.Count
 	}
+	l.mutex.Lock()
+	l.ready = true
+	l.mutex.Unlock()
+	l.sender.notice()
 	return nil
 }
 
@@ -268,6 +304,10 @@ func (l *Lane) Step() (more bool, err error) {
 	next, closed, err := l.nextMessage()
 	if err != nil {
 		return false, err
+	}
+	if next == nil && closed && !l.sender.mayEnd() {
+		l.settle()
+		return true, nil
 	}
 	if next == nil && closed {
 		return false, l.end()
@@ -293,7 +333,7 @@ func (l *Lane) gathers() time.Duration {
 	if l.message != nil || l.closed || len(l.pending) == 0 || l.isFull() {
 		return 0
 	}
-	return bus.LineGather - time.Since(l.last)
+	return l.waiting.rest(time.Now(), l.last)
 }
 
 // nextMessage makes the next message, or nil if there is nothing to send, and says whether no more lines come.
@@ -302,11 +342,17 @@ func (l *Lane) nextMessage() (next *message, closed bool, err error) {
 	if err != nil || len(lines) == 0 {
 		return nil, closed, err
 	}
+	l.mutex.Lock()
+	l.waiting.sent(time.Now(), l.came)
+	l.mutex.Unlock()
 	next = &message{number: l.next, models: l.models, lines: lines}
 	next.body = bodyOf(lines)
-	for _, one := range lines {
+	for at, one := range lines {
 		if one.isModel() {
 			l.models++
+		}
+		if l.sender.options.Numbered != nil {
+			l.sender.options.Numbered(one.text, l.partition, l.next+int64(at))
 		}
 	}
 	l.next += int64(len(lines))

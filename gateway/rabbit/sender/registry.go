@@ -59,7 +59,7 @@ func (s *Sender) Check(ctx context.Context) error {
 	}
 	select {
 	case reason := <-s.fault:
-		return reason
+		return butRescaled(reason)
 	default:
 		return nil
 	}

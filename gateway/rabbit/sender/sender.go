@@ -21,16 +21,23 @@ import (
 type Options struct {
 	Bus      bus.Bus
 	Settings bus.Settings
-	Name     string // the sender's name
-	Named    bool   // whether the name is its own, under which it may be started again
-	Batch    string // the id of the batch that the input is; of a sender with a name of its own
+	Earlier  []bus.Settings // the earlier numbers of partitions
+	Scale    scale          // knows of later ones; nil where nobody watches
+	Name     string         // the sender's name
+	Named    bool           // whether the name is its own, under which it may be started again
+	Batch    string         // the id of the batch that the input is; of a sender with a name of its own
 	GiveUp   time.Duration
+	AtOnce   int // how many partitions are asked at a time
 	Input    io.Reader
 	Log      *logs.Log
 	Check    func(model []byte) error // refuses a faulty model
 	// Confirmed is told of each line that a partition has, where it isn't nil. It must not wait.
 	Confirmed func(line []byte)
-	Gauges    *metrics.Partitions // new ones, where it is nil
+	// Numbered is told which number a line gets among those of its partition, where it isn't nil, before it is sent. Taken is told how
+	// many lines each partition took where the number of partitions has changed, and then the error is *bus.Rescaled.
+	Numbered func(line []byte, partition int, number int64)
+	Taken    func(upto []int64)
+	Gauges   *metrics.Partitions // new ones, where it is nil
 }
 
 // A Tally counts lines of the input.
@@ -43,13 +50,18 @@ type Tally struct {
 
 // A Sender is a process that hands the lines of its input to the lanes of their partitions.
 type Sender struct {
-	options Options
-	lanes   []*Lane
-	epoch   int64 // of this process; 0 without a name of its own
-	count   int64 // lines of the input
-	refused int64
-	fault   chan error // the first has the reason why all ends
-	changed chan struct{}
+	options  Options
+	lanes    []*Lane
+	sections sections
+	epoch    int64 // of this process; 0 without a name of its own
+	count    int64 // lines of the input
+	refused  int64
+	repeated int64      // taken before the number of partitions changed
+	fed      bool       // whether the input has ended
+	fault    chan error // the first has the reason why all ends
+	changed  chan struct{}
+	mutex    sync.Mutex
+	looked   bool // whether the number of partitions was the same once all was confirmed
 }
 
 // A modelTally counts a model once, in however many partitions it is taken.
@@ -80,7 +92,11 @@ func New(options Options) *Sender {
 	if options.Gauges == nil {
 		options.Gauges = NewGauges()
 	}
-	s := &Sender{options: options, fault: make(chan error, 1), changed: make(chan struct{}, 1)}
+	if options.AtOnce == 0 {
+		options.AtOnce = atOnce
+	}
+	s := &Sender{options: options, fault: make(chan error, 1), changed: make(chan struct{}, 1),
+		sections: sections{earlier: options.Earlier, newest: options.Settings}}
 	for partition := 0; partition < options.Settings.Partitions; partition++ {
 		s.lanes = append(s.lanes, newLane(s, partition))
 	}
@@ -97,6 +113,7 @@ func Send(ctx context.Context, options Options) (Tally, error) {
 		return Tally{}, err
 	}
 	go s.watchName(ctx)
+	go s.watchScale(ctx)
 	var running sync.WaitGroup
 	for _, l := range s.lanes {
 		running.Add(1)
@@ -105,9 +122,18 @@ func Send(ctx context.Context, options Options) (Tally, error) {
 			l.work(ctx)
 		}(l)
 	}
-	err := s.feed(ctx)
+	err := s.ready(ctx)
 	if err == nil {
-		err = s.wait(ctx)
+		err = s.feed(ctx)
+	}
+	if err == nil {
+		err = s.wait(ctx, (*Lane).IsSettled)
+	}
+	if err == nil {
+		err = s.Look(ctx)
+	}
+	if err == nil {
+		err = butRescaled(s.wait(ctx, (*Lane).isDone))
 	}
 	if err == nil {
 		err = s.Check(ctx)
@@ -119,6 +145,9 @@ func Send(ctx context.Context, options Options) (Tally, error) {
 
 // Lanes are the lanes, of each partition one.
 func (s *Sender) Lanes() []*Lane { return s.lanes }
+
+// Epoch is that of this process; 0 without a name of its own.
+func (s *Sender) Epoch() int64 { return s.epoch }
 
 // origin is what this process says of itself on its messages.
 func (s *Sender) origin() ledger.Origin {
@@ -159,8 +188,7 @@ func (s *Sender) feed(ctx context.Context) error {
 			if !errors.Is(next.err, io.EOF) {
 				return fmt.Errorf("reading the input after line %d: %w", s.count, next.err)
 			}
-			s.End()
-			return nil
+			return s.End()
 		case reason := <-s.fault:
 			return reason
 		case <-ctx.Done():
@@ -176,10 +204,15 @@ func (s *Sender) Take(ctx context.Context, text []byte) error {
 }
 
 // End takes in that the input has ended.
-func (s *Sender) End() {
+func (s *Sender) End() error {
+	if err := s.sections.end(); err != nil {
+		return fmt.Errorf("batch %q: %w", s.options.Batch, err)
+	}
+	s.fed = true
 	for _, l := range s.lanes {
 		l.close()
 	}
+	return nil
 }
 
 func (s *Sender) takeLine(ctx context.Context, text inputLine) error {
@@ -192,14 +225,38 @@ func (s *Sender) takeLine(ctx context.Context, text inputLine) error {
 		s.options.Log.Warning("line %d is not sent: %v", s.count, err)
 		return nil
 	}
-	if !parsed.IsModel() {
-		return s.put(ctx, s.lanes[parsed.Partition(len(s.lanes))], pending{text: text.text})
+	if parsed.IsModel() {
+		return s.takeModel(ctx, text.text)
 	}
-	model := pending{text: text.text, model: &modelTally{}}
+	isTaken, err := s.sections.takeRequest(text.text, parsed)
+	if err != nil {
+		return fmt.Errorf("batch %q: %w", s.options.Batch, err)
+	}
+	if isTaken {
+		s.repeated++
+		return nil
+	}
+	return s.put(ctx, s.lanes[parsed.Partition(len(s.lanes))], pending{text: text.text})
+}
+
+// takeModel takes a model of the input in. It goes to each partition that hasn't got it.
+func (s *Sender) takeModel(ctx context.Context, text []byte) error {
+	has, err := s.sections.takeModel(text)
+	if err != nil {
+		return fmt.Errorf("batch %q: %w", s.options.Batch, err)
+	}
+	model, isSent := pending{text: text, model: &modelTally{}}, false
 	for _, l := range s.lanes {
+		if has[l.partition] {
+			continue
+		}
+		isSent = true
 		if err := s.put(ctx, l, model); err != nil {
 			return err
 		}
+	}
+	if !isSent {
+		s.repeated++
 	}
 	return nil
 }
@@ -251,12 +308,12 @@ func (s *Sender) others(of *Lane) bool {
 	return false
 }
 
-// wait waits until each lane has sent all it has, or is given up: while a broker is reached, one that has had no confirm
-// for so long as the options say.
-func (s *Sender) wait(ctx context.Context) error {
+// wait waits until each lane has come so far, or is given up: while a broker is reached, one that has had no confirm for so long as
+// the options say.
+func (s *Sender) wait(ctx context.Context, has func(*Lane) bool) error {
 	look := time.NewTicker(time.Second)
 	defer look.Stop()
-	for !s.isDone() {
+	for !s.each(has) {
 		select {
 		case <-s.changed:
 		case <-look.C:
@@ -274,9 +331,9 @@ func (s *Sender) wait(ctx context.Context) error {
 	}
 }
 
-func (s *Sender) isDone() bool {
+func (s *Sender) each(has func(*Lane) bool) bool {
 	for _, l := range s.lanes {
-		if !l.isDone() && !(s.options.GiveUp > 0 && l.isStuck(s.options.GiveUp) && s.others(l)) {
+		if !has(l) && !(s.options.GiveUp > 0 && l.isStuck(s.options.GiveUp) && s.others(l)) {
 			return false
 		}
 	}
@@ -286,7 +343,7 @@ func (s *Sender) isDone() bool {
 // Ended is what is reported at the end, by an error or without one. Where a newer process has taken the name, the lines are counted that were taken
 // before.
 func (s *Sender) Ended(ctx context.Context, err error) (Tally, error) {
-	tally := Tally{Refused: s.refused}
+	tally := Tally{Refused: s.refused, Repeated: s.repeated}
 	var unreached []error
 	for _, l := range s.lanes {
 		sent, repeated, unsent, reason := l.tally()
@@ -295,9 +352,12 @@ func (s *Sender) Ended(ctx context.Context, err error) (Tally, error) {
 			unreached = append(unreached, fmt.Errorf("partition %d: %d lines were not sent: %w", l.partition, unsent, reason))
 		}
 	}
+	if reason, is := isRescaled(err); is {
+		return s.rescaled(ctx, tally, reason)
+	}
 	var newer *bus.Superseded
 	if errors.As(err, &newer) {
-		taken, fault := s.takenBefore(ctx)
+		taken, fault := s.takenBefore(ctx, newer)
 		if fault != nil {
 			return tally, fmt.Errorf("%w; %v", newer, fault)
 		}

@@ -4,7 +4,8 @@
     partitions.py send NAME BATCH [STOP] < LINES     breaks off once STOP lines are confirmed; again with all lines, it sends the rest
     partitions.py receive FILE SECONDS               ends after so long without an answer; again, it goes on where it was
 
-DESK_BROKERS and DESK_PARTITIONS are those of desk send. A lost connection ends it: run it again.
+DESK_BROKERS is that of desk send. A lost connection ends it: run it again. A batch that broke off before the number of partitions
+changed isn't to be sent again: send what has no answer as another one.
 """
 import collections
 import hashlib
@@ -17,7 +18,6 @@ import uuid
 
 import pika
 
-PARTITIONS = int(os.environ.get("DESK_PARTITIONS", "1"))
 BROKERS = os.environ.get("DESK_BROKERS", "amqp://127.0.0.1").split(",")
 REQUESTS, ANSWERS = "desk.2.requests", "desk.2.answers"  # the exchanges
 PATIENCE = 60  # seconds until a message has to come that is due
@@ -29,12 +29,15 @@ def connect():
     return pika.BlockingConnection([pika.URLParameters(broker) for broker in BROKERS])
 
 
-def of(kind, partition):
-    return f"{kind}.{partition}.of.{PARTITIONS}"
+class Partition(collections.namedtuple("Partition", "epoch count number")):
+    """The one with this number, of so many since a change of how many there are."""
+
+    def name(self, kind):
+        return f"{kind}.{self.number}.of.{self.count}" + (f".{self.epoch}" if self.epoch else "")
 
 
-def partition_of(key):
-    return int.from_bytes(hashlib.sha256(key.encode()).digest()[:8], "big") % PARTITIONS
+def number_of(key, count):
+    return int.from_bytes(hashlib.sha256(key.encode()).digest()[:8], "big") % count
 
 
 class Reader:
@@ -58,6 +61,37 @@ class Reader:
         return properties.headers["x-stream-offset"], method.routing_key, properties.headers, body
 
 
+class Scale:
+    """How many partitions there are, and were."""
+
+    def __init__(self, connection):
+        self.reader, self.counts, self.is_open = Reader(connection, "desk.2.scale", "first"), [], False
+        while not self.counts:
+            self.take(self.reader.next() or sys.exit("nothing says how many partitions there are"))
+
+    def read(self, mark=None):
+        """Reads what is there, or all up to a message with this mark."""
+        while message := self.reader.next(PATIENCE if mark else 0):
+            if mark and message[2].get("mark") == mark:
+                return
+            self.take(message)
+
+    def take(self, message):
+        """Takes in a record, if it counts."""
+        _, key, headers, _ = message
+        kind, epoch, count = (headers.get(name) for name in ("kind", "epoch", "partitions"))
+        if key != "scale":
+            return
+        if kind == "declared" and not self.counts or kind == "begin" and self.counts and not self.is_open and epoch == len(self.counts):
+            self.is_open = kind == "begin"
+            self.counts.append(count)
+        elif kind == "done" and epoch == len(self.counts) - 1:
+            self.is_open = False
+
+    def all(self, epoch):
+        return [Partition(epoch, self.counts[epoch], number) for number in range(self.counts[epoch])]
+
+
 class Sender:
     """A process that sends under a name. It ends the one before."""
 
@@ -65,6 +99,9 @@ class Sender:
         self.connection, self.name, self.epoch = connection, name, 0
         self.channel = connection.channel()
         self.channel.confirm_delivery()  # from now on a message is in its stream when basic_publish returns
+        self.scale = Scale(connection)
+        self.scale.read()
+        self.partitions = self.scale.all(len(self.scale.counts) - 1)
         self.names = Reader(connection, "desk.2.senders", "last")
         self.epoch = self.read_names(self.claim("senders")) + 1
 
@@ -93,23 +130,28 @@ class Sender:
     def send(self, lines, batch, stop=None):
         """Sends the lines of a batch, each in a message of its own. The partition drops those that it took before."""
         lines_of, models_of = collections.Counter(), collections.Counter()  # of each partition
-        for partition in range(PARTITIONS):
-            self.claim(of("lines", partition), batch=batch)
+        for partition in self.partitions:
+            self.claim(partition.name("lines"), batch=batch)
         for line in lines[:stop]:
             value = json.loads(line)
             is_model = "model" in value
-            for partition in range(PARTITIONS) if is_model else [partition_of(value["key"])]:
-                self.publish(of("models" if is_model else "lines", partition), kind="lines", batch=batch, body=line,
+            for partition in self.partitions if is_model else [self.partitions[number_of(value["key"], len(self.partitions))]]:
+                self.publish(partition.name("models" if is_model else "lines"), kind="lines", batch=batch, body=line,
                              number=lines_of[partition], models=models_of[partition])
                 lines_of[partition] += 1
                 models_of[partition] += is_model
-        if stop is None:
-            for partition in range(PARTITIONS):
-                self.publish(of("lines", partition), kind="end", batch=batch, number=lines_of[partition], models=models_of[partition])
         self.check()
+        if stop is None:
+            for partition in self.partitions:
+                self.publish(partition.name("lines"), kind="end", batch=batch, number=lines_of[partition], models=models_of[partition])
 
     def check(self):
-        """Makes sure that no newer process had claimed the name: then all that was sent counts."""
+        """Makes sure that no newer process had claimed the name, and that there are as many partitions: then all that was sent counts."""
+        mark = uuid.uuid4().hex
+        self.channel.basic_publish(REQUESTS, "looks", b"", pika.BasicProperties(headers={"mark": mark}), mandatory=True)
+        self.scale.read(mark)
+        if len(self.scale.counts) - 1 > self.partitions[0].epoch:
+            sys.exit(f"there are {self.scale.counts[-1]} partitions now: send what has no answer as another batch")
         token = uuid.uuid4().hex
         self.channel.basic_publish(REQUESTS, "senders", b"", pika.BasicProperties(headers={"token": token}), mandatory=True)
         self.read_names(token)
@@ -120,19 +162,33 @@ class Receiver:
 
     def __init__(self, connection, path):
         self.file = sqlite3.connect(path)
-        self.file.execute("create table if not exists answers (partition, offset, place, key, id, answer)")
-        self.file.execute("create table if not exists places (partition primary key, stream, offset, place)")
-        self.places = {partition: (-1, (-1, 0)) for partition in range(PARTITIONS)}
-        for partition, stream, offset, place in self.file.execute("select * from places"):
-            self.places[partition] = stream, (offset, place)
-        self.readers = [Reader(connection, "desk.2." + of("answers", partition), self.places[partition][0] + 1)
-                        for partition in range(PARTITIONS)]
+        self.file.execute("create table if not exists answers (epoch, partition, offset, place, key, id, answer)")
+        self.file.execute("create table if not exists places (epoch, partition, stream, offset, place, closed, "
+                          "primary key (epoch, partition))")
+        self.connection, self.scale, self.epoch, self.readers = connection, Scale(connection), -1, {}
+        self.places, self.closed = {}, set()
+        for epoch, partition, stream, offset, place, closed in self.file.execute("select * from places"):
+            self.places[epoch, partition] = stream, (offset, place)
+            self.closed |= {(epoch, partition)} if closed else set()
+
+    def begin(self):
+        """Reads the partitions of the next epoch, once those of the one before are closed: so the answers to a key come in order."""
+        self.scale.read()
+        while self.epoch < len(self.scale.counts) - 1 and all(of[:1] + of[2:] in self.closed for of in self.readers):
+            self.epoch += 1
+            self.readers = {of: Reader(self.connection, "desk.2." + of.name("answers"), self.place(of)[0] + 1)
+                            for of in self.scale.all(self.epoch)}
+
+    def place(self, of):
+        """The offset of the last message, and how far the answers go."""
+        return self.places.get((of.epoch, of.number), (-1, (-1, 0)))
 
     def receive(self, seconds):
         """Receives until no answer came for so long. What is at hand has one transaction."""
         late = time.monotonic() + seconds
         while time.monotonic() < late:
-            for partition, reader in enumerate(self.readers):
+            self.begin()
+            for partition, reader in self.readers.items():
                 message = reader.next(0.05)
                 with self.file:
                     while message:
@@ -141,21 +197,24 @@ class Receiver:
 
     def take(self, partition, stream, key, headers, body):
         """Takes a message in. It counts if it begins where the answers so far end, or before that, and goes further."""
-        before, upto = self.places[partition]
+        before, upto = self.place(partition)
         after = headers.get("after-offset", -1), headers.get("after-index", 0)
-        kind = headers.get("kind") if key == of("answers", partition) else None
+        kind = headers.get("kind") if key == partition.name("answers") else None
         if kind in ("answers", "snapshot") and stream > before + 1 and after > upto:
-            sys.exit(f"partition {partition}: retention has cut answers after {upto}")
+            sys.exit(f"{partition}: retention has cut answers after {upto}")
         answers = []
         if kind == "answers" and after <= upto:
             answers = [(place, value) for place, value in map(placed, body.splitlines()) if place > upto]
         if answers or kind == "snapshot":
-            upto = max(upto, (headers["offset"], headers["index"]))
+            upto = max(upto, (headers.get("offset", -1), headers.get("index", 0)))
         for (offset, place), value in answers:
-            self.file.execute("insert into answers values (?, ?, ?, ?, ?, ?)", (
-                partition, offset, place, value.get("key"), json.dumps(value.get("id")), json.dumps(value.get("answer", value))))
-        self.file.execute("insert or replace into places values (?, ?, ?, ?)", (partition, stream, *upto))
-        self.places[partition] = stream, upto
+            self.file.execute("insert into answers values (?, ?, ?, ?, ?, ?, ?)", (
+                partition.epoch, partition.number, offset, place, value.get("key"), json.dumps(value.get("id")),
+                json.dumps(value.get("answer", value))))
+        at = partition.epoch, partition.number
+        self.closed |= {at} if kind == "snapshot" and "closed-epoch" in headers else set()
+        self.file.execute("insert or replace into places values (?, ?, ?, ?, ?, ?)", (*at, stream, *upto, at in self.closed))
+        self.places[at] = stream, upto
         return len(answers)
 
 

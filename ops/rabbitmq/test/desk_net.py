@@ -1,5 +1,6 @@
 """A cluster whose brokers have a network namespace and a small disk each, so that their network can be cut, each pair and each
-way, and their disks can be full. Programs reach each of them through a proxy, which can be slow."""
+way, and their disks can be full. Each program has a namespace and a folder of its own too, and reaches each broker through a
+proxy, which can be slow."""
 import contextlib
 import os
 import pathlib
@@ -13,6 +14,7 @@ import time
 from desk_test import Cluster, Proxy
 
 NETWORK = "10.78.0"
+BRIDGE = f"{NETWORK}.100"  # where programs find the proxies
 NOBODY = "02:00:00:00:00:99"  # an address in that network
 BROKERS = (1, 2, 3)
 
@@ -21,7 +23,7 @@ class SlowProxy(Proxy):
     """Hands bytes on to an address, and as late as it is told."""
 
     def __init__(self, port: int, address: str, late: "list[float]") -> None:
-        super().__init__(port, port)
+        super().__init__(port, port, "0.0.0.0")  # programs reach it over the bridge
         self.address, self.late = address, late
 
     def run(self) -> None:
@@ -57,12 +59,41 @@ class NetCluster(Cluster):
     def __init__(self, partitions: int, port: int, seconds: int, words: list[str]) -> None:
         super().__init__(partitions, port, seconds, words)
         self.environment.update(DESK_NETWORK=NETWORK, DESK_DISK="1500m", DESK_ERLANG="-kernel net_ticktime 15")
+        self.environment["DESK_BROKERS"] = self.environment["DESK_BROKERS"].replace("127.0.0.1", BRIDGE)
         self.late = [0.0]  # seconds of delay, of each piece and way
+        self.places: set[int] = set()  # the numbers of the namespaces of programs
         for number in BROKERS:
             SlowProxy(port + number, f"{NETWORK}.{number}", self.late).start()
 
     def address(self, number: int) -> str:
         return f"{NETWORK}.{number}"
+
+    def at(self, port: int) -> dict[str, str]:
+        return {**self.environment, "DESK_BROKERS": f"amqp://{BRIDGE}:{port}"}
+
+    def inside(self, number: int, words: list[str]) -> list[str]:
+        """Starts a program in the namespace with this number, which is its address in the network, and in a folder of its own."""
+        name, folder = f"deskp{number}", self.folder / f"place{number}"
+        if number not in self.places:
+            self.places.add(number)
+            folder.mkdir()
+            subprocess.run(["ip", "netns", "delete", name], stderr=subprocess.DEVNULL, check=False)  # one that a run left which was killed
+            for line in (f"netns add {name}", f"link add {name} type veth peer name eth0 netns {name}", f"link set {name} master deskbridge up",
+                         f"-n {name} link set lo up", f"-n {name} link set eth0 up", f"-n {name} address add {NETWORK}.{number}/24 dev eth0"):
+                subprocess.run(["ip", *line.split()], check=True)
+        return ["ip", "netns", "exec", name, "env", "-C", str(folder), f"TMPDIR={folder}", *words]
+
+    def cut_program(self, seconds: float) -> None:
+        """A program's network is away for a while."""
+        name = f"deskp{random.choice(sorted(self.places))}"
+        subprocess.run(["ip", "link", "set", name, "down"], check=True)
+        time.sleep(seconds)
+        subprocess.run(["ip", "link", "set", name, "up"], check=True)
+
+    def end(self, passed: bool) -> None:
+        super().end(passed)
+        for number in self.places:
+            subprocess.run(["ip", "netns", "delete", f"deskp{number}"], check=False)
 
     @staticmethod
     def neighbour(one: int, what: str, other: int, *words: str) -> None:

@@ -1,6 +1,5 @@
 """What the tests of the partitions share: a cluster on loopback, its processes, the messages in its streams as another
 library reads them, and what is due to them by one `desk serve`."""
-import collections
 import contextlib
 import hashlib
 import json
@@ -17,7 +16,7 @@ import threading
 import time
 import urllib.request
 import uuid
-from typing import Any, Iterator
+from typing import Any
 
 HERE = pathlib.Path(__file__).resolve().parent.parent
 ROOT = HERE.parents[1]
@@ -69,9 +68,9 @@ def partition_of(key: str, partitions: int) -> int:
 class Proxy(threading.Thread):
     """Hands bytes on between a program and a broker, until its connections are cut."""
 
-    def __init__(self, port: int, target: int) -> None:
+    def __init__(self, port: int, target: int, address: str = "127.0.0.1") -> None:
         super().__init__(daemon=True)
-        self.listener = socket.create_server(("127.0.0.1", port))
+        self.listener = socket.create_server((address, port))
         self.target = target
         self.open: list[socket.socket] = []
 
@@ -109,7 +108,8 @@ class Cluster:
     """Three brokers, and processes of partitions."""
 
     def __init__(self, partitions: int, port: int, seconds: int, words: list[str]) -> None:
-        self.partitions, self.port, self.words = partitions, port, words
+        self.port, self.words, self.host = port, words, ""
+        self.numbers = [partitions]  # how many partitions there were, one number after the other
         self.folder = pathlib.Path(tempfile.mkdtemp(prefix="desk-test-"))
         self.environment = {**os.environ, "DESK_FOLDER": str(self.folder), "DESK_PORT": str(port),
                             "DESK_SECONDS": str(seconds), "DESK_PARTITIONS": str(partitions),
@@ -121,6 +121,14 @@ class Cluster:
         self.ports: dict[int, int] = {}  # of each process, where its metrics are
         self.stopped: "subprocess.Popen[bytes] | None" = None
         self.log = open(self.folder / "partitions.log", "ab")
+
+    @property
+    def partitions(self) -> int:
+        return self.numbers[-1]
+
+    @partitions.setter
+    def partitions(self, number: int) -> None:
+        self.numbers = [number]
 
     def at(self, port: int) -> dict[str, str]:
         """The environment of a program that knows one address alone."""
@@ -137,11 +145,15 @@ class Cluster:
     def start(self) -> "subprocess.Popen[bytes]":
         used = {self.ports[process.pid] for process in [*self.processes, *([self.stopped] if self.stopped else [])]}
         port = next(port for port in range(self.port + 20, self.port + 80) if port not in used)
-        process = subprocess.Popen(program("partition", "--metrics", f"127.0.0.1:{port}", *self.words),
-                                   stdin=subprocess.DEVNULL, stderr=self.log, env=self.environment)
+        words = program("partition", "--metrics", f"127.0.0.1:{port}", *self.words)
+        process = subprocess.Popen(self.inside(port - self.port, words), stdin=subprocess.DEVNULL, stderr=self.log, env=self.environment)
         self.processes.append(process)
         self.ports[process.pid] = port
         return process
+
+    def inside(self, _: int, words: list[str]) -> list[str]:
+        """How a program is started at a place with this number."""
+        return words
 
     def metrics(self, process: "subprocess.Popen[bytes]") -> dict[str, float]:
         """What a process tells Prometheus, without what the names have in common. It has to be ready."""
@@ -161,11 +173,14 @@ class Cluster:
         return (self.folder / "partitions.log").read_text()
 
     def owners(self) -> list[tuple[str, str]]:
-        """Which partition was owned by which process, one after the other."""
-        return re.findall(r"\bpartition (\d+): owned by process (\d+)$", self.told(), re.MULTILINE)
+        """Which partition was owned by which process, one after the other. One of a later number of partitions is as 3 of epoch 1."""
+        return re.findall(r"\bpartition (\d+(?: of epoch \d+)?): owned by process (\d+)$", self.told(), re.MULTILINE)
 
     def owner(self, partition: int) -> int:
-        return int([process for other, process in self.owners() if int(other) == partition][-1])
+        """The process that owned one of the newest partitions last, or -1."""
+        epoch = len(self.numbers) - 1
+        name = f"{partition} of epoch {epoch}" if epoch else str(partition)
+        return next((int(process) for other, process in reversed(self.owners()) if other == name), -1)
 
     def kill_partition(self) -> None:
         process = self.processes.pop(random.randrange(len(self.processes)))
@@ -189,7 +204,7 @@ class Cluster:
         """Kills the process of a partition, and starts another one."""
         begun = time.monotonic()
         while not (found := [process for process in self.processes if process.pid == self.owner(partition)]):
-            assert time.monotonic() < begun + 60, f"nobody owns partition {partition}"
+            assert time.monotonic() < begun + 300, f"nobody owns partition {partition}"
             time.sleep(0.1)
         process = found[0]
         self.processes.remove(process)
@@ -216,7 +231,9 @@ class Cluster:
         assert self.stopped
         partition = [partition for partition, process in self.owners() if int(process) == self.stopped.pid][-1]
         begun = time.monotonic()
-        while self.owner(int(partition)) == self.stopped.pid and time.monotonic() < begun + 90:
+        while time.monotonic() < begun + 90:
+            if [process for other, process in self.owners() if other == partition][-1] != str(self.stopped.pid):
+                break
             time.sleep(0.1)
         self.stopped.send_signal(signal.SIGCONT)
         self.processes.append(self.stopped)
@@ -255,7 +272,8 @@ class Cluster:
 
     def keep(self, policy: dict[str, int], kinds: str = "lines|answers") -> None:
         """Sets what the brokers keep of the streams."""
-        self.run("ctl", "1", "set_policy", "desk", rf"^desk\.2\.({kinds})\.", json.dumps(policy), "--apply-to", "queues")
+        self.run("ctl", "1", "set_policy", "-p", self.host or "/", "desk", rf"^desk\.2\.({kinds})\.", json.dumps(policy),
+                 "--apply-to", "queues")
 
     def end(self, passed: bool) -> None:
         for process in [*self.processes, *([self.stopped] if self.stopped else [])]:
@@ -270,24 +288,29 @@ class Cluster:
         import pika
         for number in (1, 2, 3):
             with contextlib.suppress(pika.exceptions.AMQPError):
-                return pika.BlockingConnection(pika.URLParameters(f"amqp://127.0.0.1:{self.port + number}")).channel()
+                return pika.BlockingConnection(pika.URLParameters(f"amqp://127.0.0.1:{self.port + number}/{self.host}")).channel()
         raise OSError("no broker can be reached")
 
-    def queue(self, kind: str, partition: int) -> str:
-        return f"desk.2.{kind}.{partition}.of.{self.partitions}"
+    def queue(self, kind: str, partition: int, epoch: int = -1) -> str:
+        """The queue of a partition, one of the newest where nothing else is said."""
+        return f"desk.2.{kind}.{self.name(partition, epoch)}"
 
-    def route(self, exchange: str, topic: str, partition: int) -> tuple[str, str]:
-        return f"desk.2.{exchange}", f"{topic}.{partition}.of.{self.partitions}"
+    def route(self, exchange: str, topic: str, partition: int, epoch: int = -1) -> tuple[str, str]:
+        return f"desk.2.{exchange}", f"{topic}.{self.name(partition, epoch)}"
+
+    def name(self, partition: int, epoch: int) -> str:
+        epoch = epoch if epoch >= 0 else len(self.numbers) - 1
+        return f"{partition}.of.{self.numbers[epoch]}" + (f".{epoch}" if epoch else "")
 
     def publish(self, partition: int, messages: list[tuple[dict[str, Any], bytes]]) -> None:
-        """Publishes messages of lines, once the partition is there."""
+        """Publishes messages of lines, once the partition is there. Of fewer partitions it is another one."""
         import pika
         while True:
             channel = self.channel()
             try:
                 channel.confirm_delivery()
                 for headers, body in messages:
-                    channel.basic_publish(*self.route("requests", "lines", partition), body,
+                    channel.basic_publish(*self.route("requests", "lines", partition % self.partitions), body,
                                           pika.BasicProperties(headers=headers), mandatory=True)
                 return
             except (pika.exceptions.AMQPError, pika.exceptions.UnroutableError):
@@ -296,13 +319,13 @@ class Cluster:
                 if channel.connection.is_open:
                     channel.connection.close()
 
-    def records(self, kind: str, partition: int) -> list[Record]:
+    def records(self, kind: str, partition: int, epoch: int = -1) -> list[Record]:
         """All messages of a stream, up to a mark that is published now."""
         import pika
-        channel, queue, mark, found = self.channel(), self.queue(kind, partition), str(uuid.uuid4()), []
+        channel, queue, mark, found = self.channel(), self.queue(kind, partition, epoch), str(uuid.uuid4()), []
         channel.confirm_delivery()
         exchange = "requests" if kind == "lines" else "answers"
-        channel.basic_publish(*self.route(exchange, "marks", partition), b"", pika.BasicProperties(headers={"mark": mark}),
+        channel.basic_publish(*self.route(exchange, "marks", partition, epoch), b"", pika.BasicProperties(headers={"mark": mark}),
                               mandatory=True)
         channel.basic_qos(prefetch_count=100)
         for method, properties, body in channel.consume(queue, arguments={"x-stream-offset": "first"}):
@@ -314,111 +337,3 @@ class Cluster:
         with contextlib.suppress(pika.exceptions.AMQPError):  # what came after the mark can't be given back to a stream
             channel.connection.close()
         return found
-
-
-REQUEST = re.compile(rb'\{"key": ("[^"]*"), ("service": .*, "inputs": \{.*\}), "id": (.*)\}', re.DOTALL)
-
-
-def lines_of(records: list[Record]) -> Iterator[tuple[Place, bytes]]:
-    """The lines of a log that count: each line of a batch once, of a name those of its newest process, and of the sender x
-    those alone that are lines."""
-    due: dict[tuple[str, str], int] = {}
-    epochs: dict[str, int] = {}
-    for offset, headers, body in records:
-        sender, batch = headers.get("sender"), (headers.get("sender"), headers.get("batch"))
-        if "epoch" not in headers or headers["epoch"] < epochs.get(sender, 0):
-            continue
-        epochs[sender] = headers["epoch"]
-        if headers["kind"] == "end":
-            due[batch] = 1 << 60
-        for index, raw in enumerate(body.split(b"\n") if headers["kind"] == "lines" else []):
-            number = headers["number"] + index
-            if number >= due.get(batch, number):
-                due[batch] = number + 1
-                if sender != "x" or number >= NO_LINES:
-                    yield (offset, index), raw
-
-
-def expected(records: list[Record], poison: dict[bytes, str]) -> dict[Place, bytes]:
-    """What the answers' stream is due to have for each line of a log, by one desk serve over the whole log. The lines
-    with the poison's ids are refused for its reasons."""
-    text: list[bytes] = []
-    waiting: dict[bytes, collections.deque[tuple[Place, bytes, str]]] = collections.defaultdict(collections.deque)
-    for place, raw in lines_of(records):
-        found = REQUEST.fullmatch(raw)
-        if found:
-            key, rest, identity = found.groups()
-            digest = hashlib.sha256(json.loads(key).encode()).digest()
-            client, reason = b"n%02d" % (digest[8] % CLIENTS), poison.get(identity, "")
-            if reason in ("deadline", "died"):  # another refusal stands for it, which takes no ticket either
-                rest = b'"service":"none","inputs":{}'
-            text.append(b'{"client":"%s",%s}' % (client, rest))
-            waiting[client].append((place, b'"key":%s,"id":%s,' % (key, identity), reason))
-        elif raw.startswith(b'{"model": '):
-            text.append(raw)
-            waiting[b""].append((place, b"", ""))
-    output = subprocess.run([str(ROOT / "dist" / "desk"), "serve", "--clients", str(CLIENTS)], input=b"\n".join(text),
-                            stdout=subprocess.PIPE, check=True).stdout
-    due: dict[Place, bytes] = {}
-    numbers = {place: number for number, (place, _) in enumerate(answered(records), 1)}
-    for line in output.splitlines():
-        client = line[11:14] if line.startswith(b'{"client":"') else b""
-        place, request, reason = waiting[client].popleft()
-        if reason in ("deadline", "died"):
-            line = line.replace(b'"service"', b'"%s"' % reason.encode())
-        elif reason:
-            line = b'{"client":"%s","line":%d,"refused":"%s",%s' % (client, numbers[place], reason.encode(),
-                                                                     line[line.rindex(b'"ticket"'):])
-        due[place] = b'{"offset":%d,"place":%d,%s"answer":%s}' % (*place, request, line)
-    return due
-
-
-def answered(records: list[Record]) -> list[tuple[Place, bytes]]:
-    return [(place, raw) for place, raw in lines_of(records) if REQUEST.fullmatch(raw) or raw.startswith(b'{"model": ')]
-
-
-def answers_of(records: list[Record]) -> Iterator[bytes]:
-    """The answers that count: those of each message that goes on where the ones before it end."""
-    upto: Place = (-1, 0)
-    for _, headers, body in records:
-        place = (headers.get("offset", -1), headers.get("index", 0))
-        if headers.get("kind") == "snapshot":
-            upto = max(upto, place)
-        elif headers.get("kind") == "answers" and (headers.get("after-offset", -1), headers.get("after-index", 0)) <= upto < place:
-            for line in body.splitlines():
-                value = json.loads(line)
-                if (value["offset"], value["place"]) > upto:
-                    yield line
-            upto = place
-
-
-def compare(cluster: Cluster, poison: dict[bytes, str], received: bytes) -> tuple[collections.Counter[Any], int]:
-    """Compares all streams, and what was received, with what is due. The ids as JSON, each with how often it was
-    answered."""
-    counts: collections.Counter[Any] = collections.Counter()
-    last: dict[str, int] = {}
-    same = snapshots = twice = 0
-    lines_received = collections.Counter(received.splitlines())
-    assert not lines_received or max(lines_received.values()) == 1, lines_received.most_common(3)
-    for partition in range(cluster.partitions):
-        due = expected(cluster.records("lines", partition), poison)
-        answers = cluster.records("answers", partition)
-        snapshots += sum(headers.get("kind") == "snapshot" for _, headers, _ in answers)
-        twice += sum(body.count(b"\n") for _, headers, body in answers if headers.get("kind") == "answers") - len(due)
-        for line in answers_of(answers):
-            value = json.loads(line)
-            wanted = due.pop((value["offset"], value["place"]))
-            assert wanted == line, (partition, wanted, line)
-            assert lines_received.pop(b'{"partition":%d,%s' % (partition, line[1:]), 0) == 1, f"not received: {line!r}"
-            same += 1
-            if "id" in value:
-                counts[json.dumps(value["id"])] += 1
-            if isinstance(value.get("id"), int) and value["id"] >= 0:
-                assert last.get(value["key"], -2) < value["id"], f"out of order: {line!r}"
-                last[value["key"]] = value["id"]
-        assert not due, f"without an answer in partition {partition}: {len(due)}"
-    assert not lines_received, f"received, and not due: {len(lines_received)}"
-    print(f"{same} answers are those of one desk serve for each partition's lines, byte for byte, each once; those of "
-          f"each of {len(last)} keys are in order; {snapshots} snapshots; {twice} answers stand twice in the streams",
-          flush=True)
-    return counts, same
