@@ -21,12 +21,12 @@ type kept struct {
 	texts map[string]*valueType
 	// contexts are the types of calculated contexts with one entry.
 	contexts map[keptEntry]*valueType
-	// numbers are the types of the numbers that were calculated last, of which turn is replaced next, others those before; power is the
-	// power that was.
+	// numbers are the types of the numbers that were calculated last, of which turn is replaced next, others those before.
 	numbers [4]*valueType
 	turn    int
 	others  map[units]*valueType
-	power   keptPower
+	// powers are those of names and of constants.
+	powers map[powerOf]keptPower
 	// recount is the type that was counted in other units last, uncounted the class of all numbers where none are counted.
 	recount   keptRecount
 	uncounted *meeting
@@ -69,17 +69,17 @@ type keptRecount struct {
 	made *valueType
 }
 
-// A keptPower is a power of a text.
-type keptPower struct {
-	text     string
-	of       *valueType
-	exponent *big.Rat
-	made     phrase
+// A powerOf is a base, which is a constant where it has a number, with an exponent.
+type powerOf struct {
+	text             string
+	of               *valueType
+	number, exponent *big.Rat
 }
 
-// isOf tells whether a power is that of a base.
-func (k *keptPower) isOf(base, exponent phrase) bool {
-	return k.of == base.of && k.text == base.text && k.exponent == exponent.number && base.number == nil && base.rare == nil
+// A keptPower is a power, and the most decimals on the way to it.
+type keptPower struct {
+	made   phrase
+	finest int
 }
 
 // A state of a type is how many entries it has and how many changes there were that may concern it: while it is the same, what was
@@ -111,7 +111,8 @@ func newKept() *kept {
 	return &kept{units: map[*valueType]keptUnits{}, counted: map[[2]*valueType]keptContext{}, alike: map[[2]*valueType]keptReason{},
 		joint: map[[2]*valueType]keptContext{}, lists: map[*valueType]*valueType{}, numbers: [4]*valueType{numberType, numberType, numberType, numberType},
 		texts: map[string]*valueType{}, contexts: map[keptEntry]*valueType{}, uncounted: &meeting{fractional: true},
-		constants: map[keptNumber]keptConstant{}, quotients: map[keptNumber]keptQuotient{}, others: map[units]*valueType{}, literal: map[*box][]*box{}}
+		constants: map[keptNumber]keptConstant{}, quotients: map[keptNumber]keptQuotient{}, others: map[units]*valueType{}, powers: map[powerOf]keptPower{},
+		literal: map[*box][]*box{}}
 }
 
 // contextOf is the type of calculated contexts with one entry. Contexts of the same entry share it.

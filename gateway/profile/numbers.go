@@ -626,11 +626,11 @@ func (t *translator) powered(n *feel.Binary, s *scope) phrase {
 	return t.power(n, base, exponent)
 }
 
-// power is a power of a base. That of the same base as the last one is the same.
+// power is a power of a base. That of a name or a constant is calculated once.
 func (t *translator) power(n *feel.Binary, base, exponent phrase) phrase {
-	if last := &t.kept.power; last.text != "" && last.isOf(base, exponent) {
-		t.countedFinely(last.made.of.units)
-		return last.made
+	if known, is := t.kept.powers[powerOf{base.text, base.of, base.number, exponent.number}]; is && base.rare == nil {
+		t.finest = maximum(t.finest, known.finest)
+		return known.made
 	}
 	if base.of.kind == refusedKind || exponent.of.kind == refusedKind {
 		return refused
@@ -653,8 +653,8 @@ func (t *translator) power(n *feel.Binary, base, exponent phrase) phrase {
 		return infix(base, "*", constant("1", numberType), rankProduct, numberOf(base.of.units))
 	}
 	made := t.countedProduct(n, operands)
-	if base.of.kind == numberKind && base.number == nil && base.rare == nil && made.of.kind == numberKind {
-		t.kept.power = keptPower{base.text, base.of, exponent.number, made}
+	if base.of.kind == numberKind && base.rare == nil && made.of.kind == numberKind && len(t.kept.powers) < mostKept {
+		t.kept.powers[powerOf{base.text, base.of, base.number, exponent.number}] = keptPower{made, base.of.units.scale * len(operands)}
 	}
 	return made
 }

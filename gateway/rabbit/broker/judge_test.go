@@ -26,7 +26,8 @@ func TestJudgements(t *testing.T) {
 		is      bus.Judgement
 	}{
 		{errors.New("the connection was reset"), bus.Passing},
-		{&amqp.Error{Code: amqp.NotFound}, bus.Missing},
+		{&amqp.Error{Code: amqp.NotFound, Reason: "NOT_FOUND - no queue 'q' in vhost '/'"}, bus.Missing},
+		{&amqp.Error{Code: amqp.NotFound, Reason: "NOT_FOUND - home node 'n' of durable queue 'q' in vhost '/' is down or inaccessible"}, bus.Passing},
 		{&amqp.Error{Code: amqp.AccessRefused, Server: true}, bus.Refused},
 		{&amqp.Error{Code: amqp.AccessRefused}, bus.Doubted},
 		{&amqp.Error{Code: amqp.PreconditionFailed, Reason: "delivery acknowledgement on channel 1 timed out"}, bus.Passing},

@@ -300,7 +300,8 @@ func (l *held) renew() error {
 	}
 }
 
-// isMissing says of a failure whether a queue isn't there.
+// isMissing says of a failure whether a queue isn't there, or is down.
 func isMissing(failure error) bool {
-	return errors.Is(failure, bus.ErrMissing) || (Broker{}).Judge(failure) == bus.Missing
+	var reason *amqp.Error
+	return errors.Is(failure, bus.ErrMissing) || errors.As(failure, &reason) && reason.Code == amqp.NotFound
 }

@@ -88,6 +88,8 @@ func (b Broker) Judge(failure error) bus.Judgement {
 		return bus.Untrusted
 	case !errors.As(failure, &reason):
 		return bus.Passing
+	case isDown(reason):
+		return bus.Passing
 	case reason.Code == amqp.NotFound:
 		return bus.Missing
 	case reason.Code == amqp.AccessRefused && reason.Server:
@@ -114,6 +116,11 @@ func isUntrusted(failure error) bool {
 func isOther(failure error) bool {
 	var reason *amqp.Error
 	return errors.As(failure, &reason) && reason.Code == amqp.PreconditionFailed && strings.Contains(reason.Reason, "inequivalent arg")
+}
+
+// isDown tells whether a queue is there, and the broker that has it isn't, or doesn't know it yet after its start.
+func isDown(reason *amqp.Error) bool {
+	return reason.Code == amqp.NotFound && strings.Contains(reason.Reason, "is down or inaccessible")
 }
 
 // isTooLong tells whether a message is longer than the broker's max_message_size.

@@ -52,8 +52,11 @@ func (r *Receiver) Readers() (readers []*Reader) {
 				continue
 			}
 			if partition.reader == nil {
-				partition.reader = &Reader{options: r.options, partition: partition.at, begin: r.begin(at, partition),
+				partition.reader = &Reader{options: r.options, partition: partition.at, begin: r.options.From, follows: r.follows(at, partition),
 					streams: r.epochs[at].Partitions, pause: pauseOf(r.options), last: partition.stream, end: -1}
+				if partition.reader.follows {
+					partition.reader.begin = bus.From{}
+				}
 			}
 			partition.reader.setLater(at < len(r.epochs)-1)
 			readers = append(readers, partition.reader)
@@ -71,14 +74,14 @@ func (r *Receiver) mayBegin(at int, partition *received) bool {
 	return true
 }
 
-// begin is where a partition is begun: at its first answer, if some of those from which its keys come were read up to their end.
-func (r *Receiver) begin(at int, partition *received) bus.From {
+// follows says whether some partition from which the keys of this one come was read: then it is read from its first answer on.
+func (r *Receiver) follows(at int, partition *received) bool {
 	for _, source := range r.sources(at, partition) {
 		if source.stream >= 0 {
-			return bus.From{}
+			return true
 		}
 	}
-	return r.options.From
+	return false
 }
 
 // sources are the partitions from which the keys of this one come.

@@ -23,6 +23,7 @@ type Reader struct {
 	options   Options
 	partition bus.Partition
 	begin     bus.From      // where it is begun
+	follows   bool          // whether it goes on where others were read: then no answer of it may be left out
 	quiet     time.Duration // how long the stream may say nothing at first; 0 is for ever
 	streams   int           // how many streams are read at once
 	pause     time.Duration // after which it is looked at whether there is something to read
@@ -183,8 +184,9 @@ func (r *Reader) Open(ctx context.Context) (bus.Link, bus.Reader, error) {
 		return link, stream, nil
 	}
 	link.Close()
-	if r.isUnread() && r.options.Bus.Judge(err) == bus.Missing {
-		err = errOver // it was deleted since
+	if r.isUnread() && !r.follows && r.options.Bus.Judge(err) == bus.Missing {
+		r.options.Log.OfPartition(r.partition).Warning("its stream of answers was deleted, and nothing of it was read")
+		err = errOver
 	}
 	return nil, nil, err
 }

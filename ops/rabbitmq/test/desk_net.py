@@ -77,7 +77,8 @@ class NetCluster(Cluster):
         if number not in self.places:
             self.places.add(number)
             folder.mkdir()
-            subprocess.run(["ip", "netns", "delete", name], stderr=subprocess.DEVNULL, check=False)  # one that a run left which was killed
+            for left in ("netns", "link"):  # by a run that was killed
+                subprocess.run(["ip", left, "delete", name], stderr=subprocess.DEVNULL, check=False)
             for line in (f"netns add {name}", f"link add {name} type veth peer name eth0 netns {name}", f"link set {name} master deskbridge up",
                          f"-n {name} link set lo up", f"-n {name} link set eth0 up", f"-n {name} address add {NETWORK}.{number}/24 dev eth0"):
                 subprocess.run(["ip", *line.split()], check=True)

@@ -252,7 +252,8 @@ class Cluster:
         within = BACK
         while True:
             try:
-                return self.run("brokers", within=within)
+                self.run("brokers", within=within)
+                return self.mend()
             except subprocess.TimeoutExpired:
                 hanging = [number for number in (1, 2, 3) if not self.listens(number)]
                 print(f"brokers {hanging} are not there after {within} s, and are started again", flush=True)
@@ -260,6 +261,17 @@ class Cluster:
                     with contextlib.suppress(OSError):  # it may have ended
                         self.kill_broker(number)
                 within *= 2
+
+    def mend(self) -> None:
+        """Lets RabbitMQ go on with streams of which it lost an update, as after a full disk."""
+        for number in (1, 2, 3):
+            control = {**self.environment, "DESK_CTL": f"{HERE / 'cluster'} ctl {number}"}
+            with contextlib.suppress(subprocess.SubprocessError):  # another broker may answer
+                said = subprocess.run([str(HERE / "mend")], env=control, stdout=subprocess.PIPE, stderr=subprocess.DEVNULL, text=True,
+                                      check=True, timeout=120).stdout.strip()
+                if said != "[]":
+                    print(f"the brokers are told to go on with {said}", flush=True)
+                return
 
     def address(self, _: int) -> str:
         """Where a broker listens."""

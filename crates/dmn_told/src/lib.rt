@@ -1,0 +1,8 @@
+//! What the services and decisions of a model can give, where its inputs have declared domains.
+#![tactic(auto)]
+
+mod domains;
+mod told;
+
+pub use domains::Domain;
+pub use told::{ServiceTold, told_of_service};
