@@ -2,6 +2,7 @@ package command
 
 import (
 	"bytes"
+	"encoding/json"
 	"fmt"
 
 	"github.com/spf13/cobra"
@@ -34,11 +35,19 @@ the result null, rules that never apply and rules that never decide: at most 100
 is then 4 if a table has one of these, or if that can't be decided. A gap counts among values of the kinds that the
 column's tests ask for, and where no output has a default.
 
+With --gives each decision and service has what it can give, for inputs within their domains: unary tests of constants,
+in the line of the model. Of a file of DMN they are its declared types and values.
+
+  {"model":M,"domains":{"age":"[0..120]","kind":"\"new\", \"used\""}}
+
+With --strict-null the status is 4 if a service can give null or break a limit.
+
 Decisions, services and inputs of the model are numbered from 0, as in JSON; rules, columns, members, values and needs
 from 1. docs/MODEL.md explains each fault, docs/LINES.md the lines of --json. --format sarif writes SARIF 2.1.0, and
 --format github the annotations of GitHub's workflows.`,
 		Example: `  desk check examples/loan.json
   desk check --tables --strict examples/dmn/dish.dmn
+  desk check --gives examples/dmn/parcel.dmn
   desk check --requests < examples/clients.jsonl`,
 		ValidArgsFunction: completeFiles("json", "dmn"),
 	}
@@ -49,6 +58,8 @@ from 1. docs/MODEL.md explains each fault, docs/LINES.md the lines of --json. --
 	flags.BoolVar(&options.Requests, "requests", false, "Requests follow the model, which is the first line")
 	flags.BoolVar(&options.Tables, "tables", false, "Say of each decision table whether it covers every case")
 	flags.BoolVar(&options.Strict, "strict", false, "With --tables: status 4 if one does not")
+	flags.BoolVar(&options.Gives, "gives", false, "Say what each decision and service can give")
+	flags.BoolVar(&options.StrictNull, "strict-null", false, "The same, with status 4 if a service can give null or break a limit")
 	_ = c.RegisterFlagCompletionFunc("format", completeFormats)
 	c.RunE = func(c *cobra.Command, files []string) error {
 		if options.Strict && !options.Tables {
@@ -139,11 +150,24 @@ func importModel(c *cobra.Command, paths []string, options *tell.CheckOptions) (
 	for pointer, origin := range report.Result.Origins {
 		options.Origins[pointer] = tell.Spot{File: origin.File, Line: origin.Line, Column: origin.Column}
 	}
-	line, err := profile.Line(&report.Result.Model)
+	line, err := withDomains(report.Result)
 	if err != nil {
 		return nil, refused(err)
 	}
 	return &source{Reader: bytes.NewReader(line), name: paths[0]}, nil
+}
+
+// withDomains is the line of an imported model with the domains of its inputs.
+func withDomains(result *profile.Result) ([]byte, error) {
+	line, err := profile.Line(&result.Model)
+	if err != nil || len(result.Domains) == 0 {
+		return line, err
+	}
+	text, err := json.Marshal(result.Domains)
+	if err != nil {
+		return nil, fmt.Errorf("writing the domains: %w", err)
+	}
+	return append(append(append(bytes.TrimSuffix(line, []byte("}")), `,"domains":`...), text...), '}'), nil
 }
 
 // writeRefusals writes the places that an import refuses as notices, where the format has them. It returns the error that ended

@@ -121,11 +121,12 @@ func wholeImport(result *profile.Result) ([]byte, error) {
 		Names    map[string]string          `json:"names"`
 		Locals   map[string]string          `json:"locals,omitempty"`
 		Types    map[string]json.RawMessage `json:"types"`
+		Domains  map[string]string          `json:"domains,omitempty"`
 		Required []string                   `json:"required,omitempty"`
 		Places   map[string]profile.Place   `json:"places"`
 		// Diagram stands where the file draws each input and decision.
 		Diagram  map[string]dmn.Box `json:"diagram,omitempty"`
 		Language string             `json:"language,omitempty"`
-	}{&result.Model, result.Names, result.Locals, result.Types, result.Required, result.Places, result.Diagram, result.Language})
+	}{&result.Model, result.Names, result.Locals, result.Types, result.Domains, result.Required, result.Places, result.Diagram, result.Language})
 	return bytes.TrimRight(text.Bytes(), "\n"), err
 }

@@ -24,7 +24,7 @@ const statusHelp = `Status:
   1  a fault ended the run, a test failed, or two things differ
   2  the command line is wrong
   3  a model, a file of test cases or a line of requests has faults
-  4  check --tables --strict refuses a decision table
+  4  check --tables --strict refuses a table, or --strict-null what a service can give
   5  a file can't be opened, or the engine`
 
 // A failure ends a command with a status.

@@ -15,10 +15,10 @@ import (
 // checkPatience is how long the check of a model may take.
 const checkPatience = 60 * time.Second
 
-// A Place is what the check says of one place of a model: a fault, or how many more there are. It is a line of the engine's.
+// A Place is a line of the engine's check about one place of a model: a fault, or how many more there are.
 type Place = json.RawMessage
 
-// A Lawful is what the check says of a model without a fault.
+// A Lawful is the check's description of a valid model.
 type Lawful struct {
 	Inputs    []string `json:"inputs"`
 	Decisions []struct {
@@ -34,7 +34,7 @@ type ServiceForm struct {
 	Parameters []string `json:"parameters"`
 }
 
-// A FaultyModel is the error of a model that has a fault, with each of its places.
+// A FaultyModel is the error of a model with a fault, and all its places.
 type FaultyModel struct {
 	// Fault is the word of its first fault.
 	Fault  string
@@ -45,7 +45,7 @@ func (f *FaultyModel) Error() string {
 	return "the model has a fault: " + f.Fault
 }
 
-// Check asks the engine what a model is. Where it has a fault the error is a *FaultyModel.
+// Check asks the engine about a model. If it has a fault the error is a *FaultyModel.
 func Check(ctx context.Context, path string, memory uint64, text []byte) (*Lawful, []Place, error) {
 	ctx, stop := context.WithTimeout(ctx, checkPatience)
 	defer stop()
@@ -70,23 +70,42 @@ func Check(ctx context.Context, path string, memory uint64, text []byte) (*Lawfu
 	return &first.Lawful, lines[1:], nil
 }
 
-// tablesOption asks the check for what is found of decision tables: gaps, overlaps, and rules that never decide.
-const tablesOption = "--tables"
+// tablesOption asks the check for what is found of decision tables: gaps, overlaps, and rules that never decide. givesOption asks for
+// what services and decisions can give.
+const (
+	tablesOption = "--tables"
+	givesOption  = "--gives"
+)
 
-// HasTables says whether the engine's check knows tablesOption, by its help.
-func HasTables(ctx context.Context, path string) bool {
+// HasTables says whether the engine's check knows tablesOption and givesOption, by its help.
+func HasTables(ctx context.Context, path string) (tables, gives bool) {
 	ctx, stop := context.WithTimeout(ctx, checkPatience)
 	defer stop()
 	lines, err := askLines(ctx, path, 0, nil, "help", "check")
 	for _, line := range lines {
-		if err == nil && bytes.Contains(line, []byte(tablesOption)) {
-			return true
-		}
+		tables = tables || err == nil && bytes.Contains(line, []byte(tablesOption))
+		gives = gives || err == nil && bytes.Contains(line, []byte(givesOption))
 	}
-	return false
+	return tables, gives
 }
 
-// Tables asks what is found of the tables of a lawful model: a line for each table and for each finding.
+// Gives asks what the services of a lawful model and their decisions can give: a line for each. The text may have domains.
+func Gives(ctx context.Context, path string, memory uint64, text []byte) (found []Place, err error) {
+	ctx, stop := context.WithTimeout(ctx, checkPatience)
+	defer stop()
+	lines, err := askLines(ctx, path, memory, text, "check", "--json", givesOption)
+	if err != nil {
+		return nil, fmt.Errorf("checking what is given: %w", ended(err))
+	}
+	for _, line := range lines {
+		if bytes.HasPrefix(line, []byte(`{"service":`)) || bytes.HasPrefix(line, []byte(`{"decision":`)) {
+			found = append(found, line)
+		}
+	}
+	return found, nil
+}
+
+// Tables asks what is found about the tables of a valid model: a line for each table and each finding.
 func Tables(ctx context.Context, path string, memory uint64, text []byte) (found []Place, err error) {
 	ctx, stop := context.WithTimeout(ctx, checkPatience)
 	defer stop()
@@ -102,10 +121,10 @@ func Tables(ctx context.Context, path string, memory uint64, text []byte) (found
 	return found, nil
 }
 
-// ErrEnded says that the engine ended at a model that it was given, as for want of memory.
+// ErrEnded means that the engine ended while it read a model, perhaps for want of memory.
 var ErrEnded = errors.New("the engine ended at the model")
 
-// ended makes ErrEnded of the status of an engine that a model was given to.
+// ended makes ErrEnded from the exit status of an engine that was given a model.
 func ended(err error) error {
 	var exit *exec.ExitError
 	if errors.As(err, &exit) {
@@ -114,7 +133,7 @@ func ended(err error) error {
 	return err
 }
 
-// askLines runs the engine as ask does, and gives the lines that it writes.
+// askLines returns ask, and returns the lines that the engine writes.
 func askLines(ctx context.Context, path string, memory uint64, input []byte, words ...string) (lines []Place, err error) {
 	err = ask(ctx, path, memory, input, func(line []byte, _ bool) error {
 		lines = append(lines, append(Place(nil), line...))
@@ -123,8 +142,8 @@ func askLines(ctx context.Context, path string, memory uint64, input []byte, wor
 	return lines, err
 }
 
-// ask runs the engine with these words over an input, and hands each line that it writes to take: of one over MaxAnswer bytes
-// the first, and that it was cut. The bytes are good until take returns.
+// ask runs the engine with these arguments on an input, and passes each line that it writes to take. Of a line over
+// MaxAnswer bytes it passes the beginning, and that it was cut. The bytes are valid until take returns.
 func ask(ctx context.Context, path string, memory uint64, input []byte, take func(line []byte, cut bool) error, words ...string) error {
 	p, err := begin(path, memory, words...)
 	if err != nil {
@@ -143,7 +162,7 @@ func ask(ctx context.Context, path string, memory uint64, input []byte, take fun
 	case fault := <-taken:
 		err = p.wait()
 		var exit *exec.ExitError
-		// Status 3 says that the model has a fault.
+		// Status 3 means that the model has a fault.
 		if errors.As(err, &exit) && exit.ExitCode() == 3 {
 			err = nil
 		}
@@ -159,7 +178,7 @@ func ask(ctx context.Context, path string, memory uint64, input []byte, take fun
 	}
 }
 
-// takeLines reads to the end, also behind a line that is not taken, since the engine waits for a reader.
+// takeLines reads to the end, even after take fails, since the engine waits for a reader.
 func takeLines(p *process, take func(line []byte, cut bool) error) (fault error) {
 	from := bufio.NewReaderSize(p.out, 64<<10)
 	for {
@@ -173,7 +192,7 @@ func takeLines(p *process, take func(line []byte, cut bool) error) (fault error)
 	}
 }
 
-// Try gives a model to an engine of its own, and says why it does not take it.
+// Try returns a model to a new engine, and says why that refuses it.
 func Try(ctx context.Context, path string, memory uint64, model *Model) error {
 	ctx, stop := context.WithTimeout(ctx, checkPatience)
 	defer stop()
@@ -187,7 +206,7 @@ func Try(ctx context.Context, path string, memory uint64, model *Model) error {
 	return nil
 }
 
-// Version is the engine's own, as "0.9.0".
+// Version returns the engine's version, as "0.9.0".
 func Version(ctx context.Context, path string) (string, error) {
 	ctx, stop := context.WithTimeout(ctx, checkPatience)
 	defer stop()

@@ -11,7 +11,7 @@ import (
 	"gateway/engine/enginetest"
 )
 
-// An engine that does not end with status 0 once all is answered is told.
+// An engine that doesn't end with status 0 once all is answered is reported.
 func TestEnginesEndWell(t *testing.T) {
 	path, err := filepath.Abs(desk())
 	if err != nil {
@@ -37,7 +37,7 @@ func TestEnginesEndWell(t *testing.T) {
 	}
 }
 
-// A request that is given up at the end is no fault of the end.
+// A request that is given up at the end doesn't make the end a failure.
 func TestPoisonAtTheEnd(t *testing.T) {
 	model := adding(1)
 	p := start(t, Options{Path: enginetest.Waiting(t, desk()), Processes: 1, Deadline: 3 * time.Second}, model)

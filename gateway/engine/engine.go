@@ -19,27 +19,27 @@ const (
 	lanePrefix = "lane"
 	// anyTicket stands for a ticket that was not read.
 	anyTicket = ^uint64(0)
-	// windowJobs and windowBytes are the most that is asked of a process and not yet answered. A lane has more places in
-	// the engine than that, so that no line ever waits there for one.
+	// windowJobs and windowBytes are the most that a process has unanswered. A lane has more places in the engine than
+	// that, so no line ever waits there for one.
 	windowJobs  = 128
 	windowBytes = 4 << 20
 	laneRoom    = "256"
 	// pieceBytes is about how much is written at once.
 	pieceBytes = 64 << 10
-	// modelPatience is how long reading a model may take, where the deadline is shorter.
+	// modelPatience is how long reading a model may take, if the deadline is shorter.
 	modelPatience = 20 * time.Second
-	// endPatience is how long a process may take to end once it wrote all.
+	// endPatience is how long a process may take to end once it has written everything.
 	endPatience = 5 * time.Second
 	// Pauses between processes that end at once.
 	firstPause   = 50 * time.Millisecond
 	longestPause = 5 * time.Second
 )
 
-// Why an engine was ended by us.
+// Reasons for which we end an engine.
 var (
 	errLate  = errors.New("a request took longer than the deadline")
 	errClose = errors.New("it did not end after its input")
-	// errEvicted ends one at a slow request of who has other engines for those.
+	// errEvicted ends a process at a slow request of an owner that has other engines for those.
 	errEvicted = errors.New("it is needed for others than the one whose request is slow")
 )
 
@@ -49,13 +49,13 @@ type lane struct {
 	ticket        uint64
 }
 
-// A modelLine is a model that a process was told and has not answered.
+// A modelLine is a model that a process was sent and has not answered.
 type modelLine struct {
 	line  uint64
 	model *Model
 }
 
-// An engine is a place of the pool: one process after the other stands there.
+// An engine is a place of the pool, held by one process after another.
 type engine struct {
 	number int
 	pool   *Pool
@@ -64,31 +64,32 @@ type engine struct {
 	wake *sync.Cond
 	// lanes has the requests that wait and those that are out.
 	lanes [Lanes]lane
-	// again are the requests that were out when a process ended, and alone the one of them that is out now.
+	// again are the requests that were out when a process ended; alone is the one of them that is out now.
 	again queue
 	alone *Job
-	// How many requests wait in lanes, how many are out, and their bytes; turn is the lane that is next.
+	// Counts of the requests that wait in lanes and that are out, and of the latter's bytes; turn is the next lane.
 	waiting, sent, sentBytes, turn int
-	// target is the model in force. told is the last that the process was told, taken the last that it took.
-	target, told, taken *Model
-	models              []modelLine
-	process             *process
-	// Counted anew for each process: its lines and its answers. order counts the requests sent, over all of them.
+	// target is the model in force, given the last one that the process was sent, taken the last one that it took.
+	target, given, taken *Model
+	models               []modelLine
+	process              *process
+	// Counters of each process's lines and answers, and the number of requests sent by all of them.
 	lines, answers, order uint64
-	// moved is when the process last answered, or was asked while nothing was out.
+	// moved is when the process last answered, or was asked while idle.
 	moved time.Time
-	// age is how long the process has been at what it is at, as far as seen ticks tell.
+	// age is how long the process has been at its present work, by the ticks seen.
 	age   time.Duration
 	seen  uint64
 	ended error
-	// evicted is whose requests are asked elsewhere once the process ended for that.
+	// evicted is the owner whose requests go elsewhere once the process has ended for that.
 	evicted string
-	// isStillDue says that an idle process is to be asked whether it is there; still is the line by which it was, or 0.
+	// isStillDue is true if an idle process should be asked whether it responds; still is the line of that question, or
+	// 0.
 	isStillDue bool
 	still      uint64
-	// closing says that no more comes, over that all is answered and the process was told so by the end of its input.
+	// closing is true once no more comes, over once all is answered and the process's input is closed.
 	closing, over bool
-	// fault is why the last process did not end well though all was over.
+	// fault is why the last process didn't end well at the end.
 	fault error
 }
 
@@ -118,7 +119,7 @@ func (e *engine) run() {
 	}
 }
 
-// isDone says that nothing is left to be asked, and nothing comes. The error is that of the process that ended.
+// isDone reports whether nothing is left to ask, and nothing comes. The error is that of the ended process.
 func (e *engine) isDone(err error) bool {
 	e.mu.Lock()
 	defer e.mu.Unlock()
@@ -128,8 +129,8 @@ func (e *engine) isDone(err error) bool {
 	return e.closing && e.waiting == 0 && e.sent == 0 && e.again.len() == 0
 }
 
-// live is the life of one process: whether it answered a request, and how it ended; no error where it was to end and did so
-// with status 0.
+// live runs one process, and reports whether it answered a request, and how it ended: without an error if it was meant
+// to end and did so with status 0.
 func (e *engine) live() (bool, error) {
 	words := []string{"serve", "--clients", strconv.Itoa(Lanes), "--workers", "1", "--capacity", laneRoom}
 	if e.pool.options.Tells {
@@ -141,7 +142,7 @@ func (e *engine) live() (bool, error) {
 	}
 	e.mu.Lock()
 	e.process, e.ended = p, nil
-	e.told, e.taken, e.models = nil, nil, nil
+	e.given, e.taken, e.models = nil, nil, nil
 	e.lines, e.answers, e.seen, e.age = 0, 0, 0, 0
 	e.still, e.isStillDue = 0, false
 	for at := range e.lanes {
@@ -166,7 +167,7 @@ func (e *engine) live() (bool, error) {
 	e.mu.Lock()
 	defer e.mu.Unlock()
 	if given != nil && (e.ended != nil || !wasKilled(err)) {
-		// A process that is killed from outside says nothing about its request.
+		// A process that is killed from outside doesn't incriminate its request.
 		e.pool.fair.died(given)
 	}
 	switch {
@@ -180,7 +181,7 @@ func (e *engine) live() (bool, error) {
 	return answered, err
 }
 
-// write tells the process its lines, until it ends or nothing more comes. Then it closes its input.
+// write writes lines to the process, until it ends or nothing more comes. Then it closes its input.
 func (e *engine) write(p *process) {
 	defer p.in.Close()
 	var text []byte
@@ -199,7 +200,7 @@ func (e *engine) write(p *process) {
 	}
 }
 
-// collect waits for lines to be written, and gives none where there will be none.
+// collect waits for lines to write, and returns none if there will be no more.
 func (e *engine) collect(p *process, text []byte) ([]byte, []*Job) {
 	e.mu.Lock()
 	defer e.mu.Unlock()
@@ -218,7 +219,7 @@ func (e *engine) collect(p *process, text []byte) ([]byte, []*Job) {
 		}
 		e.wake.Wait()
 		e.mu.Unlock()
-		// Whoever is about to put a request in comes first, so that an engine is woken once for all of them.
+		// Let others put their requests in first, so that an engine is woken once for all of them.
 		runtime.Gosched()
 		e.mu.Lock()
 	}
@@ -241,8 +242,8 @@ func (e *engine) fill(text []byte) ([]byte, []*Job) {
 		}
 		text = e.ask(text, job)
 	}
-	if e.waiting == 0 && e.again.len() == 0 && e.alone == nil && e.told != e.target {
-		text = e.tell(text, e.target)
+	if e.waiting == 0 && e.again.len() == 0 && e.alone == nil && e.given != e.target {
+		text = e.give(text, e.target)
 	}
 	if e.isStillDue {
 		e.isStillDue = false
@@ -255,8 +256,8 @@ func (e *engine) fill(text []byte) ([]byte, []*Job) {
 	return text, dropped
 }
 
-// pick takes the next request that may be asked now: first those that were out before, alone; then those of the oldest
-// model, lane by lane.
+// pick returns the next request to ask: first those that were out before, alone; then those of the oldest model, lane
+// by lane.
 func (e *engine) pick() *Job {
 	if e.alone != nil || e.sent >= windowJobs || e.sentBytes >= windowBytes {
 		return nil
@@ -291,10 +292,10 @@ func (e *engine) pick() *Job {
 	return e.lanes[best].waiting.pop()
 }
 
-// ask adds the line of a request, behind that of its model where the process was told another.
+// ask appends the line of a request, after that of its model if the process has another.
 func (e *engine) ask(text []byte, job *Job) []byte {
-	if job.Model != e.told {
-		text = e.tell(text, job.Model)
+	if job.Model != e.given {
+		text = e.give(text, job.Model)
 	}
 	text = append(text, `{"client":"`+lanePrefix...)
 	text = strconv.AppendInt(text, int64(job.lane), 10)
@@ -316,16 +317,16 @@ func (e *engine) ask(text []byte, job *Job) []byte {
 	return text
 }
 
-// tell adds the line of a model.
-func (e *engine) tell(text []byte, model *Model) []byte {
+// give appends the line of a model.
+func (e *engine) give(text []byte, model *Model) []byte {
 	e.lines++
-	e.told = model
+	e.given = model
 	e.models = append(e.models, modelLine{e.lines, model})
 	e.age = 0
 	return model.AppendLine(text)
 }
 
-// read reads what the process writes to its end. It gives an error where that is none of an engine's lines.
+// read reads what the process writes, to its end. It returns an error for a line that no engine would write.
 func (e *engine) read(p *process) error {
 	from, read := bufio.NewReaderSize(p.out, 256<<10), lineReader(readLine)
 	if e.pool.options.Tells {
@@ -354,12 +355,12 @@ func (e *engine) read(p *process) error {
 	}
 }
 
-// settle finds the requests that replies are of, and adds them to jobs. A reply to a model has none: there nil is added.
+// settle finds the requests of replies, and appends them to jobs. A reply to a model has none: for that it appends nil.
 func (e *engine) settle(replies []reply, jobs []*Job) ([]*Job, error) {
 	e.mu.Lock()
 	defer e.mu.Unlock()
 	e.moved = time.Now()
-	// One signal is enough for all: whoever waits looks at everything anew.
+	// One signal is enough for all: each one waiting checks everything again.
 	isDue := false
 	for _, r := range replies {
 		e.answers++
@@ -382,7 +383,7 @@ func (e *engine) settle(replies []reply, jobs []*Job) ([]*Job, error) {
 			e.alone = nil
 		}
 	}
-	if isDue || e.waiting > 0 || e.again.len() > 0 || e.told != e.target || e.closing {
+	if isDue || e.waiting > 0 || e.again.len() > 0 || e.given != e.target || e.closing {
 		e.wake.Signal()
 	}
 	return jobs, nil
@@ -411,7 +412,7 @@ func (e *engine) answered(r reply) (*Job, error) {
 	return sent.pop(), nil
 }
 
-// answeredLine settles a reply that names no lane: of a model, or of a line that the engine could not read.
+// answeredLine settles a reply that names no lane: to a model, or to a line that the engine could not read.
 func (e *engine) answeredLine(r reply) (*Job, error) {
 	if e.still > 0 && e.still == r.line {
 		e.still = 0
@@ -435,8 +436,8 @@ func (e *engine) answeredLine(r reply) (*Job, error) {
 	return nil, fmt.Errorf("the engine answered line %d, which has an answer", r.line)
 }
 
-// leave takes the requests that were out off a process that ended, to be asked again. The one that it was at alone is
-// given up, unless the process was still at its model: what became of its line is given too.
+// leave takes back the requests of a process that ended, to be asked again. The one it was working on alone is given
+// up, unless the process was still at its model; dead is then the outcome of its line.
 func (e *engine) leave() (answered bool, dead *deadEnd) {
 	e.pool.moving.Lock()
 	e.mu.Lock()
@@ -459,7 +460,7 @@ func (e *engine) leave() (answered bool, dead *deadEnd) {
 	if e.ended == errEvicted && !e.pool.isClosing {
 		moved = e.again.of(e.evicted)
 	}
-	e.process, e.told, e.taken, e.models, e.alone = nil, nil, nil, nil, nil
+	e.process, e.given, e.taken, e.models, e.alone = nil, nil, nil, nil, nil
 	e.sent, e.sentBytes = 0, 0
 	answered = e.answers > 1
 	e.wake.Broadcast()
@@ -474,7 +475,7 @@ func (e *engine) leave() (answered bool, dead *deadEnd) {
 	return answered, dead
 }
 
-// put lets requests wait in a lane; a lane below 0 is the one with the least.
+// put makes requests wait in a lane; a lane below 0 means the one with the fewest.
 func (e *engine) put(jobs []*Job, at int) {
 	now := time.Now()
 	e.mu.Lock()
@@ -508,11 +509,11 @@ func (e *engine) shortest() int {
 type state struct {
 	// out is how many requests wait or are out.
 	out int
-	// ready says that a process is there that took a model, slow that it has been at one request for a while.
+	// ready is true if a process has taken a model, slow if it has been at one request for a while.
 	ready, slow bool
 }
 
-// slowAfter is how long an engine is at one request until others are better sent elsewhere.
+// slowAfter is how long an engine may be at one request before others are better sent elsewhere.
 const slowAfter = 5 * time.Millisecond
 
 func (e *engine) state() state {
@@ -525,7 +526,7 @@ func (e *engine) state() state {
 	}
 }
 
-// isBefore says whether a request is better sent to this engine than to the other.
+// isBefore reports whether a request is better sent to this engine than to the other.
 func (s state) isBefore(other state) bool {
 	if s.ready != other.ready {
 		return s.ready
@@ -536,7 +537,7 @@ func (s state) isBefore(other state) bool {
 	return s.out < other.out
 }
 
-// tick sees whether the process is at one thing for too long, and takes out what waited too long.
+// tick checks whether the process is at one thing for too long, and takes out what has waited too long.
 func (e *engine) tick(step time.Duration) {
 	e.mu.Lock()
 	limit := e.pool.options.Deadline
@@ -563,12 +564,12 @@ func (e *engine) tick(step time.Duration) {
 	}
 }
 
-// isIdle says whether a process is there with nothing to do.
+// isIdle reports whether a process is running with nothing to do.
 func (e *engine) isIdle() bool {
 	return e.process != nil && e.taken != nil && e.sent == 0 && e.waiting == 0 && len(e.models) == 0 && e.still == 0 && !e.closing
 }
 
-// overdue takes out the requests that came before a time and still wait.
+// overdue takes out the requests that have waited since before a time.
 func (e *engine) overdue(before time.Time) []*Job {
 	var waited []*Job
 	for at := range e.lanes {
@@ -592,7 +593,7 @@ func (e *engine) aim(model *Model) {
 	e.mu.Unlock()
 }
 
-// close says that no more comes.
+// close notes that no more comes.
 func (e *engine) close() {
 	e.mu.Lock()
 	e.closing = true
@@ -600,7 +601,7 @@ func (e *engine) close() {
 	e.mu.Unlock()
 }
 
-// abort ends the process of an engine that does not end after its input.
+// abort ends an engine's process that doesn't end after its input.
 func (e *engine) abort() {
 	e.mu.Lock()
 	defer e.mu.Unlock()

@@ -7,41 +7,40 @@ import (
 	"fmt"
 )
 
-// An Explanation is how an answer came about, as `desk explain` tells it.
+// An Explanation says how an answer came about, as `desk explain` reports it.
 type Explanation struct {
-	// Decisions is the list of them, as JSON; nil where they are too long, or the request was refused.
+	// Decisions is the list of them, as JSON; nil if they are too long, or the request was refused.
 	Decisions json.RawMessage
-	// IsLong says that the decisions take more bytes than `desk explain` tells, or than are kept.
+	// IsLong is true if the decisions take more bytes than `desk explain` writes, or than are kept.
 	IsLong bool
-	// Outcome is what became of the request.
+	// Outcome is the outcome of the request.
 	Outcome Outcome
 }
 
-// errShort says that `desk explain` told of fewer requests than it was asked.
-var errShort = errors.New("the engine did not tell of each request")
+// errShort means that `desk explain` reported on fewer requests than it was asked.
+var errShort = errors.New("the engine did not explain each request")
 
-// An Explainer asks `desk explain`, each time in a process of its own.
+// An Explainer asks `desk explain`, each time in a new process.
 type Explainer struct {
 	// Path is the file of the engine, and Memory the limit of its address space in bytes; 0 is none.
 	Path   string
 	Memory uint64
-	// Misses says that each rule that missed is to be told too.
+	// Misses asks for each rule that missed, too.
 	Misses bool
 }
 
-// Explain asks how the answers of requests under one model come about, and gives what is told of each. Room is asked whether
-// so many bytes of decisions may be kept; those of a line over MaxAnswer bytes never are. When the context ends, so does the
-// process.
+// Explain returns how the answers of requests under one model came about. Room says whether that many bytes of
+// decisions may be kept; those of a line over MaxAnswer bytes never are. When the context ends, so does the process.
 func (e *Explainer) Explain(ctx context.Context, model *Model, jobs []*Job, room func(size int) bool) ([]Explanation, error) {
-	told := make([]Explanation, 0, len(jobs))
+	all := make([]Explanation, 0, len(jobs))
 	err := e.Tell(ctx, model, jobs, room, func(it *Explanation) error {
-		told = append(told, *it)
+		all = append(all, *it)
 		return nil
 	})
-	return told, err
+	return all, err
 }
 
-// Tell asks the same, and hands what is told of each request to take, in their order.
+// Tell does the same, and passes the explanation of each request to take, in order.
 func (e *Explainer) Tell(ctx context.Context, model *Model, jobs []*Job, room func(size int) bool, take func(*Explanation) error) error {
 	return e.Each(ctx, model, jobs, func(line []byte, cut bool) error {
 		it, err := readExplanation(line, cut, room)
@@ -52,8 +51,8 @@ func (e *Explainer) Tell(ctx context.Context, model *Model, jobs []*Job, room fu
 	})
 }
 
-// Each asks the same, and hands the line of each request to take, in their order: of one over MaxAnswer bytes the first, and
-// that it was cut. The bytes are good until take returns.
+// Each does the same, and passes the line of each request to take, in order: of one over MaxAnswer bytes the beginning,
+// and that it was cut. The bytes are valid until take returns.
 func (e *Explainer) Each(ctx context.Context, model *Model, jobs []*Job, take func(line []byte, cut bool) error) error {
 	size := len(model.Text) + len(`{"model":}`) + 1
 	for _, job := range jobs {

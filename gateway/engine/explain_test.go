@@ -2,7 +2,7 @@ package engine
 
 import "testing"
 
-// Decisions that are too long, or for which there is no room, are not told.
+// Decisions that are too long, or for which there is no room, are left out.
 func TestReadExplanation(t *testing.T) {
 	for _, it := range []struct {
 		text, decisions, result string

@@ -9,14 +9,14 @@ import (
 )
 
 const (
-	// deadPatience is how long a line is refused at which an engine ended twice, mostDead how many such lines are known.
+	// deadPatience is how long a line is refused at which an engine ended twice, mostDead how many such lines are kept.
 	deadPatience = time.Minute
 	mostDead     = 1000
-	// slowPatience is how long who asked slowly leaves an engine to others.
+	// slowPatience is how long a slow owner leaves an engine to others.
 	slowPatience = 10 * time.Second
-	// leastSlow is how long an engine is at one request of who asks slowly, at least.
+	// leastSlow is the shortest time at one request that makes its owner slow.
 	leastSlow = 100 * time.Millisecond
-	// stillPatience is how long an engine may be idle until it is asked whether it is there.
+	// stillPatience is how long an engine may be idle before it is asked whether it responds.
 	stillPatience = 2 * time.Second
 )
 
@@ -26,7 +26,7 @@ const stillLine = "{}\n"
 // A deadLine is a line at which engines ended, under a model.
 type deadLine struct{ model, rest [sha256.Size]byte }
 
-// A deadEnd is what became of a line when engines ended at it twice.
+// A deadEnd is the outcome of a line at which engines ended twice.
 type deadEnd struct {
 	line deadLine
 	kind Kind
@@ -36,22 +36,22 @@ func lineOf(job *Job) deadLine {
 	return deadLine{sha256.Sum256([]byte(job.Model.Sum)), sha256.Sum256(job.Rest)}
 }
 
-// fairness is what is known of lines at which engines ended, and of who asks slowly.
+// fairness keeps the lines at which engines ended, and the slow owners.
 type fairness struct {
-	// known is how many lines and names there are: mostly none.
+	// known is how many of both there are: mostly none.
 	known atomic.Int64
 	mu    sync.Mutex
 	dead  map[deadLine]death
 	slow  map[string]time.Time
 }
 
-// A death is what became of a line, and until when it is refused.
+// A death is the outcome of a line, and until when it is refused.
 type death struct {
 	kind  Kind
 	until time.Time
 }
 
-// forget leaves out what is over. The lock is held.
+// forget drops what has expired. The lock is held.
 func (f *fairness) forget(now time.Time) {
 	for line, it := range f.dead {
 		if now.After(it.until) {
@@ -81,7 +81,7 @@ func (f *fairness) died(it *deadEnd) {
 	f.known.Store(int64(len(f.dead) + len(f.slow)))
 }
 
-// alive are the jobs that may be asked; the others have their outcomes.
+// alive returns the jobs that may be asked; the others get their outcomes.
 func (f *fairness) alive(jobs []*Job) []*Job {
 	if f.known.Load() == 0 {
 		return jobs
@@ -111,7 +111,7 @@ func (f *fairness) alive(jobs []*Job) []*Job {
 	return alive
 }
 
-// isSlow says whether someone asked slowly of late.
+// isSlow reports whether an owner asked slowly of late.
 func (f *fairness) isSlow(owner string) bool {
 	if owner == "" || f.known.Load() == 0 {
 		return false
@@ -123,7 +123,7 @@ func (f *fairness) isSlow(owner string) bool {
 	return is
 }
 
-// slowed notes that someone asks slowly, and says whether that is new.
+// slowed notes that an owner asks slowly, and reports whether that is new.
 func (f *fairness) slowed(owner string) bool {
 	now := time.Now()
 	f.mu.Lock()
@@ -138,7 +138,7 @@ func (f *fairness) slowed(owner string) bool {
 	return !was
 }
 
-// spared is the engine that is left to others by who asks slowly, or -1.
+// spared returns the engine that a slow owner leaves to others, or -1.
 func (p *Pool) spared(owner string) int {
 	if len(p.engines) < 2 || !p.fair.isSlow(owner) {
 		return -1
@@ -148,7 +148,7 @@ func (p *Pool) spared(owner string) int {
 	return int(sum.Sum64() % uint64(len(p.engines)))
 }
 
-// slowAt is how long an engine is at one request until who asked it is slow.
+// slowAt returns how long an engine may be at one request before its owner is slow.
 func (p *Pool) slowAt() time.Duration {
 	if at := p.options.Deadline / 4; at > leastSlow {
 		return at
@@ -156,8 +156,8 @@ func (p *Pool) slowAt() time.Duration {
 	return leastSlow
 }
 
-// police looks for engines that are at slow requests. What who asked them has at the engine that is spared is asked elsewhere, and what
-// others have behind them is asked there.
+// police looks for engines at slow requests. It moves their owners' requests away from the spared engine, and to that
+// engine the requests of others that wait after slow ones.
 func (p *Pool) police() {
 	p.moving.Lock()
 	defer p.moving.Unlock()
@@ -176,7 +176,7 @@ func (p *Pool) police() {
 	}
 }
 
-// slowOwner is who asked what an engine has been at for long, as far as that is known; else empty.
+// slowOwner returns the owner of what an engine has been at for long; empty if unknown.
 func (e *engine) slowOwner() string {
 	e.mu.Lock()
 	defer e.mu.Unlock()
@@ -198,7 +198,7 @@ func (e *engine) slowOwner() string {
 	return owner
 }
 
-// evict has the requests of someone asked elsewhere, and ends the process if it is at one of them alone for long.
+// evict moves an owner's requests elsewhere, and ends the process if it has been at one of them for long.
 func (e *engine) evict(owner string) {
 	e.mu.Lock()
 	var moved []*Job
@@ -214,7 +214,7 @@ func (e *engine) evict(owner string) {
 	e.pool.elsewhere(e.number, moved)
 }
 
-// others removes what waits of others than one, but of who leaves the other engine to others too.
+// others removes what waits of other owners, except those that leave the other engine to others too.
 func (e *engine) others(owner string, other int) (found []*Job) {
 	isOne := func(job *Job) bool { return job.Owner != owner && e.pool.spared(job.Owner) != other }
 	e.mu.Lock()
@@ -226,7 +226,7 @@ func (e *engine) others(owner string, other int) (found []*Job) {
 	return append(found, e.again.part(isOne)...)
 }
 
-// isAt says whether all that is out is of someone.
+// isAt reports whether all that is out is of an owner.
 func (e *engine) isAt(owner string) bool {
 	for at := range e.lanes {
 		for _, job := range e.lanes[at].sent.jobs[e.lanes[at].sent.head:] {
@@ -238,19 +238,19 @@ func (e *engine) isAt(owner string) bool {
 	return e.sent > 0 && e.process != nil && len(e.models) == 0
 }
 
-// elsewhere puts requests in at the next engine. What guards moving is held.
+// elsewhere puts requests in at the next engine. The lock of moving is held.
 func (p *Pool) elsewhere(number int, jobs []*Job) {
 	p.engines[(number+1)%len(p.engines)].take(jobs)
 }
 
-// take takes requests of another engine; there may be none.
+// take takes requests of another engine, perhaps none.
 func (e *engine) take(jobs []*Job) {
 	if len(jobs) > 0 {
 		e.put(jobs, -1)
 	}
 }
 
-// of removes the jobs of someone.
+// of removes the jobs of an owner.
 func (q *queue) of(owner string) []*Job {
 	return q.part(func(job *Job) bool { return job.Owner == owner })
 }

@@ -11,7 +11,7 @@ import (
 	"gateway/engine/enginetest"
 )
 
-// A line at which engines ended twice is refused at once, until a minute is over; others are answered.
+// A line at which engines ended twice is refused at once for a minute; others are answered.
 func TestDeadLines(t *testing.T) {
 	model := adding(1)
 	var deaths atomic.Int64
@@ -64,7 +64,8 @@ func TestDeadLines(t *testing.T) {
 	end(t, p)
 }
 
-// Who asks slowly at all engines leaves one to others, and its requests are answered all the same, those with a name too.
+// An owner that asks slowly at all engines leaves one to others. Its requests are answered all the same, also those
+// with a name.
 func TestSlowOwners(t *testing.T) {
 	model := adding(1)
 	p := start(t, Options{Path: enginetest.Waiting(t, desk()), Processes: 2, Deadline: 8 * time.Second}, model)
@@ -84,7 +85,7 @@ func TestSlowOwners(t *testing.T) {
 	others.left.Wait()
 	slow.mu.Lock()
 	if others.outcomes[0].Kind != Result || len(slow.order) > 0 {
-		t.Errorf("%+v came, behind %d slow ones", others.outcomes[0], len(slow.order))
+		t.Errorf("%+v came, after %d slow ones", others.outcomes[0], len(slow.order))
 	}
 	slow.mu.Unlock()
 	for _, owner := range []string{"slow", "other"} {
@@ -104,7 +105,7 @@ func TestSlowOwners(t *testing.T) {
 	end(t, p)
 }
 
-// An idle engine that stands still is ended, and another takes its place.
+// An idle engine that hangs is ended, and another takes its place.
 func TestStillEngines(t *testing.T) {
 	p := start(t, Options{Processes: 2, Deadline: 500 * time.Millisecond}, adding(1))
 	e := p.engines[0]

@@ -7,79 +7,81 @@ import (
 	"time"
 )
 
-// A Model is a model in the form in which engines take it.
+// A Model is a model in the form that engines take.
 type Model struct {
-	// Text is its compact text: JSON without blanks, keys in the order of their bytes.
+	// Text is its compact text: JSON without blanks, keys in byte order.
 	Text []byte
 	// Sum is the SHA-256 of the text, in hexadecimal.
 	Sum string
-	// epoch tells which of two models came first.
+	// epoch orders models by age.
 	epoch uint64
 }
 
-// NewModel is the model of a compact text.
+// NewModel returns the model of a compact text.
 func NewModel(text []byte) *Model {
 	sum := sha256.Sum256(text)
 	return &Model{Text: text, Sum: hex.EncodeToString(sum[:])}
 }
 
-// AppendLine adds the line by which a model is put in force, with its newline.
+// AppendLine appends the line that puts a model in force, with its newline.
 func (m *Model) AppendLine(to []byte) []byte {
 	to = append(to, `{"model":`...)
 	to = append(to, m.Text...)
 	return append(to, "}\n"...)
 }
 
-// Kind says what became of a request.
+// A Kind is the kind of an outcome.
 type Kind int
 
-// What becomes of a request.
+// The kinds of outcomes.
 const (
 	// Result: it has a result.
 	Result Kind = iota
-	// Limit: a value breaks a limit of the engine when it is formed. This is the model's answer.
+	// Limit: a value exceeds a limit of the engine. This is the model's answer.
 	Limit
 	// Refused: the engine refuses its line.
 	Refused
 	// Huge: its result has over MaxAnswer bytes.
 	Huge
-	// Late: an engine was at it for longer than the deadline, twice.
+	// Late: an engine took longer than the deadline, twice.
 	Late
-	// Died: an engine ended at it twice, as for want of memory.
+	// Died: an engine ended at it twice, perhaps for want of memory.
 	Died
-	// Waited: no engine came to it in time.
+	// Waited: no engine was free in time.
 	Waited
 	// Dropped: its caller gave it up before an engine had it.
 	Dropped
 )
 
-// An Outcome is what became of a request.
+// An Outcome is the outcome of a request.
 type Outcome struct {
 	Kind Kind
 	// Value is the text of a result.
 	Value []byte
-	// Word is that of a refusal.
+	// Word is the reason of a refusal.
 	Word string
-	// Decided has the tables on the way, where the pool tells them. IsLong says that what the engine said of them is too long.
+	// Decided has the tables on the way, if the pool reports them. IsLong is true if the engine's list of them is too
+	// long.
 	Decided []Decided
 	IsLong  bool
 }
 
 // A Job is a request on its way.
 type Job struct {
-	// Model is the one under which it is to be answered.
+	// Model is the one that should answer it.
 	Model *Model
-	// Rest is its line behind the client's name: `"inputs":{..},"service":"s"}`, without a newline. It does not change
+	// Rest is its line after the client's name: `"inputs":{..},"service":"s"}`, without a newline. It doesn't change
 	// before Done is called.
 	Rest []byte
 	// Place is for the caller's own use.
 	Place int
-	// Owner is who asks, or empty: the slow requests of one keep an engine free for others.
+	// Owner is who asks, or empty: an owner's slow requests keep an engine free for others.
 	Owner string
-	// Done is told what became of it, once, by a goroutine of the pool. It must not wait.
+	// Done gets the outcome, once, from a goroutine of the pool. It must not wait.
 	Done func(*Job, Outcome)
 
-	// Queue is how long it waited, and Work how long an engine had it, where the pool measures that. They are set before Done.
+	// Queue is how long it waited, and Work how long an engine had it, if the pool measures that. They are set before
+	// Done.
 	Queue, Work time.Duration
 
 	asked   time.Time
@@ -90,7 +92,7 @@ type Job struct {
 	entered time.Time
 }
 
-// Drop says that nobody waits for it any more. Done is told all the same.
+// Drop notes that nobody waits for it any more. Done is called all the same.
 func (j *Job) Drop() {
 	j.gone.Store(true)
 }
@@ -130,7 +132,7 @@ func (q *queue) pop() *Job {
 	return job
 }
 
-// take removes the job of a line, or gives nil.
+// take removes and returns the job of a line, or nil.
 func (q *queue) take(line uint64) *Job {
 	for at := q.head; at < len(q.jobs); at++ {
 		if job := q.jobs[at]; job.line == line {
@@ -141,7 +143,7 @@ func (q *queue) take(line uint64) *Job {
 	return nil
 }
 
-// all removes every job.
+// all removes and returns every job.
 func (q *queue) all() []*Job {
 	jobs := q.jobs[q.head:]
 	q.jobs, q.head = nil, 0

@@ -6,9 +6,9 @@ import (
 	"strconv"
 )
 
-// What an engine writes is compact JSON, so its parts are found without reading what is in them.
+// Engines write compact JSON, so its parts can be found without parsing what is in them.
 
-// eachMember hands each member of an object to take: its key as it is written, without quotes, and its value.
+// eachMember passes each member of an object to take: its key as written, without quotes, and its value.
 func eachMember(object []byte, take func(key, value []byte)) {
 	if len(object) == 0 || object[0] != '{' {
 		return
@@ -25,7 +25,7 @@ func eachMember(object []byte, take func(key, value []byte)) {
 	}
 }
 
-// valueEnd is where the value at a place ends.
+// valueEnd returns where the value at a place ends.
 func valueEnd(text []byte, at int) int {
 	depth := 0
 	for at < len(text) {
@@ -50,7 +50,7 @@ func valueEnd(text []byte, at int) int {
 	return at
 }
 
-// textEnd is where the text in quotes at a place ends.
+// textEnd returns where the text in quotes at a place ends.
 func textEnd(text []byte, at int) int {
 	for at++; at < len(text); at++ {
 		next := bytes.IndexByte(text[at:], '"')
@@ -69,7 +69,7 @@ func textEnd(text []byte, at int) int {
 	return at
 }
 
-// unquoted is the text that stands in quotes.
+// unquoted returns the text in quotes.
 func unquoted(quoted []byte) string {
 	if len(quoted) > 1 && bytes.IndexByte(quoted, '\\') < 0 {
 		return string(quoted[1 : len(quoted)-1])

@@ -8,8 +8,8 @@ import (
 	"os/exec"
 )
 
-// Once runs the engine with these words on an input, to its end, and gives what it wrote and its status. An error says
-// that it could not be run, or was ended by a signal.
+// Once runs the engine with these arguments on an input, to its end, and returns what it wrote and its status. An error
+// means that it could not be run, or was ended by a signal.
 func Once(ctx context.Context, input []byte, words ...string) (output []byte, status int, err error) {
 	path, err := Path()
 	if err != nil {

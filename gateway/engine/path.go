@@ -16,14 +16,14 @@ import (
 // PathVariable is the environment variable that names the engine's file.
 const PathVariable = "DESK_ENGINE"
 
-// installed is where an installed program has its engine, from the program's folder.
+// installed is the engine of an installed program, relative to the program's folder.
 const installed = "../libexec/colkuzai/desk"
 
-// ErrNoEngine says that the engine is missing, or can't be run.
+// ErrNoEngine means that the engine is missing, or can't be run.
 var ErrNoEngine = errors.New("the engine, the program that evaluates, can't be run")
 
-// Path is the engine's file: the one that PathVariable names; else the one that is installed with this program; else the
-// file desk beside this program. The error wraps ErrNoEngine and lists the places.
+// Path returns the engine's file: the one that PathVariable names; else the one installed with this program; else the
+// file desk next to this program. The error wraps ErrNoEngine and lists the places.
 func Path() (string, error) {
 	if path := os.Getenv(PathVariable); path != "" {
 		if err := runnable(path); err != nil {
@@ -49,7 +49,7 @@ func Path() (string, error) {
 	return "", fmt.Errorf("%w: %s; set %s to its file", ErrNoEngine, strings.Join(tried, "; "), PathVariable)
 }
 
-// ownFile is the file of this program, without links. Where there is no /proc, it is what the caller ran it by.
+// ownFile returns the file of this program, without links; without /proc, the name that the caller ran it by.
 func ownFile() (string, error) {
 	own, err := os.Executable()
 	if err != nil {
@@ -81,8 +81,8 @@ func runnable(path string) error {
 	return nil
 }
 
-// NotStarted is the error of an engine that the system did not start. The kernel reports a missing loader as if the engine
-// itself were missing.
+// NotStarted returns the error of an engine that the system didn't start. The kernel reports a missing loader as if the
+// engine itself were missing.
 func NotStarted(path string, err error) error {
 	if !errors.Is(err, fs.ErrNotExist) {
 		return fmt.Errorf("%w: %s: %v", ErrNoEngine, path, err)
@@ -93,7 +93,7 @@ func NotStarted(path string, err error) error {
 	return fmt.Errorf("%w: %s: %v", ErrNoEngine, path, err)
 }
 
-// loaderOf is the loader that a program of ELF asks for; empty where it asks for none, or the loader is there.
+// loaderOf returns the loader that an ELF program asks for; empty if it asks for none, or the loader is there.
 func loaderOf(path string) string {
 	program, err := elf.Open(path)
 	if err != nil {

@@ -10,42 +10,43 @@ import (
 	"time"
 )
 
-// Options says how a pool runs its engines.
+// Options say how a pool runs its engines.
 type Options struct {
 	// Path is the engine's file.
 	Path string
 	// Processes is how many engines there are, at least one.
 	Processes int
-	// Measures says that jobs are to have their times.
+	// Measures gives jobs their times.
 	Measures bool
-	// Tells has the engines say which rules decided: outcomes have them.
+	// Tells makes the engines report which rules decided: outcomes have them.
 	Tells bool
 	// Memory is the limit of each engine's address space in bytes; 0 is none.
 	Memory uint64
-	// Deadline is how long an engine may be at one request.
+	// Deadline is how long an engine may take for one request.
 	Deadline time.Duration
-	// Patience is how long a request may wait until an engine is asked.
+	// Patience is how long a request may wait for an engine.
 	Patience time.Duration
-	// Died is told when an engine ended that was not told to, and how.
+	// Died is called when an engine ends unexpectedly, with how it ended.
 	Died func(number int, err error)
 }
 
-// ErrSwitched says that another model is in force than that of the requests.
+// ErrSwitched means that the model in force isn't that of the requests.
 var ErrSwitched = errors.New("another model is in force")
 
 // A Pool is several engines with one model in force.
 type Pool struct {
 	options Options
 	engines []*engine
-	// model is the one in force. Requests are put in under the lock of readers, so a switch stands between two of them.
+	// model is the one in force. Requests are put in under the read lock, so a switch is never in the middle of that.
 	modelLock sync.RWMutex
 	model     *Model
 	next      atomic.Uint32
-	// change is closed, and made anew, whenever an engine took a model or ended.
+	// change is closed, and made again, whenever an engine took a model or ended.
 	changeLock sync.Mutex
 	change     chan struct{}
 	fair       fairness
-	// moving is held while requests go from one engine to another, and when the pool begins to close: isClosing ends that.
+	// moving is held while requests go from one engine to another, and when the pool begins to close: isClosing ends
+	// that.
 	moving    sync.Mutex
 	isClosing bool
 	closing   chan struct{}
@@ -71,7 +72,7 @@ func Start(options Options, model *Model) *Pool {
 	return p
 }
 
-// watch looks after the deadline, from time to time. A time in which this program did not run counts as one look.
+// watch checks deadlines from time to time. A time in which this program didn't run counts as one look.
 func (p *Pool) watch() {
 	step := p.options.Deadline / 10
 	if step > 200*time.Millisecond {
@@ -104,12 +105,12 @@ func (p *Pool) sleep(pause time.Duration) {
 	select {
 	case <-time.After(pause):
 	case <-p.closing:
-		// An engine that ends at once is not started more often than this.
+		// An engine that ends at once is not restarted more often than this.
 		time.Sleep(firstPause)
 	}
 }
 
-// moved tells those who wait that an engine took a model or ended.
+// moved wakes those who wait for an engine to take a model or to end.
 func (p *Pool) moved() {
 	p.changeLock.Lock()
 	close(p.change)
@@ -123,9 +124,9 @@ func (p *Pool) changed() <-chan struct{} {
 	return p.change
 }
 
-// Put puts requests in, which all have one model. Those of a client go to one lane of one engine, whatever else there is:
-// the same for each call. Without a client they go where least is out. Nothing is put in where another model is in force. Lines at
-// which engines ended of late have that outcome at once, and who asks slowly leaves one engine to others.
+// Put puts requests in, which all have one model. Those of a client go to one lane of one engine, the same for each
+// call. Without a client they go where least is out. If another model is in force nothing is put in. Lines at which
+// engines ended of late get that outcome at once, and slow owners leave one engine to others.
 func (p *Pool) Put(client string, jobs []*Job) error {
 	p.modelLock.RLock()
 	defer p.modelLock.RUnlock()
@@ -158,22 +159,22 @@ func (p *Pool) Put(client string, jobs []*Job) error {
 	return nil
 }
 
-// pieceJobs is how many requests of one list go to one engine together.
+// pieceJobs is how many requests of a list go to one engine together.
 const pieceJobs = 64
 
-// place is the engine and the lane of a client.
+// place returns the engine and the lane of a client.
 func (p *Pool) place(client string) (at, lane int) {
 	sum := fnv.New64a()
 	_, _ = sum.Write([]byte(client))
 	h := sum.Sum64()
-	// The low bits of this sum differ little between names that differ at their end.
+	// The low bits of this sum differ little between names that only differ at their end.
 	h ^= h >> 32
 	n := uint64(len(p.engines))
 	return int(h % n), int(h / n % Lanes)
 }
 
-// least is the engine at which least is out, among those that are ready and not slow if there is one; never the one that is
-// spared, if that is not -1.
+// least returns the engine with the fewest requests out, preferably a ready one that isn't slow; never the spared one,
+// unless that is -1.
 func (p *Pool) least(spared int) *engine {
 	n := len(p.engines)
 	start := int(p.next.Add(1) % uint32(n))
@@ -194,15 +195,15 @@ func (p *Pool) least(spared int) *engine {
 	return best
 }
 
-// Model is the one in force.
+// Model returns the one in force.
 func (p *Pool) Model() *Model {
 	p.modelLock.RLock()
 	defer p.modelLock.RUnlock()
 	return p.model
 }
 
-// Switch puts a model in force for all that is put in from now on. Beside is called at this very moment, while nothing
-// can be put in.
+// Switch puts a model in force for all that is put in from now on. It calls beside at that moment, while nothing can be
+// put in.
 func (p *Pool) Switch(model *Model, beside func()) {
 	p.modelLock.Lock()
 	defer p.modelLock.Unlock()
@@ -214,7 +215,7 @@ func (p *Pool) Switch(model *Model, beside func()) {
 	}
 }
 
-// Ready is how many engines have taken a model.
+// Ready returns how many engines have taken a model.
 func (p *Pool) Ready() int {
 	ready := 0
 	for _, e := range p.engines {
@@ -225,7 +226,7 @@ func (p *Pool) Ready() int {
 	return ready
 }
 
-// Processes is how many engines there are to be.
+// Processes returns how many engines there should be.
 func (p *Pool) Processes() int {
 	return len(p.engines)
 }
@@ -257,8 +258,8 @@ func (p *Pool) settled() bool {
 	return true
 }
 
-// Close waits until all that was put in is answered, closes each engine's input and waits for its end, which has to be one
-// with status 0. Nothing may be put in any more. Where the context ends first, the engines are ended.
+// Close waits until all that was put in is answered, closes each engine's input and waits for its end, which has to be
+// with status 0. Nothing may be put in any more. If the context ends first, the engines are ended.
 func (p *Pool) Close(ctx context.Context) error {
 	p.moving.Lock()
 	p.isClosing = true
@@ -283,7 +284,7 @@ func (p *Pool) Close(ctx context.Context) error {
 	return fmt.Errorf("closing the engines: %w", ctx.Err())
 }
 
-// fault is why an engine did not end well, or nil.
+// fault returns why an engine didn't end well, or nil.
 func (p *Pool) fault() error {
 	for _, e := range p.engines {
 		e.mu.Lock()

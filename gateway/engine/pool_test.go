@@ -23,14 +23,14 @@ func desk() string {
 	return "../../dist/desk"
 }
 
-// adding is a model of the service s, which adds a number to its input a.
+// adding returns a model of the service s, which adds a number to its input a.
 func adding(n int) *Model {
 	return NewModel([]byte(fmt.Sprintf(`{"decisions":[{"expr":"a + %d","name":"d","needs":["a"]}],"inputs":["a"],`+
 		`"services":[{"encapsulated":[],"inputData":["a"],"inputDecisions":[],"name":"s","outputs":["d"]}]}`, n)))
 }
 
-// slow is a model of the service s, whose decision takes the longer the longer the list b is: its every rule hits and
-// forms a list as long.
+// slow returns a model of the service s, whose decision takes longer for a longer list b: every rule hits and makes a
+// list of that length.
 func slow(rules int) *Model {
 	rule := `{"then":["b.x"],"when":[]}`
 	return NewModel([]byte(`{"decisions":[{"expr":{"table":{"hit":"F","inputs":[],"outputs":[{"name":"o"}],"rules":[` +
@@ -38,7 +38,7 @@ func slow(rules int) *Model {
 		`"services":[{"encapsulated":[],"inputData":["b"],"inputDecisions":[],"name":"s","outputs":["d"]}]}`))
 }
 
-// waits is a request to adding at which the engine of enginetest waits for a file.
+// waits returns a request to adding at which the engine of enginetest waits for a file.
 func waits(file string) string {
 	return `"inputs":{"a":1,` + enginetest.Until(file) + `},"service":"s"}`
 }
@@ -75,7 +75,7 @@ func end(t *testing.T, p *Pool) {
 	}
 }
 
-// asked notes what became of requests.
+// asked notes the outcomes of requests.
 type asked struct {
 	mu       sync.Mutex
 	outcomes []Outcome
@@ -141,7 +141,7 @@ func TestEachIsAnsweredInOrder(t *testing.T) {
 			t.Errorf("request %d has %q", n, got)
 		}
 		if n%2 == 0 && last[n%20] > n {
-			t.Errorf("request %d of its client was answered behind %d", n, last[n%20])
+			t.Errorf("request %d of its client was answered after %d", n, last[n%20])
 		}
 		if n%2 == 0 {
 			last[n%20] = n
@@ -174,8 +174,8 @@ func TestRefusalsAreOfTheirRequests(t *testing.T) {
 	end(t, p)
 }
 
-// killBusy kills an engine's process, once all is answered that was out when the one before was killed: a request that is
-// asked again, alone, is given up when the process ends at it, whoever ended that.
+// killBusy kills an engine's process, once all is answered that was out when the previous one was killed: a request
+// that is asked again alone is given up if the process ends at it, whoever ended that.
 func killBusy(e *engine) {
 	for {
 		e.mu.Lock()
@@ -191,7 +191,7 @@ func killBusy(e *engine) {
 	}
 }
 
-// Processes are killed while requests are out: each has its own result once all the same.
+// Processes are killed while requests are out. Each request still gets its own result, once.
 func TestKilledEngines(t *testing.T) {
 	model := adding(7)
 	deaths := make(chan struct{}, 1000)
@@ -210,7 +210,7 @@ func TestKilledEngines(t *testing.T) {
 			t.Errorf("request %d has %q, %+v", n, got, all.outcomes[n].Kind)
 		}
 		if last[n%10] > n {
-			t.Errorf("request %d of its client was answered behind %d", n, last[n%10])
+			t.Errorf("request %d of its client was answered after %d", n, last[n%10])
 		}
 		last[n%10] = n
 	}
@@ -220,7 +220,7 @@ func TestKilledEngines(t *testing.T) {
 	}
 }
 
-// One request takes longer than the deadline, among others that don't: it alone is given up.
+// One request takes longer than the deadline, among others that don't. Only it is given up.
 func TestPoison(t *testing.T) {
 	model, never := adding(1), filepath.Join(t.TempDir(), "never")
 	p := start(t, Options{Path: enginetest.Waiting(t, desk()), Processes: 1, Deadline: 3 * time.Second}, model)
@@ -245,7 +245,7 @@ func TestPoison(t *testing.T) {
 	end(t, p)
 }
 
-// Models are switched while requests are put in: each is answered under its own.
+// Models are switched while requests are put in. Each is answered under its own.
 func TestSwitch(t *testing.T) {
 	first := adding(0)
 	p := start(t, Options{Processes: 2}, first)
@@ -289,7 +289,8 @@ func TestSwitch(t *testing.T) {
 	end(t, p)
 }
 
-// Requests that no engine is asked in time are given up. Those that an engine has are answered, however long it takes.
+// Requests for which no engine is free in time are given up. Those that an engine has are answered, however long it
+// takes.
 func TestDroppedAndWaited(t *testing.T) {
 	model, file := adding(1), filepath.Join(t.TempDir(), "go")
 	p := start(t, Options{Path: enginetest.Waiting(t, desk()), Processes: 1, Patience: 3 * time.Second}, model)

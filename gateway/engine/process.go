@@ -14,7 +14,7 @@ import (
 	"golang.org/x/sys/unix"
 )
 
-// oomScore makes the kernel end an engine before the program that can begin it anew.
+// oomScore makes the kernel end an engine before the program that can restart it.
 const oomScore = "500"
 
 // A process is a running engine.
@@ -25,8 +25,8 @@ type process struct {
 	said    *firstBytes
 }
 
-// begin starts the engine with these words, in a process group of its own, so that a signal to ours does not reach it.
-// Memory is the limit of its address space in bytes; 0 is none.
+// begin starts the engine with these arguments, in a process group of its own, so that it doesn't get our signals.
+// Memory limits its address space, in bytes; 0 is no limit.
 func begin(path string, memory uint64, words ...string) (*process, error) {
 	p := &process{command: exec.Command(path, words...), said: &firstBytes{}}
 	p.command.SysProcAttr = &syscall.SysProcAttr{Setpgid: true}
@@ -49,10 +49,10 @@ func begin(path string, memory uint64, words ...string) (*process, error) {
 	return p, nil
 }
 
-// Bound sets what the kernel allows an engine that has read nothing yet: where memory is short it is the first to end,
-// and its address space has at most so many bytes, unless that is 0.
+// Bound sets the limits of an engine that has read nothing yet: if memory is short it is the first to end, and its
+// address space has at most that many bytes, unless that is 0.
 func Bound(pid int, memory uint64) error {
-	// Where /proc is not there, the kernel's choice is as good.
+	// Without /proc, the kernel's choice will do.
 	_ = os.WriteFile("/proc/"+strconv.Itoa(pid)+"/oom_score_adj", []byte(oomScore), 0o644)
 	if memory == 0 {
 		return nil
@@ -64,10 +64,10 @@ func Bound(pid int, memory uint64) error {
 	return nil
 }
 
-// pipeSize is how many bytes may wait between an engine and this program where much is said at once.
+// pipeSize is how many bytes may wait between an engine and this program under load.
 const pipeSize = 1 << 20
 
-// widen lets more bytes wait, so that the two wake each other less often. Where the kernel allows it not, less is as good.
+// widen lets more bytes wait, so that the two wake each other less often. If the kernel doesn't allow it, less will do.
 func (p *process) widen() {
 	for _, end := range []any{p.in, p.out} {
 		file, is := end.(syscall.Conn)
@@ -86,7 +86,7 @@ func (p *process) kill() {
 	_ = p.command.Process.Kill()
 }
 
-// wasKilled says whether a process ended by SIGKILL.
+// wasKilled reports whether a process ended by SIGKILL.
 func wasKilled(err error) bool {
 	var exit *exec.ExitError
 	if !errors.As(err, &exit) {
@@ -96,7 +96,7 @@ func wasKilled(err error) bool {
 	return is && status.Signaled() && status.Signal() == syscall.SIGKILL
 }
 
-// wait waits for its end, and says how it ended where that was not well.
+// wait waits for its end, and returns an error if it ended badly.
 func (p *process) wait() error {
 	err := p.command.Wait()
 	if err == nil {
@@ -108,7 +108,7 @@ func (p *process) wait() error {
 	return err
 }
 
-// firstBytes keeps the first bytes that were written to it.
+// firstBytes keeps the first bytes written to it.
 type firstBytes struct {
 	mu   sync.Mutex
 	text []byte

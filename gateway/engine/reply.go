@@ -8,25 +8,25 @@ import (
 	"fmt"
 )
 
-// MaxAnswer is the most bytes of an engine's answer that are kept. A result that is longer is given up.
+// MaxAnswer is the most bytes of an engine's answer. A longer result is given up.
 const MaxAnswer = 16 << 20
 
 // A reply is one line that an engine wrote.
 type reply struct {
 	// lane is the one that it names, or -1.
 	lane int
-	// line is the number of the line that it answers, and 0 where it has a ticket.
+	// line is the number of the line that it answers, or 0 if it has a ticket.
 	line uint64
 	// ticket is that of a result.
 	ticket uint64
-	// outcome is what it says of a request.
+	// outcome is the outcome of a request.
 	outcome Outcome
-	// model says that a model was taken.
+	// model is true if a model was taken.
 	model bool
 }
 
-// readLine reads a line without its newline. Of one over MaxAnswer bytes it gives the first, and says so. The bytes are
-// good until the next call.
+// readLine reads a line without its newline. Of one over MaxAnswer bytes it returns the beginning, and that it was cut.
+// The bytes are valid until the next call.
 func readLine(from *bufio.Reader) (text []byte, cut bool, err error) {
 	text, err = from.ReadSlice('\n')
 	if err == nil {
@@ -47,16 +47,16 @@ func readLine(from *bufio.Reader) (text []byte, cut bool, err error) {
 	return bytes.TrimSuffix(room, []byte("\n")), cut, nil
 }
 
-// mostReplies is the most replies that are read before their requests are told.
+// mostReplies is how many replies are read before their requests are settled.
 const mostReplies = 64
 
-// readReplies waits for a line of an engine, and reads it and those that came with it. What it gives with an error stood
-// before.
+// readReplies waits for a line of an engine, and reads it and those that came with it. Replies returned with an error
+// came before it.
 func readReplies(from *bufio.Reader, replies []reply) ([]reply, error) {
 	return repliesBy(readLine, from, replies)
 }
 
-// A lineReader reads a line without its newline, or its first bytes and that it was cut.
+// A lineReader reads a line without its newline, or its beginning and that it was cut.
 type lineReader func(from *bufio.Reader) (text []byte, cut bool, err error)
 
 func repliesBy(read lineReader, from *bufio.Reader, replies []reply) ([]reply, error) {
@@ -76,7 +76,7 @@ func repliesBy(read lineReader, from *bufio.Reader, replies []reply) ([]reply, e
 	}
 }
 
-// hasLine says whether a whole line is there without waiting for it.
+// hasLine reports whether a whole line is there without waiting.
 func hasLine(from *bufio.Reader) bool {
 	there, _ := from.Peek(from.Buffered())
 	return bytes.IndexByte(there, '\n') >= 0
@@ -113,7 +113,7 @@ func readReply(text []byte, cut bool) (reply, error) {
 	return reply{lane: lane, ticket: ticket, outcome: Outcome{Kind: Result, Value: kept}}, nil
 }
 
-// laneOf is the lane that a line begins with, and what stands behind its name; or -1.
+// laneOf returns the lane that a line begins with, and what follows its name; or -1.
 func laneOf(text []byte) (int, []byte) {
 	if !bytes.HasPrefix(text, clientKey) {
 		return -1, text
@@ -130,10 +130,10 @@ func laneOf(text []byte) (int, []byte) {
 	return int(lane), rest[at:]
 }
 
-// mostDigits is how many digits a number has at most that is below 2^64 whatever they are.
+// mostDigits is how many digits a number surely below 2^64 may have.
 const mostDigits = 19
 
-// number reads a number that is digits alone.
+// number reads a number of digits only.
 func number(text []byte) (n uint64, is bool) {
 	if len(text) == 0 || len(text) > mostDigits {
 		return 0, false
@@ -147,7 +147,7 @@ func number(text []byte) (n uint64, is bool) {
 	return n, true
 }
 
-// readOther reads a line that is no result.
+// readOther reads a line that isn't a result.
 func readOther(text []byte, lane int) (reply, error) {
 	var parts struct {
 		Line    uint64

@@ -9,7 +9,7 @@ import (
 	"testing"
 )
 
-// pieces are what one read after the other gives.
+// pieces are the results of successive reads.
 type pieces []string
 
 func (p *pieces) Read(to []byte) (int, error) {
@@ -21,12 +21,12 @@ func (p *pieces) Read(to []byte) (int, error) {
 	return n, nil
 }
 
-// resultLine is the line of a lane's result with this ticket.
+// resultLine returns the line of a lane's result with this ticket.
 func resultLine(ticket int) string {
 	return fmt.Sprintf("{\"client\":\"lane1\",\"result\":1,\"ticket\":%d}\n", ticket)
 }
 
-// Lines that came together are read together, and nothing waits for a line that has not come whole.
+// Lines that came together are read together, and nothing waits for an incomplete line.
 func TestReadReplies(t *testing.T) {
 	half := resultLine(3)[:9]
 	many := ""
@@ -52,7 +52,7 @@ func TestReadReplies(t *testing.T) {
 	}
 }
 
-// What stands before a line that is none of an engine's is given all the same.
+// Lines before one that no engine would write are returned all the same.
 func TestReadRepliesBeforeAStrangeOne(t *testing.T) {
 	from := bufio.NewReader(strings.NewReader(resultLine(0) + "strange\n" + resultLine(1)))
 	replies, err := readReplies(from, nil)

@@ -8,8 +8,8 @@ import (
 
 // A Decided is a decision table on the way to a result, with the rules that decided.
 type Decided struct {
-	// Decision is the word of the decision, and Path the JSON Pointer of the part of its expression that has the table, as
-	// "/result" of a context; empty where the expression is the table.
+	// Decision is the word of the decision, and Path the JSON Pointer of the part of its expression that has the table,
+	// as "/result" of a context; empty if the expression is the table.
 	Decision, Path string
 	// Rules are the numbers of the rules, from 1. IsDefault says that no rule hit and some output has its default.
 	Rules     []int
@@ -21,7 +21,7 @@ var leftOut = [][]byte{[]byte("inputs"), []byte("decisions")}
 
 var lineKey = []byte(`","line":`)
 
-// readTold reads a reply of `desk explain` to a request that it answered; false where the line is another.
+// readTold reads a reply of `desk explain` to a request that it answered; false if the line is another.
 func readTold(text []byte, lane int, rest []byte, cut bool) (reply, bool, error) {
 	if lane < 0 || !bytes.HasPrefix(rest, lineKey) {
 		return reply{}, false, nil
@@ -49,7 +49,8 @@ func readTold(text []byte, lane int, rest []byte, cut bool) (reply, bool, error)
 	return r, isAnswer, nil
 }
 
-// DecidedIn finds the tables among the decisions of an explanation that have rules that decided. It goes over the text once.
+// DecidedIn finds the tables among the decisions of an explanation that have rules that decided. It goes over the text
+// once.
 func DecidedIn(decisions []byte) []Decided {
 	w := &walker{text: decisions}
 	w.list(func(int) { w.part("") })
@@ -67,7 +68,7 @@ type walker struct {
 // skip goes over a value.
 func (w *walker) skip() { w.at = valueEnd(w.text, w.at) }
 
-// begins goes into a list or an object; false where another value is there, which is skipped.
+// begins goes into a list or an object; false if another value is there, which is skipped.
 func (w *walker) begins(with byte) bool {
 	if w.at < len(w.text) && w.text[w.at] == with {
 		w.at++
@@ -77,7 +78,7 @@ func (w *walker) begins(with byte) bool {
 	return false
 }
 
-// more says whether another part of a list or an object follows, and goes behind a comma or the end.
+// more reports whether another part of a list or an object follows, and goes after a comma or the end.
 func (w *walker) more() bool {
 	if w.at >= len(w.text) {
 		return false
@@ -169,8 +170,8 @@ func (w *walker) table(path string) {
 	}
 }
 
-// readToldLine reads a line as readLine does. Of one over MaxAnswer bytes it leaves out the inputs and the decisions; cut says
-// that it is too long all the same.
+// readToldLine reads a line as readLine does. Of one over MaxAnswer bytes it leaves out the inputs and the decisions;
+// cut says that it is too long all the same.
 func readToldLine(from *bufio.Reader) (text []byte, cut bool, err error) {
 	text, err = from.ReadSlice('\n')
 	if err == nil {
@@ -203,7 +204,8 @@ func readToldLine(from *bufio.Reader) (text []byte, cut bool, err error) {
 // A shortener takes a line in pieces, and keeps it without the values of its keys inputs and decisions.
 type shortener struct {
 	kept []byte
-	// depth is that of the lists and objects that are open; key is the text read last where that may be a key of the line.
+	// depth is that of the lists and objects that are open; key is the text read last where that may be a key of the
+	// line.
 	depth             int
 	inText, isEscaped bool
 	key               []byte

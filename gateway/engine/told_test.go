@@ -66,7 +66,8 @@ func TestReadLongTold(t *testing.T) {
 	}
 }
 
-// What is decided in parts that are nested deep is found in one walk: it takes as long as to go over the text a few times.
+// What is decided in parts that are nested deep is found in one walk: it takes as long as to go over the text a few
+// times.
 func TestDeepExplanations(t *testing.T) {
 	const depth = 60
 	value := `"` + strings.Repeat("x", 1<<20) + `"`

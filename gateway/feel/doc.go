@@ -3,7 +3,7 @@
 //
 // A name of FEEL is a list of tokens and may hold blanks and signs, so it can be told from other text by what is in
 // scope alone: of all names in scope the longest is taken. A word that begins no name in scope is read as a Name that
-// is not known, together with the words behind it.
+// is not known, together with the words after it.
 //
 // What is read:
 //

@@ -7,7 +7,7 @@ import (
 	"testing"
 )
 
-// spelled writes a tree with all its parentheses, by which tests say what is due.
+// spelled writes a tree with all its parentheses, for comparison in tests.
 func spelled(n Node) string {
 	switch n := n.(type) {
 	case *Number:
@@ -224,8 +224,8 @@ func TestCanonicalNames(t *testing.T) {
 	}
 }
 
-// FuzzExpression holds that no text makes the readers fail in any other way than by a fault within it, and that spans
-// lie within the text.
+// FuzzExpression checks that no text makes the readers fail except by a fault within it, and that spans are within the
+// text.
 func FuzzExpression(f *testing.F) {
 	for _, seed := range []string{"a + 1", "if a then [1..2] else {b: 1}", "not(a, < 3)", "for x in a return x.b[1]", "]1..2[",
 		"some x in l satisfies x = @\"P1D\"", "f(a: 1, b: `c`)", "a-b", "\"\\u00e9\"", "x instance of list<a>", "// a", "/*"} {

@@ -44,7 +44,7 @@ func (p *parser) quantified() Node {
 	return &Quantified{p.from(start), spelled, iterators, condition}
 }
 
-// iterators reads "x in list" with commas between them, and puts the names into scope.
+// iterators reads "x in list" separated by commas, and puts the names into scope.
 func (p *parser) iterators() []Iterator {
 	var all []Iterator
 	for {
@@ -87,7 +87,7 @@ func (p *parser) function() Node {
 	return f
 }
 
-// arguments reads what stands in the parentheses of an invocation.
+// arguments reads the content of an invocation's parentheses.
 func (p *parser) arguments() []Argument {
 	p.at++
 	var all []Argument
@@ -107,7 +107,7 @@ func (p *parser) arguments() []Argument {
 	return all
 }
 
-// isNamed tells whether a name and a colon stand here.
+// isNamed reports whether a name and a colon come next.
 func (p *parser) isNamed() bool {
 	if k := p.current().kind; k != word && k != quoted {
 		return false
@@ -130,10 +130,10 @@ func (p *parser) isNamed() bool {
 	return false
 }
 
-// escapes are those of one character behind the backslash.
+// escapes are the values of escapes of one character after the backslash.
 var escapes = map[byte]string{'n': "\n", 'r': "\r", 't': "\t", '"': `"`, '\'': "'", '\\': `\`}
 
-// stringValue is what the string literal of a token stands for.
+// stringValue returns the value of a string literal's token.
 func (p *parser) stringValue(t token) string {
 	inside := p.source[t.start+1 : t.end-1]
 	if !strings.Contains(inside, `\`) {
@@ -156,7 +156,7 @@ func (p *parser) stringValue(t token) string {
 	return value.String()
 }
 
-// escaped is what the escape at the start of a text stands for, with its length; the length is 0 where it is none.
+// escaped returns the value of the escape at the start of a text, and its length, which is 0 if it isn't an escape.
 func escaped(from string) (string, int) {
 	if len(from) < 2 {
 		return "", 0

@@ -5,20 +5,20 @@ import (
 	"math/bits"
 )
 
-// A text may have names of a thousand tokens in scope, and be a beginning of one at each of its tokens. So the tokens behind the
-// first ones are not followed one by one: how far a text goes along with some name is found by halves, by the hashes of the names'
-// beginnings, and the name that is found is held against the text.
+// A text may have names of a thousand tokens in scope, and begin one at each of its tokens. So only the first tokens
+// are followed one by one. How far the text follows some name is then found by bisection, on hashes of the names'
+// beginnings, and the name found is compared with the text.
 
 // mostFollowed is how many tokens of a name are followed one by one.
 const mostFollowed = 16
 
-// A stem is a beginning of a name, of more than mostFollowed tokens.
+// A stem is the beginning of a name, longer than mostFollowed tokens.
 type stem struct {
 	branch *branch
-	// before is the stem that is one token shorter; nil where that is followed.
+	// before is the stem without the last token; nil if that is followed one by one.
 	before *stem
 	size   int
-	// longest is the longest stem within it that is a name, as it was at some version of the scope; nil where none is.
+	// longest is the longest stem within it that is a name, as of some version of the scope; nil if there is none.
 	longest *stem
 	version int
 }
@@ -27,11 +27,11 @@ type stem struct {
 type stems struct {
 	byHash  map[uint64]*stem
 	longest int
-	// version counts the names that are beginnings of names that came before.
+	// version counts the names that are beginnings of earlier names.
 	version int
 }
 
-// add puts a name's tokens in, of which the first ones are followed to a branch; it gives the branch of the last one.
+// add adds a name's tokens, the first of which were followed to a branch, and returns the branch of the last one.
 func (s *stems) add(name string, all []token, from *branch) *branch {
 	if s.byHash == nil {
 		s.byHash = map[uint64]*stem{}
@@ -58,7 +58,7 @@ func (s *stems) add(name string, all []token, from *branch) *branch {
 	return from
 }
 
-// name is the longest stem that is a name, of a stem and those that it begins with.
+// name returns the longest name among a stem and its own beginnings.
 func (s *stems) name(at *stem) *stem {
 	var passed []*stem
 	for at != nil && at.version != s.version && !at.branch.ends {
@@ -74,7 +74,7 @@ func (s *stems) name(at *stem) *stem {
 	return at
 }
 
-// find finds the longest name of more than mostFollowed tokens that a text goes on with at a token.
+// find returns the longest name of more than mostFollowed tokens at a token of a text.
 func (s *stems) find(r *reading, at, end int) *stem {
 	if s.longest == 0 {
 		return nil
@@ -100,7 +100,7 @@ func (s *stems) find(r *reading, at, end int) *stem {
 type reading struct {
 	source string
 	all    []token
-	// kept are the hashes once they were asked for.
+	// kept are the hashes once needed.
 	kept *sums
 }
 
@@ -121,12 +121,12 @@ func (r *reading) hashes() *sums {
 // sums are the hashes of the beginnings of a text, and the powers of the base.
 type sums struct{ beginnings, powers []uint64 }
 
-// of is the hash of some tokens.
+// of returns the hash of some tokens.
 func (s *sums) of(from, count int) uint64 {
 	return reduced(s.beginnings[from+count] + modulus - multiplied(s.beginnings[from], s.powers[count]))
 }
 
-// modulus is a prime, and base and seed are others in each process, so that no file can be made for them.
+// modulus is a prime. base and seed differ in each process, so that no file can be made to collide.
 const modulus = 1<<61 - 1
 
 var (
@@ -134,12 +134,12 @@ var (
 	base = reduced(maphash.String(seed, "base")) | 1<<32
 )
 
-// hashed is the hash of tokens and one more.
+// hashed returns the hash of tokens and one more.
 func hashed(before uint64, token string) uint64 {
 	return reduced(multiplied(before, base) + reduced(maphash.String(seed, token)))
 }
 
-// reduced is a number of less than 2^64 by the modulus.
+// reduced returns a number below 2^64 by the modulus.
 func reduced(n uint64) uint64 {
 	n = n&modulus + n>>61
 	if n >= modulus {

@@ -6,7 +6,7 @@ import (
 	"testing"
 )
 
-// followed is what longest finds, by following each name of a scope by itself.
+// followed returns longest, by following each name of a scope separately.
 func followed(s *Scope, names map[*Scope][]string, r *reading, at int) (best int) {
 	for ; s != nil; s = s.parent {
 		for _, name := range names[s] {
@@ -23,8 +23,8 @@ func followed(s *Scope, names map[*Scope][]string, r *reading, at int) (best int
 	return best
 }
 
-// TestLongNames asks for the names at each token of texts of few letters, among many names that begin alike, some of which are put in
-// between two questions.
+// TestLongNames asks for the names at each token of texts of few letters, among many names that begin alike, some of
+// them added between two questions.
 func TestLongNames(t *testing.T) {
 	random := rand.New(rand.NewSource(5))
 	text := func(most int) string {

@@ -2,19 +2,19 @@ package feel
 
 import "strings"
 
-// A Scope is what names a text may use. A name that an inner scope has and an outer one too is that of the inner one;
-// of two names that begin alike the longer one is taken, whichever scope it is of.
+// A Scope has the names that a text may use. A name in an inner scope hides the same name in an outer one. Of two names
+// that begin alike the longer one is taken, in any scope it is.
 type Scope struct {
 	parent *Scope
 	first  branch
-	// count is how many names were put into it, starts has the marks of their first tokens.
+	// count is how many names it has, starts has the marks of their first tokens.
 	count  int
 	starts uint64
-	// long has what is behind the first tokens of long names.
+	// long has what follows the first tokens of long names.
 	long stems
 }
 
-// mark is one of 64 bits for a token.
+// mark returns one of 64 bits for a token.
 func mark(token string) uint64 {
 	sum := uint(len(token))
 	for i := 0; i < len(token) && i < 8; i++ {
@@ -23,7 +23,7 @@ func mark(token string) uint64 {
 	return 1 << (sum % 64)
 }
 
-// mostTried is how many branches are looked through one by one; of more the table is asked.
+// mostTried is how many branches are searched one by one. For more there is a table.
 const mostTried = 4
 
 // branch is the names of a scope by their first token, then by the next.
@@ -31,18 +31,18 @@ type branch struct {
 	// few are the first branches by their tokens, next has the others.
 	few  []fork
 	next map[string]*branch
-	// ends tells that a name ends here, and spelled how it was written where it was declared.
+	// ends is true if a name ends here, spelled is how it was written where declared.
 	ends    bool
 	spelled string
 }
 
-// A fork is a token with the branch behind it.
+// A fork is a token with the branch after it.
 type fork struct {
 	token string
 	to    *branch
 }
 
-// NewScope is a scope inside another one, which may be nil.
+// NewScope returns a scope inside another one, which may be nil.
 func NewScope(parent *Scope, names ...string) *Scope {
 	s := &Scope{parent: parent}
 	for _, name := range names {
@@ -51,7 +51,7 @@ func NewScope(parent *Scope, names ...string) *Scope {
 	return s
 }
 
-// Add puts a name into scope. One that can't be cut into tokens can't be written in a text, and is left out.
+// Add puts a name into scope. A name that can't be cut into tokens can't be written in a text, and is left out.
 func (s *Scope) Add(name string) {
 	if isPlainWord(name) {
 		at := s.first.grown(name)
@@ -77,8 +77,8 @@ func (s *Scope) Add(name string) {
 	s.starts |= mark(name[all[0].start:all[0].end])
 }
 
-// behind is the branch behind a token; nil where there is none.
-func (b *branch) behind(token string) *branch {
+// after returns the branch after a token; nil if there is none.
+func (b *branch) after(token string) *branch {
 	for i := range b.few {
 		if b.few[i].token == token {
 			return b.few[i].to
@@ -90,9 +90,9 @@ func (b *branch) behind(token string) *branch {
 	return b.next[token]
 }
 
-// grown is the branch behind a token, which is made where there is none.
+// grown returns the branch after a token, and makes it if necessary.
 func (b *branch) grown(token string) *branch {
-	if found := b.behind(token); found != nil {
+	if found := b.after(token); found != nil {
 		return found
 	}
 	made := &branch{}
@@ -107,7 +107,7 @@ func (b *branch) grown(token string) *branch {
 	return made
 }
 
-// Canonical is the name as FEEL compares it: its tokens with one blank between them. Two names of one canonical form
+// Canonical returns a name as FEEL compares it: its tokens separated by one blank. Names with the same canonical form
 // are the same name.
 func Canonical(name string) string {
 	if isPlainWord(name) {
@@ -124,7 +124,7 @@ func Canonical(name string) string {
 	return strings.Join(words, " ")
 }
 
-// isPlainWord tells whether a name is one word of letters, digits and underscores of ASCII, and so one token.
+// isPlainWord reports whether a name is one word of ASCII letters, digits and underscores, and so one token.
 func isPlainWord(name string) bool {
 	for i := 0; i < len(name); i++ {
 		switch c := name[i]; {
@@ -137,7 +137,7 @@ func isPlainWord(name string) bool {
 	return name != ""
 }
 
-// nameTokens are the tokens of a name without the end of the text; none where it can't be cut.
+// nameTokens returns the tokens of a name without the end of the text; none if it can't be cut.
 func nameTokens(name string) []token {
 	if strings.Contains(name, "//") || strings.Contains(name, "/*") {
 		return nil
@@ -149,8 +149,8 @@ func nameTokens(name string) []token {
 	return all[:len(all)-1]
 }
 
-// longest finds the longest name that the tokens from at to end begin with: how many tokens it takes, and how it was declared. It is 0
-// where there is none.
+// longest returns the length in tokens and the declared spelling of the longest name that begins at a token; 0 if there
+// is none.
 func (s *Scope) longest(r *reading, at, end int) (int, string) {
 	best, spelled := 0, ""
 	if at >= end {
@@ -169,7 +169,7 @@ func (s *Scope) longest(r *reading, at, end int) (int, string) {
 	return best, spelled
 }
 
-// longestHere is longest in this scope alone.
+// longestHere returns longest for this scope alone.
 func (s *Scope) longestHere(r *reading, at, end int) (best int, spelled string) {
 	b := &s.first
 	for i := at; i < end; i++ {
@@ -179,7 +179,7 @@ func (s *Scope) longestHere(r *reading, at, end int) (best int, spelled string) 
 			}
 			return best, spelled
 		}
-		b = b.behind(r.spell(r.all[i]))
+		b = b.after(r.spell(r.all[i]))
 		if b == nil {
 			return best, spelled
 		}
@@ -190,29 +190,29 @@ func (s *Scope) longestHere(r *reading, at, end int) (best int, spelled string) 
 	return best, spelled
 }
 
-// isName tells whether the tokens from a place on are those of a name that was found by its hash.
+// isName reports whether the tokens at a place are those of a name found by its hash.
 func (s *Scope) isName(r *reading, at int, found *stem) bool {
 	b := &s.first
 	for i := at; i < at+found.size && b != nil; i++ {
-		b = b.behind(r.spell(r.all[i]))
+		b = b.after(r.spell(r.all[i]))
 	}
 	return b == found.branch
 }
 
-// hasShorter tells whether a name ends before the last of these tokens, which are a name themselves.
+// hasShorter reports whether a shorter name ends within the tokens of a name.
 func (s *Scope) hasShorter(r *reading, at, end int) bool {
 	taken, _ := s.longest(r, at, end-1)
 	return taken > 0
 }
 
-// keywords begin or part forms, so no name that is not in scope goes over them.
+// keywords begin or divide forms, so names that aren't in scope end before them.
 var keywords = map[string]bool{
 	"if": true, "then": true, "else": true, "for": true, "in": true, "return": true, "some": true, "every": true,
 	"satisfies": true, "and": true, "or": true, "not": true, "between": true, "true": true, "false": true, "null": true,
 	"function": true, "external": true, "instance": true,
 }
 
-// builtins are FEEL's own functions whose names are of more than one word.
+// builtins are FEEL's own functions with names of more than one word.
 var builtins = NewScope(nil, "date and time", "years and months duration", "string length", "upper case", "lower case",
 	"substring before", "substring after", "starts with", "ends with", "list contains", "insert before", "index of",
 	"distinct values", "met by", "overlaps before", "overlaps after", "finished by", "started by", "get value",

@@ -25,7 +25,7 @@ func (p *parser) loose() Node {
 	return p.or()
 }
 
-// startsName tells whether a name in scope of more than one word begins here, which goes before a keyword.
+// startsName reports whether a name in scope of more than one word begins here, which takes precedence over a keyword.
 func (p *parser) startsName() bool {
 	taken, _ := p.longest()
 	return taken > 1
@@ -37,7 +37,7 @@ func (p *parser) sum() Node { return p.chain(p.product, "+", "-") }
 
 func (p *parser) product() Node { return p.chain(p.power, "*", "/") }
 
-// chain reads operands with any of some operators between them.
+// chain reads operands separated by any of some operators.
 func (p *parser) chain(operand func() Node, operators ...string) Node {
 	start := p.at
 	first := operand()
@@ -54,7 +54,7 @@ func (p *parser) chain(operand func() Node, operators ...string) Node {
 	return c
 }
 
-// acceptOne passes over one of some spellings and gives it; empty where none stands here.
+// acceptOne skips and returns one of some spellings; empty if none comes next.
 func (p *parser) acceptOne(spellings []string) string {
 	for _, spelled := range spellings {
 		if p.accept(spelled) {
@@ -92,7 +92,7 @@ func (p *parser) comparison() Node {
 	}
 }
 
-// inTests reads what stands behind "in": one test, or tests in parentheses.
+// inTests reads what follows "in": one test, or tests in parentheses.
 func (p *parser) inTests() []Node {
 	if !p.is("(") || p.isRange() {
 		return []Node{p.singleTest()}
@@ -103,7 +103,8 @@ func (p *parser) inTests() []Node {
 	return tests
 }
 
-// isRange tells whether the bracket at hand opens a range: ".." stands inside it at its own depth, and no comma before.
+// isRange reports whether the current bracket opens a range: it contains ".." at its own depth, and no comma before
+// that.
 func (p *parser) isRange() bool { return p.ranges[int32(p.at)] }
 
 // rangesOf finds the brackets that open a range, in one walk over the tokens.
@@ -128,7 +129,7 @@ func (p *parser) rangesOf() map[int32]bool {
 			}
 		case ",":
 			if last >= 0 && !found[open[last]] {
-				// What has a comma first is a list.
+				// If a comma comes first it is a list.
 				open[last] = -1
 			}
 		}
@@ -136,7 +137,7 @@ func (p *parser) rangesOf() map[int32]bool {
 	return found
 }
 
-// tests reads tests with commas between them.
+// tests reads tests separated by commas.
 func (p *parser) tests() []Node {
 	tests := []Node{p.test()}
 	for p.accept(",") {
@@ -202,10 +203,10 @@ func (p *parser) instance() Node {
 	return operand
 }
 
-// longTypes are FEEL's own types whose names have a keyword in them.
+// longTypes are FEEL's own types with a keyword in their names.
 var longTypes = NewScope(nil, "date and time", "days and time duration", "years and months duration")
 
-// typeName reads the name of a type, with what stands in angle brackets behind it.
+// typeName reads the name of a type, with angle brackets after it.
 func (p *parser) typeName() string {
 	start := p.at
 	if p.current().kind != word {
@@ -229,7 +230,7 @@ func (p *parser) typeName() string {
 	return p.source[span.Start:span.End]
 }
 
-// angles passes over what stands between < and >, others inside it included.
+// angles skips what is between < and >, nested ones included.
 func (p *parser) angles() {
 	for depth := 0; ; p.at++ {
 		switch {
@@ -247,7 +248,7 @@ func (p *parser) angles() {
 	}
 }
 
-// postfix reads a form with paths, filters and arguments behind it.
+// postfix reads a form followed by paths, filters and arguments.
 func (p *parser) postfix() Node {
 	start := p.at
 	node := p.primary()
@@ -272,25 +273,25 @@ func (p *parser) postfix() Node {
 	}
 }
 
-// condition reads what stands in a filter; its text may use "item" and the entries of the members.
+// condition reads the content of a filter, which may use "item" and the entries of the members.
 func (p *parser) condition() Node {
 	defer func(before *Scope) { p.scope = before }(p.scope)
 	p.scope = NewScope(p.scope, "item")
 	return p.expression()
 }
 
-// closesRange tells whether the bracket at hand closes a range: no expression begins behind it.
+// closesRange reports whether the current bracket closes a range: no expression begins after it.
 func (p *parser) closesRange() bool {
 	if !p.inEnd {
 		return false
 	}
-	behind := p.peek(1)
-	if behind.kind == word {
-		switch p.spell(behind) {
+	after := p.peek(1)
+	if after.kind == word {
+		switch p.spell(after) {
 		case "and", "or", "then", "else", "return", "satisfies", "in", "between":
 			return true
 		}
 		return false
 	}
-	return behind.kind == endOfText || p.peekIs(1, ",") || p.peekIs(1, ")") || p.peekIs(1, "]") || p.peekIs(1, "=")
+	return after.kind == endOfText || p.peekIs(1, ",") || p.peekIs(1, ")") || p.peekIs(1, "]") || p.peekIs(1, "=")
 }

@@ -5,28 +5,28 @@ import (
 	"strings"
 )
 
-// MostDepth is how deep the forms of a text may stand in each other.
+// MostDepth is how deeply the forms of a text may nest.
 const MostDepth = 500
 
-// parser reads the tokens of one text. Each method that reads a form begins at the token at hand, and ends behind its
-// last; at a fault it panics with a *Fault, which the readers of this package answer.
+// parser reads the tokens of one text. Each method that reads a form begins at the current token, and ends after the
+// form's last. At a fault it panics with a *Fault, which the readers of this package recover.
 type parser struct {
 	reading
 	at    int
 	depth int
 	scope *Scope
-	// members are the names that may stand behind a point: those of the components of types and of the entries of
-	// contexts.
+	// members are the names that may follow a point: those of the components of types and of the entries of contexts.
 	members *Scope
 	// ranges are the tokens that open a range.
 	ranges map[int32]bool
-	// inEnd tells that the end of a range is read, where "[" may close it.
+	// inEnd is true while the end of a range is read, which "[" may close.
 	inEnd bool
-	// found is the longest name at the place that was asked last.
+	// found is the longest name at the place asked last.
 	found foundName
 }
 
-// A foundName is the longest name in a scope, of so many names, at a token: how many tokens it takes, and how it was declared.
+// A foundName is the longest name at a token, in a scope with count names: its length in tokens, and its declared
+// spelling.
 type foundName struct {
 	scope     *Scope
 	count, at int
@@ -34,7 +34,7 @@ type foundName struct {
 	declared  string
 }
 
-// longest finds the longest name in scope at the token at hand. The same place is asked several times.
+// longest finds the longest name in scope at the current token. The same place is asked several times.
 func (p *parser) longest() (int, string) {
 	if p.scope == nil {
 		return 0, ""
@@ -55,7 +55,7 @@ func Expression(source string, scope, members *Scope) (node Node, fault *Fault) 
 	return node, nil
 }
 
-// Tests reads a text as an input entry: *Anything or *NotTests alone, or tests of which one has to hold.
+// Tests reads a text as an input entry: *Anything or *NotTests alone, or tests, one of which has to hold.
 func Tests(source string, scope, members *Scope) (tests []Node, fault *Fault) {
 	defer caught(&fault)
 	p := newParser(source, scope, members)
@@ -83,7 +83,7 @@ func newParser(source string, scope, members *Scope) *parser {
 	return p
 }
 
-// caught answers the fault that a reader stopped with.
+// caught recovers the fault that a reader stopped with.
 func caught(fault **Fault) {
 	switch stopped := recover().(type) {
 	case nil:
@@ -94,8 +94,8 @@ func caught(fault **Fault) {
 	}
 }
 
-// notAsAWhole reads the tests of a text that is not( tests ) as a whole. It is nil for any other text, which is read from
-// its start then: parentheses can't tell, for those of ranges need no other half.
+// notAsAWhole reads the tests of a text that is not( tests ) as a whole. It is nil for any other text, which is then
+// read from its start: parentheses can't decide, as those of ranges may be unpaired.
 func (p *parser) notAsAWhole() (inside []Node) {
 	last := len(p.all) - 2
 	if !p.peekIs(0, "not") || !p.peekIs(1, "(") || p.spell(p.all[last]) != ")" {
@@ -123,7 +123,7 @@ func (p *parser) notAsAWhole() (inside []Node) {
 
 func (p *parser) current() token { return p.all[p.at] }
 
-// peek is the token some places on; the end of the text where there are no more.
+// peek returns the token some places ahead, or the end of the text.
 func (p *parser) peek(ahead int) token {
 	if p.at+ahead < len(p.all) {
 		return p.all[p.at+ahead]
@@ -138,7 +138,7 @@ func (p *parser) peekIs(ahead int, spelled string) bool {
 
 func (p *parser) is(spelled string) bool { return p.peekIs(0, spelled) }
 
-// accept passes over a token of this spelling.
+// accept skips a token of this spelling.
 func (p *parser) accept(spelled string) bool {
 	if p.is(spelled) {
 		p.at++
@@ -153,7 +153,7 @@ func (p *parser) expect(spelled string) {
 	}
 }
 
-// stop ends the reading at the token at hand.
+// stop ends the reading at the current token.
 func (p *parser) stop(due string) {
 	t := p.current()
 	if t.kind == endOfText {
@@ -165,7 +165,7 @@ func (p *parser) stop(due string) {
 	p.fail(fmt.Sprintf("it stops at %q, where %s", p.spell(t), due), "")
 }
 
-// juel is what stands in ${..} at the start of a text; empty where it does not begin so.
+// juel returns the content of ${..} at the start of a text; empty if it doesn't begin so.
 func juel(text string) string {
 	end := strings.IndexByte(text, '}')
 	if !strings.HasPrefix(text, "${") || end < 0 {
@@ -184,7 +184,7 @@ func (p *parser) finish() {
 	}
 }
 
-// deeper counts one form inside another; the count is taken back by the function that it gives.
+// deeper counts one level of nesting. The function that it returns takes it back.
 func (p *parser) deeper() func() {
 	p.depth++
 	if p.depth > MostDepth {
@@ -193,7 +193,7 @@ func (p *parser) deeper() func() {
 	return func() { p.depth-- }
 }
 
-// from is the span from a token's start to the end of what was read.
+// from returns the span from a token's start to the end of what was read.
 func (p *parser) from(start int) Span {
 	return Span{int(p.all[start].start), int(p.all[p.at-1].end)}
 }

@@ -125,7 +125,7 @@ func (p *parser) context() Node {
 		value := p.expression()
 		c.Entries = append(c.Entries, Entry{p.from(entry), key, value})
 		if p.is("}") {
-			break // No other entry sees this one.
+			break // no other entry sees this one
 		}
 		if p.scope == outer {
 			p.scope = NewScope(outer)
@@ -146,7 +146,7 @@ func (p *parser) key() string {
 	return p.nameUpTo(":")
 }
 
-// nameUpTo reads a new name, which ends before one of some signs.
+// nameUpTo reads a new name, which ends before one of the given signs.
 func (p *parser) nameUpTo(ends ...string) string {
 	start := p.at
 	if k := p.current().kind; k != word && k != quoted {
@@ -196,7 +196,7 @@ func (p *parser) worded() Node {
 	return p.name()
 }
 
-// name reads the longest name in scope, else the name of a function, else words that are no name in scope.
+// name reads the longest name in scope, else the name of a function, else words that aren't a name in scope.
 func (p *parser) name() Node {
 	start := p.at
 	taken, declared := p.longest()
@@ -220,7 +220,7 @@ func (p *parser) name() Node {
 	return n
 }
 
-// unknownName reads a word that begins no name in scope, with the words and numbers behind it.
+// unknownName reads a word that begins no name in scope, and the words and numbers after it.
 func (p *parser) unknownName() Node {
 	start := p.at
 	if keywords[p.spell(p.current())] && !(p.is("not") && p.peekIs(1, "(")) {
@@ -234,7 +234,7 @@ func (p *parser) unknownName() Node {
 	return &Name{Span: span, Name: Canonical(p.source[span.Start:span.End])}
 }
 
-// startsKnown tells whether a name in scope begins here.
+// startsKnown reports whether a name in scope begins here.
 func (p *parser) startsKnown() bool {
 	taken, _ := p.longest()
 	return taken > 0
@@ -252,7 +252,7 @@ func (p *parser) quotedName() Node {
 	return &Name{Span: p.from(start), Name: Canonical(inside), Known: known}
 }
 
-// path reads a point and the name behind it: the longest that is known as a member, else words.
+// path reads a point and the name after it: the longest known member, else words.
 func (p *parser) path(start int, operand Node) Node {
 	p.at++
 	if t := p.current(); t.kind == quoted {

@@ -7,14 +7,14 @@ import (
 	"unicode/utf8"
 )
 
-// MostBytes is the most that a text may be long: a model is a line of at most so many bytes.
+// MostBytes is the most bytes of a text: a model is a line of at most that many.
 const MostBytes = 1 << 20
 
 // A Fault is where the reading of a text stops.
 type Fault struct {
 	// Offset is the byte of the text, counted from 0.
 	Offset int
-	// Why tells what is wrong, Instead what to write; Instead may be empty.
+	// Why says what is wrong, Instead what to write; Instead may be empty.
 	Why, Instead string
 }
 
@@ -66,7 +66,7 @@ func isNamePart(r rune) bool {
 	return isNameStart(r) || r >= '0' && r <= '9' || r == 0xb7 || r >= 0x300 && r <= 0x36f || r == 0x203f || r == 0x2040
 }
 
-// signs are those of more than one character, the longest first.
+// signs are those of more than one character, longest first.
 var signs = []string{"..", "**", "<=", ">=", "!=", "->"}
 
 // usualToken is how many bytes a token takes with the blanks before it, or more.
@@ -95,7 +95,7 @@ func tokens(source string) ([]token, *Fault) {
 	}
 }
 
-// skipBlanks passes over blanks and comments.
+// skipBlanks skips blanks and comments.
 func skipBlanks(source string, offset int) (int, *Fault) {
 	for offset < len(source) {
 		r, size := utf8.DecodeRuneInString(source[offset:])
@@ -122,7 +122,7 @@ func skipBlanks(source string, offset int) (int, *Fault) {
 	return offset, nil
 }
 
-// next is the token that begins at start.
+// next returns the token that begins at start.
 func next(source string, start int) (kind, int, *Fault) {
 	r, size := utf8.DecodeRuneInString(source[start:])
 	switch {
@@ -162,7 +162,7 @@ func endOfNumber(source string, start int) int {
 	return end
 }
 
-// closed finds the end of what stands between two quotes; a backslash takes the character behind it along.
+// closed finds the end of quoted text. A backslash includes the character after it.
 func closed(source string, start int, quote byte, of kind, why string) (kind, int, *Fault) {
 	for i := start + 1; i < len(source); i++ {
 		switch {

@@ -1,9 +1,9 @@
 package feel
 
-// A Span is where a form stands in its text, in bytes counted from 0; End is behind its last.
+// A Span is the place of a form in its text, in bytes counted from 0. End is exclusive.
 type Span struct{ Start, End int }
 
-// At is the span itself.
+// At returns the span itself.
 func (s Span) At() Span { return s }
 
 // A Node is a form of FEEL, one of the types of this file.
@@ -15,7 +15,7 @@ type (
 		Span
 		Text string
 	}
-	// String is a string literal; Value is what it stands for.
+	// String is a string literal; Value is its value.
 	String struct {
 		Span
 		Value string
@@ -27,18 +27,18 @@ type (
 	}
 	// Null is null.
 	Null struct{ Span }
-	// Name is a name. Known tells whether it is in scope; Name is canonical.
+	// Name is a name. Known is true if it is in scope; Name is canonical.
 	Name struct {
 		Span
 		Name  string
 		Known bool
-		// Doubtful tells that its signs are spaced otherwise than where it was declared, and that its first words are a name
-		// too: "a - b" beside the names "a-b" and "a".
+		// Doubtful is true if its signs are spaced otherwise than where it was declared, and its first words are a name
+		// too: "a - b" if there are names "a-b" and "a".
 		Doubtful bool
 	}
-	// Input is "?", the value that a test is asked of.
+	// Input is "?", the value being tested.
 	Input struct{ Span }
-	// At is a date or a duration behind @.
+	// AtLiteral is a date or a duration after @.
 	AtLiteral struct {
 		Span
 		Text string
@@ -53,7 +53,7 @@ type (
 		Span
 		Entries []Entry
 	}
-	// Range is [low..high]; an end may be left out by its sign.
+	// Range is [low..high]; one end may be missing.
 	Range struct {
 		Span
 		LowOpen, HighOpen bool
@@ -65,7 +65,7 @@ type (
 		Operator string
 		Operand  Node
 	}
-	// Chain is operands with operators of one rank between them: "+" and "-", "*" and "/", "and", "or".
+	// Chain is operands separated by operators of one rank: "+" and "-", "*" and "/", "and", "or".
 	Chain struct {
 		Span
 		Operators []string
@@ -99,8 +99,8 @@ type (
 		Operand Node
 		Type    string
 	}
-	// Path is a.name; Name is canonical. Respelled tells that its signs are spaced otherwise than where a member of this
-	// name was declared, Quoted that it stands between backticks.
+	// Path is a.name; Name is canonical. Respelled is true if its signs are spaced otherwise than where a member of
+	// this name was declared, Quoted if it is in backticks.
 	Path struct {
 		Span
 		Operand           Node
@@ -159,7 +159,7 @@ type Entry struct {
 	Value Node
 }
 
-// An Argument is one of an invocation; Name is canonical, and empty where arguments stand by their position.
+// An Argument is one of an invocation. Name is canonical, and empty for positional arguments.
 type Argument struct {
 	Span
 	Name  string

@@ -1,6 +1,6 @@
 package feel
 
-// Any tells whether a form, or one inside it, is as asked.
+// Any reports whether a form, or one inside it, meets a condition.
 func Any(n Node, is func(Node) bool) bool {
 	if n == nil {
 		return false
@@ -16,7 +16,7 @@ func Any(n Node, is func(Node) bool) bool {
 	return false
 }
 
-// parts are the forms that stand directly in a form.
+// parts returns the direct parts of a form.
 func parts(n Node) []Node {
 	switch n := n.(type) {
 	case *List:

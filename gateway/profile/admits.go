@@ -8,9 +8,9 @@ import (
 	"gateway/feel"
 )
 
-// admitted holds a value, which fits a declared type, against the allowed values of the type. The standard makes null of a
-// value that is none of them, and of a list or context with such a part. What surely is allowed is left as it is; what may
-// not be is tested; and what can't be tested is refused.
+// admitted checks a value that fits a declared type against the type's allowed values. The standard makes null of a
+// value that isn't one of them, and of a list or context with such a part. A value that is surely allowed is left as it
+// is, one that may not be is tested, and one that can't be tested is refused.
 func (t *translator) admitted(b *box, of, due *valueType, refuse func(why, instead string)) (*box, *valueType) {
 	made := t.narrowedTo(due, of)
 	if !due.isNarrow() || t.isSure(b, of, due) {
@@ -34,7 +34,7 @@ func (t *translator) admitted(b *box, of, due *valueType, refuse func(why, inste
 	}), made
 }
 
-// narrowedTo is a type of the values of another one that were held against it.
+// narrowedTo returns the type of another type's values after the check against it.
 func (t *translator) narrowedTo(due, of *valueType) *valueType {
 	switch {
 	case due.kind != anyKind && (!due.isScalar() || len(due.allowed.nodes()) > 0 || len(of.values().nodes()) == 0):
@@ -51,7 +51,7 @@ func (t *translator) narrowedTo(due, of *valueType) *valueType {
 	return &own
 }
 
-// admittedPhrase is a value, or null where a type doesn't allow it.
+// admittedPhrase returns the value, or null if the type doesn't allow it.
 func (t *translator) admittedPhrase(p phrase, due *valueType, refuse func(why, instead string)) phrase {
 	if p.members() != nil && due.kind == listKind && len(due.allowed.nodes()) == 0 {
 		members, conditions, why := t.admittedMembers(p.members(), due.element)
@@ -76,7 +76,7 @@ func (t *translator) admittedPhrase(p phrase, due *valueType, refuse func(why, i
 
 const untestableInstead = "a type without allowed values, or a list that is written out"
 
-// whereAll is a value where conditions hold, else null.
+// whereAll returns the value if the conditions hold, else null.
 func (t *translator) whereAll(conditions []phrase, value phrase) phrase {
 	if len(conditions) == 0 {
 		return value
@@ -87,8 +87,8 @@ func (t *translator) whereAll(conditions []phrase, value phrase) phrase {
 	return choice(t.shallow(allOf(conditions)), t.shallow(value), constant("null", nullType))
 }
 
-// admittedMembers are the members of a list as they may stand more than once, with the conditions under which a type allows
-// them.
+// admittedMembers returns the members of a list in a form that may be repeated, and the conditions under which a type
+// allows them.
 func (t *translator) admittedMembers(members []phrase, due *valueType) (short, conditions []phrase, why string) {
 	for _, member := range members {
 		if t.isSurePhrase(member, due) {
@@ -105,7 +105,7 @@ func (t *translator) admittedMembers(members []phrase, due *valueType) (short, c
 	return short, conditions, ""
 }
 
-// admittedList is a boxed list, or null where a type doesn't allow a member.
+// admittedList returns a boxed list, or null if the type doesn't allow a member.
 func (t *translator) admittedList(b *box, of, due *valueType, refuse func(why, instead string)) *box {
 	members := make([]phrase, len(b.list))
 	for i, member := range b.list {
@@ -118,8 +118,8 @@ func (t *translator) admittedList(b *box, of, due *valueType, refuse func(why, i
 	return t.boxed(t.admittedPhrase(listing(members, of), due, refuse))
 }
 
-// admits are the conditions under which a type allows a value that may be written more than once. They are true of null where
-// this is asked for. Why tells what can't be tested.
+// admits returns the conditions under which a type allows a value that may be written more than once. With orNull they
+// hold for null too. Why says what can't be tested.
 func (t *translator) admits(x phrase, due *valueType, orNull bool) (conditions []phrase, why string) {
 	switch {
 	case implies(x.of, due):
@@ -156,7 +156,7 @@ func (t *translator) admitsEntries(x phrase, due *valueType) (conditions []phras
 	return conditions, ""
 }
 
-// isAllowed is the condition that a value is one of some allowed values.
+// isAllowed returns the condition that a value is one of the allowed values.
 func (t *translator) isAllowed(x phrase, allowed valueList) (condition phrase) {
 	if t.full {
 		return constant("true", booleanType)
@@ -166,7 +166,7 @@ func (t *translator) isAllowed(x phrase, allowed valueList) (condition phrase) {
 	return condition
 }
 
-// isSure tells whether all values of a box are allowed by a type.
+// isSure reports whether a type allows all values of a box.
 func (t *translator) isSure(b *box, of, due *valueType) bool {
 	if implies(of, due) {
 		return true
@@ -204,7 +204,7 @@ func (t *translator) isSureContext(b *box, of, due *valueType) bool {
 	return true
 }
 
-// isSureTable looks at the output entries and the defaults.
+// isSureTable is isSure for the output entries and defaults of a table.
 func (t *translator) isSureTable(b *box, of, due *valueType) bool {
 	switch b.table.Hit {
 	case "C", "R", "O":
@@ -231,10 +231,10 @@ func (t *translator) isSureTable(b *box, of, due *valueType) bool {
 	return len(due.allowed.nodes()) == 0 || len(b.table.Outputs) == 1
 }
 
-// mostLiteral is how many bytes a literal has that is looked at.
+// mostLiteral is the length in bytes up to which a literal is looked at.
 const mostLiteral = 1000
 
-// isSurePhrase tells whether all values of a phrase are allowed by a type.
+// isSurePhrase reports whether a type allows all values of a phrase.
 func (t *translator) isSurePhrase(p phrase, due *valueType) bool {
 	switch {
 	case implies(p.of, due):
@@ -255,7 +255,7 @@ func (t *translator) isSurePhrase(p phrase, due *valueType) bool {
 	return fault == nil && literalType(node) != nil && due.allowed.has(uncounted(node, p.of.within()))
 }
 
-// wasTested tells whether a choice is what admitted makes, as in a file that was exported.
+// wasTested reports whether a choice is one that admitted made, as in an exported file.
 func (t *translator) wasTested(p phrase, due *valueType) bool {
 	x := p.branches().then
 	if p.branches().otherwise.text != "null" || !x.isShort() || t.full {
@@ -270,7 +270,7 @@ func (t *translator) wasTested(p phrase, due *valueType) bool {
 	return isSame
 }
 
-// A narrowness is whether a type, or a part of it, has allowed values.
+// A narrowness says whether a type, or a part of it, has allowed values.
 type narrowness uint8
 
 const (
@@ -279,7 +279,7 @@ const (
 	isNarrow
 )
 
-// isNarrow tells whether a type, or a part of it, has allowed values; it is found out once.
+// isNarrow reports whether a type, or a part of it, has allowed values. The result is kept.
 func (t *valueType) isNarrow() bool {
 	if t.narrow == unknown {
 		t.narrow = isWide
@@ -302,13 +302,14 @@ func (t *valueType) hasAllowed() bool {
 	return false
 }
 
-// An implied is whether all values of a type are allowed by another one, when there were so many changes of open types.
+// An implied says whether another type allows all values of a type, and after how many changes of open types that was
+// found.
 type implied struct {
 	all     bool
 	changes int
 }
 
-// implies tells whether all values of a type, which fits a declared one, are allowed by it.
+// implies reports whether due, a declared type that of fits, allows all values of of.
 func implies(of, due *valueType) bool {
 	switch {
 	case of == due || !due.isNarrow() || of.kind == nullKind || of.kind == refusedKind:
@@ -335,7 +336,7 @@ func implies(of, due *valueType) bool {
 	return all
 }
 
-// has tells whether a literal is surely one of the values. Null is, always.
+// has reports whether a literal is surely one of the values. Null always is.
 func (v *valueList) has(n feel.Node) bool {
 	literal := literalType(n)
 	if len(v.nodes()) == 0 || literal.kind == nullKind || v.words()[literalText(n)] {
@@ -356,7 +357,7 @@ func (v *valueList) has(n feel.Node) bool {
 	return false
 }
 
-// liesIn tells whether a literal surely lies in a range.
+// liesIn reports whether a literal surely lies in a range.
 func liesIn(literal feel.Node, interval *feel.Range) bool {
 	text, is := literal.(*feel.String)
 	low, lowIs := interval.Low.(*feel.String)
@@ -368,7 +369,7 @@ func liesIn(literal feel.Node, interval *feel.Range) bool {
 	return rational(literal) != nil && rational(interval.Low) != nil && rational(interval.High) != nil && mayLieIn(literal, interval)
 }
 
-// includes tells whether all of some other values are surely among these.
+// includes reports whether all the other values are surely among these.
 func (v *valueList) includes(other valueList) bool {
 	switch {
 	case len(v.nodes()) == 0 || len(other.nodes()) > 0 && &v.nodes()[0] == &other.nodes()[0] || v.at() != nil && v.at() == other.at():
@@ -387,7 +388,7 @@ func (v *valueList) includes(other valueList) bool {
 	return true
 }
 
-// covers tells whether a range of the values holds another one.
+// covers reports whether a range of the values contains another one.
 func (v *valueList) covers(inner *feel.Range) bool {
 	for _, other := range v.tests() {
 		outer, is := other.(*feel.Range)
@@ -406,7 +407,7 @@ func (v *valueList) covers(inner *feel.Range) bool {
 	return false
 }
 
-// values are those that all values of a type are among; none where they are not known.
+// values returns values that include all those of a type; none if they aren't known.
 func (t *valueType) values() valueList {
 	if len(t.allowed.nodes()) > 0 {
 		return t.allowed
@@ -414,10 +415,10 @@ func (t *valueType) values() valueList {
 	return t.common
 }
 
-// mostCommon is how many values are kept of what was joined.
+// mostCommon is how many joined values are kept.
 const mostCommon = 20
 
-// commonValues are values that those of two types are among; none where they are not known.
+// commonValues returns values that include those of both types; none if they aren't known.
 func commonValues(a, b valueList) valueList {
 	switch {
 	case len(a.nodes()) == 0 || len(b.nodes()) == 0:
@@ -433,7 +434,7 @@ func commonValues(a, b valueList) valueList {
 		others: append(append([]feel.Node(nil), a.tests()...), b.tests()...)}}
 }
 
-// asOutput holds an output entry against the output values of its column.
+// asOutput checks an output entry against the output values of its column.
 func (r *tableReader) asOutput(entry *dmn.Text, value phrase, o *output) phrase {
 	due := &valueType{kind: value.of.kind, allowed: o.allowed}
 	if len(o.allowed.nodes()) == 0 || r.isSurePhrase(value, due) {
@@ -451,7 +452,7 @@ func (r *tableReader) asOutput(entry *dmn.Text, value phrase, o *output) phrase 
 	return r.shallow(r.admittedPhrase(value, due, refuse))
 }
 
-// asInput holds the value of a column against its input values, where no promise of the caller says that it is one of them.
+// asInput checks the value of a column against its input values, unless the caller promises that it is one of them.
 func (r *tableReader) asInput(c *column) {
 	due := &valueType{kind: c.value.of.kind, allowed: c.allowed}
 	if len(c.allowed.nodes()) == 0 || c.clause.Expression == nil || r.isPromised(*c) || r.isSurePhrase(c.value, due) {

@@ -20,8 +20,8 @@ const narrowTypes = `<itemDefinition name="tTen"><typeRef>number</typeRef><allow
 	`<itemDefinition name="tTens" isCollection="true"><typeRef>tTen</typeRef></itemDefinition>` +
 	`<itemDefinition name="tCent"><typeRef>number</typeRef><allowedValues><text>[0..1]</text></allowedValues></itemDefinition>`
 
-// TestAllowedValuesOfWhatIsComputed asks decisions whose values may be none of the allowed ones. The answers are worked out by
-// hand: null is due of such a value.
+// TestAllowedValuesOfWhatIsComputed asks decisions whose values may not be allowed. The expected answers, null for such
+// a value, are worked out by hand.
 func TestAllowedValuesOfWhatIsComputed(t *testing.T) {
 	entry := func(of, text, result string) string {
 		return `<context><contextEntry><variable name="e" typeRef="` + of + `"/>` + literal(text) + `</contextEntry><contextEntry>` +
@@ -73,7 +73,7 @@ func TestAllowedValuesOfWhatIsComputed(t *testing.T) {
 		{"a condition over such a column", "", table("", []column{{text: "x", of: "tTen"}}, []column{{text: "r"}}, []string{"? > 5 and ? < 8", `"in"`},
 			[]string{"null", `"none"`}), [][2]string{{"6", `"in"`}, {"11", `"none"`}}},
 		// Here x is counted in hundredths: 4.00 / 4 is 1.0, 4.20 / 4 is 1.05, half even 1.0, and 4.21 / 4 is 1.1.
-		{"behind a rounding", "tCent", literal("decimal(x / 4, 1)"), [][2]string{{"400", "10"}, {"420", "10"}, {"421", "null"}, {"200", "5"},
+		{"after a rounding", "tCent", literal("decimal(x / 4, 1)"), [][2]string{{"400", "10"}, {"420", "10"}, {"421", "null"}, {"200", "5"},
 			{"-20", "0"}, {"-21", "null"}}},
 		{"a quotient", "tCent", literal("x / 3"), [][2]string{{"300", "300"}, {"301", "null"}, {"200", "200"}, {"-1", "null"}}},
 		{"what is refused by null", "tTen", literal("if x > 5 then null else 3"), [][2]string{{"6", "null"}, {"1", "3"}}},
@@ -87,7 +87,7 @@ func TestAllowedValuesOfWhatIsComputed(t *testing.T) {
 	}
 }
 
-// TestParametersHaveAllowedValues has a parameter of a type with allowed values.
+// TestParametersHaveAllowedValues tests a parameter of a type with allowed values.
 func TestParametersHaveAllowedValues(t *testing.T) {
 	file := definitions(narrowTypes, input("x", "number"), knowledge("k", []string{"p:tTen"}, literal("if p = null then -1 else p")),
 		decision("d", "", literal("k(x * 2)"), "x", "k:k"))
@@ -98,7 +98,7 @@ func TestParametersHaveAllowedValues(t *testing.T) {
 	answers(t, file, "d", [][2]string{{`{"x":5}`, "10"}, {`{"x":6}`, "-1"}})
 }
 
-// TestWhatCantBeTestedIsRefused has values that can't be held against allowed values.
+// TestWhatCantBeTestedIsRefused tests values that can't be checked against allowed values.
 func TestWhatCantBeTestedIsRefused(t *testing.T) {
 	list := `<itemDefinition name="tList" isCollection="true"><typeRef>number</typeRef></itemDefinition>`
 	priority := func(policy, cell string) string {
@@ -119,7 +119,7 @@ func TestWhatCantBeTestedIsRefused(t *testing.T) {
 	}
 }
 
-// TestWhatIsSurelyAllowedIsLeft has values that need no test: the model is what it was without allowed values.
+// TestWhatIsSurelyAllowedIsLeft tests values that need no check: the model is the same as without allowed values.
 func TestWhatIsSurelyAllowedIsLeft(t *testing.T) {
 	for _, c := range []struct{ of, logic, due string }{
 		{"tTen", literal("7"), `"7"`},
@@ -144,7 +144,8 @@ func TestWhatIsSurelyAllowedIsLeft(t *testing.T) {
 	}
 }
 
-// TestBodiesOfATypeWithAllowedValues has business knowledge whose variable has such a type, which may be that of what is returned.
+// TestBodiesOfATypeWithAllowedValues tests business knowledge whose variable has such a type, perhaps the type of the
+// result.
 func TestBodiesOfATypeWithAllowedValues(t *testing.T) {
 	file := func(body string) string {
 		return definitions(narrowTypes, input("x", "number"), strings.Replace(knowledge("k", []string{"p:number"}, body), `<variable name="k"/>`,
@@ -156,7 +157,8 @@ func TestBodiesOfATypeWithAllowedValues(t *testing.T) {
 	answers(t, file(literal("if p > 5 then 10 else 3")), "d", [][2]string{{`{"x":5}`, "3"}, {`{"x":6}`, "10"}})
 }
 
-// TestValuesThatSurelyAreAmongOthers has columns over decisions whose outputs are all among their input values.
+// TestValuesThatSurelyAreAmongOthers tests columns over decisions whose outputs are all among the columns' input
+// values.
 func TestValuesThatSurelyAreAmongOthers(t *testing.T) {
 	season := table("", []column{{text: "x", of: "number"}}, []column{{text: "o", of: "string"}}, []string{"< 5", `"cold"`}, []string{">= 5", `"warm"`})
 	computed := table("", []column{{text: "x", of: "number"}}, []column{{text: "o", values: `"cold", "warm"`}}, []string{"-", "s"})
@@ -173,7 +175,8 @@ func TestValuesThatSurelyAreAmongOthers(t *testing.T) {
 	}
 }
 
-// TestInputValuesOfAnInput are a promise of who calls where all columns have the same, and tested where they have not.
+// TestInputValuesOfAnInput: input values are a promise of the caller if all columns have the same, and are checked
+// otherwise.
 func TestInputValuesOfAnInput(t *testing.T) {
 	on := func(values string) string {
 		return table("", []column{{text: "x", of: "number", values: values}}, []column{{text: "r"}}, []string{"null", `"none"`}, []string{"-", `"some"`})
@@ -182,7 +185,7 @@ func TestInputValuesOfAnInput(t *testing.T) {
 	if got := string(taken(t, file).Types["x"]); !strings.Contains(got, `"maximum":10`) {
 		t.Errorf("the type is %s", got)
 	}
-	// A schema says nothing of several ranges, nor of tests.
+	// The schema leaves out several ranges, and tests.
 	for _, values := range []string{"[0..10], [20..30]", "> 5"} {
 		file = definitions(input("x", "number"), decision("d", "", on(values), "x"))
 		if got := logicOf(t, taken(t, file), "d"); !strings.Contains(got, `"inputs":["if x`) {
@@ -197,14 +200,14 @@ func TestInputValuesOfAnInput(t *testing.T) {
 	d := startDesk(t)
 	d.model(result)
 	for _, c := range [][3]string{{"d", "11", "null"}, {"d", "10", `"some"`}, {"e", "11", `"some"`}, {"e", "21", "null"}} {
-		// Both rules hit null, and their values differ.
+		// Null matches both rules, and their values differ.
 		if got := d.ask(c[0], `{"x":`+c[1]+`}`); got != c[2] {
 			t.Errorf("%s of %s: %s is due, and %s came", c[0], c[1], c[2], got)
 		}
 	}
 }
 
-// TestListsWhereScalarsAreDue has the member of a list of one, as the standard takes it.
+// TestListsWhereScalarsAreDue tests that a list of one counts as its member, as in the standard.
 func TestListsWhereScalarsAreDue(t *testing.T) {
 	for text, due := range map[string]string{
 		"abs([-1])": "1", "abs([-1, 2])": "null", "abs([])": "null", "modulo([7], 4)": "3", "modulo(7, [4])": "3", "not([true])": "false",
@@ -230,7 +233,7 @@ func TestListsWhereScalarsAreDue(t *testing.T) {
 	}
 }
 
-// TestElementsInATextAreRefused has texts whose elements would be lost.
+// TestElementsInATextAreRefused tests texts with elements, which would be lost.
 func TestElementsInATextAreRefused(t *testing.T) {
 	for _, text := range []string{"x <b>+ 1</b>", "<b/>x", `x<i xmlns="other"> + 1</i>`} {
 		refusedWith(t, definitions(input("x", "number"), decision("d", "", "<literalExpression><text>"+text+"</text></literalExpression>", "x")),
@@ -240,7 +243,7 @@ func TestElementsInATextAreRefused(t *testing.T) {
 		"d", [][2]string{{`{"x":1}`, "2"}})
 }
 
-// TestManyAllowedValues has as many values and as many computed entries as fit.
+// TestManyAllowedValues tests as many allowed values and computed entries as fit.
 func TestManyAllowedValues(t *testing.T) {
 	var values []string
 	for i := 0; i < 3000; i++ {

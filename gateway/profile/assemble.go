@@ -9,20 +9,20 @@ import (
 	"gateway/model"
 )
 
-// mostNesting is how deep a model may nest in JSON, so that it may stand in its line.
+// mostNesting is how deep the JSON of a model may nest.
 const mostNesting = 126
 
-// checkNesting refuses decisions that nest too deep.
+// checkNesting refuses decisions that nest too deeply.
 func (g *graph) checkNesting() {
 	for _, n := range g.decisions {
 		if n.logic != nil && !g.refusals.spoiled[n.element()] && n.logic.nesting(4) > mostNesting {
-			g.refusals.refuse(n.element(), n.name, fmt.Sprintf("its boxed expressions and invocations stand in each other over "+
-				"%d deep in the model", mostNesting), "a decision of its own for inner parts")
+			g.refusals.refuse(n.element(), n.name, fmt.Sprintf("its boxed expressions and invocations nest over "+
+				"%d levels deep in the model", mostNesting), "a decision of its own for inner parts")
 		}
 	}
 }
 
-// nesting is how deep the JSON of a box nests, where depth is that of its own first level.
+// nesting returns how deep the JSON of a box nests. Its own first level is at depth.
 func (b *box) nesting(depth int) int {
 	deepest := depth
 	switch b.kind {
@@ -43,23 +43,25 @@ func (b *box) nesting(depth int) int {
 	return deepest
 }
 
-// assembler makes the model of boxes, and notes where each part came from.
+// assembler makes the model from boxes, and notes the origin of each part.
 type assembler struct {
 	homes   map[*dmn.Element]home
 	places  map[string]Place
 	origins map[string]Origin
-	// counts tells that numbers are counted in units: then places have the texts of the files.
+	// counts is true if numbers are counted in units: places then have the texts of the files.
 	counts bool
-	// schemas are those of types, which places share; written counts their bytes, one that stands twice twice.
+	// schemas are those of types, which places share. written counts their bytes, with repetitions.
 	writer  *schemaWriter
 	schemas map[*valueType]json.RawMessage
 	written int
-	// near is the input or decision at hand, tooLarge the one whose schemas are too many bytes with those before; nil for none.
+	// near is the current input or decision. tooLarge is the one whose schemas bring the total over the limit; nil if
+	// none.
 	near, tooLarge *node
 	kept           *kept
 }
 
-// assembled is the result of a graph that was translated without a refusal, and the part whose schemas are too large; nil for none.
+// assembled returns the result of a graph that was translated without refusals, and the part whose schemas are too
+// large, if any.
 func assembled(g *graph, services []service, counts bool) (*Result, *node) {
 	a := &assembler{writer: newSchemaWriter(g.words, g.offsets.tick), homes: g.refusals.homes, places: map[string]Place{},
 		origins: map[string]Origin{}, counts: counts, schemas: map[*valueType]json.RawMessage{}, kept: newKept()}
@@ -93,7 +95,7 @@ func assembled(g *graph, services []service, counts bool) (*Result, *node) {
 	return result, a.tooLarge
 }
 
-// drawn has where the diagram of a single file draws each input and decision; nil where it draws not all of them.
+// drawn returns where the diagram of a single file draws each input and decision; nil unless it draws all of them.
 func drawn(g *graph) map[string]dmn.Box {
 	if len(g.sources) != 1 {
 		return nil
@@ -109,14 +111,14 @@ func drawn(g *graph) map[string]dmn.Box {
 	return found
 }
 
-// origin notes where the element of a part is.
+// origin notes the place of a part's element.
 func (a *assembler) origin(pointer string, e *dmn.Element) {
 	if e != nil {
 		a.origins[pointer] = Origin{a.homes[e].path, e.Place.Line, e.Place.Column}
 	}
 }
 
-// place notes the element of a part, where it has an id or a name, and where it is.
+// place notes the place of a part's element, and its id or name if it has one.
 func (a *assembler) place(pointer string, e *dmn.Element) {
 	a.origin(pointer, e)
 	if e == nil || e.ID() == "" && e.Name() == "" {
@@ -125,7 +127,7 @@ func (a *assembler) place(pointer string, e *dmn.Element) {
 	a.places[pointer] = Place{ID: e.ID(), Name: e.Name()}
 }
 
-// text notes the text of an element, where the model has another one.
+// text notes the text of an element if the model has another one.
 func (a *assembler) text(pointer string, e *dmn.Element, translated string) {
 	if !a.counts || e == nil {
 		return
@@ -142,7 +144,7 @@ func (a *assembler) text(pointer string, e *dmn.Element, translated string) {
 	}
 }
 
-// counted notes how the values of a part are counted, where they are.
+// counted notes how the values of a part are counted, if they are.
 func (a *assembler) counted(pointer string, value phrase) {
 	place := a.places[pointer]
 	switch {
@@ -156,7 +158,7 @@ func (a *assembler) counted(pointer string, value phrase) {
 	a.places[pointer] = place
 }
 
-// schema is the schema of a type, made once. Past the most bytes there are none.
+// schema returns the schema of a type, made once; nil past the limit of bytes.
 func (a *assembler) schema(of *valueType) json.RawMessage {
 	if a.tooLarge != nil {
 		return nil
@@ -172,7 +174,7 @@ func (a *assembler) schema(of *valueType) json.RawMessage {
 	return made
 }
 
-// box is the expression of a box at a pointer.
+// box returns the expression of a box at a pointer.
 func (a *assembler) box(b *box, pointer string) model.Expression {
 	a.place(pointer, b.origin)
 	switch b.kind {
@@ -229,7 +231,7 @@ func (a *assembler) table(b *box, pointer string) model.Expression {
 	return b.table
 }
 
-// annotate notes what the file says of a rule for people.
+// annotate notes the file's annotations of a rule.
 func (a *assembler) annotate(pointer string, rule *dmn.Element) {
 	place := a.places[pointer]
 	for _, child := range rule.Children {
@@ -270,7 +272,7 @@ func (a *assembler) listed(pointer string, output *dmn.Element, made model.Outpu
 	}
 }
 
-// cells notes where the entries of a rule are, and their texts.
+// cells notes the places and texts of a rule's entries.
 func (a *assembler) cells(pointer string, rule *dmn.Element, made model.Rule) {
 	for _, entry := range rule.Children {
 		index := a.homes[entry].index

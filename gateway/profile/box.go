@@ -5,24 +5,23 @@ import (
 	"gateway/model"
 )
 
-// A box is a boxed expression of the model that knows where it came from. One of the table, list, entries or the phrase
-// alone is its content.
+// A box is a boxed expression of the model that knows its origin. It is one of a table, a list, entries, or a phrase.
 type box struct {
 	kind  boxKind
 	value phrase
-	// boxedTable is nil of what is no decision table.
+	// boxedTable is nil except for decision tables.
 	*boxedTable
 	list    []*box
 	entries []boxEntry
 	// result is nil for a context without one.
 	result *box
-	// isRow tells that it is the row of a relation: a context whose entries don't see each other.
+	// isRow is set for the row of a relation: a context whose entries don't see each other.
 	isRow bool
-	// origin is its element; nil for what was made here.
+	// origin is its element; nil if the translator made the box.
 	origin *dmn.Element
 }
 
-// A boxedTable is a decision table; rows, inputs and gives are the elements of its parts.
+// A boxedTable is a decision table with the elements of its parts.
 type boxedTable struct {
 	table         *model.Table
 	rows          []*dmn.Element
@@ -33,7 +32,7 @@ type boxedTable struct {
 	columns []phrase
 }
 
-// tableOf is the box of a table.
+// tableOf returns the box of a table.
 func tableOf(table *model.Table) *box {
 	return &box{kind: tableBox, boxedTable: &boxedTable{table: table}}
 }
@@ -50,15 +49,15 @@ const (
 type boxEntry struct {
 	word  string
 	value *box
-	// origin is the element of the entry; nil for what was made here.
+	// origin is the element of the entry; nil if the translator made it.
 	origin *dmn.Element
-	// of is the type of the value; nil for what was made here.
+	// of is the type of the value; nil if the translator made it.
 	of *valueType
 }
 
 func boxOf(p phrase) *box { return &box{kind: textBox, value: p} }
 
-// A frame collects the entries that the texts of one boxed expression need in front of it.
+// A frame collects the entries that the texts of a boxed expression need before it.
 type frame struct{ entries []boxEntry }
 
 // around puts the entries of a frame in front of a box.

@@ -8,7 +8,7 @@ import (
 	"gateway/feel"
 )
 
-// expression translates a boxed expression, and holds it against its own declared type.
+// expression translates a boxed expression, and checks it against its own declared type.
 func (t *translator) expression(x dmn.Expression, s *scope) (*box, *valueType) {
 	var of *valueType
 	made := t.framed(func() *box {
@@ -27,7 +27,7 @@ func (t *translator) expression(x dmn.Expression, s *scope) (*box, *valueType) {
 	return t.from(made, x), of
 }
 
-// from is what a text was made to, with its element where numbers are counted: the model has another text then.
+// from notes the element of a text if numbers are counted, since the model's text differs then.
 func (t *translator) from(b *box, x dmn.Expression) *box {
 	if b.origin != nil || !t.counts || textOf(x) == "" {
 		return b
@@ -37,7 +37,7 @@ func (t *translator) from(b *box, x dmn.Expression) *box {
 	return &made
 }
 
-// textOf is the text of a literal expression; empty of others.
+// textOf returns the text of a literal expression; empty for other expressions.
 func textOf(x dmn.Expression) string {
 	if text, literal := x.(*dmn.Text); literal {
 		return text.Text
@@ -86,13 +86,13 @@ func (t *translator) literal(x *dmn.Text, s *scope) (made *box, of *valueType) {
 
 const notFEEL = "the expression language is not FEEL"
 
-// inFEEL tells whether a text is in FEEL by the language that it or its file declares.
+// inFEEL reports whether a text is in FEEL, by the language declared in it or its file.
 func inFEEL(x *dmn.Text) bool {
 	language := strings.TrimSuffix(strings.ToLower(x.Language), "/")
 	return language == "" || language == "feel" || language == "s-feel" || strings.Contains(language+"/", "/feel/")
 }
 
-// isFEEL tells whether a text is of FEEL and not empty, and refuses it where it isn't.
+// isFEEL reports whether a text is in FEEL and not empty. It refuses other texts.
 func (t *translator) isFEEL(x *dmn.Text) bool {
 	switch {
 	case !inFEEL(x):
@@ -116,7 +116,8 @@ func (t *translator) boxes(members []dmn.Expression, s *scope) (*box, *valueType
 	return made, t.listOfBoxes(made, all, refuse)
 }
 
-// context translates a boxed context. An entry sees those before it; the last may have no name, and is the result.
+// context translates a boxed context. An entry sees those before it; the last one may have no name, and is then the
+// result.
 func (t *translator) context(x *dmn.Context, s *scope) (*box, *valueType) {
 	made := &box{kind: contextBox, entries: []boxEntry{}}
 	of := &valueType{kind: contextKind, fields: map[string]*valueType{}}
@@ -128,7 +129,7 @@ func (t *translator) context(x *dmn.Context, s *scope) (*box, *valueType) {
 		}
 		if entry.Variable == nil || entry.Variable.Name() == "" {
 			if i < len(x.Entries)-1 {
-				t.refusals.refuse(entry.Element, "", "an entry without a name stands before the last", "a name for it")
+				t.refusals.refuse(entry.Element, "", "an entry without a name before the last", "a name for it")
 			}
 			result, resultOf := t.expression(entry.Value, inside)
 			made.result = result
@@ -139,11 +140,11 @@ func (t *translator) context(x *dmn.Context, s *scope) (*box, *valueType) {
 	return made, of.bounded(func(why, instead string) { t.refusals.refuse(x.At(), "", why, instead) })
 }
 
-// contextEntry translates an entry with a name, and puts it into scope for those behind it.
+// contextEntry translates a named entry, and puts it into scope for later entries.
 func (t *translator) contextEntry(entry *dmn.ContextEntry, made *box, of *valueType, s *scope) {
 	name := feel.Canonical(entry.Variable.Name())
 	if _, twice := of.fields[name]; twice {
-		t.refusals.refuse(entry.Element, entry.Variable.Name(), "the entry's name stands twice", "another name")
+		t.refusals.refuse(entry.Element, entry.Variable.Name(), "duplicate entry name", "another name")
 		return
 	}
 	value, valueOf := t.expression(entry.Value, s)
@@ -160,8 +161,8 @@ func (t *translator) contextEntry(entry *dmn.ContextEntry, made *box, of *valueT
 	s.bind(entry.Variable.Name(), &binding{value: constant(word, valueOf), logic: value})
 }
 
-// relation translates a relation: a list of contexts. A cell that names an earlier column may mean that or a name
-// outside, so it is refused.
+// relation translates a relation, a list of contexts. A cell that names an earlier column is refused: it may mean the
+// column or a name outside.
 func (t *translator) relation(x *dmn.Relation, s *scope) (*box, *valueType) {
 	made := &box{kind: listBox, list: []*box{}}
 	var all []*valueType
@@ -209,7 +210,7 @@ func (t *translator) relationRow(x *dmn.Relation, row *dmn.List, s *scope) (*box
 	return made, of.bounded(func(why, instead string) { t.refusals.refuse(row.Element, "", why, instead) })
 }
 
-// usesColumn tells whether a cell may name a column before it.
+// usesColumn reports whether a cell may name an earlier column.
 func (t *translator) usesColumn(cell dmn.Expression, columns *valueType, s *scope) bool {
 	text, literal := cell.(*dmn.Text)
 	if !literal {
@@ -222,7 +223,7 @@ func (t *translator) usesColumn(cell dmn.Expression, columns *valueType, s *scop
 	})
 }
 
-// mentions tells whether a text in an element has one of some words in it.
+// mentions reports whether a text in an element contains one of the names.
 func mentions(e *dmn.Element, names []string) bool {
 	for _, name := range names {
 		if strings.Contains(e.Text, name) {
@@ -267,7 +268,7 @@ func textOfText(x *dmn.Text) string {
 	return x.Text
 }
 
-// invokedBy finds what a boxed invocation invokes; nil where it is refused.
+// invokedBy returns what a boxed invocation invokes; nil if that is refused.
 func (t *translator) invokedBy(x *dmn.Invocation, s *scope) *knowledge {
 	name := feel.Canonical(textOfText(x.Function))
 	found := s.find(name)
@@ -287,7 +288,7 @@ func (t *translator) invokedBy(x *dmn.Invocation, s *scope) *knowledge {
 	return nil
 }
 
-// conditional translates a boxed if: its parts are texts, or entries in front.
+// conditional translates a boxed if. Its parts are texts, or entries before it.
 func (t *translator) conditional(x *dmn.Conditional, s *scope) (*box, *valueType) {
 	if x.If == nil || x.Then == nil || x.Else == nil {
 		t.refusals.refuse(x.Element, "", "the conditional has not all of if, then and else", "null for a part")

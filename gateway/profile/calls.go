@@ -8,13 +8,13 @@ import (
 	"gateway/feel"
 )
 
-// A builtin is a function of FEEL that the engine has.
+// A builtin is a FEEL function that the engine has.
 type builtin struct {
-	// parameters are the names for named arguments.
+	// parameters are their names in named arguments.
 	parameters []string
-	// variadic tells that one list may be written as several arguments.
+	// variadic is true if the arguments may replace one list.
 	variadic bool
-	// quotients tells that the first argument may be a quotient, constants that all may be one by a constant.
+	// quotients is true if the first argument may be a quotient, constants if all may be quotients by constants.
 	quotients, constants bool
 	make                 func(t *translator, n *feel.Call, arguments []phrase) phrase
 }
@@ -29,13 +29,13 @@ var builtins = map[string]builtin{
 	"count":  {parameters: []string{"list"}, make: countCall},
 }
 
-// insteadOf tells what to write in place of functions that the engine has not.
+// insteadOf says what to write in place of functions that the engine lacks.
 var insteadOf = map[string]string{
 	"day of week": "d.weekday, which is 1 for Monday", "month of year": "d.month",
 	"list contains": "a list of numbers, texts or booleans by its declared type, and a value of theirs",
 }
 
-// call translates an invocation: of business knowledge, or of a function of FEEL.
+// call translates an invocation of business knowledge or of a FEEL function.
 func (t *translator) call(n *feel.Call, s *scope) phrase {
 	name, isName := n.Function.(*feel.Name)
 	if !isName {
@@ -97,8 +97,8 @@ func (t *translator) callKnown(n *feel.Call, name *feel.Name, s *scope) phrase {
 	return t.inFront(t.words.local(found.function.name), made, of)
 }
 
-// arranged translates the arguments of a function of FEEL in the order of its parameters. It tells what is wrong with
-// their number or their names.
+// arranged translates the arguments of a FEEL function, in the order of its parameters. Why says what is wrong with
+// their number or names.
 func (t *translator) arranged(n *feel.Call, function builtin, s *scope) (arguments []phrase, why string) {
 	due := len(function.parameters)
 	if len(n.Arguments) != due && !(function.variadic && len(n.Arguments) > due) {
@@ -113,7 +113,7 @@ func (t *translator) arranged(n *feel.Call, function builtin, s *scope) (argumen
 			place = indexOf(function.parameters, a.Name)
 		}
 		if place < 0 || filled[place] {
-			return nil, fmt.Sprintf("the argument %q is none of %s, or stands twice", a.Name,
+			return nil, fmt.Sprintf("the argument %q is not one of %s, or is given twice", a.Name,
 				strings.Join(function.parameters, ", "))
 		}
 		filled[place] = true
@@ -138,7 +138,7 @@ func indexOf(all []string, one string) int {
 	return -1
 }
 
-// absCall translates abs, which a quotient may have too.
+// absCall translates abs, which also takes a quotient.
 func absCall(t *translator, _ *feel.Call, arguments []phrase) phrase {
 	x := arguments[0]
 	made := call("abs", numberOf(uncelled(t.within(x.of))), x)
@@ -148,7 +148,7 @@ func absCall(t *translator, _ *feel.Call, arguments []phrase) phrase {
 	return made
 }
 
-// moduloCall translates modulo, whose operands have one unit.
+// moduloCall translates modulo, whose operands are brought to one unit.
 func moduloCall(t *translator, n *feel.Call, arguments []phrase) phrase {
 	u := unitsOf(arguments)
 	for i, a := range arguments {
@@ -161,7 +161,7 @@ func plainCall(name string, of *valueType) func(*translator, *feel.Call, []phras
 	return func(_ *translator, _ *feel.Call, arguments []phrase) phrase { return call(name, of, arguments...) }
 }
 
-// gathered is the one list of the arguments of sum, min or max.
+// gathered returns the arguments of sum, min or max as one list.
 func (t *translator) gathered(n *feel.Call, arguments []phrase) phrase {
 	if len(arguments) == 1 {
 		return arguments[0]
@@ -169,7 +169,7 @@ func (t *translator) gathered(n *feel.Call, arguments []phrase) phrase {
 	return listing(arguments, listOf(t.together(arguments, t.refusal(n))))
 }
 
-// sumCall translates a sum. Of one value that is no list it is the value, which the engine's sum is not.
+// sumCall translates sum. The sum of one value that isn't a list is that value, unlike in the engine.
 func sumCall(t *translator, n *feel.Call, arguments []phrase) phrase {
 	list := t.gathered(n, arguments)
 	of := numberOf(uncelled(t.within(list.of)))
@@ -186,7 +186,7 @@ func sumCall(t *translator, n *feel.Call, arguments []phrase) phrase {
 	return choice(isList, call("sum", of, list), call("sum", of, listing([]phrase{list}, listOf(anyType))))
 }
 
-// extremeCall translates min and max, of numbers alone: the standard has them of texts too.
+// extremeCall translates min and max of numbers. The standard has them for texts too.
 func extremeCall(name string) func(*translator, *feel.Call, []phrase) phrase {
 	return func(t *translator, n *feel.Call, arguments []phrase) phrase {
 		list := t.gathered(n, arguments)
@@ -206,7 +206,7 @@ func extremeCall(name string) func(*translator, *feel.Call, []phrase) phrase {
 	}
 }
 
-// countCall translates a count, of lists alone.
+// countCall translates count, of lists only.
 func countCall(t *translator, n *feel.Call, arguments []phrase) phrase {
 	if arguments[0].of.kind != listKind {
 		return t.refuse(n, "count of what may be no list: the standard makes a list of it, the profile doesn't",

@@ -8,35 +8,35 @@ import (
 	"gateway/feel"
 )
 
-// Decimals say how many decimals the numbers of inputs have where the file doesn't.
+// Decimals say how many decimals the numbers of inputs have if the file doesn't.
 type Decimals struct {
-	// All is of each input that no name says; -1 where nothing is said.
+	// All is for each input that isn't named; -1 if not given.
 	All int
-	// Named has those of inputs by their names, as the file spells them: "Amount", "Applicant.Income".
+	// Named is by the names of inputs, as the file spells them: "Amount", "Applicant.Income".
 	Named map[string]int
 }
 
-// NoDecimals say nothing.
+// NoDecimals returns Decimals that say nothing.
 func NoDecimals() Decimals { return Decimals{All: -1} }
 
-// usualDecimals is how many decimals the numbers of an input have where fractions meet them and nothing is said.
+// usualDecimals is how many decimals the numbers of an input have if they meet fractions and nothing else is given.
 const usualDecimals = 2
 
-// MostDecimals is how many decimals the numbers of an input may have.
+// MostDecimals is the most decimals that numbers of an input may have.
 const MostDecimals = 18
 
-// cells are where the inputs of a graph have numbers.
+// cells are the places of numbers in the inputs of a graph.
 type cells struct {
 	graph *graph
 	said  Decimals
 	all   []*cell
-	// canonical has the name in --decimals of each canonical name.
+	// canonical has the spelling in --decimals of each canonical name.
 	canonical map[string]string
-	// used are the names of --decimals that are some cell's.
+	// used are the names in --decimals that belong to a cell.
 	used map[string]bool
 }
 
-// newCells gives each number of each input a cell of its own.
+// newCells returns each number of each input its own cell.
 func newCells(g *graph, said Decimals) *cells {
 	c := &cells{graph: g, said: said, used: map[string]bool{}, canonical: map[string]string{}}
 	for name := range said.Named {
@@ -48,7 +48,7 @@ func newCells(g *graph, said Decimals) *cells {
 	return c
 }
 
-// of is a type of an input with cells.
+// of returns the type of an input, with cells.
 func (c *cells) of(of *valueType, name string) *valueType {
 	own := *of
 	own.fitting = nil
@@ -92,7 +92,7 @@ func (c *cells) unitsOf(of *valueType, name string) units {
 	return units{scale: made.scale, cell: made, meets: made.meets}
 }
 
-// named is what is said of a name: of itself, or of what it is a part of.
+// named returns the decimals given for a name, or for what it is part of.
 func (c *cells) named(canonical string) (int, bool) {
 	if name, said := c.canonical[canonical]; said {
 		c.used[name] = true
@@ -104,7 +104,7 @@ func (c *cells) named(canonical string) (int, bool) {
 	return 0, false
 }
 
-// listedScale is the most decimals of allowed values that are single numbers; false where they are none.
+// listedScale returns the most decimals of allowed values that are single numbers; false if there are no such values.
 func listedScale(of *valueType) (scale int, listed bool) {
 	allowed := of.allowed
 	if len(allowed.nodes()) == 0 {
@@ -123,7 +123,7 @@ func listedScale(of *valueType) (scale int, listed bool) {
 	return scale, listed
 }
 
-// begin gives those that fractions meet their decimals, after the pass that found what meets.
+// begin gives decimals to the cells that fractions meet, after the pass that found those.
 func (c *cells) begin() {
 	for _, each := range c.all {
 		if !each.fixed && each.meets.root().fractional {
@@ -140,7 +140,7 @@ func (c *cell) set(scale int) {
 	}
 }
 
-// settle takes on finer units that are wanted, and tells whether there were any.
+// settle adopts the finer units that are wanted, and reports whether there were any.
 func (c *cells) settle() bool {
 	changed := false
 	for _, each := range c.all {
@@ -153,7 +153,7 @@ func (c *cells) settle() bool {
 	return changed
 }
 
-// refuseUnused refuses names of --decimals that no input has, and tells whether there are any.
+// refuseUnused refuses names in --decimals that no input has, and reports whether there were any.
 func (c *cells) refuseUnused() bool {
 	var unused []string
 	for name := range c.said.Named {
@@ -169,7 +169,7 @@ func (c *cells) refuseUnused() bool {
 	return len(unused) > 0
 }
 
-// mostNames is how many names are listed.
+// mostNames is how many names are listed in a message.
 const mostNames = 10
 
 func (c *cells) someNames() string {

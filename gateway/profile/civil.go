@@ -8,29 +8,30 @@ import (
 	"gateway/feel"
 )
 
-// A civil finds the year, the month and the day of a date, by its day. Each part is an entry in front of the expression.
-// Years are counted from March on there, so that 29 February is the last day of one; all numbers are small, so that one prime
-// is enough for a division.
+// A civil computes the year, month and day of a date from its day number. Each part is an entry before the expression.
+// Years begin in March, so that 29 February is the last day of one. All numbers are small, so one prime is enough for a
+// division.
 type civil struct {
 	date phrase
-	// century is of the year in the era, and quarter four times the days of it; march is the month from March on, as 3.
-	// They are empty until they are asked for.
+	// century is the year within the era, quarter four times its days, march the month counted from March as 3. They
+	// are empty until needed.
 	centuries, ofCentury, quarters, march string
 	yearWord, monthWord, dayWord          string
 }
 
-// A civilKey is where a date has its parts: entries of a frame. They break no limit, so they carry no condition.
+// A civilKey finds the parts of a date: entries of a frame. They can't exceed a limit, so they carry no condition.
 type civilKey struct {
 	frame *frame
 	text  string
 }
 
-// always makes a text an entry in front of the expression, also where its branch isn't taken: it breaks no limit.
+// always makes a text an entry before the expression, evaluated even if its branch isn't taken: it can't exceed a
+// limit.
 func (t *translator) always(base, text string, of *valueType) phrase {
 	return t.hoisted(base, t.boxed(phrase{text: text, rank: rankIf, depth: depthOfStep, of: of}), of)
 }
 
-// civil are the parts of a date; of one text there is one in a frame.
+// civil returns the parts of a date. A frame has one for each text.
 func (t *translator) civil(d phrase) *civil {
 	d = t.short(d)
 	key := civilKey{t.frame, d.text}
@@ -43,7 +44,7 @@ func (t *translator) civil(d phrase) *civil {
 	return t.civils[key]
 }
 
-// once is the word of a part, which is made where it isn't there yet.
+// once returns the word of a part, and makes the part the first time.
 func once(word *string, make func() string) string {
 	if *word == "" {
 		*word = make()
@@ -51,32 +52,32 @@ func once(word *string, make func() string) string {
 	return *word
 }
 
-// floor is v / p rounded down, for a v of 0 or more and below 2147483647.
+// floor returns v / p rounded down, for v from 0 to 2147483646.
 func floor(v string, p int64) string {
 	return wholeQuotient(fmt.Sprintf("%[1]s - modulo(%[1]s, %[2]d)", v, p), p)
 }
 
-// quarter is four times the days since 0000-03-01, and 3.
+// quarter returns four times the days since 0000-03-01, and 3.
 func (c *civil) quarter() string { return fmt.Sprintf("4 * %s + %d", c.date.text, 4*(marchDays-1)+3) }
 
-// rest is a text for the remainder of v by p, less what of it is no multiple of 4.
+// rest returns the remainder of v by p, rounded down to a multiple of 4.
 func rest(v string, p int64) string {
 	return fmt.Sprintf("modulo(%[1]s, %[2]d) - modulo(modulo(%[1]s, %[2]d), 4)", v, p)
 }
 
-// inCentury is four times the days of the century, and 3.
+// inCentury returns four times the days of the century, and 3.
 func (c *civil) inCentury(t *translator) string {
 	return once(&c.ofCentury, func() string { return t.always("part", rest(c.quarter(), 146_097)+" + 3", numberType).text })
 }
 
-// inYear is 20 times the days since 1 March, and 1844.
+// inYear returns 20 times the days since 1 March, and 1844.
 func (c *civil) inYear(t *translator) string {
 	return once(&c.quarters, func() string {
 		return t.always("part", fmt.Sprintf("5 * (%s) + 1844", rest(c.inCentury(t), 1461)), numberType).text
 	})
 }
 
-// fromMarch is the month, from 3 for March to 14 for February.
+// fromMarch returns the month, from 3 for March to 14 for February.
 func (c *civil) fromMarch(t *translator) string {
 	return once(&c.march, func() string { return t.always("part", floor(c.inYear(t), 612), numberType).text })
 }
@@ -114,7 +115,7 @@ func (c *civil) day(t *translator) string {
 	})
 }
 
-// temporalPart is a part of a date or a duration, as d.year.
+// temporalPart returns a part of a date or a duration, as in d.year.
 func (t *translator) temporalPart(n *feel.Path, of phrase) phrase {
 	t.fractions = true
 	if t.full {
@@ -137,12 +138,12 @@ func (t *translator) temporalPart(n *feel.Path, of phrase) phrase {
 	return made
 }
 
-// partsOf are the parts of values of each kind.
+// partsOf names the parts of each kind of value.
 var partsOf = map[kindOfType]string{dateKind: "year, month, day or weekday", dayDurationKind: "days, hours, minutes or seconds",
 	monthDurationKind: "years or months", timeKind: "hour, minute or second", dateTimeKind: "year, month, day, weekday, hour, minute or second",
 	offsetTimeKind: "a time without an offset", offsetDateTimeKind: "a date and time without an offset"}
 
-// insteadOfPart tells what to write in place of a part that values of a kind don't have.
+// insteadOfPart says what to write in place of a part that a kind of value doesn't have.
 func insteadOfPart(kind kindOfType, name string) string {
 	if kind == dayDurationKind && (name == "years" || name == "months") {
 		return "years and months duration(a, b)." + name + " of two dates"
@@ -150,7 +151,7 @@ func insteadOfPart(kind kindOfType, name string) string {
 	return partsOf[kind]
 }
 
-// partNumber is a number that is known as a text.
+// partNumber returns a number that is known as a text.
 func partNumber(text string) phrase {
 	made := constant(text, numberType)
 	if value, is := new(big.Rat).SetString(text); is {
@@ -171,14 +172,14 @@ func (t *translator) dayPart(d phrase, name string) phrase {
 		if d.moment() != nil {
 			return partNumber(fmt.Sprint((*d.moment()-1)%7 + 1))
 		}
-		// The first day is a Monday, which is 1.
+		// The first day is a Monday, 1.
 		less := infix(d, "-", constant("1", numberType), rankSum, numberType)
 		return infix(call("modulo", numberType, less, constant("7", numberType)), "+", constant("1", numberType), rankSum, numberType)
 	}
 	return phrase{}
 }
 
-// secondsPart is a part of a days and time duration, below 0 where the duration is.
+// secondsPart returns a part of a days and time duration; negative if the duration is.
 func (t *translator) secondsPart(p phrase, name string) phrase {
 	second := t.offsets.tick.PerSecond()
 	parts := map[string][2]int64{"days": {0, t.perDay()}, "hours": {t.perDay(), 3600 * second}, "minutes": {3600 * second, 60 * second},
@@ -210,7 +211,7 @@ func (t *translator) monthsPart(p phrase, name string) phrase {
 	return phrase{}
 }
 
-// durationPart is the size of a duration, by within where that isn't 0, in units; below 0 where the duration is.
+// durationPart returns the size of a duration, modulo within unless that is 0, in units; negative if the duration is.
 func (t *translator) durationPart(p phrase, within, unit int64) phrase {
 	if p.moment() != nil {
 		value := *p.moment()

@@ -7,13 +7,13 @@ import (
 	"gateway/feel"
 )
 
-// A clock has the inputs of a graph that are filled from a clock: today() and now().
+// A clock has the inputs of a graph that a clock fills: today() and now().
 type clock struct {
-	// zone is the zone of the clock; empty where there is none.
+	// zone is the clock's time zone, if any.
 	zone  string
 	graph *graph
 	nodes map[string]*node
-	// order has the names in the order in which they were met.
+	// order has the names in order of first use.
 	order []string
 }
 
@@ -21,10 +21,10 @@ func newClock(g *graph, zone string) *clock {
 	return &clock{zone: zone, graph: g, nodes: map[string]*node{}}
 }
 
-// clockTypes are the functions that a clock answers, with the types of their values.
+// clockTypes are the types of the functions that a clock answers.
 var clockTypes = map[string]*valueType{"today": dateType, "now": instantType}
 
-// clockCall translates today(): an input that who calls doesn't bring.
+// clockCall translates today() to an input that the caller doesn't send.
 func (t *translator) clockCall(n *feel.Call, name string) phrase {
 	of := clockTypes[name]
 	switch {
@@ -33,7 +33,7 @@ func (t *translator) clockCall(n *feel.Call, name string) phrase {
 	case t.clock.zone == "":
 		t.refuse(n, "the answer would depend on the day, and no clock is said", "--clock ZONE, as --clock Europe/Berlin; or an input of the "+
 			"type "+of.String())
-		return constant("null", &valueType{kind: of.kind, told: true})
+		return constant("null", &valueType{kind: of.kind, reported: true})
 	}
 	t.fractions = true
 	input := t.clock.input(name, of, t.text.Element)
@@ -43,7 +43,7 @@ func (t *translator) clockCall(n *feel.Call, name string) phrase {
 	return constant(input.word, of)
 }
 
-// input is the input for a function, which is made where it isn't there yet.
+// input returns the input for a function, and makes it the first time.
 func (c *clock) input(name string, of *valueType, at *dmn.Element) *node {
 	if c.nodes[name] == nil {
 		own := *of
@@ -56,7 +56,7 @@ func (c *clock) input(name string, of *valueType, at *dmn.Element) *node {
 	return c.nodes[name]
 }
 
-// ofClock is the word of the input that a clock fills: it has the name of the function with its parentheses.
+// ofClock returns the word of an input that a clock fills, named like the function with its parentheses.
 func (w *words) ofClock(name string) string {
 	canonical := feel.Canonical(name + "()")
 	if word, found := w.byName[canonical]; found {

@@ -7,7 +7,7 @@ import (
 	"gateway/profile"
 )
 
-// TestClock asks for the day, which is an input.
+// TestClock asks for the day, an input filled by a clock.
 func TestClock(t *testing.T) {
 	d := startDesk(t)
 	for _, row := range []decimalRow{
@@ -36,7 +36,7 @@ func TestClock(t *testing.T) {
 	}
 }
 
-// TestClockOfServices has the day in the services that need it alone, also beside an input of its name.
+// TestClockOfServices asks for the day in the services that need it, one of them next to an input of the same name.
 func TestClockOfServices(t *testing.T) {
 	file := definitions(input("today", "number"), input("d", "date"), knowledge("late", []string{"d:date"}, literal("today() > d")),
 		knowledge("unused", nil, literal("today()")), decision("x", "", literal("late(d)"), "d", "k:late"), decision("y", "", literal("today"), "today"),

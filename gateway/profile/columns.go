@@ -8,7 +8,7 @@ import (
 	"gateway/model"
 )
 
-// alignOutputs gives the entries, the defaults and the output values of each column one unit, and writes them.
+// alignOutputs brings the entries, defaults and output values of each column to one unit, and writes them.
 func (r *tableReader) alignOutputs() {
 	for i := range r.outputs {
 		o := &r.outputs[i]
@@ -60,8 +60,8 @@ func (r *tableReader) writeOutput(o *output, i int, all []phrase) {
 	}
 }
 
-// countsOtherwise tells whether a test has to be asked as a condition: a quotient, a value of a finer unit than the column's, or
-// one that is refused there since one of the two is a date.
+// countsOtherwise reports whether a test has to become a condition: it is a quotient, has a finer unit than the column,
+// or one of the two is a date.
 func (r *tableReader) countsOtherwise(value phrase, c column) bool {
 	if one, _ := mixed(value.of, c.value.of); one != nil {
 		return true
@@ -77,7 +77,7 @@ func (r *tableReader) countsOtherwise(value phrase, c column) bool {
 		value.of.units.scale > r.within(c.value.of).scale
 }
 
-// bound is an order comparison with a column's value, in its unit.
+// bound returns an order comparison with a column's value, in the column's unit.
 func (r *tableReader) bound(n feel.Node, operator string, value phrase, c column) (string, phrase) {
 	u := r.within(c.value.of)
 	switch {
@@ -92,7 +92,7 @@ func (r *tableReader) bound(n feel.Node, operator string, value phrase, c column
 	return operator, value.within(rankSum)
 }
 
-// equalIn is a value as a test of a column, in its unit; false where the column has no such value.
+// equalIn returns a value as a test of a column, in the column's unit; false if the column has no such value.
 func (r *tableReader) equalIn(n feel.Node, value phrase, c column) (phrase, bool) {
 	u := r.within(c.value.of)
 	switch {
@@ -105,7 +105,7 @@ func (r *tableReader) equalIn(n feel.Node, value phrase, c column) (phrase, bool
 	return r.recountedOr(n, value, units{scale: u.scale}), true
 }
 
-// ratioExpression translates an input expression that is a quotient; false where it is none.
+// ratioExpression translates an input expression that is a quotient; false if it isn't one.
 func (r *tableReader) ratioExpression(x *dmn.Text) (value phrase, is bool) {
 	if !inFEEL(x) {
 		return value, false
@@ -130,7 +130,7 @@ func (r *tableReader) ratioExpression(x *dmn.Text) (value phrase, is bool) {
 	return value, true
 }
 
-// isDivision tells whether a form is a product with a division in it.
+// isDivision reports whether a form is a product that contains a division.
 func isDivision(n feel.Node) bool {
 	switch n := n.(type) {
 	case *feel.Negation:
@@ -145,7 +145,7 @@ func isDivision(n feel.Node) bool {
 	return false
 }
 
-// hitTable is a table that is true where one of some rules hits.
+// hitTable returns a table that is true if one of the rules hits.
 func (r *tableReader) hitTable(rules []int) *box {
 	made := &model.Table{Hit: "F", Inputs: append([]string(nil), r.made.table.Inputs...), Outputs: []model.Output{{Name: "hit"}},
 		Rules: []model.Rule{}}

@@ -9,10 +9,11 @@ import (
 	"gateway/lines"
 )
 
-// turnedComparisons are the operators with their sides turned.
+// turnedComparisons are the operators for swapped sides.
 var turnedComparisons = map[string]string{"<": ">", ">": "<", "<=": ">=", ">=": "<=", "=": "=", "!=": "!="}
 
-// compare is a comparison. Numbers that are counted otherwise are brought to one unit; of a constant it is that of the value.
+// compare translates a comparison. Numbers in different units are brought to one; a constant takes the unit of the
+// value.
 func (t *translator) compare(n feel.Node, l phrase, operator string, r phrase) phrase {
 	if refuseMixed(l.of, r.of, t.refusal(n)) {
 		return refused
@@ -43,7 +44,7 @@ func (t *translator) meeting(p, other phrase) phrase {
 	return p
 }
 
-// compareCounted compares values of which no one is a constant.
+// compareCounted compares values that aren't constants.
 func (t *translator) compareCounted(n feel.Node, l phrase, operator string, r phrase) phrase {
 	if left, right, is := t.withoutProducts(l, r); is {
 		return infix(left, operator, right, rankComparison, booleanType)
@@ -64,8 +65,8 @@ func (t *translator) compareCounted(n feel.Node, l phrase, operator string, r ph
 	return infix(l, operator, r, rankComparison, booleanType)
 }
 
-// withoutProducts are two numbers of which one is a product with a constant, as x / 8 is, times what leaves the fewest decimals: x / 8 < y
-// is x < y * 8. False where no side is a product, or a factor is past the range.
+// withoutProducts moves a constant factor to the other side: x / 8 < y becomes x < y * 8. Of two products it moves the
+// one that leaves fewer decimals. False if neither side is a product, or if a factor is past the range.
 func (t *translator) withoutProducts(l, r phrase) (left, right phrase, is bool) {
 	if l.of.kind != numberKind || r.of.kind != numberKind || !l.isPositiveProduct() && !r.isPositiveProduct() {
 		return l, r, false
@@ -81,13 +82,14 @@ func (t *translator) withoutProducts(l, r phrase) (left, right phrase, is bool) 
 	return t.shallow(times(left, byLeft, numberType)), t.shallow(times(right, byRight, numberType)), true
 }
 
-// isPositiveProduct tells whether a phrase is a number times a constant above 0.
+// isPositiveProduct reports whether a phrase is a number times a positive constant.
 func (p phrase) isPositiveProduct() bool {
 	product := p.product()
 	return product != nil && product.of.of.kind == numberKind && product.by.Sign() > 0
 }
 
-// withoutProduct is a number times a factor as what it is a product of, times another factor.
+// withoutProduct returns the number in a product with a positive constant, and by times the constant; other numbers
+// with by.
 func withoutProduct(p phrase, by *big.Int) (phrase, *big.Int) {
 	if !p.isPositiveProduct() {
 		return p, by
@@ -95,8 +97,8 @@ func withoutProduct(p phrase, by *big.Int) (phrase, *big.Int) {
 	return p.product().of, by.Mul(by, p.product().by)
 }
 
-// againstNumber compares a value with a constant, which is brought to the value's unit: of x < 0.125 in hundredths it is
-// x <= 12. Where the constant has no such number no value is equal to it.
+// againstNumber compares a value with a constant, in the value's unit: in hundredths x < 0.125 is x <= 12. If the
+// constant isn't a multiple of the unit, no value equals it.
 func (t *translator) againstNumber(x phrase, operator string, value *big.Rat) phrase {
 	u := t.within(x.of)
 	if product := x.product(); x.isPositiveProduct() && constantNumber(value).of.units.scale <= product.of.of.units.scale+mostFiner {
@@ -110,12 +112,12 @@ func (t *translator) againstNumber(x phrase, operator string, value *big.Rat) ph
 	return infix(x, operator, wholeConstant(limit), rankComparison, booleanType)
 }
 
-// equalIn compares a value that is counted in some units.
+// equalIn compares a counted value for equality.
 func (t *translator) equalIn(x phrase, operator string, value *big.Rat, u units) phrase {
 	if at := inUnits(value, u); at.IsInt() && isNumber(at.Num()) {
 		return infix(x, operator, wholeConstant(at.Num()), rankComparison, booleanType)
 	}
-	// A number is not two numbers, null is none, and of another kind it is unknown.
+	// A number is not two numbers, null is not one, and other kinds are unknown.
 	x = t.short(x)
 	joint := allOf
 	if operator == "!=" {
@@ -125,7 +127,7 @@ func (t *translator) equalIn(x phrase, operator string, value *big.Rat, u units)
 		infix(x, operator, constant("1", numberType), rankComparison, booleanType)})
 }
 
-// inUnits is a number as it is counted in some units; it may not be whole there.
+// inUnits returns a number of units, which may not be whole.
 func inUnits(value *big.Rat, u units) *big.Rat {
 	scaled := scaledBy(value, u.scale)
 	if u.parts() == 1 {
@@ -136,7 +138,7 @@ func inUnits(value *big.Rat, u units) *big.Rat {
 
 var mostNumber, leastNumber = big.NewInt(lines.MaxNumber), big.NewInt(-lines.MaxNumber)
 
-// boundIn brings an order comparison with a number to some units: the same of whole numbers holds of a limit that is one.
+// boundIn brings a limit to units: it replaces it by the whole number with the same meaning for whole numbers.
 func boundIn(operator string, value *big.Rat, u units) (string, *big.Int) {
 	at := inUnits(value, u)
 	floor := new(big.Int).Div(at.Num(), at.Denom())
@@ -158,12 +160,12 @@ func boundIn(operator string, value *big.Rat, u units) (string, *big.Int) {
 	return ">", floor
 }
 
-// mostFiner is how many decimals more than the numerator of a quotient a constant has at most that it is compared with: a
-// numerator of 19 digits and these leave a digit of the 34.
+// mostFiner is how many decimals more than the numerator a constant compared with a quotient may have. With a numerator
+// of 19 digits that leaves one of 34 digits free.
 const mostFiner = 14
 
-// compareQuotients compares where a side is a quotient, by multiplying both sides with the divisors. Two different quotients
-// of numbers in the range differ by far more than 34 digits lose, and equal ones are rounded alike.
+// compareQuotients compares quotients by multiplying both sides with the divisors. Different quotients of numbers in
+// the range differ by much more than rounding to 34 digits loses, and equal ones round alike.
 func (t *translator) compareQuotients(n feel.Node, l phrase, operator string, r phrase) phrase {
 	if l.number != nil {
 		l, r, operator = r, l, turnedComparisons[operator]
@@ -203,7 +205,8 @@ func (t *translator) compareQuotients(n feel.Node, l phrase, operator string, r 
 	return t.crossed(n, l, left, operator, r, right)
 }
 
-// decimalParts is a quotient by a constant with the twos and fives of its divisor as decimals: so a smaller numerator is limit.
+// decimalParts turns the twos and fives in a constant divisor into decimals, which leaves a smaller limit for the
+// numerator.
 func (t *translator) decimalParts(n feel.Node, p phrase) phrase {
 	rest := big.NewInt(p.of.units.parts())
 	more := maximum(removed(rest, 2), removed(rest, 5))
@@ -243,7 +246,7 @@ func (t *translator) crossed(n feel.Node, l phrase, left *big.Int, operator stri
 	return infix(lText, operator, rText, rankComparison, booleanType)
 }
 
-// between is x >= low and x <= high.
+// between returns x >= low and x <= high.
 func (t *translator) between(n feel.Node, x, low, high phrase) phrase {
 	if refuseMixed(x.of, low.of, t.refusal(n)) || refuseMixed(x.of, high.of, t.refusal(n)) {
 		return refused

@@ -8,9 +8,9 @@ import (
 	"gateway/model"
 )
 
-// conform holds a value against a declared type. The standard makes null of a value that doesn't conform, a member of a
-// list of one, and a list of one of a scalar; the engine knows no types. So what always conforms is left as it is; what
-// may be tested is tested; and all else is refused.
+// conform checks a value against a declared type. The standard makes null of a value that doesn't conform, turns a list
+// of one into its member, and a scalar into a list of one. The engine has no types. So a value that always conforms is
+// left as it is, one that can be tested is tested, and all others are refused.
 func (t *translator) conform(b *box, of, due *valueType, refuse func(why, instead string)) (*box, *valueType) {
 	switch of.fitOf(due) {
 	case fits:
@@ -43,7 +43,7 @@ func (t *translator) conform(b *box, of, due *valueType, refuse func(why, instea
 	return b, refusedType
 }
 
-// insteadOfList tells what to write for a list where a scalar is declared.
+// insteadOfList says what to write for a list where a scalar is declared.
 func insteadOfList(due *valueType) string {
 	if due.kind == numberKind && len(due.allowed.nodes()) == 0 {
 		return "if count(l) = 1 then sum(l) else null, of a list l of numbers; or a list as the declared type"
@@ -51,7 +51,7 @@ func insteadOfList(due *valueType) string {
 	return "a list as the declared type"
 }
 
-// unfit tells why no value of a type is of a declared one.
+// unfit says why no value of a type fits the declared one.
 func unfit(of, due *valueType) string {
 	if of.kind == listKind && due.kind == listKind {
 		return "a member: " + unfit(of.element, due.element)
@@ -70,7 +70,7 @@ func unfit(of, due *valueType) string {
 	return fmt.Sprintf("it is of the type %s, where %s is declared", of, due)
 }
 
-// isForbidden tells whether a value may be a literal that its type doesn't allow.
+// isForbidden reports whether a value may be a literal that its type forbids.
 func (t *translator) isForbidden(b *box, due, of *valueType) bool {
 	switch b.kind {
 	case listBox:
@@ -96,7 +96,7 @@ func (t *translator) isForbidden(b *box, due, of *valueType) bool {
 	return textIsForbidden(b.value.text, due, of)
 }
 
-// memberType is the type of a list's members; of what is no list, the type itself.
+// memberType returns the type of a list's members; for other types, the type itself.
 func (t *valueType) memberType() *valueType {
 	if t.kind == listKind {
 		return t.element
@@ -104,7 +104,7 @@ func (t *valueType) memberType() *valueType {
 	return t
 }
 
-// fieldOr is the type of the entry with a word; where there is none, the type itself.
+// fieldOr returns the type of the entry with a word; if there is none, the type itself.
 func (t *translator) fieldOr(of *valueType, word string) *valueType {
 	if field := t.field(of, word); field != nil {
 		return field
@@ -112,7 +112,7 @@ func (t *translator) fieldOr(of *valueType, word string) *valueType {
 	return of
 }
 
-// tableIsForbidden looks at the output entries and the defaults.
+// tableIsForbidden is isForbidden for output entries and defaults.
 func (t *translator) tableIsForbidden(table *model.Table, due, given *valueType) bool {
 	switch table.Hit {
 	case "C", "R", "O":
@@ -143,7 +143,7 @@ func (t *translator) tableIsForbidden(table *model.Table, due, given *valueType)
 	return false
 }
 
-// field is the type of the entry with a word; nil where the type has none.
+// field returns the type of the entry with a word; nil if the type has none.
 func (t *translator) field(of *valueType, word string) *valueType {
 	return of.fields[feel.Canonical(t.words.names[word])]
 }
@@ -156,9 +156,8 @@ func textIsForbidden(text string, due, of *valueType) bool {
 	return fault == nil && literalIsForbidden(node, due, of.within())
 }
 
-// literalIsForbidden tells whether a form, a branch of it or a member is a literal that a type doesn't allow.
-//
-// A number is counted in some units.
+// literalIsForbidden reports whether a form, a branch or a member of it is a literal that a type forbids. Numbers are
+// in units u.
 func literalIsForbidden(n feel.Node, due *valueType, u units) bool {
 	switch n := n.(type) {
 	case *feel.If:
@@ -174,7 +173,7 @@ func literalIsForbidden(n feel.Node, due *valueType, u units) bool {
 	return !due.allowed.allows(uncounted(n, u))
 }
 
-// uncounted is the literal that a number stands for which is counted in some units.
+// uncounted returns the literal for a number counted in units.
 func uncounted(n feel.Node, u units) feel.Node {
 	value := rational(n)
 	if value == nil || u.isPlain() {
@@ -188,7 +187,7 @@ func uncounted(n feel.Node, u units) feel.Node {
 	return made
 }
 
-// tested puts a test of its type round a value.
+// tested wraps a test of its type around a value.
 func (t *translator) tested(b *box, test func(x string) string, of *valueType) (*box, *valueType) {
 	made := t.framed(func() *box {
 		var x phrase
@@ -202,12 +201,12 @@ func (t *translator) tested(b *box, test func(x string) string, of *valueType) (
 	return made, of
 }
 
-// asNumber is x where it is a number, the member where it is a list of one number, else null.
+// asNumber returns x if it is a number, its member if it is a list of one number, else null.
 func asNumber(x string) string {
 	return fmt.Sprintf("if %[1]s - %[1]s = 0 then %[1]s else if count(%[1]s) = 1 then sum(%[1]s) else null", x)
 }
 
-// asBoolean is x where it is true or false, the member where it is a list of one of these, else null.
+// asBoolean returns x if it is true or false, its member if it is a list of one of these, else null.
 func asBoolean(x string) string {
 	return fmt.Sprintf("if %[1]s = true or %[1]s = [true] then true else if %[1]s = false or %[1]s = [false] then false "+
 		"else null", x)

@@ -9,14 +9,14 @@ import (
 	"gateway/feel"
 )
 
-// momentOf is a constant date or duration.
+// momentOf returns a constant date or duration.
 func momentOf(value int64, of *valueType) phrase {
 	made := wholeConstant(big.NewInt(value))
 	made.of, made.rare = of, &rare{moment: &value}
 	return made
 }
 
-// momentText is a date or a duration that a form is by itself, as requests write it; false of others.
+// momentText returns a literal date or duration as requests write it; false for other forms.
 func momentText(n feel.Node) (string, bool) {
 	text, function := "", ""
 	switch n := n.(type) {
@@ -50,7 +50,7 @@ func momentText(n feel.Node) (string, bool) {
 	return write(value), err == nil
 }
 
-// functionOf is the function that reads the text of @"..".
+// functionOf returns the name of the function that reads the text of @"..".
 func functionOf(text string) string {
 	switch {
 	case text == "" || text[0] < '0' || text[0] > '9':
@@ -76,7 +76,7 @@ func (t *translator) atLiteral(n *feel.AtLiteral) phrase {
 	return t.durationText(n, n.Text)
 }
 
-// dateText is a date of the text of a literal.
+// dateText returns the date of a literal's text.
 func (t *translator) dateText(n feel.Node, text string) phrase {
 	day, err := calendar.Day(text)
 	if err != nil {
@@ -85,13 +85,13 @@ func (t *translator) dateText(n feel.Node, text string) phrase {
 	return t.moment(day, dateType)
 }
 
-// moment is a constant, which asks for counting.
+// moment returns a constant that needs counting.
 func (t *translator) moment(value int64, of *valueType) phrase {
 	t.fractions = true
 	return momentOf(value, of)
 }
 
-// durationText is a duration of the text of a literal.
+// durationText returns the duration of a literal's text.
 func (t *translator) durationText(n feel.Node, text string) phrase {
 	t.offsets.want(calendar.DecimalsIn(text))
 	read, of := t.offsets.tick.Duration, dayDurationType
@@ -105,7 +105,7 @@ func (t *translator) durationText(n feel.Node, text string) phrase {
 	return t.moment(value, of)
 }
 
-// temporalCall translates a function that makes a date or a duration; false where it is none.
+// temporalCall translates a function that makes a date or a duration; false for other functions.
 func (t *translator) temporalCall(n *feel.Call, name string, s *scope) (made phrase, is bool) {
 	switch name {
 	case "date":
@@ -127,7 +127,7 @@ func (t *translator) temporalCall(n *feel.Call, name string, s *scope) (made phr
 	return phrase{}, false
 }
 
-// literalArgument is the one argument of a call that is a text literal.
+// literalArgument returns the only argument of a call if it is a text literal.
 func literalArgument(n *feel.Call, parameter string) (text string, is bool) {
 	if len(n.Arguments) != 1 || n.Arguments[0].Name != "" && n.Arguments[0].Name != parameter {
 		return "", false
@@ -164,7 +164,7 @@ func (t *translator) dateCall(n *feel.Call, s *scope) phrase {
 	return t.refuse(n, "dates are read of literals alone, and taken of a date and time without an offset", `date("2026-01-31"), or an input of the type date`)
 }
 
-// dateOfParts is a date of constants.
+// dateOfParts returns the date of constant parts.
 func (t *translator) dateOfParts(n *feel.Call, parts []phrase) phrase {
 	var numbers [3]int
 	for i, part := range parts {

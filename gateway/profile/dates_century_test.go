@@ -8,8 +8,8 @@ import (
 	"gateway/profile"
 )
 
-// TestCenturies holds the parts of dates, and of those a day and a month later, against Go's calendar: over a century, and at both ends
-// of the years.
+// TestCenturies checks the parts of dates, and the dates a day and a month later, against Go's calendar: over a
+// century, and at both ends of the years.
 func TestCenturies(t *testing.T) {
 	d := startDesk(t)
 	file := dateFile(`{a: [d.year, d.month, d.day, d.weekday], b: [d + duration("P1D"), d - duration("P1M"), d + k]}`)

@@ -9,8 +9,8 @@ import (
 	"gateway/feel"
 )
 
-// Dates of the evaluator are those of Go's calendar, at midnight in UTC; a stamp is a date and time, an hour a time in seconds. A
-// span is a days and time duration in seconds, a term a years and months duration in months.
+// The evaluator's dates are those of Go's calendar, at midnight in UTC. A stamp is a date and time, an hour a time in
+// seconds, a span a days and time duration in seconds, a term a years and months duration in months.
 type (
 	stamp struct{ time.Time }
 	hour  int64
@@ -22,7 +22,7 @@ const daySpan = 24 * 3600
 
 func whole(n int64) *big.Rat { return new(big.Rat).SetInt64(n) }
 
-// calculatedDates is a sum, a difference or a product of dates and durations; false where none is one.
+// calculatedDates returns a sum, a difference or a product of dates and durations; false if there are none.
 func calculatedDates(operator string, a, b any) (made any, is bool) {
 	if !isDated(a) && !isDated(b) {
 		return nil, false
@@ -98,7 +98,7 @@ func midnight(at time.Time) time.Time {
 	return time.Date(at.Year(), at.Month(), at.Day(), 0, 0, 0, 0, time.UTC)
 }
 
-// joinedStamp is a day with the time of another one.
+// joinedStamp returns a day with the time of another one.
 func joinedStamp(day, at time.Time) stamp {
 	return stamp{time.Date(day.Year(), day.Month(), day.Day(), at.Hour(), at.Minute(), at.Second(), 0, time.UTC)}
 }
@@ -144,7 +144,7 @@ func partOfDate(of any, name string) any {
 	return nil
 }
 
-// calledDates are the functions over dates.
+// calledDates returns the functions over dates.
 func calledDates(name string, arguments []any) any {
 	switch name {
 	case "date":
@@ -193,7 +193,7 @@ func calledDates(name string, arguments []any) any {
 	return monthsOf(from, to)
 }
 
-// monthsOf goes month by month: as many as don't go past the other day.
+// monthsOf counts months one by one, up to the other day.
 func monthsOf(from, to time.Time) term {
 	passed := func(months int) int {
 		at := (from.Year()*12+int(from.Month())+months)*100 + from.Day()
@@ -268,7 +268,7 @@ func readDuration(text string) any {
 	panic(text)
 }
 
-// extremeDate is the least or the greatest of dates or durations; false where the first is none.
+// extremeDate returns the least or the greatest of dates or durations; false if the first isn't one.
 func extremeDate(name string, list []any) (any, bool) {
 	for _, item := range list {
 		if item == nil || !isDated(item) {
@@ -284,7 +284,7 @@ func extremeDate(name string, list []any) (any, bool) {
 	return soFar, true
 }
 
-// dateText is a date or a duration as results have it.
+// dateText writes a date or a duration as results have it.
 func dateText(value any) string {
 	switch x := value.(type) {
 	case time.Time:
@@ -356,7 +356,7 @@ func (e decimals) readDates(t *testing.T) {
 	}
 }
 
-// filtered is the member at an index from 1, or the list that a condition leaves.
+// filtered returns the member at an index from 1, or the list that a condition leaves.
 func (e decimals) filtered(n *feel.Filter) any {
 	list := e.value(n.Operand).([]any)
 	if _, is := n.Condition.(*feel.Number); is {

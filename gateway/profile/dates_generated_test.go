@@ -14,15 +14,15 @@ import (
 	"gateway/profile"
 )
 
-// generatedDateParts are the inputs of generated files with dates: born and day are dates, seen and sent dates with times, opens a
-// time, long and age durations, days a list.
+// generatedDateParts are the inputs of generated files with dates: born and day are dates, seen and sent dates with
+// times, opens a time, long and age durations, days a list.
 var generatedDateParts = []string{`<itemDefinition name="tDays" isCollection="true"><typeRef>date</typeRef></itemDefinition>`, input("born", "date"),
 	input("day", "date"), input("long", "days and time duration"), input("age", "years and months duration"), input("days", "tDays"),
 	input("seen", "date and time"), input("sent", "date and time"), input("opens", "time")}
 
 var generatedDateNeeds = []string{"born", "day", "long", "age", "days", "seen", "sent", "opens"}
 
-// borderDates are near what calendars go wrong at.
+// borderDates are near the days that calendars get wrong.
 var borderDates = []string{"2024-02-29", "2023-02-28", "2024-03-01", "2000-02-29", "1900-02-28", "1900-03-01", "2100-02-28", "1970-01-01", "1969-12-31",
 	"2026-01-31", "2026-12-31", "2025-08-31", "2026-04-30", "1999-12-31", "2000-01-01", "2000-03-01", "2400-02-29", "1600-02-29"}
 
@@ -246,7 +246,8 @@ func (w *writer) dateEntry() string {
 		"not("+literal()+")", "null", "?.month > 6", "?.weekday < 6", w.one("> ", "<= ")+w.date())
 }
 
-// overDates gives the table a column of dates, and at times outputs that are dates; it gives the type of the output.
+// overDates returns the table a column of dates, and sometimes outputs that are dates. It returns the type of the
+// output.
 func (it *generated) overDates(w *writer) string {
 	it.columns[0] = w.one("born", "day", w.date())
 	of := "number"
@@ -286,7 +287,7 @@ func (w *writer) requestOfDates() []string {
 	return append(inputs, `"days":[`+strings.Join(days, ",")+`]`)
 }
 
-// mixture writes an expression in which any kinds meet.
+// mixture writes an expression that mixes any kinds.
 func (w *writer) mixture() string {
 	switch w.Intn(10) {
 	case 0:
@@ -311,8 +312,8 @@ func (w *writer) mixture() string {
 	return w.one(w.conditionOfDates(), w.resultOfDates(), w.number())
 }
 
-// TestMixedKinds has expressions in which any kinds meet: each is refused, or means what the standard says, where a date is no
-// number. MIXED_FILES says how many.
+// TestMixedKinds tests expressions that mix any kinds: each is refused, or means what the standard says, in which a
+// date isn't a number. MIXED_FILES sets how many files.
 func TestMixedKinds(t *testing.T) {
 	files := 1500
 	if text := os.Getenv("MIXED_FILES"); text != "" {

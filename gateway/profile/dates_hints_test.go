@@ -7,8 +7,8 @@ import (
 	"gateway/profile"
 )
 
-// TestHintsOfDates follows the hints of refusals of dates that name a form: what is written instead is taken, and gives what was
-// meant. The answers are worked out by hand.
+// TestHintsOfDates follows the hints in refusals of dates: what they say to write is accepted, and gives what was
+// meant. The expected answers are worked out by hand.
 func TestHintsOfDates(t *testing.T) {
 	d := startDesk(t)
 	for _, c := range []struct{ text, hint, inputs, due string }{

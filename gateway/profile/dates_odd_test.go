@@ -7,7 +7,7 @@ import (
 	"gateway/profile"
 )
 
-// TestOddForms has calls and parts of dates that mean nothing: each is refused.
+// TestOddForms tests calls and parts of dates that mean nothing: each is refused.
 func TestOddForms(t *testing.T) {
 	d := startDesk(t)
 	for _, text := range []string{`date()`, `date(1, 2, 3, 4)`, `date(1, 2)`, `date(null, null, null)`, `date(d, 1, 1)`, `date(from: d, x: 1)`, `date("")`, `date(year: 2026, month: 1)`,

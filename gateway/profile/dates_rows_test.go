@@ -9,7 +9,8 @@ import (
 	"gateway/profile"
 )
 
-// dateParts are the parts of a file beside its decisions: d, e and f are dates, t and k durations, n a number, u of no type.
+// dateParts returns the parts of a file except its decisions: d, e and f are dates, t and k durations, n a number, u
+// has no type.
 func dateParts() []string {
 	return []string{`<itemDefinition name="tDates" isCollection="true"><typeRef>date</typeRef></itemDefinition>` +
 		`<itemDefinition name="tNumbers" isCollection="true"><typeRef>number</typeRef></itemDefinition>` +
@@ -57,7 +58,7 @@ var dateRows = []decimalRow{
 	{`c.day < d`, `{"d":"2026-01-06","c":{"day":"2026-01-05"}}`, "true"}, {`{from: d, to: e}.to`, `{"e":"2026-01-06"}`, `"2026-01-06"`}, {`[d, e][2]`, `{"e":"2026-01-06"}`, `"2026-01-06"`},
 	{`d instance of date`, `{"d":"2026-01-06"}`, "true"}, {`d instance of date`, `{}`, "false"}, {`d instance of number`, `{"d":"2026-01-06"}`, "false"}, {`t instance of date`, `{"t":"P1D"}`, "false"},
 	{`every x in [d, e] satisfies x > f`, `{"d":"2026-01-06","e":"2026-01-07","f":"2026-01-05"}`, "true"}, {`[d, e][item > f][1]`, `{"d":"2026-01-06","e":"2026-01-07","f":"2026-01-06"}`, `"2026-01-07"`},
-	// Dates never meet numbers, texts, or what has no type.
+	// Dates never meet numbers, texts, or values without a type.
 	{`d + 30`, `{}`, `refused: d + duration("P30D")`}, {`d - n`, `{}`, `refused: d - n * duration("P1D")`}, {`d + u`, `{}`, "refused: types date and Any"}, {`d + e`, `{}`, "refused: the sum of values of the types date and date"},
 	{`d < 20260101`, `{}`, "refused: a value of the type date meets one of the type number"}, {`n = d`, `{}`, "refused: meets one of the type number"}, {`d != s`, `{}`, `refused: date("2026-01-31") for a date`},
 	{`d > "2026-01-01"`, `{}`, `refused: date("2026-01-31") for a date`}, {`u < d`, `{}`, "refused: the type date for the other one"}, {`[d, 5]`, `{}`, "refused: meets one of the type number"},
@@ -81,7 +82,7 @@ var dateRows = []decimalRow{
 	{`d + k`, `{"d":"2026-01-15","k":"-P1Y1M"}`, `"2024-12-15"`}, {`d - k`, `{"d":"2026-01-15","k":"P13M"}`, `"2024-12-15"`}, {`d + k`, `{"d":"0001-01-31","k":"P119987M"}`, `"9999-12-31"`}, {`d + k`, `{"d":"9999-12-01","k":"P1M"}`, "limit"},
 	{`d - k`, `{"d":"0001-01-31","k":"P1M"}`, "limit"}, {`d + k`, `{"d":"2026-01-15"}`, "null"}, {`k + d`, `{"k":"P1M"}`, "null"}, {`d + k`, `{"d":"2026-01-15","k":"P768614336404564650Y"}`, "limit"}, {`d + duration("P1M") + duration("P1M")`, `{"d":"2026-01-31"}`, `"2026-03-28"`},
 	{`d + duration("P1M") - duration("P1D")`, `{"d":"2026-01-31"}`, `"2026-02-27"`}, {`date("2026-01-31") + k`, `{"k":"P13M"}`, `"2027-02-28"`}, {`d + 2 * duration("P6M")`, `{"d":"2024-02-29"}`, `"2025-02-28"`}, {`d + duration("P11M")`, `{"d":"2023-03-31"}`, `"2024-02-29"`},
-	// Three ways to ask for the age, on the 28th, of who was born on 29 February.
+	// Three ways to ask, on the 28th, for the age of someone born on 29 February.
 	{`d + duration("P18Y") <= e`, `{"d":"2008-02-29","e":"2026-02-28"}`, "true"}, {`e - duration("P18Y") >= d`, `{"d":"2008-02-29","e":"2026-02-28"}`, "false"}, {`years and months duration(d, e).years >= 18`, `{"d":"2008-02-29","e":"2026-02-28"}`, "false"},
 	{`d + duration("P18Y") <= e`, `{"d":"2008-02-29","e":"2026-02-27"}`, "false"}, {`e - duration("P18Y") >= d`, `{"d":"2008-02-29","e":"2026-03-01"}`, "true"}, {`years and months duration(d, e).years >= 18`, `{"d":"2008-02-29","e":"2026-03-01"}`, "true"},
 	{`years and months duration(d, e)`, `{"d":"2000-01-31","e":"2026-02-28"}`, `"P26Y"`}, {`years and months duration(d, e)`, `{"d":"2000-01-28","e":"2026-02-28"}`, `"P26Y1M"`}, {`years and months duration(d, e).years`, `{"d":"2027-01-15","e":"2026-01-14"}`, "-1"},
@@ -105,12 +106,12 @@ var dateRows = []decimalRow{
 	{`t + v`, `{"t":"PT36H","v":"-PT12H"}`, `"P1D"`}, {`t - v`, `{"t":"PT1H","v":"PT90M"}`, `"-PT30M"`}, {`t * n`, `{"t":"PT8H","n":3}`, `"P1D"`}, {`n * k`, `{"k":"P5M","n":-3}`, `"-P1Y3M"`}, {`t * 0`, `{"t":"PT8H"}`, `"PT0S"`}, {`t * n`, `{"t":"PT8H"}`, "null"},
 	{`t > v`, `{"t":"PT24H","v":"P1D"}`, "false"}, {`t = v`, `{"t":"PT24H","v":"P1D"}`, "true"}, {`k = duration("P1Y")`, `{"k":"P12M"}`, "true"}, {`t in [duration("PT0S")..duration("P1D")]`, `{"t":"PT25H"}`, "false"}, {`max(t, v)`, `{"t":"PT25H","v":"P1D"}`, `"P1DT1H"`},
 	{`duration("P1D") + duration("PT12H")`, `{}`, `"P1DT12H"`}, {`2 * duration("P8M")`, `{}`, `"P1Y4M"`}, {`t + v`, `{"t":"P106751991167300D","v":"P106751991167300D"}`, "limit"}, {`@"P1Y" = k`, `{"k":"P1Y"}`, "true"}, {`@"-PT5M"`, `{}`, `"-PT5M"`},
-	// What stands in front carries its condition.
+	// Entries before the expression carry its condition.
 	{`if d < date("9999-01-01") then d + duration("P1Y") else d`, `{"d":"9999-12-31"}`, `"9999-12-31"`}, {`if b then (d + t).year else 0`, `{"d":"9999-12-31","t":"P1D"}`, "0"}, {`if b then 0 else (d + k).year`, `{"d":"9999-12-31","k":"P1M","b":true}`, "0"},
 	{`if d.year < 2000 then d + duration("P1M") else d`, `{"d":"1999-12-31"}`, `"2000-01-31"`}, {`d.year / 4`, `{"d":"2026-01-01"}`, "506.5"}, {`decimal((d - e).days / 7, 1)`, `{"d":"2026-01-12","e":"2026-01-01"}`, "1.6"},
 }
 
-// TestDateRows holds the rows against the engine.
+// TestDateRows checks the rows against the engine.
 func TestDateRows(t *testing.T) {
 	if len(dateRows) < 100 {
 		t.Errorf("there are %d rows", len(dateRows))
@@ -137,7 +138,7 @@ func dateFile(text string) string {
 	return definitions(append(dateParts(), decision("q", "", literal(text), dateNeeds...))...)
 }
 
-// dateAnswer is the answer of a file; "refused: " and the refusals where it isn't taken.
+// dateAnswer returns the answer of a file, or "refused: " and the refusals.
 func dateAnswer(t *testing.T, d *desk, file, inputs string, options profile.Options) (*profile.Result, string) {
 	t.Helper()
 	read, err := dmn.Read("test.dmn", strings.NewReader(file))

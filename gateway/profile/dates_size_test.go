@@ -9,7 +9,7 @@ import (
 	"gateway/profile"
 )
 
-// TestManyDates measures files that ask for much of the calendar: each imports or is refused within seconds.
+// TestManyDates measures files that need much of the calendar: each is imported or refused within seconds.
 func TestManyDates(t *testing.T) {
 	var seasons, later, literals [][]string
 	for i := 0; i < 2000; i++ {

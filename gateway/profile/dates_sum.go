@@ -9,10 +9,10 @@ import (
 	"gateway/feel"
 )
 
-// pastRange is a text that breaks a limit.
+// pastRange is a text that exceeds a limit.
 const pastRange = largestNumber + " + 1"
 
-// hasTemporals tells whether an operand is a date or a duration.
+// hasTemporals reports whether an operand is a date or a duration.
 func hasTemporals(operands []phrase) bool {
 	for _, o := range operands {
 		if o.of.isTemporal() {
@@ -31,7 +31,7 @@ func (t *translator) temporalSum(n *feel.Chain, operands []phrase) phrase {
 	return soFar
 }
 
-// added is the sum or the difference of two values of which one may be a date or a duration.
+// added returns the sum or the difference of two values, one of which may be a date or a duration.
 func (t *translator) added(n feel.Node, a phrase, operator string, b phrase) phrase {
 	t.fractions = true
 	switch {
@@ -61,10 +61,10 @@ func (t *translator) added(n feel.Node, a phrase, operator string, b phrase) phr
 	return t.refuse(n, fmt.Sprintf("%s of values of the types %s and %s", sumNames[operator], a.of, b.of), t.insteadOfSum(n, a, operator, b))
 }
 
-// isPoint are the kinds of dates and times, which are no durations.
+// isPoint has the kinds that are points in time, not durations.
 var isPoint = map[kindOfType]bool{dateKind: true, timeKind: true, dateTimeKind: true, offsetTimeKind: true, offsetDateTimeKind: true}
 
-// secondsBetween is the duration between two times, or dates and times.
+// secondsBetween returns the duration between two times, or dates and times.
 func (t *translator) secondsBetween(n feel.Node, a, b phrase) phrase {
 	if refuseMixed(a.of, b.of, t.refusal(n)) {
 		return refused
@@ -77,7 +77,7 @@ func (t *translator) secondsBetween(n feel.Node, a, b phrase) phrase {
 
 var sumNames = map[string]string{"+": "the sum", "-": "the difference"}
 
-// insteadOfSum tells what to write for a sum of a date or a duration and another value.
+// insteadOfSum says what to write for a sum of a date or a duration and another value.
 func (t *translator) insteadOfSum(n feel.Node, a phrase, operator string, b phrase) string {
 	left, right := "d", "n"
 	if chain, is := n.(*feel.Chain); is && len(chain.Operands) == 2 {
@@ -101,7 +101,7 @@ func (t *translator) insteadOfSum(n feel.Node, a phrase, operator string, b phra
 	return t.insteadOfOther(a.of.kind, b.of.kind)
 }
 
-// insteadOfOther tells it where the other value is no number, date or time.
+// insteadOfOther is insteadOfSum for another value that isn't a number, date or time.
 func (t *translator) insteadOfOther(one, other kindOfType) string {
 	switch {
 	case other == anyKind:
@@ -116,7 +116,7 @@ func (t *translator) insteadOfOther(one, other kindOfType) string {
 	return "durations of one type"
 }
 
-// durationSum is the sum or the difference of two durations of one type.
+// durationSum returns the sum or the difference of two durations of one type.
 func (t *translator) durationSum(a phrase, operator string, b phrase) phrase {
 	made := infix(a, operator, b, rankSum, &valueType{kind: a.of.kind})
 	if a.moment() != nil && b.moment() != nil {
@@ -133,7 +133,7 @@ func (t *translator) durationSum(a phrase, operator string, b phrase) phrase {
 	return made
 }
 
-// addedNumbers is a sum or a difference; false where it is past the range.
+// addedNumbers returns a sum or a difference; false if it is past the range.
 func addedNumbers(a int64, operator string, b int64) (int64, bool) {
 	sum := new(big.Int).Add(big.NewInt(a), big.NewInt(b))
 	if operator == "-" {
@@ -142,7 +142,7 @@ func addedNumbers(a int64, operator string, b int64) (int64, bool) {
 	return sum.Int64(), isNumber(sum)
 }
 
-// wholeDays is how many days a days and time duration has that is known to be of whole days.
+// wholeDays returns the number of days in a days and time duration known to be whole days.
 func (t *translator) wholeDays(p phrase) (phrase, bool) {
 	switch {
 	case p.of.kind != dayDurationKind:
@@ -157,7 +157,7 @@ func (t *translator) wholeDays(p phrase) (phrase, bool) {
 	return phrase{}, false
 }
 
-// daysBetween is the duration between two dates.
+// daysBetween returns the duration between two dates.
 func (t *translator) daysBetween(a, b phrase) phrase {
 	if a.moment() != nil && b.moment() != nil {
 		return momentOf((*a.moment()-*b.moment())*t.perDay(), dayDurationType)
@@ -168,7 +168,7 @@ func (t *translator) daysBetween(a, b phrase) phrase {
 	return made
 }
 
-// daysLater is a date plus or minus a days and time duration: the date of that time after its midnight.
+// daysLater returns a date plus or minus a days and time duration: the date that long after its midnight.
 func (t *translator) daysLater(n feel.Node, d phrase, operator string, length phrase) phrase {
 	if d.moment() != nil && length.moment() != nil {
 		return t.constantDaysLater(n, *d.moment(), operator, *length.moment())
@@ -185,13 +185,13 @@ func (t *translator) daysLater(n feel.Node, d phrase, operator string, length ph
 	return t.step("day", text, dateType)
 }
 
-// wholeQuotient is v / p for a v that is a multiple of p, and a quotient from 0 to 2147483646.
+// wholeQuotient returns v / p for a multiple v of p, with a quotient from 0 to 2147483646.
 func wholeQuotient(v string, p int64) string {
 	prime := divisionPrimes[0]
 	return fmt.Sprintf("modulo(modulo(%s, %d) * %d, %d)", v, prime, inverse(p, prime), prime)
 }
 
-// checkedDay is a day, or a limit where it is past the years.
+// checkedDay returns a day, or exceeds a limit if it is outside the years.
 func (t *translator) checkedDay(at phrase) phrase {
 	return t.step("day", fmt.Sprintf("if %[1]s < %[2]d or %[1]s > %[3]d then %[4]s else %[1]s", at.text, calendar.FirstDay,
 		calendar.LastDay, pastRange), dateType)
@@ -229,7 +229,7 @@ func (t *translator) temporalProduct(n *feel.Chain, operands []phrase) phrase {
 	return soFar
 }
 
-// times is a duration times a whole number.
+// times returns a duration times a whole number.
 func (t *translator) times(n feel.Node, a phrase, operator string, b phrase) phrase {
 	t.fractions = true
 	if b.of.isTemporal() {
@@ -262,7 +262,7 @@ func (t *translator) times(n feel.Node, a phrase, operator string, b phrase) phr
 // mostMonths is past each sum of months that is a date.
 const mostMonths = 12 * (calendar.LastYear + 1)
 
-// monthsLater is a date plus or minus a years and months duration: the same day of the month, or its last day.
+// monthsLater returns a date plus or minus a years and months duration: the same day of the month, or its last day.
 func (t *translator) monthsLater(n feel.Node, d phrase, operator string, length phrase) phrase {
 	if d.moment() != nil && length.moment() != nil && *length.moment() != math.MinInt64 {
 		months := *length.moment()
@@ -283,14 +283,14 @@ func (t *translator) monthsLater(n feel.Node, d phrase, operator string, length 
 	return t.dayOfMonth(month, c.day(t))
 }
 
-// dayOfMonth is a day of a month that is counted from the year 0 on, or its last day.
+// dayOfMonth returns a day of a month counted from year 0, or the month's last day.
 func (t *translator) dayOfMonth(month phrase, day string) phrase {
 	year := t.always("year", wholeQuotient(fmt.Sprintf("%[1]s - modulo(%[1]s, 12)", month.text), 12), numberType)
 	of := t.always("month", fmt.Sprintf("modulo(%s, 12) + 1", month.text), numberType)
 	isLeap := fmt.Sprintf("modulo(%[1]s, 4) = 0 and (modulo(%[1]s, 100) != 0 or modulo(%[1]s, 400) = 0)", year.text)
 	last := t.always("last", fmt.Sprintf("if %[1]s = 2 then if %[2]s then 29 else 28 else if %[1]s = 4 or %[1]s = 6 or %[1]s = 9 or %[1]s = 11 "+
 		"then 30 else 31", of.text, isLeap), numberType)
-	// Years and months are counted from March on, so that 29 February is the last day of one.
+	// Years begin in March, so that 29 February is the last day of one.
 	from := t.always("year", fmt.Sprintf("if %[1]s < 3 then %[2]s - 1 else %[2]s", of.text, year.text), numberType)
 	since := t.always("days", fmt.Sprintf("if %[1]s < 3 then 153 * %[1]s + 1379 else 153 * %[1]s - 457", of.text), numberType)
 	leaps := t.always("days", wholeQuotient(fmt.Sprintf("100 * (%[1]s - modulo(%[1]s, 4)) - 4 * (%[1]s - modulo(%[1]s, 100)) + %[1]s - modulo(%[1]s, 400)",

@@ -8,7 +8,7 @@ import (
 	"gateway/types"
 )
 
-// seasons is a table over d with some entries, each giving its number from 1 on.
+// seasons returns a table over d, whose entries give their numbers from 1.
 func seasons(attributes, of string, entries ...string) string {
 	var rows [][]string
 	for i, entry := range entries {
@@ -17,12 +17,12 @@ func seasons(attributes, of string, entries ...string) string {
 	return table(attributes, []column{{text: "d", of: of}}, []column{{text: "season", of: "number"}}, rows...)
 }
 
-// outcomes is a table over b that gives one of two values.
+// outcomes returns a table over b that gives one of two values.
 func outcomes(attributes string, out column, yes, no string) string {
 	return table(attributes, []column{{text: "b", of: "boolean"}}, []column{out}, []string{"true", yes}, []string{"false", no})
 }
 
-// dateTables are a file's logic and the type of its decision, with a request and what is due.
+// dateTables are a file's logic, the type of its decision, a request, and the expected answer.
 var dateTables = []struct{ logic, of, inputs, due string }{
 	{seasons("", "date", `< date("2026-03-01")`, `[date("2026-03-01")..date("2026-06-01"))`, `>= @"2026-06-01"`), "", `{"d":"2026-02-28"}`, "1"},
 	{seasons("", "date", `< date("2026-03-01")`, `[date("2026-03-01")..date("2026-06-01"))`, `>= @"2026-06-01"`), "", `{"d":"2026-05-31"}`, "2"},
@@ -97,7 +97,7 @@ var dateTables = []struct{ logic, of, inputs, due string }{
 	{relation([]string{"p"}, []string{"d"}, []string{"2"}), "", `{}`, "refused: date meets one of the type number"},
 	{"<conditional><if>" + literal("b") + "</if><then>" + literal("d") + "</then><else>" + literal("n") + "</else></conditional>", "", `{}`, "refused: date meets one of the type number"},
 	{"<conditional><if>" + literal("b") + "</if><then>" + literal("d + duration(\"P1Y\")") + "</then><else>" + literal("d") + "</else></conditional>", "", `{"d":"9999-01-01"}`, `"9999-01-01"`},
-	// What a loose type hides would be a number: {day: d} of tLoose is still known to have a date.
+	// An untyped value hides a number, but {day: d} of tLoose is still known to have a date.
 	{boxedContext("x", strings.Replace(literal("{day: d}"), "<literalExpression>", `<literalExpression typeRef="tLoose">`, 1), "y", literal("x.day = 5")), "", `{}`, "refused: date meets one of the type number"},
 	{boxedContext("x", strings.Replace(literal("[d]"), "<literalExpression>", `<literalExpression typeRef="list">`, 1), "y", literal("x = [5]")), "", `{}`, "refused: date meets one of the type number"},
 	{boxedContext("x", strings.Replace(literal("d"), "<literalExpression>", `<literalExpression typeRef="Any">`, 1), "y", literal("x + 5")), "", `{}`, "refused: the sum of values of the types date and number"},
@@ -107,7 +107,7 @@ var dateTables = []struct{ logic, of, inputs, due string }{
 	{boxedContext("x", literal("[{day: d}].day"), "y", literal("x = [5]")), "", `{}`, "refused: date meets one of the type number"},
 }
 
-// TestDateTables holds tables and boxed expressions against what is due.
+// TestDateTables checks the answers of tables and boxed expressions.
 func TestDateTables(t *testing.T) {
 	d := startDesk(t)
 	for _, row := range dateTables {
@@ -126,7 +126,7 @@ func TestDateTables(t *testing.T) {
 	}
 }
 
-// TestDateSchemas has the schemas of dates and durations with allowed values, and what they take.
+// TestDateSchemas tests the schemas of dates and durations with allowed values, and what they accept.
 func TestDateSchemas(t *testing.T) {
 	for _, c := range []struct{ of, allowed, schema, takes, refuses, why string }{
 		{"date", "", `{"format":"date","type":["string","null"]}`, "2024-02-29", "2023-02-29", "February 2023 has 28 days"},
@@ -164,7 +164,7 @@ func TestDateSchemas(t *testing.T) {
 	}
 }
 
-// TestUndeclaredDates has an input whose column alone says that it is a date, with decimals for numbers.
+// TestUndeclaredDates tests an input that is a date by its column only, with decimals for numbers.
 func TestUndeclaredDates(t *testing.T) {
 	d := startDesk(t)
 	for _, logic := range []string{

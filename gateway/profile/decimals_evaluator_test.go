@@ -9,8 +9,8 @@ import (
 	"gateway/feel"
 )
 
-// The evaluator of decimals: FEEL by the standard, over decimals of 34 digits (*big.Rat), texts, booleans, null (nil), lists
-// and contexts. It knows nothing of units.
+// The evaluator of decimals implements FEEL by the standard, over decimals of 34 digits (*big.Rat), texts, booleans,
+// null (nil), lists and contexts. It knows nothing of units.
 type decimals map[string]any
 
 type record map[string]any
@@ -24,7 +24,7 @@ func (e decimals) with(name string, value any) decimals {
 	return inside
 }
 
-// rounded34 is a number to 34 significant digits, half even.
+// rounded34 rounds a number to 34 significant digits, half even.
 func rounded34(x *big.Rat) *big.Rat {
 	if x.Sign() == 0 {
 		return x
@@ -56,7 +56,7 @@ func rounded34(x *big.Rat) *big.Rat {
 
 func tenTo(n int) *big.Int { return new(big.Int).Exp(big.NewInt(10), big.NewInt(int64(n)), nil) }
 
-// toEven is a number of 0 or more to the nearest whole one, of two the even one.
+// toEven rounds a non-negative number to the nearest whole one, halves to the even one.
 func toEven(x *big.Rat) *big.Int {
 	floor := new(big.Int).Quo(x.Num(), x.Denom())
 	rest := new(big.Rat).Sub(x, new(big.Rat).SetInt(floor))
@@ -71,7 +71,7 @@ func toEven(x *big.Rat) *big.Int {
 	return floor
 }
 
-// roundedTo rounds to some decimals: the way is of "decimal", "floor", "ceiling" and their kin.
+// roundedTo rounds to a number of decimals, in the way of "decimal", "floor", "ceiling" and so on.
 func roundedTo(way string, x *big.Rat, digits int) *big.Rat {
 	unit := new(big.Rat).SetInt(tenTo(abs(digits)))
 	if digits < 0 {
@@ -425,7 +425,7 @@ func (e decimals) call(n *feel.Call) any {
 	}
 	switch name {
 	case "g":
-		// The knowledge that the files of the tests have: g(n, m) is decimal(n * 1.19, 2) - m.
+		// g(n, m), the business knowledge of the tests' files, is decimal(n * 1.19, 2) - m.
 		net, is := calculated("*", arguments[0], big.NewRat(119, 100)).(*big.Rat)
 		if !is {
 			return nil
@@ -504,7 +504,7 @@ func aggregated(name string, arguments []any) any {
 	return soFar
 }
 
-// decimalText is a value as JSON, numbers in their shortest form.
+// decimalText writes a value as JSON, with numbers in their shortest form.
 func decimalText(value any) string {
 	switch v := value.(type) {
 	case time.Time, stamp, hour, span, term:

@@ -16,16 +16,16 @@ import (
 	"gateway/profile"
 )
 
-// A writer writes texts with decimals whose constructs all have an exact form.
+// A writer writes texts with decimals, all of whose constructs have an exact form.
 type writer struct {
 	*rand.Rand
 	depth int
-	// literals are those that were written.
+	// literals are the ones written so far.
 	literals []string
 	names    []string
-	// dated tells that dates and durations are written too.
+	// dated is true if dates and durations are written too.
 	dated bool
-	// mixes tells that a kind stands at times where another one is due.
+	// mixes is true if values of a wrong kind are written at times.
 	mixes bool
 }
 
@@ -39,7 +39,7 @@ func (w *writer) literal() string {
 
 func (w *writer) name() string { return w.one(w.names...) }
 
-// number writes a number that is no quotient.
+// number writes a number that isn't a quotient.
 func (w *writer) number() string {
 	w.depth++
 	defer func() { w.depth-- }()
@@ -131,7 +131,7 @@ func (w *writer) interval() string {
 	return w.one("[", "(") + w.literal() + ".." + w.literal() + w.one("]", ")")
 }
 
-// result writes what a decision may give.
+// result writes an expression for the result of a decision.
 func (w *writer) result() string {
 	if w.dated && w.Intn(2) == 0 {
 		return w.resultOfDates()
@@ -161,7 +161,7 @@ func (w *writer) entry() string {
 		fmt.Sprintf("not(%s)", w.literal()), "null", fmt.Sprintf("? * 2 > %s", w.literal()))
 }
 
-// A generated file with its texts: decisions e and d of expressions, d over e, and a table t.
+// A generated is a file with its texts: decisions e and d of expressions, d over e, and a table t.
 type generated struct {
 	file, first, second, other string
 	columns                    []string
@@ -211,7 +211,7 @@ func generate(w *writer) generated {
 	return it
 }
 
-// decimalsOf is how many decimals a schema says.
+// decimalsOf returns the number of decimals in a schema.
 func decimalsOf(schema json.RawMessage) int {
 	var form struct {
 		MultipleOf string      `json:"-"`
@@ -264,7 +264,7 @@ func (w *writer) request(result *profile.Result) string {
 	return "{" + strings.Join(inputs, ",") + "}"
 }
 
-// due is what a decision of a generated file has to give.
+// due returns what a decision of a generated file should answer.
 func (it *generated) due(t *testing.T, service string, values decimals) any {
 	scope := decimalScope()
 	for _, name := range append([]string{"e"}, generatedDateNeeds...) {
@@ -313,8 +313,8 @@ func (it *generated) due(t *testing.T, service string, values decimals) any {
 	return hits[0]
 }
 
-// TestGeneratedDecimals holds generated files against the evaluator: no answer differs, nearly all files are taken, and few
-// answers are limits. DECIMAL_FILES says how many files, DECIMAL_SEED where the numbers begin.
+// TestGeneratedDecimals checks generated files against the evaluator: no answer differs, nearly all files are accepted,
+// and few answers are limit errors. DECIMAL_FILES sets how many files, DECIMAL_SEED the seed.
 func TestGeneratedDecimals(t *testing.T) {
 	files, seed := 120, int64(1)
 	if text := os.Getenv("DECIMAL_FILES"); text != "" {

@@ -9,7 +9,8 @@ import (
 	"gateway/profile"
 )
 
-// TestDecimalsOfInputs says how many decimals inputs have, by the file or by the caller. The answers are worked out by hand.
+// TestDecimalsOfInputs gives the decimals of inputs in the file or as options. The expected answers are worked out by
+// hand.
 func TestDecimalsOfInputs(t *testing.T) {
 	parts := []string{ratioTypes, `<itemDefinition name="tApplicant">` +
 		`<itemComponent name="Income"><typeRef>number</typeRef></itemComponent>` +
@@ -61,7 +62,7 @@ func TestDecimalsOfInputs(t *testing.T) {
 	}
 }
 
-// TestTypesOfQuotients says in which unit a quotient is counted, and from which size on a number is a limit.
+// TestTypesOfQuotients tests in which unit a quotient is counted, and from which size a number is a limit error.
 func TestTypesOfQuotients(t *testing.T) {
 	result := taken(t, definitions(input("a", "number"), decision("d", "number", literal("a / 12"), "a"),
 		decision("e", "number", literal("a * 0.5"), "a")))

@@ -20,7 +20,7 @@ const ratioTypes = `<itemDefinition name="tC"><itemComponent name="x"><typeRef>n
 	`<itemDefinition name="tL" isCollection="true"><typeRef>number</typeRef></itemDefinition>` +
 	`<itemDefinition name="tRate"><typeRef>number</typeRef><allowedValues><text>0, 0.125, 0.5</text></allowedValues></itemDefinition>`
 
-// decimalParts are the parts of a file beside its decisions; inputs a, b, x, y are numbers, u is of no type.
+// decimalParts returns the parts of a file except its decisions: inputs a, b, x, y are numbers, u has no type.
 func decimalParts() []string {
 	return []string{ratioTypes, input("a", "number"), input("b", "number"), input("x", "number"), input("y", "number"),
 		input("s", "string"), input("f", "boolean"), input("u", ""), input("l", "tL"), input("c", "tC"), input("r", "tRate"),
@@ -33,7 +33,8 @@ func decimalScope() *feel.Scope {
 	return feel.NewScope(nil, "a", "b", "x", "y", "s", "f", "u", "l", "c", "r", "g", "d")
 }
 
-// countedAsk asks a service with decimals, and gives the result with decimals; "limit", or "refused: why" of a request.
+// countedAsk asks a service with decimals. It returns the result with decimals, or "limit", or "refused: why" for a
+// request.
 func countedAsk(d *desk, result *profile.Result, service, inputs string) string {
 	d.t.Helper()
 	tree, err := lines.Tree([]byte(inputs))
@@ -69,7 +70,7 @@ func typeOf(t testing.TB, result *profile.Result, word string) *types.Type {
 	return of
 }
 
-// decimalValues are the values of a request for the evaluator.
+// decimalValues returns the values of a request for the evaluator.
 func decimalValues(t testing.TB, inputs string) decimals {
 	t.Helper()
 	tree, err := lines.Tree([]byte(inputs))
@@ -102,7 +103,8 @@ func decimalValue(value any) any {
 	return value
 }
 
-// decimalRow is an expression with a request and what is due, worked out by hand; "limit", or "refused: " and words of the reason.
+// decimalRow is an expression, a request, and the answer worked out by hand: a value, "limit", or "refused: " with
+// words of the reason.
 type decimalRow struct{ text, inputs, due string }
 
 var decimalRows = []decimalRow{
@@ -119,14 +121,14 @@ var decimalRows = []decimalRow{
 	{"a + 0." + strings.Repeat("0", 90) + "1", `{}`, "refused: decimals"}, {"a * 0." + strings.Repeat("0", 90) + "1", `{}`, "refused: decimals"},
 	{"a < 0." + strings.Repeat("0", 6175) + "1", `{"a":0}`, "true"}, {"a < 0." + strings.Repeat("0", 6176) + "1", `{}`, "refused: decimals"},
 	{"(a + 1.5) * (b + 0.25)", `{"a":0.5,"b":0.75}`, "2"},
-	// The standard rounds on the way, or a constant is past the range where it meets finer numbers.
+	// The standard rounds on the way, or a constant exceeds the range where it meets finer numbers.
 	{"0.0000000000000000000000000000000001 + 1000000000000000.5 - 1000000000000000.5", `{}`, "refused: with 34 decimals"},
 	{"0.000000007450580596923828125 * 0.000000007450580596923828125 * 18014398509481984", `{}`, "refused: with 54 decimals"},
 	{"a * b * 0.00000001 + 9223372036854.5", `{}`, "refused: with 12 decimals"}, {"[a * b * 0.00000001, 9223372036854.5]", `{}`, "refused: with 12 decimals"},
 	{"if f then a * b * 0.00000001 else 9223372036854.5", `{}`, "refused: with 12 decimals"},
 	{"9223372036854775807 + 0.5 - 0.5 = a", `{"a":5}`, "false"}, {"9223372036854775807 - 0.5 > a", `{"a":5}`, "true"},
 	{"9223372036854775807 - 0.5 + a", `{}`, "refused: past"}, {"0.1 + 0.2 - 0.3", `{}`, "0"}, {"1.5 * 2 * 0.5", `{}`, "1.5"},
-	// Comparisons: a literal moves to the unit of the value.
+	// Comparisons: a literal is brought to the unit of the value.
 	{"a < 1234567890123.4567890123", `{"a":1234567890123.45}`, "true"}, {"a < 1234567890123.4567890123", `{"a":1234567890123.46}`, "false"},
 	{"a < 99999999999999999999.5", `{"a":92233720368547758.07}`, "true"}, {"a > -99999999999999999999.5", `{"a":-92233720368547758.07}`, "true"},
 	{"a < -99999999999999999999.5", `{"a":-92233720368547758.07}`, "false"}, {"a > 99999999999999999999.5", `{"a":5}`, "false"},
@@ -177,7 +179,8 @@ var decimalRows = []decimalRow{
 	{"x / 4", `{"x":1}`, "0.25"}, {"floor(x / 3)", `{"x":92233720368547758.07}`, "30744573456182586"}, {"floor(x / 3)", `{"x":-92233720368547758.05}`, "-30744573456182587"},
 	{"a / 3 = 0.3333333333333333333333333333333333", `{}`, "refused: over 14 decimals more"}, {"a / 3 > 0.3333333333333333", `{"a":1}`, "true"},
 	{"a / 3 * 0.01 < 0.00333333333333334", `{"a":1}`, "true"},
-	// By twos and fives alone a comparison needs no decimals of the quotient; by many twos it is a quotient.
+	// If the divisor has only twos and fives, a comparison needs no decimals of the quotient; with many twos it is a
+	// quotient.
 	{"a / 8 > 0.5", `{"a":92233720368547758.07}`, "true"}, {"a / 8 > 0.5", `{"a":4}`, "false"}, {"a / 8 > 0.5", `{"a":4.01}`, "true"}, {"a / 8 = 0.5", `{"a":4}`, "true"},
 	{"a / 8 = 0.5", `{}`, "false"}, {"a / 8 != 0.5", `{}`, "true"}, {"a / 8 > 0.5", `{}`, "null"}, {"a / 8 = 0.5001", `{"a":4}`, "false"}, {"a / 8 != 0.5001", `{"a":4}`, "true"},
 	{"0.5 < a / 8", `{"a":4.01}`, "true"}, {"a / -8 < -0.5", `{"a":4.01}`, "true"}, {"a / -8 < -0.5", `{"a":4}`, "false"}, {"a / 8 > 0.000000000000000000001", `{"a":0.01}`, "true"},
@@ -199,14 +202,14 @@ var decimalRows = []decimalRow{
 	{"decimal(a / b, 0)", `{"a":5,"b":21474836.47}`, "0"}, {"decimal(a / b, 0)", `{"a":64424509.41,"b":21474836.47}`, "3"}, {"decimal(a / b, 0)", `{"a":92233720368547758.07,"b":0.01}`, "9223372036854775807"}, {"decimal(a / b * 100, 1)", `{"a":1,"b":3}`, "33.3"}, {"floor(a / b)", `{"a":-1,"b":3}`, "-1"}, {"round half up(a / b, 1)", `{"a":-1,"b":4}`, "-0.3"},
 	{"decimal(a / b, -1)", `{"a":1000,"b":3}`, "330"}, {"a / b", `{}`, "refused: a quotient may only be"}, {"a / b + 1", `{}`, "refused: a quotient may only be"}, {"if f then a / b else 1", `{}`, "refused: a quotient may only be"},
 	{"decimal(a / u, 2)", `{"a":1,"u":"a"}`, "null"}, {"a / u > 0.5", `{"a":1,"u":"a"}`, "null"}, {"u / a = 0.5", `{"a":1,"u":"a"}`, "false"}, {"a / b in [0.3..0.4]", `{"a":1,"b":3}`, "true"}, {"a / b between 0.3 and 0.4", `{"a":1,"b":2}`, "false"},
-	// What stands in front carries its condition.
+	// Entries before the expression carry its condition.
 	{"if x < 1000 then decimal(x * x * x * x * 1.015, 2) else 0", `{"x":1000000}`, "0"}, {"if x < 1000 then decimal(x * x * x * x * 1.015, 2) else 0", `{"x":2}`, "16.24"},
 	{"if x >= 1000 then 0 else decimal(x * x * x * x * 1.015, 2)", `{"x":1000000}`, "0"}, {"if x > 0 then if x < 1000 then decimal(x * x * x * x * 1.015, 2) else 1.5 else 2.5", `{"x":1000000}`, "1.5"},
 	{"if x > 0 then (if x < 1000 then 0.5 else 1.5) else decimal(x * x * x * x * 1.015, 2)", `{"x":1000000}`, "1.5"}, {"if x < 1000 then {p: decimal(x * x * x * x * 1.015, 2)}.p else 0", `{"x":1000000}`, "0"},
 	{"if x < 1000 then g(x * x * x * x, 1) else 0", `{"x":1000000}`, "0"}, {"g(a, 0.5)", `{"a":1}`, "0.69"},
 }
 
-// TestDecimalRows holds the rows against the engine and against the evaluator.
+// TestDecimalRows checks the rows against the engine and the evaluator.
 func TestDecimalRows(t *testing.T) {
 	if len(decimalRows) < 120 {
 		t.Errorf("there are %d rows", len(decimalRows))

@@ -8,7 +8,7 @@ import (
 	"gateway/profile"
 )
 
-// A tableRow is a file with a request of one of its decisions and what is due, worked out by hand.
+// A tableRow is a file, a request of one of its decisions, and the answer, worked out by hand.
 type tableRow struct{ name, logic, of, inputs, due string }
 
 func boxedContext(all ...string) string {
@@ -66,11 +66,11 @@ func decimalTables() []tableRow {
 		{"the same", table(`hitPolicy="UNIQUE"`, single, []column{{text: "r", fallback: "decimal(a * a * a * a * 1.015, 2)"}}, []string{"> 5", "1.5"}), "", `{"a":2}`, "16.24"},
 		{"a rounding in a rule", table(`hitPolicy="FIRST"`, single, r, []string{"< 1000", "decimal(a * a * a * a * 1.015, 2)"}, []string{"-", "0"}), "", `{"a":1000000}`, "0"},
 		{"the same", table(`hitPolicy="FIRST"`, single, r, []string{"< 1000", "decimal(a * a * a * a * 1.015, 2)"}, []string{"-", "0"}), "", `{"a":2}`, "16.24"},
-		{"a rounding behind a condition", table(`hitPolicy="FIRST"`, single, r, []string{"? * 2 < 1000.5", "decimal(a * a * a * a * 1.015, 2)"}, []string{"-", "0"}), "", `{"a":1000000}`, "0"},
+		{"a rounding after a condition", table(`hitPolicy="FIRST"`, single, r, []string{"? * 2 < 1000.5", "decimal(a * a * a * a * 1.015, 2)"}, []string{"-", "0"}), "", `{"a":1000000}`, "0"},
 		{"two outputs", table(`hitPolicy="FIRST"`, single, []column{{text: "fee"}, {text: "name"}}, []string{"< 1.5", "0.5", `"a"`}, []string{"-", "1.125", `"b"`}), "", `{"a":2}`, `{"fee":1.125,"name":"b"}`},
 		{"two outputs", table(`hitPolicy="COLLECT"`, single, []column{{text: "fee"}, {text: "name"}}, []string{"-", "0.5", `"a"`}, []string{"-", "1.125", `"b"`}), "", `{"a":2}`, `[{"fee":0.5,"name":"a"},{"fee":1.125,"name":"b"}]`},
 		{"a text or a number", table(`hitPolicy="FIRST"`, single, []column{{text: "r"}}, []string{"< 1.5", `"low"`}, []string{"-", "a * 0.5"}), "", `{"a":2.01}`, "1.005"},
-		{"a number beside an untyped value", table(`hitPolicy="FIRST"`, single, []column{{text: "r"}}, []string{"< 1.5", "u"}, []string{"-", "0.125"}), "", `{"a":1,"u":0.125}`, "0.125"},
+		{"a number next to an untyped value", table(`hitPolicy="FIRST"`, single, []column{{text: "r"}}, []string{"< 1.5", "u"}, []string{"-", "0.125"}), "", `{"a":1,"u":0.125}`, "0.125"},
 		{"null", table(`hitPolicy="FIRST"`, single, r, []string{"null", "0.5"}, []string{"-", "1"}), "", `{}`, "0.5"},
 		{"not", table(`hitPolicy="FIRST"`, single, r, []string{"not(0.5, 1.25)", "0.5"}, []string{"-", "1"}), "", `{"a":1.25}`, "1"},
 		{"not of a number that is none in cents", table(`hitPolicy="FIRST"`, single, r, []string{"not(0.125)", "0.5"}, []string{"-", "1"}), "", `{"a":0.12}`, "0.5"},
@@ -104,7 +104,7 @@ func decimalTables() []tableRow {
 		{"a member in another unit", literal("list contains(l, a * 0.1) or l = [0.5]"), "", `{"l":[1.25],"a":12.5}`, "true"},
 		{"a quotient as a member", literal("list contains([a / 3, b], x + 0.5)"), "", `{"a":4.5,"b":7,"x":1}`, "true"},
 		{"none of the quotients", literal("list contains([a / 3, b], x + 0.5)"), "", `{"a":4.5,"b":7,"x":4}`, "false"},
-		{"beside the quotients", literal("list contains([a / 3, b], x + 0.5)"), "", `{"a":4.51,"b":7,"x":6.5}`, "true"},
+		{"next to the quotients", literal("list contains([a / 3, b], x + 0.5)"), "", `{"a":4.51,"b":7,"x":6.5}`, "true"},
 		{"a constant as a quotient", literal("list contains([a / 3, b], 1.5)"), "", `{"a":4.5,"b":7}`, "true"},
 		{"what a filter leaves", literal("sum([a, b, 0.125][item > 0.1])"), "", `{"a":0.1,"b":0.2}`, "0.325"},
 		{"the first that a filter leaves", literal("[a, b, 0.125][item > 0.1][1]"), "", `{"a":0.1,"b":0.1}`, "0.125"},
@@ -117,7 +117,7 @@ func decimalTables() []tableRow {
 	}
 }
 
-// TestDecimalTables holds tables and boxed expressions against what is due.
+// TestDecimalTables checks the answers of tables and boxed expressions.
 func TestDecimalTables(t *testing.T) {
 	d := startDesk(t)
 	for _, row := range decimalTables() {

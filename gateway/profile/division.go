@@ -9,21 +9,22 @@ import (
 	"gateway/lines"
 )
 
-// The profile has no division. A quotient of a number of 0 or more that is a multiple of the divisor is found by its
-// remainders by two primes, each the remainder of the number times the inverse of the divisor, and put together by the
-// theorem of remainders. It costs three entries in front of the expression where the divisor is a constant, of 2 one more.
+// The profile has no division. The quotient of a non-negative multiple of the divisor is found from its remainders by
+// two primes, each the remainder of the number times the inverse of the divisor, and combined by the Chinese remainder
+// theorem. For a constant divisor that takes three entries before the expression, for 2 one more.
 
-// divisionPrimes are primes just below 2^31: the product of two of them is just below 2^62, and a product of two
-// remainders is in the range.
+// divisionPrimes are primes just below 2^31. The product of two is just below 2^62, and the product of two remainders
+// is in the range.
 var divisionPrimes = []int64{2147483647, 2147483629, 2147483587, 2147483579, 2147483563, 2147483549}
 
-// leastDivisor is the least divisor by which each quotient in the range is below the product of two primes.
+// leastDivisor is the least divisor whose quotients in the range are all below the product of two primes.
 const leastDivisor = 3
 
-// parted is how often p is in size * by, which is 0 or more, and the rest. Where size is null both are.
+// parted divides size * by, which is 0 or more, by p, and returns the quotient and the rest. If size is null both are.
 //
-// With a factor size is q * p + r: then p is in it q * by times, and as often as in r * by, which is below by times and so found by
-// its remainder by one prime. So no number on the way is greater than the quotient, size, or p * by.
+// If by isn't 1, size is first written as q * p + r. Then p is in it q * by times, and as often as in r * by. The
+// latter is less than by times, and so found from its remainder by one prime. So no number on the way is greater than
+// the quotient, size, or p * by.
 func (t *translator) parted(size phrase, by int64, p phrase) (q, rest phrase) {
 	rest = t.step("rest", fmt.Sprintf("modulo(%s, %s)", size.text, p.text), numberType)
 	multiple := size.text + " - " + rest.text
@@ -44,7 +45,7 @@ func (t *translator) parted(size phrase, by int64, p phrase) (q, rest phrase) {
 	return t.step("quotient", fmt.Sprintf("%s * %d + %s", q.text, by, few), numberType), last
 }
 
-// hasShortRest tells whether a factor above 1 may be left to the rest of a division by p.
+// hasShortRest reports whether a factor above 1 may be left to the rest of a division by p.
 func hasShortRest(by *big.Int, p int64) bool {
 	if by.Sign() <= 0 || p == 1 || by.Cmp(big.NewInt(divisionPrimes[len(divisionPrimes)-1])) > 0 {
 		return by.IsInt64() && by.Int64() == 1
@@ -52,8 +53,9 @@ func hasShortRest(by *big.Int, p int64) bool {
 	return isNumber(new(big.Int).Mul(by, big.NewInt(p)))
 }
 
-// exactQuotient is v / p for a v of 0 or more that is a multiple of p, which is 2 or more. Where v is null it is null. V is a text that
-// may stand as an argument. A number that is twice a quotient of leastDivisor or more is so often in it, and once more where 2 is left.
+// exactQuotient returns v / p for a multiple v of p, with v at least 0 and p at least 2. If v is null the quotient is.
+// V is a text that may be an argument. A number that is twice a quotient of leastDivisor or more contains p that often,
+// and once more if 2 is left.
 func (t *translator) exactQuotient(v string, p int64) phrase {
 	if p < leastDivisor {
 		left := t.step("rest", fmt.Sprintf("modulo(%s, 4)", v), numberType)
@@ -66,13 +68,13 @@ func (t *translator) exactQuotient(v string, p int64) phrase {
 	return t.joinedRests(a, b, first, second)
 }
 
-// joinedRests is the number of 0 or more that has the given remainders by two primes.
+// joinedRests returns the non-negative number with the given remainders by two primes.
 func (t *translator) joinedRests(a, b phrase, first, second int64) phrase {
 	return t.step("quotient", fmt.Sprintf("%[1]s + %[3]d * modulo((%[2]s - %[1]s) * %[5]d, %[4]d)", a.text, b.text, first, second,
 		inverse(first, second)), numberType)
 }
 
-// primesFor are two primes that don't divide p.
+// primesFor returns two primes that don't divide p.
 func primesFor(p int64) (first, second int64) {
 	for _, prime := range divisionPrimes {
 		switch {
@@ -86,13 +88,14 @@ func primesFor(p int64) (first, second int64) {
 	return first, second
 }
 
-// inverse is the number by which a has the product 1, by a prime.
+// inverse returns the inverse of a modulo a prime.
 func inverse(a, prime int64) int64 {
 	return new(big.Int).ModInverse(big.NewInt(a), big.NewInt(prime)).Int64()
 }
 
-// A quotient by a variable has three digits: lowBase values of the lowest, middleBase of the middle one, and some two million of
-// the highest. Divisors from twoDigits on need two of them, from oneDigit on one, and those below lowBase + 1 are multiplied by it.
+// A quotient by a variable has three digits: lowBase values of the lowest, middleBase of the middle one, and some two
+// million of the highest. Divisors from twoDigits on need two of them, from oneDigit on one. Divisors below lowBase + 1
+// are multiplied by it.
 const (
 	lowBase    = 2_000_000
 	middleBase = lowBase - 1
@@ -100,11 +103,11 @@ const (
 	oneDigit   = lines.MaxNumber/lowBase + 1
 )
 
-// variableQuotient is v / c for a v of 0 or more that is a multiple of c, and a c above 0. Where v is null it is null.
+// variableQuotient returns v / c for a multiple v of c, with v at least 0 and c above 0. If v is null the quotient is.
 //
-// By c - 1 the number c leaves the rest 1, and so q * c leaves q, where q is below c - 1. The digits of q are small enough: v has
-// them times c, times 1, lowBase and lowBase * middleBase, and they are parted by remainders of these. The product of the lowest one
-// with a small c is multiplied by lowBase + 1 first.
+// Modulo c - 1 the number c is 1, so q * c is q if q is below c - 1. The digits of q are small enough: v has them times
+// c, times 1, lowBase and lowBase * middleBase, and remainders by these separate them. The product of the lowest one
+// with a small c is first multiplied by lowBase + 1.
 func (t *translator) variableQuotient(v string, c phrase) phrase {
 	low := t.step("low", fmt.Sprintf("if %[2]s < %[3]d then modulo(%[1]s, %[2]s * %[4]d) else %[1]s", v, c.text, oneDigit, lowBase), numberType)
 	rest := v + " - " + low.text
@@ -117,6 +120,6 @@ func (t *translator) variableQuotient(v string, c phrase) phrase {
 		fmt.Sprintf("(if %[2]s < %[3]d then modulo(%[1]s, %[2]s * %[4]d - 1) * %[4]d else 0)", rest, c.text, twoDigits, lowBase*middleBase),
 	}
 	q := t.step("quotient", strings.Join(digits, " + "), numberType)
-	// Multiplied back it is v; another number would be a fault, and is a limit.
+	// Multiplied back it is v. Any other number would be a fault, and exceeds a limit.
 	return t.step("quotient", fmt.Sprintf("if %[1]s * %[2]s = (%[3]s) then %[1]s else %[4]s + 1", q.text, c.text, v, largestNumber), numberType)
 }

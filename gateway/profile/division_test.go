@@ -11,11 +11,12 @@ import (
 	"gateway/profile"
 )
 
-// divisors are constants of each sort: powers of two, of three, of ten, primes, and those by which quotients are found.
+// divisors are constants of each sort: powers of two, three and ten, primes, and those used to find quotients.
 var divisors = []int64{2, 3, 4, 5, 6, 7, 8, 9, 11, 12, 13, 16, 24, 27, 30, 52, 60, 64, 81, 97, 100, 128, 365, 1000, 1200, 3600, 12345, 65536, 999983,
 	1000003, 1000000000, 2147483629, 2147483646, 2147483647, 2 * 2147483647, 1 << 27, 1<<63 - 2, 1<<63 - 1}
 
-// numerators are numbers over the whole range: both ends, where products would pass it, multiples of a divisor and their neighbours.
+// numerators covers the whole range: both ends, where products would leave it, multiples of a divisor and their
+// neighbours.
 func numerators(random *rand.Rand, divisor int64) (all []int64) {
 	const most = 1<<63 - 1
 	add := func(n int64) {
@@ -36,7 +37,7 @@ func numerators(random *rand.Rand, divisor int64) (all []int64) {
 	return all
 }
 
-// rounded is n / d, by a rounding.
+// rounded returns n / d, rounded.
 func rounded(rounding string, n, d int64) *big.Int {
 	floor, rest := new(big.Int).DivMod(big.NewInt(n), big.NewInt(d), new(big.Int))
 	twice := rest.Cmp(new(big.Int).Sub(big.NewInt(d), rest))
@@ -64,7 +65,7 @@ func wholeInputs(t *testing.T, parts []string) (*desk, *profile.Result) {
 	return d, result
 }
 
-// TestDivisionOverTheWholeRange divides by constants, and holds each quotient against math/big: none is a limit.
+// TestDivisionOverTheWholeRange divides by constants, and checks each quotient against math/big. None exceeds a limit.
 func TestDivisionOverTheWholeRange(t *testing.T) {
 	parts := []string{input("x", "number")}
 	for _, divisor := range divisors {
@@ -86,11 +87,12 @@ func TestDivisionOverTheWholeRange(t *testing.T) {
 	}
 }
 
-// borders are divisors at which quotients by a variable are found in another way, and ends of ranges.
+// borders are the divisors at which quotients by a variable are found in another way, and ends of ranges.
 var borders = []int64{1, 2, 3, 7, 10, 1_999_999, 2_000_000, 2_000_001, 2_305_844, 2_305_845, 1 << 31, 1<<31 - 1, 2_147_483_629, 1 << 32,
 	3_999_998_000_000, 4_611_686_018_427, 4_611_686_018_428, 1 << 61, 1 << 62, 1<<63 - 2, 1<<63 - 1}
 
-// pairs are numerators and divisors: quotients at borders and between them, with rests next to 0 and next to half, of each sign in turn.
+// pairs returns numerators and divisors: quotients at borders and between them, with rests next to 0 and next to half,
+// of all signs.
 func pairs(random *rand.Rand) (all [][2]int64) {
 	const most = 1<<63 - 1
 	divisors := append([]int64(nil), borders...)
@@ -119,7 +121,8 @@ func pairs(random *rand.Rand) (all [][2]int64) {
 	return all
 }
 
-// TestQuotientsByAVariableOverTheWholeRange divides by a variable and rounds: each quotient is right, and none is a limit.
+// TestQuotientsByAVariableOverTheWholeRange divides by a variable and rounds. Each quotient is right, and none exceeds
+// a limit.
 func TestQuotientsByAVariableOverTheWholeRange(t *testing.T) {
 	forms := map[string]string{"floor": "floor(x / y)", "ceiling": "ceiling(x / y)", "decimal": "decimal(x / y, 0)"}
 	parts := []string{input("x", "number"), input("y", "number")}
@@ -146,8 +149,8 @@ func TestQuotientsByAVariableOverTheWholeRange(t *testing.T) {
 	}
 }
 
-// TestAWrongQuotientIsALimit has a model whose quotients by a variable are spoilt: multiplied back they are not the numerator, so that
-// each answer is a limit and none is another number.
+// TestAWrongQuotientIsALimit spoils a model's quotients by a variable. Multiplied back they are not the numerator, so
+// each answer is a limit error and none is a wrong number.
 func TestAWrongQuotientIsALimit(t *testing.T) {
 	result := taken(t, definitions(input("x", "number"), input("y", "number"), decision("q", "number", literal("decimal(x / y, 0)"), "x", "y")))
 	line, err := profile.Line(&result.Model)
@@ -160,7 +163,7 @@ func TestAWrongQuotientIsALimit(t *testing.T) {
 	}
 	d := startDesk(t)
 	for _, wrong := range []string{"1 + ", "-1 + ", "2 * "} {
-		d.tell(strings.Replace(string(line), found, found+wrong, 1))
+		d.send(strings.Replace(string(line), found, found+wrong, 1))
 		for _, inputs := range []string{`{"x":7,"y":2}`, `{"x":-7,"y":2}`, `{"x":9,"y":-3}`, `{"x":2147483647,"y":2147483647}`, `{"x":9223372036854775807,"y":1}`} {
 			if answer := d.ask("q", inputs); !strings.Contains(answer, `"fault":"limit"`) {
 				t.Errorf("%s with a wrong quotient: %s came", inputs, answer)

@@ -7,8 +7,8 @@ import (
 	"gateway/feel"
 )
 
-// entry translates an input entry: to tests of its column, or to a condition of the further column, where the column
-// itself has "-".
+// entry translates an input entry to tests of its column, or to a condition of the further column; its own column then
+// has "-".
 func (r *tableReader) entry(entry *dmn.Text, i int) (test string, condition *phrase) {
 	c := r.columns[i]
 	if strings.TrimSpace(entry.Text) == "" {
@@ -34,7 +34,7 @@ func (r *tableReader) entry(entry *dmn.Text, i int) (test string, condition *phr
 	return test, condition
 }
 
-// asTests is an entry as the engine's tests; empty where it needs a condition.
+// asTests returns an entry as the engine's tests; empty if it needs a condition.
 func (r *tableReader) asTests(nodes []feel.Node, c column) string {
 	if not, is := nodes[0].(*feel.NotTests); is {
 		inside := r.testList(not.Tests, c, true)
@@ -46,7 +46,7 @@ func (r *tableReader) asTests(nodes []feel.Node, c column) string {
 	return r.testList(nodes, c, false)
 }
 
-// testList is tests with commas between them; empty where one needs a condition.
+// testList returns tests separated by commas; empty if one needs a condition.
 func (r *tableReader) testList(nodes []feel.Node, c column, underNot bool) string {
 	texts := make([]string, len(nodes))
 	for i, n := range nodes {
@@ -58,7 +58,7 @@ func (r *tableReader) testList(nodes []feel.Node, c column, underNot bool) strin
 	return strings.Join(texts, ", ")
 }
 
-// test is one test; empty where it needs a condition.
+// test returns one test; empty if it needs a condition.
 func (r *tableReader) test(n feel.Node, c column, underNot bool) string {
 	if _, is := n.(*feel.Anything); is {
 		return "-"
@@ -85,7 +85,7 @@ func (r *tableReader) test(n feel.Node, c column, underNot bool) string {
 	return r.valueTest(n, c, underNot)
 }
 
-// signTest is a comparison with the column's value.
+// signTest returns a comparison with the column's value.
 func (r *tableReader) signTest(operator string, operand feel.Node, c column, underNot bool) string {
 	switch {
 	case usesInput(operand), operator == "!=":
@@ -108,7 +108,7 @@ func (r *tableReader) signTest(operator string, operand feel.Node, c column, und
 	return operator + " " + limit.text
 }
 
-// equalTest is a value as a test; empty where the column has no such value in its unit.
+// equalTest returns a value as a test; empty if the column has no such value in its unit.
 func (r *tableReader) equalTest(n feel.Node, value phrase, c column) string {
 	made, fine := r.equalIn(n, value, c)
 	if !fine {
@@ -141,7 +141,7 @@ func (r *tableReader) rangeTest(n *feel.Range, c column) string {
 	return from + low.text + ".." + high.text + to
 }
 
-// valueTest is a value that the column's is compared with, or a list of such that is written out.
+// valueTest returns a value that the column's is compared with, or a written-out list of such values.
 func (r *tableReader) valueTest(n feel.Node, c column, underNot bool) string {
 	if list, is := n.(*feel.List); is {
 		return r.listTest(list, c, underNot)
@@ -171,7 +171,7 @@ func (r *tableReader) valueTest(n feel.Node, c column, underNot bool) string {
 	return r.equalTest(n, value, c)
 }
 
-// listTest is a list that is written out: the column's value is one of its members, or is the list itself.
+// listTest returns a test for a written-out list: the column's value is one of its members, or is the list itself.
 func (r *tableReader) listTest(n *feel.List, c column, underNot bool) string {
 	if holdsTests(n) {
 		r.refuseTests(n)
@@ -187,7 +187,7 @@ func (r *tableReader) listTest(n *feel.List, c column, underNot bool) string {
 	return r.operand(n, r.scope).text
 }
 
-// asTest is a value as a test of its own: as a whole text not( .. ) would be a list of tests.
+// asTest returns a value as a single test. At the start of a text not( .. ) would be a list of tests.
 func asTest(p phrase) string {
 	if strings.HasPrefix(p.text, "not") {
 		return "(" + p.text + ")"
@@ -195,8 +195,8 @@ func asTest(p phrase) string {
 	return p.text
 }
 
-// checkEntry holds the literals of an entry against the type of the column and its input values: a rule with another
-// one never hits, which is no one's meaning.
+// checkEntry checks the literals of an entry against the column's type and input values. A rule with any other literal
+// never hits, which nobody means.
 func (r *tableReader) checkEntry(entry *dmn.Text, nodes []feel.Node, c column) {
 	for _, n := range nodes {
 		switch n := n.(type) {
@@ -222,7 +222,7 @@ func (r *tableReader) checkEntry(entry *dmn.Text, nodes []feel.Node, c column) {
 	}
 }
 
-// checkKind tells whether a literal is of the column's type, and refuses it where it isn't.
+// checkKind reports whether a literal is of the column's type, and refuses others.
 func (r *tableReader) checkKind(n feel.Node, c column) bool {
 	literal, of := literalType(n), c.value.of
 	if literal == nil || literal.kind == nullKind || of.kind == anyKind || of.kind == refusedKind || of.kind == nullKind {
@@ -238,7 +238,7 @@ func (r *tableReader) checkKind(n feel.Node, c column) bool {
 	return true
 }
 
-// checkAllowed refuses an entry that gives a literal that is none of some allowed values.
+// checkAllowed refuses an entry that gives a literal outside the allowed values.
 func (r *tableReader) checkAllowed(entry *dmn.Text, allowed valueList, which string) {
 	kept := r.trees[entry]
 	if kept == nil || kept.fault != nil || len(kept.nodes) != 1 {

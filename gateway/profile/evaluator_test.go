@@ -8,13 +8,13 @@ import (
 	"gateway/feel"
 )
 
-// The evaluator of the tests: FEEL by the standard, over whole numbers (int64), texts, booleans, null (nil), lists and
-// contexts. It is there to hold translations against, and knows nothing of the engine's language.
+// The evaluator of the tests implements FEEL by the standard, over whole numbers (int64), texts, booleans, null (nil),
+// lists and contexts. Translations are checked against it. It knows nothing of the engine's language.
 type evaluator map[string]interface{}
 
 type context map[string]interface{}
 
-// with is the evaluator with one more name.
+// with returns the evaluator with one more name.
 func (e evaluator) with(name string, value interface{}) evaluator {
 	inside := evaluator{}
 	for key, v := range e {
@@ -229,7 +229,7 @@ func member(of interface{}, name string) interface{} {
 	return nil
 }
 
-// anyTest tells whether one of some tests holds of a value.
+// anyTest reports whether one of the tests holds for a value.
 func (e evaluator) anyTest(tests []feel.Node, x interface{}) interface{} {
 	var any interface{} = false
 	for _, test := range tests {
@@ -256,7 +256,7 @@ func (e evaluator) test(n feel.Node, x interface{}) interface{} {
 		}
 		return conjunction(compared(from, x, e.value(n.Low)), compared(to, x, e.value(n.High)))
 	case *feel.List:
-		// A list is asked whether it has the value, or is equal to it: it says true or false.
+		// A list may contain the value or equal it: the test is true or false.
 		for _, item := range n.Items {
 			if equal(x, e.value(item)) == true {
 				return true
@@ -278,7 +278,7 @@ func (e evaluator) call(n *feel.Call) interface{} {
 	}
 	switch name {
 	case "g":
-		// The knowledge that the fuzzed files have: g(n, m) is n * 2 - m.
+		// g(n, m), the business knowledge of the fuzzed files, is n * 2 - m.
 		if n.Arguments[0].Name == "m" {
 			arguments[0], arguments[1] = arguments[1], arguments[0]
 		}
@@ -319,7 +319,7 @@ func modulo(a, b interface{}) interface{} {
 	return rest
 }
 
-// aggregate is sum, min, max or count of a list.
+// aggregate returns sum, min, max or count of a list.
 func aggregate(name string, list []interface{}) interface{} {
 	if name == "count" {
 		return int64(len(list))
@@ -353,7 +353,7 @@ func aggregate(name string, list []interface{}) interface{} {
 	return best
 }
 
-// jsonOf is a value as the engine writes it.
+// jsonOf returns a value as the engine writes it.
 func jsonOf(value interface{}) string {
 	switch v := value.(type) {
 	case []interface{}:

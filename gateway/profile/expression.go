@@ -7,7 +7,7 @@ import (
 	"gateway/feel"
 )
 
-// largestNumber is the greatest number of the model, and less that number the least.
+// largestNumber is the greatest number of the model; the least is its negative.
 const largestNumber = "9223372036854775807"
 
 // value translates a form of FEEL.
@@ -53,7 +53,7 @@ func (t *translator) value(n feel.Node, s *scope) phrase {
 	return t.listForm(n, s)
 }
 
-// operand translates a form that stands in another one, and is no quotient.
+// operand translates a form inside another one. It is not a quotient.
 func (t *translator) operand(n feel.Node, s *scope) phrase { return t.exact(n, t.maybeQuotient(n, s)) }
 
 // branches translates an if.
@@ -141,7 +141,7 @@ func (t *translator) list(n *feel.List, s *scope) phrase {
 	return listing(members, t.kept.listOf(of))
 }
 
-// contextLiteral is the box of {a: 1, b: a}: each entry sees those before it.
+// contextLiteral returns the box of {a: 1, b: a}. Each entry sees those before it.
 func (t *translator) contextLiteral(n *feel.Context, s *scope) (*box, *valueType) {
 	made := &box{kind: contextBox, entries: make([]boxEntry, 0, len(n.Entries))}
 	if len(n.Entries) == 1 {
@@ -153,7 +153,7 @@ func (t *translator) contextLiteral(n *feel.Context, s *scope) (*box, *valueType
 	inside := s
 	for i, entry := range n.Entries {
 		if _, twice := of.fields[entry.Key]; twice {
-			t.refuse(n, "the key "+entry.Key+" stands twice", "another key")
+			t.refuse(n, "duplicate key "+entry.Key, "another key")
 			continue
 		}
 		part, valueOf := t.literalEntry(entry, inside)
@@ -170,7 +170,7 @@ func (t *translator) contextLiteral(n *feel.Context, s *scope) (*box, *valueType
 	return made, of.bounded(t.refusal(n))
 }
 
-// literalEntry is an entry of a context literal, with its type.
+// literalEntry returns an entry of a context literal, and its type.
 func (t *translator) literalEntry(entry feel.Entry, s *scope) (made boxEntry, of *valueType) {
 	value := t.framed(func() (b *box) {
 		b, of = t.boxedPart(entry.Value, s)
@@ -181,8 +181,7 @@ func (t *translator) literalEntry(entry feel.Entry, s *scope) (made boxEntry, of
 	return boxEntry{word: word, value: value, of: of}, of
 }
 
-// boxedForm translates a form that stands alone, so that a context literal needs no entry in front, nor do lists of
-// such.
+// boxedForm translates a whole text, so that a context literal, or a list of them, needs no entry before it.
 func (t *translator) boxedForm(n feel.Node, s *scope) (*box, *valueType) {
 	switch n := n.(type) {
 	case *feel.Context:
@@ -196,7 +195,7 @@ func (t *translator) boxedForm(n feel.Node, s *scope) (*box, *valueType) {
 	return t.boxed(p), p.of
 }
 
-// boxedPart translates a part of a context or a list, which is evaluated in front of the expression.
+// boxedPart translates a part of a context or a list, evaluated before the expression.
 func (t *translator) boxedPart(n feel.Node, s *scope) (*box, *valueType) {
 	made, of := t.boxedForm(n, s)
 	if made.kind == textBox {
@@ -257,7 +256,7 @@ func (t *translator) path(n *feel.Path, s *scope) phrase {
 	}
 	of := operand.of.member(n.Name)
 	if n.Respelled || of != nil && of.kind == anyKind && !n.Quoted && hasOperator(n.Name) && operand.of.kind == anyKind {
-		return t.refuse(n, "behind the point it may be one name or a calculation with another one",
+		return t.refuse(n, "after the point it may be one name or a calculation with another one",
 			"the type of what is before the point, and the name spaced as it was declared; or parentheses: (a.b) - c")
 	}
 	if of == nil {
@@ -268,17 +267,17 @@ func (t *translator) path(n *feel.Path, s *scope) phrase {
 	return phrase{text: o.text + "." + t.words.of(n.Name), rank: rankPath, depth: 1 + o.depth, of: of}
 }
 
-// hasOperator tells whether a name has a sign in it that is an operator too.
+// hasOperator reports whether a name contains an operator sign.
 func hasOperator(name string) bool { return strings.ContainsAny(name, "+-*/") }
 
-// between is x >= low and x <= high.
+// between returns x >= low and x <= high.
 func between(x, low, high phrase) phrase {
 	x, low, high = x.within(rankSum), low.within(rankSum), high.within(rankSum)
 	return phrase{text: x.text + " between " + low.text + " and " + high.text, rank: rankComparison,
 		depth: 1 + deepest(x, low, high), of: booleanType}
 }
 
-// left tells of the forms that the profile has not.
+// left refuses the forms that the profile lacks.
 func (t *translator) left(n feel.Node) phrase {
 	switch n := n.(type) {
 	case *feel.Filter:

@@ -4,25 +4,25 @@ import "fmt"
 
 // facts are what is known of the scalars in values of a type.
 type facts struct {
-	// temporal, numbers, units and quotients tell whether one is a date or a duration, may be a number, is known to be counted, and is
-	// a quotient by a constant.
+	// temporal: one is a date or a duration. numbers: one may be a number. units: one is known to be counted.
+	// quotients: one is a quotient by a constant.
 	temporal, numbers, units, quotients bool
-	// parts is how many parts a type has, of lists those of its members; no more than are told apart.
+	// parts is how many parts a type has (a list has those of its members), up to a limit.
 	parts int
-	// loose counts how often a type became another, where one is of an input without a declared type; nil where none is.
+	// loose counts the changes of a type with parts from an input without a declared type; nil if there are none.
 	loose *changes
 }
 
-// changes counts how often the type of an input that declares none became another, or got an entry: of all inputs of a run.
+// changes counts how often the type of an undeclared input became another or got an entry, over all inputs of a run.
 type changes struct{ count int }
 
-// knownFacts are those of a context, which may have thousands of entries: they are found out once.
+// knownFacts keeps the facts of a context, which may have thousands of entries.
 type knownFacts struct {
 	facts
-	// of is the context that they are of, size how many entries it had then: a copy of it finds its own.
+	// of is the context of the facts, size how many entries it had then. A copy of the context finds its own facts.
 	of   *valueType
 	size int
-	// changes is how many there were then.
+	// changes is how many changes there were then.
 	changes int
 }
 
@@ -35,10 +35,11 @@ func (f facts) and(other facts) facts {
 	return both
 }
 
-// mostCalculatedParts is how many parts a calculated type may have. A context that has another one twice has twice as many.
+// mostCalculatedParts is how many parts a calculated type may have. A context that has another one twice has twice as
+// many.
 const mostCalculatedParts = 100_000
 
-// bounded is a calculated type, refused where it has too many parts.
+// bounded returns a calculated type, and refuses it if it has too many parts.
 func (t *valueType) bounded(refuse func(why, instead string)) *valueType {
 	if t.facts().parts <= mostCalculatedParts {
 		return t
@@ -47,7 +48,7 @@ func (t *valueType) bounded(refuse func(why, instead string)) *valueType {
 	return refusedType
 }
 
-// facts are those of a type.
+// facts returns the facts of a type.
 func (t *valueType) facts() facts {
 	if t = t.innermost(); t.kind == contextKind {
 		return t.contextFacts()
@@ -73,7 +74,7 @@ func (t *valueType) contextFacts() facts {
 	return all
 }
 
-// now is how many changes there were by now; 0 where there can't be any.
+// now returns the number of changes so far; 0 if there can't be any.
 func (c *changes) now() int {
 	if c == nil {
 		return 0
@@ -88,13 +89,13 @@ func (c *changes) add() {
 	}
 }
 
-// changed is how many changes there were by now that may concern a type; 0 where none can.
+// changed returns the number of changes so far that may concern a type; 0 if none can.
 func (t *valueType) changed() int { return t.facts().loose.now() }
 
-// size is how many entries a context has.
+// size returns how many entries a context has.
 func (t *valueType) size() int { return len(t.fields) + len(t.more) }
 
-// eachEntry gives the types of a context's entries, those of its order first, until one is enough.
+// eachEntry calls goesOn with the types of a context's entries, ordered ones first, until it returns false.
 func (t *valueType) eachEntry(goesOn func(*valueType) bool) {
 	for _, name := range t.order {
 		if !goesOn(t.fields[name]) {
@@ -108,7 +109,7 @@ func (t *valueType) eachEntry(goesOn func(*valueType) bool) {
 	}
 }
 
-// some tells whether a scalar in values of a type is as asked.
+// some reports whether a scalar in values of a type meets a condition.
 func (t *valueType) some(is func(*valueType) bool) bool {
 	switch t.kind {
 	case listKind:
@@ -124,11 +125,11 @@ func (t *valueType) some(is func(*valueType) bool) bool {
 	return is(t)
 }
 
-// hasTemporal tells whether values of a type are dates or durations, or have such in them.
+// hasTemporal reports whether values of a type are or contain dates or durations.
 func (t *valueType) hasTemporal() bool { return t.facts().temporal }
 
-// hasUnits tells whether something is known of how numbers in values of a type are counted.
+// hasUnits reports whether it is known how some numbers in values of a type are counted.
 func (t *valueType) hasUnits() bool { return t.facts().units }
 
-// hasNumbers tells whether values of a type may have numbers.
+// hasNumbers reports whether values of a type may have numbers.
 func (t *valueType) hasNumbers() bool { return t.facts().numbers }

@@ -10,13 +10,14 @@ import (
 	"gateway/decimal"
 )
 
-// fewDigits is a number that ends, as a whole number of 10^-scale. Most constants are such, and cost no large numbers.
+// fewDigits is a terminating number, as a whole number of 10^-scale. Most constants are of this kind, and need no big
+// numbers.
 type fewDigits struct {
 	digits int64
 	scale  int
 }
 
-// mostFewDigits is the most decimals of a number with few digits: 10^18 is a whole number of 64 bits.
+// mostFewDigits is the most decimals of a number with few digits: 10^18 fits 64 bits.
 const mostFewDigits = 18
 
 // powersOfTen are 10^0 to 10^18.
@@ -27,7 +28,7 @@ var powersOfTen = func() (all [mostFewDigits + 1]int64) {
 	return all
 }()
 
-// fewDigitsOf are those of a number, in the coarsest unit that it has; false where they are too many.
+// fewDigitsOf returns a number with few digits in its coarsest unit; false if it has too many.
 func fewDigitsOf(value *big.Rat) (fewDigits, bool) {
 	if !value.Num().IsInt64() || !value.Denom().IsInt64() || value.Num().Int64() == math.MinInt64 {
 		return fewDigits{}, false
@@ -45,7 +46,7 @@ func fewDigitsOf(value *big.Rat) (fewDigits, bool) {
 	return fewDigits{digits, scale}, fits
 }
 
-// numberOfText is the number of a literal, false where it is none.
+// numberOfText returns the number of a literal; false if it isn't one.
 func numberOfText(text string) (*big.Rat, bool) {
 	whole, decimals, _ := strings.Cut(text, ".")
 	if len(whole)+len(decimals) <= mostFewDigits {
@@ -56,7 +57,7 @@ func numberOfText(text string) (*big.Rat, bool) {
 	return new(big.Rat).SetString(text)
 }
 
-// twosAndFives is how often a number above 0 has these, and what is left.
+// twosAndFives returns how often a positive number has these factors, and the rest.
 func twosAndFives(n int64) (twos, fives int, rest int64) {
 	twos = bits.TrailingZeros64(uint64(n))
 	for rest = n >> twos; rest%5 == 0; rest /= 5 {
@@ -65,7 +66,7 @@ func twosAndFives(n int64) (twos, fives int, rest int64) {
 	return twos, fives, rest
 }
 
-// product64 is a product; false where it has over 63 bits.
+// product64 returns a product; false if it needs more than 63 bits.
 func product64(a, b int64) (int64, bool) {
 	high, low := bits.Mul64(size64(a), size64(b))
 	if high != 0 || low > math.MaxInt64 {
@@ -81,13 +82,13 @@ func size64(n int64) uint64 {
 	return uint64(n)
 }
 
-// in is the number in as many decimals or more; false where it has too many digits there.
+// in returns the number with scale decimals, at least as many as now; false if it then has too many digits.
 func (f fewDigits) in(scale int) (fewDigits, bool) {
 	digits, fits := product64(f.digits, powersOfTen[scale-f.scale])
 	return fewDigits{digits, scale}, fits
 }
 
-// plus is a sum; false where it has too many digits.
+// plus returns a sum; false if it has too many digits.
 func (f fewDigits) plus(other fewDigits) (fewDigits, bool) {
 	scale := maximum(f.scale, other.scale)
 	a, isFew := f.in(scale)
@@ -97,7 +98,7 @@ func (f fewDigits) plus(other fewDigits) (fewDigits, bool) {
 	return fewDigits{sum, scale}, isFew && isOtherFew && !isPast
 }
 
-// by is a product; false where it has too many digits.
+// by returns a product; false if it has too many digits.
 func (f fewDigits) by(other fewDigits) (fewDigits, bool) {
 	digits, fits := product64(f.digits, other.digits)
 	scale := f.scale + other.scale
@@ -106,7 +107,7 @@ func (f fewDigits) by(other fewDigits) (fewDigits, bool) {
 
 func (f fewDigits) negated() fewDigits { return fewDigits{-f.digits, f.scale} }
 
-// value is the number.
+// value returns the number.
 func (f fewDigits) value() *big.Rat {
 	for f.scale > 0 && f.digits%10 == 0 {
 		f.digits, f.scale = f.digits/10, f.scale-1
@@ -117,14 +118,14 @@ func (f fewDigits) value() *big.Rat {
 	return new(big.Rat).SetFrac64(f.digits, powersOfTen[f.scale])
 }
 
-// constant is the number as one, in its unit.
+// constant returns the number as a constant, in its unit.
 func (f fewDigits) constant(value *big.Rat) phrase {
 	made := wholeConstant64(f.digits)
 	made.number, made.of = value, numberOf(units{scale: f.scale})
 	return made
 }
 
-// wholeConstant64 is a whole number as a constant.
+// wholeConstant64 returns a whole number as a constant.
 func wholeConstant64(digits int64) phrase {
 	text := strconv.FormatInt(digits, 10)
 	if digits < 0 {
@@ -133,7 +134,7 @@ func wholeConstant64(digits int64) phrase {
 	return constant(text, numberType)
 }
 
-// foldedFew is folded of numbers with few digits; nil where some have more, or there are more on the way.
+// foldedFew is folded for numbers with few digits; nil if one, or an intermediate result, has more.
 func foldedFew(operator string, operands []phrase, operators []string) *big.Rat {
 	value, isFew := fewDigitsOf(operands[0].number)
 	for i := 1; i < len(operands) && isFew; i++ {
@@ -156,7 +157,7 @@ func foldedFew(operator string, operands []phrase, operators []string) *big.Rat 
 	return value.value()
 }
 
-// partsByFew is partsBy of a divisor above 0 of few digits; false of others.
+// partsByFew is partsBy for a positive divisor of few digits; false for others.
 func partsByFew(divisor *big.Rat, scale int) (u units, factor int64, isFew bool) {
 	if divisor.Sign() <= 0 || !divisor.Num().IsInt64() || !divisor.Denom().IsInt64() || scale < 0 || scale > mostFewDigits {
 		return u, 0, false

@@ -7,7 +7,7 @@ import (
 	"testing"
 )
 
-// oddNumber is a number with few digits or many, that ends or doesn't.
+// oddNumber returns a number with few digits or many, terminating or not.
 func oddNumber(r *rand.Rand) *big.Rat {
 	ends := []int64{0, 1, -1, 9, 10, 19, 119, 1 << 31, 1_000_000_007, 1 << 62, math.MaxInt64, math.MinInt64, math.MinInt64 + 1}
 	digits := big.NewInt(r.Int63()>>r.Intn(63) - r.Int63()>>r.Intn(63))
@@ -27,7 +27,7 @@ func oddNumber(r *rand.Rand) *big.Rat {
 	return new(big.Rat).SetFrac(digits, parts)
 }
 
-// TestFewDigits holds what is calculated of few digits against large numbers.
+// TestFewDigits checks calculations on few digits against those on big numbers.
 func TestFewDigits(t *testing.T) {
 	r, few := rand.New(rand.NewSource(1)), 0
 	for i := 0; i < 100_000; i++ {
@@ -56,7 +56,7 @@ func TestFewDigits(t *testing.T) {
 	}
 }
 
-// TestPartsByFew holds the parts of divisors with few digits against those of large numbers.
+// TestPartsByFew checks the parts of divisors with few digits against those of big numbers.
 func TestPartsByFew(t *testing.T) {
 	r, few := rand.New(rand.NewSource(1)), 0
 	for i := 0; i < 100_000; i++ {
@@ -75,7 +75,7 @@ func TestPartsByFew(t *testing.T) {
 	}
 }
 
-// TestNumberOfText holds the numbers of short literals against those of large numbers.
+// TestNumberOfText checks the numbers of short literals against big numbers.
 func TestNumberOfText(t *testing.T) {
 	for _, text := range []string{"0", "0.0", "1", "1.0", ".5", "0.19", "00.190", "000123.4500", "999999999999999999", "0.000000000000000001",
 		"9999999999999999999", "9223372036854775807.25", "12345678901234567890.5"} {

@@ -5,7 +5,7 @@ import (
 	"testing"
 )
 
-// TestFewParts compares units of few parts with those that are calculated without a limit.
+// TestFewParts compares units of few parts with those calculated without a limit.
 func TestFewParts(t *testing.T) {
 	var all []units
 	for scale := 0; scale <= 9; scale++ {

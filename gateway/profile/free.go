@@ -7,33 +7,33 @@ import (
 	"gateway/feel"
 )
 
-// A freeName is a name that no part of the files declares, and that is the whole expression of a column with a type.
+// A freeName is a name that no file declares, and that is the whole expression of a typed column.
 type freeName struct {
 	name string
 	at   *dmn.Text
 	of   *valueType
-	// other is a second type that a column gives it; nil where there is none.
+	// other is a second type that a column gives it, if any.
 	other *valueType
 	file  *source
 }
 
-// freeNames are the names of columns that nothing declares. With the option they become inputs.
+// freeNames are undeclared names of columns. With the option they become inputs.
 type freeNames struct {
 	asked bool
-	// declared has the names and ids of parts of the files, columns the decisions that have an output column of a name.
+	// declared has the names and ids of the files' parts, columns the decisions with an output column of a name.
 	declared map[string]bool
 	columns  map[string]map[*dmn.Element]bool
 	found    map[string]*freeName
 	order    []*freeName
 	nodes    []*node
-	// scope has those that became inputs: it lies outside of the scope of each decision.
+	// scope has the names that became inputs. It is outside the scopes of all decisions.
 	scope *scope
 }
 
 func newFreeNames(g *graph, asked bool) *freeNames {
 	f := &freeNames{asked: asked, declared: map[string]bool{}, columns: map[string]map[*dmn.Element]bool{},
 		found: map[string]*freeName{}, scope: newScope(nil)}
-	// The elements have also what is not translated, where a part of a file is.
+	// The elements include those that aren't translated, wherever a file's part is.
 	for _, source := range g.sources {
 		for _, e := range source.file.Root.Children {
 			f.declare(e)
@@ -72,7 +72,7 @@ func (f *freeNames) outputs(decision, e *dmn.Element) {
 	}
 }
 
-// isDeclared tells whether a name that stands in a decision is that of a part, or of another decision's output column.
+// isDeclared reports whether a name in a decision is that of a part, or of another decision's output column.
 func (f *freeNames) isDeclared(name string, decision *dmn.Element) bool {
 	others := len(f.columns[name])
 	if f.columns[name][decision] {
@@ -81,7 +81,7 @@ func (f *freeNames) isDeclared(name string, decision *dmn.Element) bool {
 	return f.declared[name] || others > 0
 }
 
-// propose notes the name that is the whole expression of a column, and the type of the column.
+// propose notes a name that is the whole expression of a column, and the column's type.
 func (t *translator) propose(x *dmn.Text) {
 	kept := t.trees[x]
 	if kept == nil || kept.fault != nil || len(t.active) > 0 {
@@ -103,12 +103,12 @@ func (t *translator) propose(x *dmn.Text) {
 	}
 }
 
-// sameType tells whether two columns declare the same type.
+// sameType reports whether two columns declare the same type.
 func sameType(a, b *valueType) bool {
 	return a == b || a.isScalar() && a.kind == b.kind && len(a.allowed.nodes()) == 0 && len(b.allowed.nodes()) == 0
 }
 
-// addFree makes inputs of the names that nothing declares, where that is asked for. It tells whether there are any.
+// addFree makes inputs of undeclared names if the option asks for it. It reports whether there are any.
 func (g *graph) addFree() bool {
 	if !g.free.asked {
 		return false
@@ -128,7 +128,7 @@ func (g *graph) addFree() bool {
 	return len(g.free.nodes) > 0
 }
 
-// note notes each input that nothing declares.
+// note notes each undeclared input.
 func (f *freeNames) note(r *refusals) {
 	for _, n := range f.nodes {
 		if n.needed {
@@ -137,7 +137,7 @@ func (f *freeNames) note(r *refusals) {
 	}
 }
 
-// need adds an input that nothing declares to what a decision needs.
+// need adds an undeclared input to what a decision needs.
 func (n *node) need(input *node) {
 	if n.freeNeeds[input] {
 		return
@@ -154,7 +154,7 @@ const (
 	scopeInstead = "a text stands in quotes; a decision or an input needs its requirement drawn, and is called by its name"
 )
 
-// unknown refuses a name that is not in scope.
+// unknown refuses a name that isn't in scope.
 func (t *translator) unknown(n *feel.Name) phrase {
 	f := t.free.found[n.Name]
 	switch {

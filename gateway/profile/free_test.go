@@ -26,7 +26,7 @@ func run(t testing.TB, options profile.Options, files ...string) *profile.Report
 
 var free = profile.Options{FreeInputs: true}
 
-// said has the lines of refusals.
+// said returns the lines of refusals.
 func said(refusals []profile.Refusal) string {
 	var lines []string
 	for _, r := range refusals {
@@ -35,7 +35,7 @@ func said(refusals []profile.Refusal) string {
 	return strings.Join(lines, "\n")
 }
 
-// fine is a lone table over columns that nothing declares.
+// fine is a table over undeclared columns.
 var fine = table(`hitPolicy="FIRST"`, []column{{text: "speed over", of: "number"}, {text: "zone", of: "string"}},
 	[]column{{text: "fine", of: "number"}}, []string{"<= 3", "-", "0"}, []string{"> 3", `"town"`, "30"}, []string{"-", "-", "20"})
 
@@ -67,7 +67,7 @@ func TestColumnsThatNothingDeclaresAreInputs(t *testing.T) {
 	}
 }
 
-// TestFreeNames has, for decisions, the inputs that the model gets, or words of the one refusal.
+// TestFreeNames gives, for decisions, the inputs of the model, or words of the only refusal.
 func TestFreeNames(t *testing.T) {
 	on := func(columns ...column) string {
 		row := []string{}
@@ -127,8 +127,8 @@ func TestFreeNames(t *testing.T) {
 	}
 }
 
-// TestWithoutTheOptionItIsNamed holds that the refusal of such a column says that the option exists, and that of another
-// name does not.
+// TestWithoutTheOptionItIsNamed checks that the refusal of such a column mentions the option, and that of another name
+// doesn't.
 func TestWithoutTheOptionItIsNamed(t *testing.T) {
 	refused := refusedWith(t, definitions(decision("d", "", table("", []column{{text: "x", of: "number"}},
 		[]column{{text: "r"}}, []string{"-", "1"}))), "no name in scope")
@@ -141,7 +141,7 @@ func TestWithoutTheOptionItIsNamed(t *testing.T) {
 	}
 }
 
-// TestAServiceTakesInputsThatNothingDeclares asks a service that can't list them.
+// TestAServiceTakesInputsThatNothingDeclares asks a service, which can't list undeclared inputs.
 func TestAServiceTakesInputsThatNothingDeclares(t *testing.T) {
 	service := `<decisionService id="s" name="s"><outputDecision href="#Fine"/></decisionService>`
 	report := run(t, free, definitions(decision("Fine", "", fine), service))
@@ -153,7 +153,7 @@ func TestAServiceTakesInputsThatNothingDeclares(t *testing.T) {
 	}
 }
 
-// TestManyFreeNames has as many columns that nothing declares, and decisions, as a model may have.
+// TestManyFreeNames tests as many undeclared columns, and as many decisions, as a model may have.
 func TestManyFreeNames(t *testing.T) {
 	var parts []string
 	for i := 0; i < 900; i++ {

@@ -10,7 +10,8 @@ import (
 	"gateway/profile"
 )
 
-// A maker makes texts of bytes: each byte chooses one of some forms; where there are no more, the shortest is chosen.
+// A maker makes texts from bytes. Each byte chooses one of several forms; when the bytes run out, the shortest is
+// chosen.
 type maker struct {
 	bytes []byte
 	depth int
@@ -25,7 +26,7 @@ func (m *maker) choose(n int) int {
 	return b % n
 }
 
-// of fills the places of a form: %e is an expression, %t a test.
+// of fills the placeholders of a form: %e is an expression, %t a test.
 func (m *maker) of(form string) string {
 	m.depth++
 	defer func() { m.depth-- }()
@@ -71,7 +72,7 @@ var entries = []string{"-", "%t", "%t, %t", "not(%t)", "not(%t, %t)", "? = %e", 
 
 func (m *maker) entry() string { return m.of(entries[m.choose(len(entries))]) }
 
-// fuzzed is a file with a decision d of a text, and a table t with rows made of the same bytes.
+// fuzzed returns a file with a decision d of a text, and a table t with rows made of the same bytes.
 func fuzzed(m *maker) (file, text string, rows [][]string) {
 	text = m.expression()
 	for i := 0; i < 3; i++ {
@@ -86,7 +87,7 @@ func fuzzed(m *maker) (file, text string, rows [][]string) {
 	return file, text, rows
 }
 
-// requests are the inputs that each text is asked of, with the same as the evaluator's values.
+// requests are the inputs that each text is asked with, and the same as the evaluator's values.
 var requests = []struct {
 	text   string
 	values evaluator
@@ -100,13 +101,13 @@ var requests = []struct {
 	{`{"n":7,"u":[7],"s":"b"}`, evaluator{"n": int64(7), "u": []interface{}{int64(7)}, "s": "b"}},
 }
 
-// scopeOfFuzzed are the names that the texts may use.
+// scopeOfFuzzed returns the names that the texts may use.
 func scopeOfFuzzed() *feel.Scope {
 	return feel.NewScope(nil, "n", "m", "s", "f", "u", "l", "c", "net-price", "g")
 }
 
-// FuzzTranslation makes texts of bytes and holds what the engine answers of their translation against the evaluator of
-// the tests. A text that is refused says nothing; its places have to be told.
+// FuzzTranslation makes texts from bytes and checks the engine's answers to their translation against the tests'
+// evaluator. A refused text is fine if its places are reported.
 func FuzzTranslation(f *testing.F) {
 	state := uint32(1)
 	for i := 0; i < 300; i++ {
@@ -133,7 +134,7 @@ func withDecision(file, logic string) string {
 	return strings.Replace(file, "</definitions>", d+"</definitions>", 1)
 }
 
-// translated is the model of a file; nil where it is refused, with places that are looked at.
+// translated returns the model of a file; nil if it is refused, after a check of the places.
 func translated(t *testing.T, file string) *profile.Result {
 	t.Helper()
 	read, err := dmn.Read("test.dmn", strings.NewReader(file))
@@ -193,7 +194,7 @@ func checkTable(t *testing.T, d *desk, file string, rows [][]string) {
 	}
 }
 
-// ruleOf tells whether a row hits, and what it gives.
+// ruleOf reports whether a row hits, and what it gives.
 func ruleOf(t *testing.T, values evaluator, row []string) (hit bool, gives interface{}) {
 	t.Helper()
 	hit = true

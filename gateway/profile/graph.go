@@ -14,7 +14,7 @@ type node struct {
 	file       *source
 	input      *dmn.InputData
 	decision   *dmn.Decision
-	// of is the type of its values; of a decision, known once it was translated.
+	// of is the type of its values; for a decision, known once it is translated.
 	of *valueType
 	// needs are what a decision requires, known the business knowledge, services the names of decision services.
 	needs    []*node
@@ -22,15 +22,15 @@ type node struct {
 	services []string
 	logic    *box
 	needed   bool
-	// free tells that nothing declares it: it is an input for the name of a column.
+	// free is true if nothing declares it: it is an input for the name of a column.
 	free bool
-	// freeNeeds are those of what a decision needs that nothing declares.
+	// freeNeeds are the undeclared inputs among what a decision needs.
 	freeNeeds map[*node]bool
-	// seen is the number of the last walk that came here.
+	// seen is the number of the last walk that visited it.
 	seen int
 }
 
-// element is the element of the node.
+// element returns the element of the node.
 func (n *node) element() *dmn.Element {
 	if n.input != nil {
 		return n.input.Element
@@ -44,13 +44,13 @@ type source struct {
 	types *types
 }
 
-// A graph is the parts of all files by their ids and names.
+// A graph has the parts of all files by their ids and names.
 type graph struct {
 	refusals *refusals
 	words    *words
 	sources  []*source
 	inputs   []*node
-	// decisions stand in the order of the files; ordered has each behind all that it needs.
+	// decisions are in the order of the files; ordered has each one after all that it needs.
 	decisions, ordered []*node
 	knowledge          []*knowledge
 	// byID finds parts by namespace and id.
@@ -58,16 +58,16 @@ type graph struct {
 	// walks counts the walks over the nodes.
 	walks int
 	free  *freeNames
-	// said are the decimals that are said of names; nil where nothing is counted.
+	// said are the decimals given for names; nil if nothing is counted.
 	said  *cells
 	clock *clock
-	// offsets say which times of inputs have an offset, and what they are counted in.
+	// offsets say which times of inputs have an offset, and their units.
 	offsets *offsets
-	// constants are the numbers that texts have, by their digits.
+	// constants are the numbers of texts, by their digits.
 	constants map[string]phrase
-	// folds are the calculations with literals alone, which are the same in each pass.
+	// folds are the calculations with literals only, which are the same in each pass.
 	folds map[feel.Node]fold
-	// changes counts those of the types of inputs that declare none.
+	// changes counts the changes in the types of undeclared inputs.
 	changes *changes
 	// partsOfInputs counts the parts of the types of all inputs.
 	partsOfInputs int
@@ -97,7 +97,7 @@ func newGraph(files []*dmn.File, r *refusals, w *words, options Options) *graph 
 	return g
 }
 
-// faults tells what a file has that is not known.
+// faults reports unknown content of a file.
 func (g *graph) faults(file *dmn.File) {
 	for _, fault := range file.Faults {
 		g.refusals.refuse(fault.Element, fault.Text, fault.Why, fault.Instead)
@@ -108,7 +108,7 @@ func (g *graph) faults(file *dmn.File) {
 	}
 }
 
-// nameOf is the name under which expressions know a part: that of its variable, else its own.
+// nameOf returns the name of a part in expressions: that of its variable, else its own.
 func nameOf(e *dmn.Element, variable *dmn.Variable) string {
 	if variable != nil && variable.Attribute("name") != "" {
 		return variable.Attribute("name")
@@ -140,10 +140,11 @@ func (g *graph) parts(s *source) {
 	}
 }
 
-// mostPartsOfInputs is how many parts the types of all inputs may have: each is counted for itself, and has a schema.
+// mostPartsOfInputs is how many parts the types of all inputs may have. Each input's are counted, since each has a
+// schema.
 const mostPartsOfInputs = 100_000
 
-// boundedType is the type of an input, refused where those of the inputs have too many parts with it.
+// boundedType returns the type of an input, and refuses it if the types of the inputs have too many parts with it.
 func (g *graph) boundedType(n *node, of *valueType) *valueType {
 	before := g.partsOfInputs
 	g.partsOfInputs += of.parts
@@ -168,7 +169,7 @@ func (g *graph) node(s *source, e *dmn.Element, variable *dmn.Variable) *node {
 	return n
 }
 
-// identify notes a part under its id.
+// identify notes a part by its id.
 func (g *graph) identify(s *source, e *dmn.Element, part interface{}) {
 	key := s.file.Namespace + "#" + e.ID()
 	if e.ID() == "" {
@@ -181,7 +182,7 @@ func (g *graph) identify(s *source, e *dmn.Element, part interface{}) {
 	g.byID[key] = part
 }
 
-// elementOf is the element of a part.
+// elementOf returns the element of a part.
 func elementOf(part interface{}) *dmn.Element {
 	switch part := part.(type) {
 	case *node:
@@ -194,7 +195,7 @@ func elementOf(part interface{}) *dmn.Element {
 	return nil
 }
 
-// checkFunction refuses what is no function of FEEL with a body.
+// checkFunction refuses all but FEEL functions with a body.
 func (g *graph) checkFunction(k *dmn.BusinessKnowledge) {
 	switch {
 	case k.Logic == nil || k.Logic.Body == nil:
@@ -206,7 +207,7 @@ func (g *graph) checkFunction(k *dmn.BusinessKnowledge) {
 		seen := map[string]bool{}
 		for _, p := range k.Logic.Parameters {
 			if name := feel.Canonical(p.Name()); seen[name] {
-				g.refusals.refuse(p.Element, p.Name(), "the parameter's name stands twice", "another name")
+				g.refusals.refuse(p.Element, p.Name(), "duplicate parameter name", "another name")
 			} else {
 				seen[name] = true
 			}
@@ -214,7 +215,7 @@ func (g *graph) checkFunction(k *dmn.BusinessKnowledge) {
 	}
 }
 
-// inputType is the type of an input; open where none is declared.
+// inputType returns the type of an input; an open one if none is declared.
 func (t *types) inputType(input *dmn.InputData) *valueType {
 	if input.Variable != nil {
 		if of := t.resolve(input.Variable.Element, input.Variable.TypeRef); of != nil && of.kind != anyKind {
@@ -225,7 +226,7 @@ func (t *types) inputType(input *dmn.InputData) *valueType {
 	return &valueType{kind: anyKind, open: true, changes: t.changes}
 }
 
-// referred finds the part that a reference means; nil where there is none, which is told.
+// referred finds the part that a reference means. It reports a missing one and returns nil.
 func (g *graph) referred(s *source, r *dmn.Reference) interface{} {
 	key := r.Href
 	if strings.HasPrefix(key, "#") {
@@ -233,7 +234,7 @@ func (g *graph) referred(s *source, r *dmn.Reference) interface{} {
 	}
 	part := g.byID[key]
 	if part == nil {
-		g.refusals.refuse(r.Element, r.Href, "no part of the model has this id", "the id of a part, behind #")
+		g.refusals.refuse(r.Element, r.Href, "no part of the model has this id", "the id of a part, after #")
 	}
 	return part
 }
@@ -274,7 +275,7 @@ func (g *graph) requires(s *source, n *node, r *dmn.Reference) {
 	n.needs = append(n.needs, other)
 }
 
-// known finds business knowledge that is required, and the names of decision services.
+// known finds required business knowledge, and the names of decision services.
 func (g *graph) known(s *source, references []*dmn.Reference) (all []*knowledge, services []string) {
 	for _, r := range references {
 		switch part := g.referred(s, r).(type) {
@@ -289,7 +290,7 @@ func (g *graph) known(s *source, references []*dmn.Reference) (all []*knowledge,
 	return all, services
 }
 
-// refuseTwice refuses inputs and decisions that have one name, as FEEL compares names, and so business knowledge.
+// refuseTwice refuses inputs and decisions whose names FEEL doesn't distinguish, and business knowledge likewise.
 func (g *graph) refuseTwice() {
 	byName := map[string]*node{}
 	all := append(append([]*node(nil), g.inputs...), g.decisions...)
@@ -314,14 +315,14 @@ func (g *graph) refuseTwice() {
 	}
 }
 
-// forgetTypes lets types be resolved anew, so that what is refused of them is told in the second pass.
+// forgetTypes makes types be resolved again, so that the second pass reports what is wrong with them.
 func (g *graph) forgetTypes() {
 	for _, s := range g.sources {
 		s.types.resolved = map[*dmn.ItemDefinition]*valueType{}
 	}
 }
 
-// order puts each decision behind what it needs, and refuses those that need themselves.
+// order puts each decision after what it needs, and refuses cycles.
 func (g *graph) order() {
 	state := map[*node]int{}
 	for _, n := range g.decisions {
@@ -352,7 +353,7 @@ func (g *graph) visit(n *node, state map[*node]int) {
 	g.ordered = append(g.ordered, n)
 }
 
-// namesOf are all names that the files declare, in their order.
+// namesOf returns all names that the files declare, in their order.
 func namesOf(files []*dmn.File) []string {
 	var names []string
 	var walk func(e *dmn.Element)
@@ -374,7 +375,7 @@ func namesOf(files []*dmn.File) []string {
 var named = map[string]bool{"inputData": true, "decision": true, "decisionService": true, "variable": true,
 	"column": true, "itemComponent": true, "output": true}
 
-// membersOf are the names that may stand behind a point.
+// membersOf returns the names that may follow a point.
 func membersOf(files []*dmn.File) *feel.Scope {
 	members := feel.NewScope(nil)
 	var walk func(e *dmn.Element)

@@ -23,7 +23,7 @@ func definitions(parts ...string) string {
 
 var escaper = strings.NewReplacer("&", "&amp;", "<", "&lt;", ">", "&gt;", `"`, "&quot;")
 
-// input is an inputData of a type; without one where it is empty.
+// input returns an inputData; of is its type, or empty.
 func input(name, of string) string {
 	variable := ""
 	if of != "" {
@@ -32,7 +32,8 @@ func input(name, of string) string {
 	return fmt.Sprintf(`<inputData id="%[1]s" name="%[1]s">%[2]s</inputData>`, escaper.Replace(name), variable)
 }
 
-// requirements of a decision: names of decisions begin with "d:", of business knowledge with "k:".
+// requirements writes the requirements of a decision: names of decisions begin with "d:", of business knowledge with
+// "k:".
 func requirements(needs []string) string {
 	var all strings.Builder
 	for _, need := range needs {
@@ -49,7 +50,7 @@ func requirements(needs []string) string {
 	return all.String()
 }
 
-// decision is a decision with the XML of its logic.
+// decision returns a decision with the XML of its logic.
 func decision(name, of, logic string, needs ...string) string {
 	variable := ""
 	if of != "" {
@@ -59,15 +60,15 @@ func decision(name, of, logic string, needs ...string) string {
 		requirements(needs), logic)
 }
 
-// literal is a literal expression.
+// literal returns a literal expression.
 func literal(text string) string {
 	return "<literalExpression><text>" + escaper.Replace(text) + "</text></literalExpression>"
 }
 
-// column is an input or output column: its expression or name, its type, and its values where there are any.
+// column is an input or output column: its expression or name, its type, and its values if any.
 type column struct{ text, of, values, fallback string }
 
-// table is a decision table; each row has its input entries and then its output entries.
+// table returns a decision table. Each row has its input entries, then its output entries.
 func table(attributes string, inputs, outputs []column, rows ...[]string) string {
 	var all strings.Builder
 	fmt.Fprintf(&all, "<decisionTable %s>", attributes)
@@ -107,7 +108,7 @@ func element(tag, text string) string {
 	return fmt.Sprintf("<%[1]s><text>%[2]s</text></%[1]s>", tag, escaper.Replace(text))
 }
 
-// knowledge is a business knowledge model; parameters are "name" or "name:type".
+// knowledge returns a business knowledge model; parameters are "name" or "name:type".
 func knowledge(name string, parameters []string, logic string, needs ...string) string {
 	var all strings.Builder
 	for _, p := range parameters {
@@ -118,7 +119,7 @@ func knowledge(name string, parameters []string, logic string, needs ...string) 
 		`</encapsulatedLogic>%[4]s</businessKnowledgeModel>`, name, all.String(), logic, requirements(needs))
 }
 
-// imported translates a file; what is refused is nil where it is taken.
+// imported translates a file. The refusals are nil if it is accepted.
 func imported(t testing.TB, file string) (*profile.Result, []profile.Refusal) {
 	t.Helper()
 	read, err := dmn.Read("test.dmn", strings.NewReader(file))
@@ -128,7 +129,7 @@ func imported(t testing.TB, file string) (*profile.Result, []profile.Refusal) {
 	return profile.Import([]*dmn.File{read}, profile.Options{})
 }
 
-// taken translates a file that has to be taken.
+// taken translates a file that has to be accepted.
 func taken(t testing.TB, file string) *profile.Result {
 	t.Helper()
 	result, refusals := imported(t, file)
@@ -141,7 +142,7 @@ func taken(t testing.TB, file string) *profile.Result {
 	return result
 }
 
-// refusedWith translates a file that has to be refused, at one place alone whose reason has some words.
+// refusedWith translates a file that has to be refused in exactly one place, with some words in the reason.
 func refusedWith(t testing.TB, file, words string) profile.Refusal {
 	t.Helper()
 	result, refusals := imported(t, file)
@@ -158,7 +159,7 @@ func refusedWith(t testing.TB, file, words string) profile.Refusal {
 	return refusals[0]
 }
 
-// logicOf is the JSON of a decision's logic.
+// logicOf returns the JSON of a decision's logic.
 func logicOf(t testing.TB, result *profile.Result, word string) string {
 	t.Helper()
 	for _, d := range result.Model.Decisions {
@@ -174,7 +175,7 @@ func logicOf(t testing.TB, result *profile.Result, word string) string {
 	return ""
 }
 
-// engine is the engine's program.
+// engine returns the engine's program.
 func engine(t testing.TB) string {
 	t.Helper()
 	if path := os.Getenv("DESK_ENGINE"); path != "" {
@@ -187,7 +188,7 @@ func engine(t testing.TB) string {
 	return path
 }
 
-// desk is a running engine that answers one line at a time.
+// desk is a running engine that answers line by line.
 type desk struct {
 	t   testing.TB
 	in  *bufio.Writer
@@ -214,8 +215,8 @@ func startDesk(t testing.TB) *desk {
 	return &desk{t, bufio.NewWriter(in), scanner}
 }
 
-// tell sends a line and gives the line of its answer.
-func (d *desk) tell(line string) string {
+// send sends a line and returns the line of its answer.
+func (d *desk) send(line string) string {
 	d.t.Helper()
 	fmt.Fprintln(d.in, line)
 	if err := d.in.Flush(); err != nil {
@@ -234,15 +235,15 @@ func (d *desk) model(result *profile.Result) {
 	if err != nil {
 		d.t.Fatal(err)
 	}
-	if answer := d.tell(string(line)); !strings.Contains(answer, `"model":true`) {
+	if answer := d.send(string(line)); !strings.Contains(answer, `"model":true`) {
 		d.t.Fatalf("the engine refuses the model: %s\n%s", answer, line)
 	}
 }
 
-// ask gives the JSON of the answer of a service.
+// ask returns the JSON of a service's answer.
 func (d *desk) ask(service, inputs string) string {
 	d.t.Helper()
-	answer := d.tell(fmt.Sprintf(`{"client":"t","service":%q,"inputs":%s}`, service, inputs))
+	answer := d.send(fmt.Sprintf(`{"client":"t","service":%q,"inputs":%s}`, service, inputs))
 	var fields map[string]json.RawMessage
 	if err := json.Unmarshal([]byte(answer), &fields); err != nil {
 		d.t.Fatal(err)
@@ -253,7 +254,7 @@ func (d *desk) ask(service, inputs string) string {
 	return string(fields["result"])
 }
 
-// answers asks a service of a file some requests, and holds the answers against what is due.
+// answers sends requests to a service of a file, and checks the answers.
 func answers(t *testing.T, file, service string, due [][2]string) {
 	t.Helper()
 	result := taken(t, file)

@@ -8,7 +8,7 @@ import (
 	"gateway/feel"
 )
 
-// insteadOfCall tells what to write in place of a function that the engine has not. A form that it names means the same.
+// insteadOfCall says what to write in place of a function that the engine lacks. A form that it names means the same.
 func (t *translator) insteadOfCall(n *feel.Call, name string) string {
 	switch name {
 	case "starts with":
@@ -26,7 +26,8 @@ func (t *translator) insteadOfCall(n *feel.Call, name string) string {
 	return "a table, or let the request bring the value; business knowledge needs its requirement drawn"
 }
 
-// insteadByArguments is what to write for a function over the arguments of a call; empty where their number is another.
+// insteadByArguments returns what to write for a function, using the arguments of a call; empty if their number is
+// wrong.
 func (t *translator) insteadByArguments(n *feel.Call, name string) string {
 	texts := make([]string, len(n.Arguments))
 	for i, a := range n.Arguments {
@@ -49,8 +50,8 @@ func (t *translator) insteadByArguments(n *feel.Call, name string) string {
 	return ""
 }
 
-// insteadOfPrefix tells how to ask for the texts that start with a literal: texts are ordered by code points, so they are
-// those from the literal up to the next text of its length.
+// insteadOfPrefix says how to ask for the texts that start with a literal. Texts are ordered by code points, so these
+// are the texts from the literal up to the next text of its length.
 func (t *translator) insteadOfPrefix(of, prefix feel.Node) string {
 	literal, is := prefix.(*feel.String)
 	if !is {
@@ -64,7 +65,7 @@ func (t *translator) insteadOfPrefix(of, prefix feel.Node) string {
 	return from
 }
 
-// prefixEnd is the least text that is greater than all that start with a prefix; empty where there is none.
+// prefixEnd returns the least text that is greater than all texts with a prefix; empty if there is none.
 func prefixEnd(prefix string) string {
 	runes := []rune(prefix)
 	for last := len(runes) - 1; last >= 0; last-- {
@@ -79,7 +80,7 @@ func prefixEnd(prefix string) string {
 	return ""
 }
 
-// operandText is the text of a form as it may stand beside an operator.
+// operandText returns the text of a form as an operand.
 func (t *translator) operandText(n feel.Node) string {
 	switch n.(type) {
 	case *feel.Name, *feel.Number, *feel.String, *feel.Path, *feel.Call, *feel.Input, *feel.Boolean, *feel.Null:
@@ -89,7 +90,7 @@ func (t *translator) operandText(n feel.Node) string {
 	return t.slice(n)
 }
 
-// insteadOfFor tells what to write in place of a for.
+// insteadOfFor says what to write in place of a for.
 func (t *translator) insteadOfFor(n *feel.For) string {
 	path, is := n.Result.(*feel.Path)
 	if is && len(n.Iterators) == 1 && n.Iterators[0].End == nil {

@@ -7,12 +7,13 @@ import (
 	"gateway/profile"
 )
 
-// A filedHint is a file of which a place is refused, with what its hint says, the file that is written as it says, and requests with
-// what the decision q has to give: what the refused file means. The answers are worked out by hand.
+// A filedHint is a file that is refused in one place, words of its hint, the file rewritten as the hint says, and
+// requests with what decision q should give, which is what the refused file means. The expected answers are worked out
+// by hand.
 type filedHint struct {
 	name, refused, hint, written string
 	due                          [][2]string
-	// asked and said are the options of the import that refuses and of the one that follows.
+	// asked are the options of the refused import, said those of the one that follows the hint.
 	asked, said profile.Options
 }
 
@@ -36,7 +37,8 @@ func holdFiledHints(t *testing.T, hints []filedHint) {
 	}
 }
 
-// overNumber is a file with a decision q over the number a, and other parts; what else it needs stands behind "k:" or "d:".
+// overNumber returns a file with a decision q over the number a, and other parts. Further requirements are given as
+// "k:" or "d:" and a name.
 func overNumber(logic string, others ...string) string {
 	needs, parts := []string{"a"}, []string{hintTypes, input("a", "number")}
 	for _, other := range others {
@@ -49,12 +51,12 @@ func overNumber(logic string, others ...string) string {
 	return definitions(append(parts, decision("q", "", logic, needs...))...)
 }
 
-// boxedCall is a boxed invocation with one argument x.
+// boxedCall returns a boxed invocation with one argument x.
 func boxedCall(function, argument string) string {
 	return "<invocation>" + function + `<binding><parameter name="x"/>` + argument + "</binding></invocation>"
 }
 
-// TestHintsOfBoxedFormsAreFollowed has the hints of boxed contexts, relations, conditionals and functions.
+// TestHintsOfBoxedFormsAreFollowed follows the hints of boxed contexts, relations, conditionals and functions.
 func TestHintsOfBoxedFormsAreFollowed(t *testing.T) {
 	a, twice := literal("a"), literal("a * 2")
 	function := "<functionDefinition><formalParameter name=\"x\"/>" + literal("x + 1") + "</functionDefinition>"
@@ -85,7 +87,7 @@ func TestHintsOfBoxedFormsAreFollowed(t *testing.T) {
 	})
 }
 
-// TestHintsOfInvocationsAreFollowed has the hints of boxed invocations, of their arguments and of recursion.
+// TestHintsOfInvocationsAreFollowed follows the hints of boxed invocations, of their arguments and of recursion.
 func TestHintsOfInvocationsAreFollowed(t *testing.T) {
 	f := knowledge("f", []string{"x"}, literal("x + 1"))
 	two := knowledge("f", []string{"x", "y"}, literal("if y = null then x else y"))

@@ -8,10 +8,10 @@ import (
 	"gateway/profile"
 )
 
-// A followed hint is a text that is refused, with what its hint says, the text that follows it, and requests with what each has
-// to give: what the refused text means by the standard. The answers are worked out by hand.
+// A followedHint is a text that is refused, words of its hint, the text that follows it, and requests with the answers,
+// which are what the refused text means by the standard. The answers are worked out by hand.
 type followedHint struct {
-	// inputs are "name:type", without a type where it is empty; meant are those of the text that follows the hint.
+	// inputs are "name:type", or "name:"; meant are those of the text that follows the hint.
 	inputs, text, hint, meant, follows string
 	due                                [][2]string
 }
@@ -19,7 +19,7 @@ type followedHint struct {
 var hintTypes = `<itemDefinition name="tList" isCollection="true"><typeRef>number</typeRef></itemDefinition>` +
 	`<itemDefinition name="tTexts" isCollection="true"><typeRef>string</typeRef></itemDefinition>`
 
-// hintFile is a file with a decision q over inputs.
+// hintFile returns a file with a decision q over inputs.
 func hintFile(inputs, text string) string {
 	parts, needs := []string{hintTypes}, strings.Fields(inputs)
 	for i, it := range needs {
@@ -49,7 +49,7 @@ func holdHints(t *testing.T, hints []followedHint) {
 	}
 }
 
-// ofX are the values of one input x with what is due of each.
+// ofX returns values of one input x with the expected answers.
 func ofX(of ...string) (due [][2]string) {
 	for i := 0; i < len(of); i += 2 {
 		due = append(due, [2]string{fmt.Sprintf(`{"x":%s}`, of[i]), of[i+1]})
@@ -57,7 +57,7 @@ func ofX(of ...string) (due [][2]string) {
 	return due
 }
 
-// TestHintsOfNumbersAreFollowed has the hints of quotients, powers, roundings and functions of numbers.
+// TestHintsOfNumbersAreFollowed follows the hints of quotients, powers, roundings and functions of numbers.
 func TestHintsOfNumbersAreFollowed(t *testing.T) {
 	const quotient = "the products first and the division last, as x * 0.05 / 12, or a rounding round the quotient: decimal(x / 3, 2)"
 	holdHints(t, []followedHint{
@@ -77,7 +77,7 @@ func TestHintsOfNumbersAreFollowed(t *testing.T) {
 	})
 }
 
-// TestHintsOfTestsAreFollowed has the hints of ranges, lists and tests.
+// TestHintsOfTestsAreFollowed follows the hints of ranges, lists and tests.
 func TestHintsOfTestsAreFollowed(t *testing.T) {
 	holdHints(t, []followedHint{
 		{"x:number", "x = [1..5]", "x between low and high", "", "x between 1 and 5", ofX("1", "true", "5", "true", "6", "false", "null", "null")},
@@ -92,7 +92,7 @@ func TestHintsOfTestsAreFollowed(t *testing.T) {
 	})
 }
 
-// TestHintsOfTimesAreFollowed has the hints of dates, times and durations, and of their parts.
+// TestHintsOfTimesAreFollowed follows the hints of dates, times and durations, and of their parts.
 func TestHintsOfTimesAreFollowed(t *testing.T) {
 	const pointed, years, days = "x:date", "x:years_and_months_duration", "x:days_and_time_duration"
 	holdHints(t, []followedHint{
@@ -123,7 +123,7 @@ func TestHintsOfTimesAreFollowed(t *testing.T) {
 	})
 }
 
-// TestHintsOfTablesAreFollowed has the hints of tables: the whole logic is written as they say.
+// TestHintsOfTablesAreFollowed follows the hints of tables: the whole logic is written as they say.
 func TestHintsOfTablesAreFollowed(t *testing.T) {
 	d := startDesk(t)
 	rows := func(attributes, values, fallback string, cells ...string) string {

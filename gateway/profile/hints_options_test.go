@@ -7,14 +7,14 @@ import (
 	"gateway/profile"
 )
 
-// timedFile is a file with a decision q over dates and times.
+// timedFile returns a file with a decision q over dates and times.
 func timedFile(text string) string {
 	return hintFile("a:date_and_time b:date_and_time d:date t:time n:number", text)
 }
 
 func offset(names ...string) profile.Options { return profile.Options{Offsets: names} }
 
-// TestHintsOfOffsetsAreFollowed has the hints of times with an offset, and of what may not be added to times.
+// TestHintsOfOffsetsAreFollowed follows the hints of times with an offset, and of what may not be added to times.
 func TestHintsOfOffsetsAreFollowed(t *testing.T) {
 	const noon, utc = `date and time("2026-01-31T12:00:00")`, `date and time("2026-01-31T12:00:00Z")`
 	const both = "both with an offset, an input by --offset NAME, or both without one"
@@ -61,10 +61,11 @@ func TestHintsOfOffsetsAreFollowed(t *testing.T) {
 	})
 }
 
-// TestHintsOfOptionsAreFollowed has the hints that name an option of the import: --free-inputs, --clock, --decimals.
+// TestHintsOfOptionsAreFollowed follows the hints that name an option of the import: --free-inputs, --clock,
+// --decimals.
 func TestHintsOfOptionsAreFollowed(t *testing.T) {
 	const drawn = "a text stands in quotes; a decision or an input needs its requirement drawn, and is called by its name"
-	columned := func(of string) string { // a table of one column that nothing declares
+	columned := func(of string) string { // a table with one undeclared column
 		return table(`hitPolicy="FIRST"`, []column{{text: "speed", of: of}}, []column{{text: "r"}}, []string{"<= 3", "0"}, []string{"> 3.5", "30"})
 	}
 	speeds := [][2]string{{`{"speed":3}`, "0"}, {`{"speed":3.5}`, "null"}, {`{"speed":3.75}`, "30"}, {`{"speed":null}`, "null"}}
@@ -111,7 +112,7 @@ func TestHintsOfOptionsAreFollowed(t *testing.T) {
 	})
 }
 
-// TestRoundingsOfLaterVersionsAreNoted has the roundings that version 1.3 of the standard doesn't have.
+// TestRoundingsOfLaterVersionsAreNoted tests the roundings that version 1.3 of the standard lacks.
 func TestRoundingsOfLaterVersionsAreNoted(t *testing.T) {
 	for name, later := range map[string]bool{"decimal": false, "floor": false, "ceiling": false, "round up": true, "round down": true, "round half up": true,
 		"round half down": true} {

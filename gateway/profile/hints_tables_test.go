@@ -12,12 +12,12 @@ import (
 	"gateway/profile"
 )
 
-// ofTable is a file with a decision q, a table over a number a and other inputs, which are "name:type".
+// ofTable returns a file with a decision q, a table over a number a and other inputs given as "name:type".
 func ofTable(attributes string, inputs, outputs []column, others string, rows ...[]string) string {
 	return typedFile(hintTypes, "", table(attributes, inputs, outputs, rows...), strings.TrimSpace("a:number "+others))
 }
 
-// ofA are the values of a with what is due of each.
+// ofA returns values of a with the expected answers.
 func ofA(of ...string) (due [][2]string) {
 	for i := 0; i < len(of); i += 2 {
 		due = append(due, [2]string{fmt.Sprintf(`{"a":%s}`, of[i]), of[i+1]})
@@ -27,7 +27,7 @@ func ofA(of ...string) (due [][2]string) {
 
 const first = `hitPolicy="FIRST"`
 
-// entryHints are those of input and output entries.
+// entryHints returns the hints of input and output entries.
 func entryHints() []filedHint {
 	a, r := []column{{text: "a"}}, []column{{text: "r"}}
 	flags := func(columns []column, rows ...[]string) string {
@@ -55,7 +55,7 @@ func entryHints() []filedHint {
 	}
 }
 
-// policyHints are those of hit policies and aggregations.
+// policyHints returns the hints of hit policies and aggregations.
 func policyHints() []filedHint {
 	a, r, both := []column{{text: "a"}}, []column{{text: "r"}}, []column{{text: "p"}, {text: "r"}}
 	two := func(attributes string, outputs []column) string {
@@ -99,7 +99,7 @@ func policyHints() []filedHint {
 	}
 }
 
-// columnHints are those of the columns of tables and of the cells of rules.
+// columnHints returns the hints of columns and of the cells of rules.
 func columnHints() []filedHint {
 	a, r := []column{{text: "a"}}, []column{{text: "r"}}
 	outputs := func(names ...string) string {
@@ -121,7 +121,7 @@ func columnHints() []filedHint {
 	}
 }
 
-// serves is a decision service with lists of what it has: "outputDecision e", "inputData a".
+// serves returns a decision service with its lists: "outputDecision e", "inputData a".
 func serves(name string, lists ...string) string {
 	var all strings.Builder
 	for _, one := range lists {
@@ -131,7 +131,7 @@ func serves(name string, lists ...string) string {
 	return fmt.Sprintf(`<decisionService id="s_%[1]s" name="%[1]s">%[2]s</decisionService>`, name, all.String())
 }
 
-// manyServices is a file whose services take more than a line, for each lists all of its decisions.
+// manyServices returns a file whose services take more than a line, since each lists all of its decisions.
 func manyServices() string {
 	var parts, lists []string
 	for i := 0; i < 200; i++ {
@@ -144,7 +144,7 @@ func manyServices() string {
 	return overNumber(literal("a * 2"), append(parts, serves("q", "outputDecision q", "inputData a"))...)
 }
 
-// serviceHints are those of decision services.
+// serviceHints returns the hints of decision services.
 func serviceHints() []filedHint {
 	e := decision("e", "", literal("a + 1"), "a")
 	over := func(services ...string) string {
@@ -166,7 +166,7 @@ func serviceHints() []filedHint {
 	}
 }
 
-// graphHints are those of the parts of a file and of what they require.
+// graphHints returns the hints of the parts of a file and their requirements.
 func graphHints() []filedHint {
 	f, next := knowledge("f", []string{"x"}, literal("x + 1")), ofA("2", "3", "null", "null")
 	invoked := overNumber(literal("f(a)"), f, "k:f")
@@ -187,7 +187,7 @@ func graphHints() []filedHint {
 		{name: "a function of Java", refused: strings.Replace(invoked, "<encapsulatedLogic>", `<encapsulatedLogic kind="Java">`, 1), hint: "an expression of FEEL", written: invoked, due: next},
 		{name: "a parameter's name twice", refused: overNumber(literal("f(a, 1)"), knowledge("f", []string{"x", "x"}, literal("x + 1")), "k:f"), hint: "another name",
 			written: overNumber(literal("f(a, 1)"), knowledge("f", []string{"x", "y"}, literal("x + y")), "k:f"), due: next},
-		{name: "an id of no part", refused: strings.Replace(over, `requiredDecision href="#e"`, `requiredDecision href="#d"`, 1), hint: "the id of a part, behind #", written: over, due: next},
+		{name: "an id of no part", refused: strings.Replace(over, `requiredDecision href="#e"`, `requiredDecision href="#d"`, 1), hint: "the id of a part, after #", written: over, due: next},
 		{name: "knowledge as an input", refused: overNumber(literal("f(a)"), f, "f"), hint: "a knowledgeRequirement", written: invoked, due: next},
 		{name: "a decision as knowledge", refused: overNumber(literal("e"), e, "k:e"), hint: "an informationRequirement", written: over, due: next},
 		{name: "one name with other blanks", refused: sums("x+y", "x + y"), hint: "another name", written: sums("x+y", "z"), due: [][2]string{{`{"x_y":2,"z":1}`, "4"}}},
@@ -203,7 +203,7 @@ func graphHints() []filedHint {
 	}
 }
 
-// decisionsOf are so many decisions of a text.
+// decisionsOf returns count decisions of a text.
 func decisionsOf(count int, text string, needs ...string) string {
 	var all strings.Builder
 	for i := 0; i < count; i++ {
@@ -212,7 +212,7 @@ func decisionsOf(count int, text string, needs ...string) string {
 	return all.String()
 }
 
-// largeType is a type of the name tLarge with so many components.
+// largeType returns a type named tLarge with so many components.
 func largeType(components int) string {
 	var all strings.Builder
 	for i := 0; i < components; i++ {
@@ -221,7 +221,7 @@ func largeType(components int) string {
 	return `<itemDefinition name="tLarge">` + all.String() + `</itemDefinition>`
 }
 
-// inputsOf is a type with so many inputs of it.
+// inputsOf returns a type and count inputs of it.
 func inputsOf(large string, count int) string {
 	for i := 0; i < count; i++ {
 		large += input(fmt.Sprintf("large%d", i), "tLarge")
@@ -236,10 +236,12 @@ func tableHints() (all []filedHint) {
 	return all
 }
 
-// TestHintsOfTablesServicesAndGraphsAreFollowed has the hints of tables, of services, and of what parts of a file require.
+// TestHintsOfTablesServicesAndGraphsAreFollowed follows the hints of tables, of services, and of the requirements of a
+// file's parts.
 func TestHintsOfTablesServicesAndGraphsAreFollowed(t *testing.T) { holdFiledHints(t, tableHints()) }
 
-// TestEachHintHasARow finds the refusals in the files of the source that have a hint: a row is refused for each of their reasons.
+// TestEachHintHasARow finds the refusals in the source files that have a hint, and checks that a row covers each of
+// their reasons.
 func TestEachHintHasARow(t *testing.T) {
 	var reasons strings.Builder
 	for _, c := range tableHints() {
@@ -261,8 +263,8 @@ func TestEachHintHasARow(t *testing.T) {
 	}
 }
 
-// reasonsIn are the first words of the reasons of a file's refusals that have a hint. A reason that is no text of the source is left
-// out.
+// reasonsIn returns the first words of the reasons of a file's refusals that have a hint. It leaves out reasons that
+// aren't literals in the source.
 func reasonsIn(t *testing.T, name string) (all []string) {
 	file, err := parser.ParseFile(token.NewFileSet(), name, nil, 0)
 	if err != nil {
@@ -276,9 +278,9 @@ func reasonsIn(t *testing.T, name string) (all []string) {
 		if called, is := call.Fun.(*ast.SelectorExpr); !is || called.Sel.Name != "refuse" {
 			return true
 		}
-		at := 1 // of the translator: a form, the reason, the hint
+		at := 1 // of the translator: form, reason, hint
 		if len(call.Args) > 3 {
-			at = 2 // of the refusals: an element, its text, the reason, the hint
+			at = 2 // of the refusals: element, its text, reason, hint
 		}
 		if reason := firstWords(call.Args[at]); reason != "" && firstWords(call.Args[at+1]) != "" {
 			all = append(all, reason)
@@ -288,7 +290,7 @@ func reasonsIn(t *testing.T, name string) (all []string) {
 	return all
 }
 
-// firstWords are those of the first text in an expression, up to what is filled in.
+// firstWords returns the first text in an expression up to its first verb.
 func firstWords(expression ast.Expr) (text string) {
 	ast.Inspect(expression, func(n ast.Node) bool {
 		if literal, is := n.(*ast.BasicLit); is && literal.Kind == token.STRING && text == "" {

@@ -5,8 +5,8 @@ import (
 	"testing"
 )
 
-// TestHintsMeanTheSame follows the hint of each refusal that names a form: what is written instead gives, for each value,
-// what the refused expression gives by the standard. The answers are worked out by hand.
+// TestHintsMeanTheSame follows the hint of each refusal that names a form. For each value the suggested form gives what
+// the refused expression gives by the standard. The answers are worked out by hand.
 func TestHintsMeanTheSame(t *testing.T) {
 	listed := `<itemDefinition name="tPart"><itemComponent name="price"><typeRef>number</typeRef></itemComponent></itemDefinition>` +
 		`<itemDefinition name="tParts" isCollection="true"><typeRef>tPart</typeRef></itemDefinition>`
@@ -67,7 +67,7 @@ func TestHintsOfMeans(t *testing.T) {
 	}
 }
 
-// TestHintsThatNameNoForm has refusals for which no form of the same meaning is known: they name none.
+// TestHintsThatNameNoForm tests refusals for which no form of the same meaning is known: their hints name none.
 func TestHintsThatNameNoForm(t *testing.T) {
 	for text, hint := range map[string]string{
 		"for p in x return p * 2":  "let the request bring the list that it gives",

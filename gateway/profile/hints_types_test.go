@@ -5,7 +5,7 @@ import (
 	"testing"
 )
 
-// typedFile is a file with types and a decision q of a type; inputs are "name:type", as those of a followed hint.
+// typedFile returns a file with types and a decision q of a type; inputs are "name:type" as in a followedHint.
 func typedFile(types, of, logic, inputs string) string {
 	parts, needs := []string{types}, strings.Fields(inputs)
 	for i, it := range needs {
@@ -15,7 +15,7 @@ func typedFile(types, of, logic, inputs string) string {
 	return definitions(append(parts, decision("q", of, logic, needs...))...)
 }
 
-// item is a definition of a type.
+// item returns a type definition.
 func item(name, inside string) string {
 	return `<itemDefinition name="` + name + `">` + inside + "</itemDefinition>"
 }
@@ -24,12 +24,12 @@ func component(name, of string) string {
 	return `<itemComponent name="` + name + `"><typeRef>` + of + "</typeRef></itemComponent>"
 }
 
-// amongst is a type with allowed values.
+// amongst returns a type with allowed values.
 func amongst(of, values string) string {
 	return "<typeRef>" + of + "</typeRef><allowedValues><text>" + escaper.Replace(values) + "</text></allowedValues>"
 }
 
-// TestHintsOfDeclaredTypesAreFollowed has the hints of values that are none of a declared type.
+// TestHintsOfDeclaredTypesAreFollowed follows the hints of values outside a declared type.
 func TestHintsOfDeclaredTypesAreFollowed(t *testing.T) {
 	list := `<itemDefinition name="tList" isCollection="true"><typeRef>number</typeRef></itemDefinition>`
 	texts := `<itemDefinition name="tTexts" isCollection="true"><typeRef>string</typeRef></itemDefinition>`
@@ -68,7 +68,7 @@ func TestHintsOfDeclaredTypesAreFollowed(t *testing.T) {
 	})
 }
 
-// TestHintsOfTypesAreFollowed has the hints of the definitions of types themselves.
+// TestHintsOfTypesAreFollowed follows the hints of type definitions.
 func TestHintsOfTypesAreFollowed(t *testing.T) {
 	ready := item("tState", amongst("string", `"Ready", "Done"`))
 	state := literal(`if x > 1 then "Ready" else "Done"`)

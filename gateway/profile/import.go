@@ -9,47 +9,49 @@ import (
 	"gateway/model"
 )
 
-// A Result is a model with what its files say beside it.
+// A Result is a model, and what its files say besides.
 type Result struct {
 	Model model.Model
-	// Names has the name of the file for each word of the model that stands for one.
+	// Names has the file's name for each word of the model that has one.
 	Names map[string]string
-	// Locals has the same for each word that stands within one decision alone, where it stands for a name of the file.
+	// Locals is like Names, for words that occur within one decision.
 	Locals map[string]string
 	// Types has a JSON Schema for each input and decision of the model, by its word.
 	Types map[string]json.RawMessage
+	// Domains has unary tests of constants for inputs, by their words: the values that each may have.
+	Domains map[string]string
 	// Required has the words of the inputs that a caller has to give, and not as null.
 	Required []string
 	// Places has the element that a part of the model came from, by the part's JSON Pointer (RFC 6901).
 	Places map[string]Place
-	// Origins has the same parts, those without an id and a name too, with where they are in the files. The empty pointer is the
-	// first file.
+	// Origins has the places in the files of the same parts, and of those without an id or a name. The empty pointer is
+	// the first file.
 	Origins map[string]Origin
-	// Diagram has the box of each input and decision in the diagram of the file, by its word: its corner, width and height.
-	// It is nil where there are several files, or one draws not all of them.
+	// Diagram has the box of each input and decision in the file's diagram, by its word: corner, width and height. It
+	// is nil if there are several files, or if the file doesn't draw all of them.
 	Diagram map[string]dmn.Box
-	// Language is what xml:lang says of the first file, as "de"; empty where it says none.
+	// Language is the xml:lang of the first file, as "de"; empty if it has none.
 	Language string
-	// LeftOut are the names of the decisions that got no service, for the model would be too long with them.
+	// LeftOut are the names of the decisions that got no service, as the model would be too long with them.
 	LeftOut []string
-	// Notes are places that are taken, where tools differ: what the model does there.
+	// Notes are accepted places on which tools differ, with what the model does there.
 	Notes []Refusal
 }
 
-// An Origin is where an element begins: a line and a column of a file, as dmn.Place has them.
+// An Origin is where an element begins: the line and column of a file, as in dmn.Place.
 type Origin struct {
 	File         string
 	Line, Column int
 }
 
-// A Place is an element of a file by its id and its name; each may be empty.
+// A Place is an element of a file by its id and its name. Either may be empty.
 type Place struct {
 	ID   string `json:"id"`
 	Name string `json:"name"`
-	// Text is what stands there in the file, where numbers are counted in units and the model has another text.
+	// Text is the file's text, if numbers are counted in units and the model has another one.
 	Text string `json:"text,omitempty"`
-	// Type is the JSON Schema of its values, where their numbers are counted in a unit. Those of a quotient are over the
-	// value of another entry of the same context: Over is its word, and Decimals how many the numerator has more than it.
+	// Type is the JSON Schema of its values, if their numbers are counted in a unit. A quotient is over the value of
+	// another entry of the same context: Over is its word, and Decimals how many more decimals the numerator has.
 	Type     json.RawMessage `json:"type,omitempty"`
 	Over     string          `json:"over,omitempty"`
 	Decimals int             `json:"decimals,omitempty"`
@@ -57,7 +59,7 @@ type Place struct {
 	Annotations []string `json:"annotations,omitempty"`
 }
 
-// countedInputs finds which inputs have decimals: a pass finds what meets fractions.
+// countedInputs finds which inputs have decimals, by a pass that finds what meets fractions.
 func countedInputs(g *graph, trees map[*dmn.Text]*tree, said *Decimals) *cells {
 	if said == nil {
 		none := NoDecimals()
@@ -70,7 +72,7 @@ func countedInputs(g *graph, trees map[*dmn.Text]*tree, said *Decimals) *cells {
 	return c
 }
 
-// passOver makes a pass whose texts are not kept, and tells whether fractions are counted in the files.
+// passOver makes a pass whose texts are not kept, and reports whether the files count fractions.
 func passOver(g *graph, trees map[*dmn.Text]*tree, counts bool) bool {
 	fractions := translate(g, trees, counts)
 	for _, s := range g.sources {
@@ -81,8 +83,8 @@ func passOver(g *graph, trees map[*dmn.Text]*tree, counts bool) bool {
 	return fractions
 }
 
-// translate makes one pass: each decision behind what it needs, then the business knowledge that none invoked. It tells
-// whether something asks for fractions.
+// translate makes one pass: each decision after what it needs, then the business knowledge that none invoked. It
+// reports whether something needs fractions.
 func translate(g *graph, trees map[*dmn.Text]*tree, counts bool) (fractions bool) {
 	files := make([]*dmn.File, len(g.sources))
 	for i, s := range g.sources {
@@ -105,7 +107,7 @@ func translate(g *graph, trees map[*dmn.Text]*tree, counts bool) (fractions bool
 	return t.fractions
 }
 
-// decision translates a decision over what it needs.
+// decision translates a decision after what it needs.
 func (t *translator) decision(n *node) {
 	n.logic, t.finest = boxOf(refused), 0
 	t.types, t.near, t.node = n.file.types, n.element(), n
@@ -141,8 +143,8 @@ func (t *translator) decision(n *node) {
 	t.noteRange(n)
 }
 
-// asSaid counts a decision's numbers with the decimals that are said of its name: a request may bring so many where it is an input
-// decision.
+// asSaid counts a decision's numbers with the decimals given for its name, since a request may bring that many for an
+// input decision.
 func (t *translator) asSaid(n *node) {
 	if !t.counts || t.said == nil || n.of.kind != numberKind || n.of.hasQuotient() {
 		return
@@ -160,7 +162,7 @@ func (t *translator) asSaid(n *node) {
 	n.of = &to
 }
 
-// declared holds a decision's logic against the type of its variable.
+// declared checks a decision's logic against the type of its variable.
 func (t *translator) declared(n *node) {
 	v := n.decision.Variable
 	if v == nil {
@@ -176,7 +178,7 @@ func (t *translator) declared(n *node) {
 	n.logic = t.from(n.logic, n.decision.Logic)
 }
 
-// unused translates business knowledge that nothing invokes, so that its places are told too.
+// unused translates business knowledge that nothing invokes, to report its bad places too.
 func (t *translator) unused(k *knowledge) {
 	if k.Logic == nil || k.Logic.Body == nil || k.Logic.Kind != "FEEL" {
 		return

@@ -7,18 +7,18 @@ import (
 	"gateway/feel"
 )
 
-// An argument is one of an invocation; name is empty where arguments stand by their position.
+// An argument is one of an invocation; name is empty for a positional argument.
 type argument struct {
 	name  string
 	value *box
 	of    *valueType
 }
 
-// mostActive is how deep invocations may stand in each other.
+// mostActive is how deeply invocations may nest.
 const mostActive = 1000
 
-// invoked is what an invocation of business knowledge becomes: a context whose entries are the arguments, under fresh
-// words for the parameters, and whose result is the body, which sees these alone. It is nil where it is refused.
+// invoked translates an invocation of business knowledge to a context. Its entries are the arguments, under fresh words
+// for the parameters; its result is the body, which sees only these. It is nil if the invocation is refused.
 func (t *translator) invoked(k *knowledge, arguments []argument, refuse func(why, instead string)) (*box, *valueType) {
 	k.used = true
 	t.wrote(bytesOfEntry)
@@ -26,7 +26,7 @@ func (t *translator) invoked(k *knowledge, arguments []argument, refuse func(why
 	case t.full:
 		return nil, refusedType
 	case len(t.active) == mostActive:
-		refuse(fmt.Sprintf("invocations stand in each other over %d deep", mostActive), "decisions in their place")
+		refuse(fmt.Sprintf("invocations nest over %d levels deep", mostActive), "decisions in their place")
 		return nil, refusedType
 	case t.active[k]:
 		refuse(fmt.Sprintf("%s invokes itself", k.name), "a chain of decisions, one for each step")
@@ -53,8 +53,8 @@ func (t *translator) invoked(k *knowledge, arguments []argument, refuse func(why
 	return &box{kind: contextBox, entries: entries, result: body}, of
 }
 
-// checkReturned holds the type of a body against that of the variable: some take it for the type of what is returned,
-// and others for that of the function.
+// checkReturned checks the type of a body against that of the variable, which some tools take for the type of the
+// result, and others for that of the function.
 func (t *translator) checkReturned(k *knowledge, body *box, of *valueType) {
 	if k.Variable == nil || t.types.isFunction(k.Variable.TypeRef) {
 		return
@@ -73,7 +73,7 @@ func (t *translator) checkReturned(k *knowledge, body *box, of *valueType) {
 	}
 }
 
-// bound gives the scope of a body, with its parameters bound to fresh words, and the entries of these.
+// bound returns the scope of a body with its parameters bound to fresh words, and the entries for these.
 func (t *translator) bound(k *knowledge, placed []argument, refuse func(why, instead string)) (*scope, []boxEntry) {
 	inside := k.scope()
 	entries := make([]boxEntry, len(placed))
@@ -92,7 +92,7 @@ func (t *translator) bound(k *knowledge, placed []argument, refuse func(why, ins
 	return inside, entries
 }
 
-// scope is what a body sees beside its parameters: the business knowledge that it requires.
+// scope returns what a body sees besides its parameters: the business knowledge that it requires.
 func (k *knowledge) scope() *scope {
 	if k.names == nil {
 		k.names = newScope(nil)
@@ -103,7 +103,7 @@ func (k *knowledge) scope() *scope {
 	return newScope(k.names)
 }
 
-// placedArguments puts arguments in the order of the parameters. It tells what is wrong with their number or names.
+// placedArguments puts arguments in the order of the parameters. Why says what is wrong with their number or names.
 func placedArguments(k *knowledge, arguments []argument) (placed []argument, why string) {
 	parameters := make([]string, len(k.Logic.Parameters))
 	places := make(map[string]int, len(parameters))
@@ -123,7 +123,7 @@ func placedArguments(k *knowledge, arguments []argument) (placed []argument, why
 			at, found = places[a.name]
 		}
 		if !found || filled[at] {
-			return nil, fmt.Sprintf("the argument %q is no parameter of %s, or stands twice", a.name, k.name)
+			return nil, fmt.Sprintf("the argument %q is no parameter of %s, or is given twice", a.name, k.name)
 		}
 		filled[at], placed[at] = true, a
 	}

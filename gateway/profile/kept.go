@@ -6,34 +6,34 @@ import (
 	"gateway/feel"
 )
 
-// kept has what one pass found of contexts, which may have thousands of entries and be looked at for each call. In another pass
-// their numbers may be counted otherwise.
+// kept has what one pass found about contexts, which may have thousands of entries and be looked at for each call.
+// Another pass may count their numbers in other units.
 type kept struct {
 	units   map[*valueType]keptUnits
 	counted map[[2]*valueType]keptContext
-	// alike tells why values of one type aren't counted as those of another one.
+	// alike says why values of one type aren't counted as those of another one.
 	alike map[[2]*valueType]keptReason
 	// joint are the types that two contexts have in common.
 	joint map[[2]*valueType]keptContext
-	// lists are the types of lists of those that all runs share.
+	// lists are the list types of types that all runs share.
 	lists map[*valueType]*valueType
 	// texts are the types of literal texts.
 	texts map[string]*valueType
 	// contexts are the types of calculated contexts with one entry.
 	contexts map[keptEntry]*valueType
-	// numbers are the types of the numbers that were calculated last, of which turn is replaced next, others those before.
+	// numbers are the types of the numbers that were calculated last; turn is replaced next, others are those before.
 	numbers [4]*valueType
 	turn    int
 	others  map[units]*valueType
 	// powers are those of names and of constants.
 	powers map[powerOf]keptPower
-	// recount is the type that was counted in other units last, uncounted the class of all numbers where none are counted.
+	// recount is the type that was last counted in other units, uncounted the class of all numbers if none are counted.
 	recount   keptRecount
 	uncounted *meeting
-	// constants are numbers as they are counted in some units, quotients what is calculated of a divisor.
+	// constants are numbers as counted in some units, quotients the results for divisors.
 	constants map[keptNumber]keptConstant
 	quotients map[keptNumber]keptQuotient
-	// literal are the members of lists whose members are all literals, or contexts of such; nil of others.
+	// literal are the members of lists of literals, or of contexts of literals; nil for other lists.
 	literal map[*box][]*box
 }
 
@@ -43,33 +43,33 @@ type keptEntry struct {
 	of   *valueType
 }
 
-// A keptNumber is a constant with how it, or what it divides, is counted.
+// A keptNumber is a constant and the units of it, or of what it divides.
 type keptNumber struct {
 	value *big.Rat
 	scale int
 	per   int64
 }
 
-// A keptConstant is a number as it is counted; false where that is none.
+// A keptConstant is a number in units; false if it can't be.
 type keptConstant struct {
 	made     phrase
 	isNumber bool
 }
 
-// A keptQuotient is what a number is multiplied by for its quotient, and how that is counted.
+// A keptQuotient is the factor that turns a number into its quotient, and the quotient's units.
 type keptQuotient struct {
 	units  units
 	factor *big.Int
 }
 
-// A keptRecount is a type that is counted in other units.
+// A keptRecount is a type counted in other units.
 type keptRecount struct {
 	of   *valueType
 	to   units
 	made *valueType
 }
 
-// A powerOf is a base, which is a constant where it has a number, with an exponent.
+// A powerOf is a base, a constant if it has a number, and an exponent.
 type powerOf struct {
 	text             string
 	of               *valueType
@@ -82,8 +82,8 @@ type keptPower struct {
 	finest int
 }
 
-// A state of a type is how many entries it has and how many changes there were that may concern it: while it is the same, what was
-// found of the type holds.
+// A state of a type is how many entries it has and how many changes may have concerned it. What was found about the
+// type holds while its state is the same.
 type state struct{ size, changes int }
 
 func (t *valueType) state() state { return state{t.size(), t.changed()} }
@@ -95,13 +95,14 @@ type keptUnits struct {
 	within    units
 }
 
-// A keptContext is what was made of two contexts, in a state of both.
+// A keptContext is what was made from two contexts, in a state of both.
 type keptContext struct {
 	states [2]state
 	of     *valueType
 }
 
-// A keptReason is why values of one type aren't counted as those of another one, in a state of both; empty where they are.
+// A keptReason says why values of one type aren't counted as those of another one, in a state of both; empty if they
+// are.
 type keptReason struct {
 	states [2]state
 	why    string
@@ -115,7 +116,7 @@ func newKept() *kept {
 		literal: map[*box][]*box{}}
 }
 
-// contextOf is the type of calculated contexts with one entry. Contexts of the same entry share it.
+// contextOf returns the type of calculated contexts with one entry. Contexts with the same entry share it.
 func (k *kept) contextOf(name string, of *valueType) *valueType {
 	entry := keptEntry{name, of}
 	known := k.contexts[entry]
@@ -127,7 +128,7 @@ func (k *kept) contextOf(name string, of *valueType) *valueType {
 	return known
 }
 
-// textOf is the type of a literal text.
+// textOf returns the type of a literal text.
 func (k *kept) textOf(n *feel.String) *valueType {
 	known := k.texts[n.Value]
 	if known == nil {
@@ -139,7 +140,7 @@ func (k *kept) textOf(n *feel.String) *valueType {
 	return known
 }
 
-// recounted is a type of numbers in other units.
+// recounted returns a number type in other units.
 func (k *kept) recounted(of *valueType, to units) *valueType {
 	if k.recount.of == of && k.recount.to == to {
 		return k.recount.made
@@ -152,10 +153,10 @@ func (k *kept) recounted(of *valueType, to units) *valueType {
 	return &own
 }
 
-// mostKept is how many texts, constants and divisors are kept: a file has few that come often.
+// mostKept is how many texts, constants and divisors are kept: few come often in a file.
 const mostKept = 1000
 
-// constantAt is a number as it is counted in some units; false where it is past the range.
+// constantAt returns a number in units; false if it is past the range.
 func (k *kept) constantAt(value *big.Rat, u units) (phrase, bool) {
 	key := keptNumber{value, u.scale, u.per}
 	found, is := k.constants[key]
@@ -173,7 +174,7 @@ func (k *kept) constantAt(value *big.Rat, u units) (phrase, bool) {
 	return found.made, found.isNumber
 }
 
-// parted is partsBy, which is calculated once for each divisor.
+// parted returns partsBy, calculated once for each divisor.
 func (k *kept) parted(divisor *big.Rat, scale int) (units, *big.Int) {
 	key := keptNumber{value: divisor, scale: scale}
 	found, is := k.quotients[key]
@@ -186,7 +187,7 @@ func (k *kept) parted(divisor *big.Rat, scale int) (units, *big.Int) {
 	return found.units, found.factor
 }
 
-// listOf is the type of calculated lists of a type. Each type has one, for a text may have a list a member.
+// listOf returns the type of calculated lists of a type. Each type has one, as a text may have a list for each member.
 func (k *kept) listOf(element *valueType) *valueType {
 	known := element.listed
 	if element.isShared {
@@ -204,7 +205,7 @@ func (k *kept) listOf(element *valueType) *valueType {
 	return made
 }
 
-// numberOf is the type of calculated numbers of some units. Those that come one after the other share it.
+// numberOf returns the type of calculated numbers in units. Consecutive numbers share it.
 func (k *kept) numberOf(u units) *valueType {
 	for _, known := range k.numbers {
 		if known.units == u {
@@ -223,7 +224,7 @@ func (k *kept) numberOf(u units) *valueType {
 	return made
 }
 
-// unitsOf are those of a type.
+// unitsOf returns the units of a type.
 func (k *kept) unitsOf(of *valueType) keptUnits {
 	of = of.innermost()
 	now := of.state()
@@ -239,7 +240,7 @@ func (k *kept) unitsOf(of *valueType) keptUnits {
 	return made
 }
 
-// unitsOfContext are those of all entries of a context, of which each may stand in many.
+// unitsOfContext returns the units of all entries of a context. An entry may be in many contexts.
 func (k *kept) unitsOfContext(of *valueType) (all keptUnits) {
 	isFirst := true
 	of.eachEntry(func(part *valueType) bool {
@@ -256,7 +257,7 @@ func (k *kept) unitsOfContext(of *valueType) (all keptUnits) {
 	return all
 }
 
-// contextAs is what make makes of a declared context and that of a value.
+// contextAs returns what make makes from a declared context and that of a value.
 func (k *kept) contextAs(due, of *valueType, make func(due, of *valueType) *valueType) *valueType {
 	now := [2]state{due.state(), of.state()}
 	if found, is := k.counted[[2]*valueType{due, of}]; is && found.states == now {
@@ -267,7 +268,7 @@ func (k *kept) contextAs(due, of *valueType, make func(due, of *valueType) *valu
 	return made
 }
 
-// joined is a type that the values of both types have.
+// joined returns a type that the values of both types have.
 func (k *kept) joined(a, b *valueType) *valueType {
 	if a == b || a.kind != contextKind || b.kind != contextKind {
 		return joined(a, b)
@@ -281,7 +282,7 @@ func (k *kept) joined(a, b *valueType) *valueType {
 	return made
 }
 
-// wasJoined is what joined gave of two contexts in the state that they have; nil where it wasn't asked.
+// wasJoined returns what joined gave for two contexts in their present state; nil if it wasn't asked.
 func (k *kept) wasJoined(a, b *valueType) *valueType {
 	if found, is := k.joint[[2]*valueType{a, b}]; is && found.states == [2]state{a.state(), b.state()} {
 		return found.of
@@ -289,7 +290,7 @@ func (k *kept) wasJoined(a, b *valueType) *valueType {
 	return nil
 }
 
-// countedAlike tells why values of a type aren't counted as those of another one; empty where they are.
+// countedAlike says why values of a type aren't counted as those of another one; empty if they are.
 func (k *kept) countedAlike(of, to *valueType) string {
 	pair, now := [2]*valueType{of, to}, [2]state{of.state(), to.state()}
 	if found, is := k.alike[pair]; is && found.states == now {
@@ -302,7 +303,7 @@ func (k *kept) countedAlike(of, to *valueType) string {
 	return why
 }
 
-// within are the units of all numbers in values of a type.
+// within returns the units of all numbers in values of a type.
 func (t *translator) within(of *valueType) units {
 	if of = of.innermost(); of.kind != contextKind {
 		return of.units
@@ -310,7 +311,7 @@ func (t *translator) within(of *valueType) units {
 	return t.kept.unitsOf(of).within
 }
 
-// isCounted tells whether some number in values of a type is counted in units.
+// isCounted reports whether some numbers in values of a type are counted in units.
 func (t *translator) isCounted(of *valueType) bool {
 	return t.kept.isCounted(of)
 }

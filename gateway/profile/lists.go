@@ -8,15 +8,15 @@ import (
 )
 
 const (
-	// mostUnrolled is how many members a list may have whose members are gone through one by one.
+	// mostUnrolled is how many members a list may have to be gone through one by one.
 	mostUnrolled = 100
-	// mostGone is how many members of all lists are gone through in a pass: more take more than a line.
+	// mostGone is how many members of all lists a pass goes through: more wouldn't fit in a line.
 	mostGone = 50_000
-	// mostWrittenOut is how many bytes are written out for members in a pass, in the innermost lists.
+	// mostWrittenOut is how many bytes a pass writes out for members in the innermost lists.
 	mostWrittenOut = MostLine
 )
 
-// listForm translates the forms over lists that can be had exactly. The others are refused.
+// listForm translates those forms over lists that have an exact equivalent. It refuses the others.
 func (t *translator) listForm(n feel.Node, s *scope) phrase {
 	made, is := phrase{}, false
 	switch n := n.(type) {
@@ -37,7 +37,7 @@ func (t *translator) listForm(n feel.Node, s *scope) phrase {
 	return t.left(n)
 }
 
-// listCall translates a function over a list that can be had exactly; false where it is none.
+// listCall translates a function over a list that has an exact equivalent; false if there is none.
 func (t *translator) listCall(n *feel.Call, name string, s *scope) (phrase, bool) {
 	switch {
 	case name == "list contains" && len(n.Arguments) == 2 && n.Arguments[0].Name == "" && n.Arguments[1].Name == "":
@@ -51,8 +51,8 @@ func (t *translator) listCall(n *feel.Call, name string, s *scope) (phrase, bool
 	return phrase{}, false
 }
 
-// contains asks whether a list of scalars has a member: by a table whose test is the list. It is null where the list is; false
-// where the types don't tell that the value is no list.
+// contains asks whether a list of scalars has a member, by a table whose test is the list. It is null if the list is.
+// False if the types don't rule out that the value is a list.
 func (t *translator) contains(n feel.Node, l, x phrase) (made phrase, is bool) {
 	if l.of.kind == refusedKind || x.of.kind == refusedKind {
 		return refused, true
@@ -77,7 +77,7 @@ func (t *translator) contains(n feel.Node, l, x phrase) (made phrase, is bool) {
 	return choice(isNull, constant("null", nullType), hit), true
 }
 
-// countedAsMember is a value in the unit of the members of a list; never where no member can be it.
+// countedAsMember returns a value in the unit of a list's members. Never is true if no member can equal it.
 func (t *translator) countedAsMember(n feel.Node, l, x phrase) (member phrase, never bool) {
 	u := l.of.within()
 	if t.counts && x.of.kind == numberKind {
@@ -121,7 +121,7 @@ func (t *translator) someEqual(n *feel.Quantified, s *scope) (phrase, bool) {
 	return t.contains(n, t.operand(n.Iterators[0].List, s), t.operand(right, s))
 }
 
-// instanceOf translates "x instance of number", string, boolean or list: of null each is false.
+// instanceOf translates "x instance of number", string, boolean or list. For null each is false.
 func (t *translator) instanceOf(n *feel.InstanceOf, s *scope) (phrase, bool) {
 	if made, is := t.instanceOfTemporal(n, s); is {
 		return made, true
@@ -142,7 +142,8 @@ func (t *translator) instanceOf(n *feel.InstanceOf, s *scope) (phrase, bool) {
 	return phrase{text: fmt.Sprintf(form, x.within(rankPath).text), rank: rankComparison, depth: x.depth + 6, of: booleanType}, true
 }
 
-// membersOfList are those of a list that is written out, or of a relation or list of literals that a name stands for; false of others.
+// membersOfList returns the members of a written-out list, or of a named relation or list of literals; false for
+// others.
 func (t *translator) membersOfList(n feel.Node, s *scope) (all []phrase, is bool) {
 	switch n := n.(type) {
 	case *feel.List:
@@ -163,7 +164,7 @@ func (t *translator) membersOfList(n feel.Node, s *scope) (all []phrase, is bool
 	return nil, false
 }
 
-// rows are the members of a relation or a boxed list whose cells are literals, which stand anew where they are gone through.
+// rows returns the members of a relation or a boxed list whose cells are literals. They are repeated for each use.
 func (t *translator) rows(found *binding) (all []phrase, is bool) {
 	of := found.value.of
 	if of.kind != listKind || t.gone > mostGone {
@@ -190,7 +191,7 @@ func (t *translator) rows(found *binding) (all []phrase, is bool) {
 	return all, true
 }
 
-// literalMembers are those of a list that is written out, of few literals or contexts of such; nil of another one.
+// literalMembers returns the members of a short written-out list of literals or contexts; nil for others.
 func literalMembers(b *box) []*box {
 	members := append([]*box{}, b.list...)
 	if b.kind == textBox && b.value.members() != nil {
@@ -211,7 +212,7 @@ func literalMembers(b *box) []*box {
 	return members
 }
 
-// isConstantBox tells whether a box is a literal, or a context of literals.
+// isConstantBox reports whether a box is a literal, or a context of literals.
 func isConstantBox(b *box) bool {
 	switch {
 	case b.kind == textBox:
@@ -231,7 +232,8 @@ func isConstantBox(b *box) bool {
 	return true
 }
 
-// each goes through the members of the lists of some iterators, with the names bound; false where a list can't be gone through.
+// each calls do for each combination of members of the iterators' lists, with the names bound; false if a list can't be
+// gone through.
 func (t *translator) each(n feel.Node, iterators []feel.Iterator, s *scope, count *int, do func(*scope)) bool {
 	if len(iterators) == 0 {
 		*count++
@@ -255,7 +257,7 @@ func (t *translator) each(n feel.Node, iterators []feel.Iterator, s *scope, coun
 	return is
 }
 
-// unrolled translates what is written out for each member, as long as the model may still fit in a line.
+// unrolled writes out a form for each member, as long as the model may still fit in a line.
 func (t *translator) unrolled(n feel.Node, s *scope) phrase {
 	before := t.writtenOut
 	made := t.operand(n, s)
@@ -268,7 +270,7 @@ func (t *translator) unrolled(n feel.Node, s *scope) phrase {
 	return made
 }
 
-// iterated are the values of an iterator.
+// iterated returns the values of an iterator.
 func (t *translator) iterated(i feel.Iterator, s *scope) ([]phrase, bool) {
 	if i.End == nil {
 		return t.membersOfList(i.List, s)
@@ -293,7 +295,7 @@ func (t *translator) iterated(i feel.Iterator, s *scope) ([]phrase, bool) {
 	}
 }
 
-// wholeNumber is a number of an iterator as a literal.
+// wholeNumber returns a number of an iterator as a literal.
 func (t *translator) wholeNumber(at feel.Span, value int64) phrase {
 	if value < 0 {
 		return t.operand(&feel.Negation{Span: at, Operand: &feel.Number{Span: at, Text: fmt.Sprint(-value)}}, newScope(nil))
@@ -301,7 +303,7 @@ func (t *translator) wholeNumber(at feel.Span, value int64) phrase {
 	return t.operand(&feel.Number{Span: at, Text: fmt.Sprint(value)}, newScope(nil))
 }
 
-// unrolledFor is the list of what a for gives of each member.
+// unrolledFor returns the list of a for's results.
 func (t *translator) unrolledFor(n *feel.For, s *scope) (phrase, bool) {
 	var results []phrase
 	count := 0
@@ -312,7 +314,7 @@ func (t *translator) unrolledFor(n *feel.For, s *scope) (phrase, bool) {
 	return listing(results, t.kept.listOf(of)), true
 }
 
-// unrolledQuantified is the or, or the and, of a condition of each member.
+// unrolledQuantified joins the conditions of all members by or, or by and.
 func (t *translator) unrolledQuantified(n *feel.Quantified, s *scope) (phrase, bool) {
 	var conditions []phrase
 	count := 0
@@ -323,14 +325,14 @@ func (t *translator) unrolledQuantified(n *feel.Quantified, s *scope) (phrase, b
 	if n.Word == "every" {
 		end, join = "true", allOf
 	}
-	// What is no condition is null, also where it stands alone.
+	// A value that isn't a condition counts as null, even if it is the only one.
 	if len(conditions) == 0 || len(conditions) == 1 && conditions[0].of.kind != booleanKind {
 		conditions = append(conditions, constant(end, booleanType))
 	}
 	return join(conditions), true
 }
 
-// indexed is the member of a list at a literal index: of a list that is written out, or the first that a filter leaves.
+// indexed returns the member at a literal index of a written-out list, or the first that a filter leaves.
 func (t *translator) indexed(n *feel.Filter, s *scope) (phrase, bool) {
 	index := rational(n.Condition)
 	if index == nil || !index.IsInt() {
@@ -353,7 +355,7 @@ func (t *translator) indexed(n *feel.Filter, s *scope) (phrase, bool) {
 	return members[at-1], true
 }
 
-// first is the first member that a filter leaves, null where it leaves none.
+// first returns the first member that a filter leaves; null if it leaves none.
 func (t *translator) first(n *feel.Filter, s *scope) (phrase, bool) {
 	members, conditions, is := t.filtered(n, s)
 	if !is {
@@ -367,8 +369,8 @@ func (t *translator) first(n *feel.Filter, s *scope) (phrase, bool) {
 	return made, true
 }
 
-// filtered are the members of a list that can be gone through, with the condition of each; false where it can't, or where the
-// filter may be an index.
+// filtered returns the members of a list that can be gone through, with the condition of each; false for other lists,
+// or if the filter may be an index.
 func (t *translator) filtered(n *feel.Filter, s *scope) (members, conditions []phrase, is bool) {
 	if rational(n.Condition) != nil {
 		return nil, nil, false
@@ -395,7 +397,7 @@ func (t *translator) filtered(n *feel.Filter, s *scope) (members, conditions []p
 	return members, conditions, true
 }
 
-// bindMember binds item, and the entries of the member that a filter looks at; false where an entry is called item.
+// bindMember binds item, and the entries of the member that a filter looks at; false if an entry is called item.
 func bindMember(s *scope, member phrase, words *words) bool {
 	s.bind("item", &binding{value: member})
 	if member.of.kind != contextKind {
@@ -408,7 +410,7 @@ func bindMember(s *scope, member phrase, words *words) bool {
 	return member.of.fields["item"] == nil
 }
 
-// overFilter is the sum or the count of what a filter leaves. Of nothing the sum is null.
+// overFilter returns the sum or count of what a filter leaves. The sum of nothing is null.
 func (t *translator) overFilter(n feel.Node, name string, filter *feel.Filter, s *scope) (phrase, bool) {
 	members, conditions, is := t.filtered(filter, s)
 	if !is {

@@ -13,12 +13,13 @@ const listTypes = `<itemDefinition name="tNumbers" isCollection="true"><typeRef>
 	`<itemDefinition name="tTexts" isCollection="true"><typeRef>string</typeRef></itemDefinition>` +
 	`<itemDefinition name="tTruths" isCollection="true"><typeRef>boolean</typeRef></itemDefinition>`
 
-// rates is a relation of literals: a decision that others need.
+// rates is a decision that others need: a relation of literals.
 var rates = decision("Rates", "", `<relation><column name="from"/><column name="rate"/><column name="net price"/>`+
 	`<row>`+literal("0")+literal("10")+literal("1")+`</row><row>`+literal("100")+literal("20")+literal("2")+`</row>`+
 	`<row>`+literal("200")+literal("null")+literal("3")+`</row></relation>`)
 
-// TestMembersOfTypedLists asks whether a list has a member. The answers are worked out by hand: null of a list that is null.
+// TestMembersOfTypedLists asks whether a list has a member; for a null list that is null. The answers are worked out by
+// hand.
 func TestMembersOfTypedLists(t *testing.T) {
 	for _, form := range []string{"list contains(l, x)", "x in l", "x in (l)", "some s in l satisfies s = x", "some s in l satisfies x = s"} {
 		for _, c := range []struct {
@@ -42,7 +43,7 @@ func TestMembersOfTypedLists(t *testing.T) {
 	}
 }
 
-// TestMembersInTables has such a form in an input entry, and in an output entry.
+// TestMembersInTables tests such a form in an input entry and an output entry.
 func TestMembersInTables(t *testing.T) {
 	logic := table(`hitPolicy="FIRST"`, []column{{text: "l", of: "tTexts"}}, []column{{text: "r"}},
 		[]string{`list contains(?, "Java")`, `"Java"`}, []string{`list contains(?, "C") or list contains(?, "D")`, `"C"`},
@@ -56,7 +57,7 @@ func TestMembersInTables(t *testing.T) {
 		{`{"l":null,"x":2}`, "[null,null,null,null]"}})
 }
 
-// TestInstanceOf asks values of each kind; null is an instance of none.
+// TestInstanceOf asks values of each kind. Null is an instance of no type.
 func TestInstanceOf(t *testing.T) {
 	values := []string{"1", "-5", `"a"`, `""`, "true", "false", "[]", "[1]", "[null]", "{}", "null"}
 	for of, due := range map[string]string{
@@ -75,7 +76,8 @@ func TestInstanceOf(t *testing.T) {
 	}
 }
 
-// TestUnrolledLists has forms over lists that are written out, and over a relation of literals. The answers are worked out by hand.
+// TestUnrolledLists tests forms over written-out lists, and over a relation of literals. The answers are worked out by
+// hand.
 func TestUnrolledLists(t *testing.T) {
 	for text, due := range map[string][][2]string{
 		"for i in [1, x, 3] return i * 2":                         {{"5", "[2,10,6]"}, {"null", "[2,null,6]"}},
@@ -136,7 +138,7 @@ func TestUnrolledInAContext(t *testing.T) {
 	answers(t, definitions(input("x", "number"), decision("d", "", logic, "x")), "d", [][2]string{{`{"x":3}`, "[9,1,null]"}, {`{"x":2}`, "[6,0,2]"}})
 }
 
-// TestOtherListsStayRefused has forms over lists whose members are not known, or that could be read in two ways.
+// TestOtherListsStayRefused tests forms over lists whose members aren't known, and ambiguous ones.
 func TestOtherListsStayRefused(t *testing.T) {
 	hundred := "[0" + strings.Repeat(", 1", 100) + "]"
 	for text, why := range map[string]string{
@@ -171,7 +173,7 @@ func TestOtherListsStayRefused(t *testing.T) {
 	}
 }
 
-// TestLongUnrolledLists measures as many members as are gone through, in forms that stand in each other.
+// TestLongUnrolledLists measures nested forms over as many members as can be gone through.
 func TestLongUnrolledLists(t *testing.T) {
 	members := "[1" + strings.Repeat(", x", 99) + "]"
 	file := definitions(input("x", "number"), decision("d", "", literal(fmt.Sprintf("[count(%[1]s[item > 2]), %[1]s[item > 2][1], "+

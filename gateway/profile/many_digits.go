@@ -6,13 +6,15 @@ import (
 	"gateway/decimal"
 )
 
-// manyDigits is a number that ends, as a whole number of 10^-scale: of its twos and fives none is looked for by a division each.
+// manyDigits is a terminating number, as a whole number of 10^-scale. Its twos and fives are found without a division
+// for each.
 type manyDigits struct {
 	digits *big.Int
 	scale  int
 }
 
-// fives are 5^0 to the last one of mostBitsOfParts bits, fivesOfBits which of them has so many bits; -1 where none has.
+// fives are 5^0 to the last one of mostBitsOfParts bits. fivesOfBits is the index of the one with a number of bits; -1
+// if there is none.
 var fives, fivesOfBits = func() (all []*big.Int, ofBits [mostBitsOfParts + 1]int) {
 	for bits := range ofBits {
 		ofBits[bits] = -1
@@ -27,7 +29,8 @@ var fives, fivesOfBits = func() (all []*big.Int, ofBits [mostBitsOfParts + 1]int
 // pastDigits is the least whole number with more than 34 digits.
 var pastDigits = decimal.Power(decimal.Digits)
 
-// endingParts is how often a number above 0 has twos and fives; false where it has another factor, or over mostBitsOfParts bits.
+// endingParts returns how often a positive number has the factors two and five; false if it has others, or more than
+// mostBitsOfParts bits.
 func endingParts(parts *big.Int) (twosOf, fivesOf int, is bool) {
 	if parts.IsInt64() {
 		twosOf, fivesOf, rest := twosAndFives(parts.Int64())
@@ -43,7 +46,7 @@ func endingParts(parts *big.Int) (twosOf, fivesOf int, is bool) {
 	return twosOf, fivesOf, new(big.Int).Rsh(parts, uint(twosOf)).Cmp(fives[fivesOf]) == 0
 }
 
-// manyDigitsOf are those of a number; false where it doesn't end, or has far too many decimals.
+// manyDigitsOf returns the digits of a number; false if it doesn't terminate, or has far too many decimals.
 func manyDigitsOf(value *big.Rat) (made manyDigits, is bool) {
 	twosOf, fivesOf, is := endingParts(value.Denom())
 	if made.scale = maximum(twosOf, fivesOf); !is || made.scale-fivesOf >= len(fives) {
@@ -57,7 +60,7 @@ func manyDigitsOf(value *big.Rat) (made manyDigits, is bool) {
 	return made, true
 }
 
-// fits tells whether the number has at most 34 digits, and not far too many decimals.
+// fits reports whether the number has at most 34 digits, and not far too many decimals.
 func (m *manyDigits) fits() bool {
 	if m.digits.BitLen() <= mostBitsOfDigits && m.scale <= mostDecimalsOnTheWay {
 		return true
@@ -74,13 +77,13 @@ func (m *manyDigits) fits() bool {
 	return isShort
 }
 
-// by makes the number a product.
+// by multiplies the number.
 func (m *manyDigits) by(other manyDigits) {
 	m.digits.Mul(m.digits, other.digits)
 	m.scale += other.scale
 }
 
-// plus makes the number a sum, or a difference.
+// plus adds to the number, or subtracts from it.
 func (m *manyDigits) plus(other manyDigits, isMinus bool) {
 	next := other.digits
 	switch {
@@ -97,7 +100,7 @@ func (m *manyDigits) plus(other manyDigits, isMinus bool) {
 	}
 }
 
-// value is the number in its lowest terms.
+// value returns the number in its lowest terms.
 func (m *manyDigits) value() *big.Rat {
 	if m.digits.Sign() == 0 {
 		return new(big.Rat)
@@ -106,7 +109,7 @@ func (m *manyDigits) value() *big.Rat {
 	twosOf := minimum(m.scale, int(m.digits.TrailingZeroBits()))
 	made.Num().Rsh(made.Num(), uint(twosOf))
 	fivesOf := removedFives(made.Num(), m.scale)
-	// Both have no common divisor, which SetFrac would look for.
+	// The two have no common divisor, so don't let SetFrac look for one.
 	made.Denom().Lsh(powerOfFive(m.scale-fivesOf), uint(m.scale-twosOf))
 	return made
 }
@@ -118,7 +121,7 @@ func powerOfFive(exponent int) *big.Int {
 	return power(5, exponent)
 }
 
-// foldedMany is folded of numbers that end; false where it isn't known.
+// foldedMany is folded for terminating numbers; false if the result isn't known.
 func foldedMany(operator string, operands []phrase, operators []string) (value *big.Rat, is bool) {
 	next, is := manyDigitsOf(operands[0].number)
 	if !is {
@@ -143,7 +146,7 @@ func foldedMany(operator string, operands []phrase, operators []string) (value *
 	return nil, true
 }
 
-// removed takes a factor, which is 2, 5 or 10, out of a number as often as it is in it, and gives how often.
+// removed divides a number by 2, 5 or 10 as often as possible, and returns how often.
 func removed(n *big.Int, factor int64) (count int) {
 	if n.Sign() == 0 {
 		return 0
@@ -163,7 +166,7 @@ func removed(n *big.Int, factor int64) (count int) {
 	return count
 }
 
-// removedFives takes fives out of a number as often as they are in it, which isn't 0, but not more than most, and gives how often.
+// removedFives divides a number other than 0 by five as often as possible, at most most times, and returns how often.
 func removedFives(n *big.Int, most int) (count int) {
 	if !isByFive(n) {
 		return 0
@@ -186,7 +189,7 @@ func removedFives(n *big.Int, most int) (count int) {
 	return count
 }
 
-// isByFive tells whether five divides a number: what each word counts is one more than a multiple of it.
+// isByFive reports whether five divides a number: the base of each word is 1 modulo five.
 func isByFive(n *big.Int) bool {
 	sum := uint64(0)
 	for _, word := range n.Bits() {

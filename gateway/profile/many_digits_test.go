@@ -9,7 +9,7 @@ import (
 	"gateway/decimal"
 )
 
-// endsByDivision is ends by dividing by two and five as long as it goes.
+// endsByDivision is ends by repeated division by two and five.
 func endsByDivision(value *big.Rat) bool {
 	scale := maximum(removedByDivision(value.Denom(), 2), removedByDivision(value.Denom(), 5))
 	whole := new(big.Rat).Mul(value, new(big.Rat).SetInt(power(10, scale)))
@@ -27,7 +27,7 @@ func removedByDivision(n *big.Int, factor int64) (count int) {
 	return count
 }
 
-// longNumber is a number of up to some forty digits, which ends or doesn't.
+// longNumber returns a number of up to some forty digits, terminating or not.
 func longNumber(r *rand.Rand) *big.Rat {
 	digits := new(big.Int).Rand(r, power(10, 1+r.Intn(40)))
 	digits.Mul(digits, power([]int64{2, 5, 10}[r.Intn(3)], r.Intn(40)))
@@ -44,7 +44,7 @@ func longNumber(r *rand.Rand) *big.Rat {
 	return new(big.Rat).SetFrac(digits, parts)
 }
 
-// TestManyDigits holds what is calculated of constants against fractions.
+// TestManyDigits checks calculations on constants against fractions.
 func TestManyDigits(t *testing.T) {
 	r, known := rand.New(rand.NewSource(1)), 0
 	for i := 0; i < 20_000; i++ {
@@ -86,7 +86,7 @@ func TestManyDigits(t *testing.T) {
 	}
 }
 
-// TestRemoved holds factors that are taken out of numbers against divisions step by step.
+// TestRemoved checks the removal of factors against divisions one by one.
 func TestRemoved(t *testing.T) {
 	r := rand.New(rand.NewSource(1))
 	for i := 0; i < 20_000; i++ {
@@ -104,7 +104,7 @@ func TestRemoved(t *testing.T) {
 	}
 }
 
-// TestManyDigitsOfText holds constants, and powers of ten, against their texts.
+// TestManyDigitsOfText checks constants, and powers of ten, against their texts.
 func TestManyDigitsOfText(t *testing.T) {
 	for i := 0; i <= decimal.Digits+2; i++ {
 		for _, text := range []string{"1" + strings.Repeat("0", i), "0." + strings.Repeat("0", i) + "1"} {
@@ -124,7 +124,7 @@ func TestManyDigitsOfText(t *testing.T) {
 	}
 }
 
-// TestCommonParts holds common divisors that are looked up against those that are looked for.
+// TestCommonParts checks the lookup of common divisors against a search.
 func TestCommonParts(t *testing.T) {
 	r := rand.New(rand.NewSource(1))
 	for i := 0; i < 20_000; i++ {

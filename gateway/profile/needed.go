@@ -7,14 +7,14 @@ import (
 	"gateway/feel"
 )
 
-// needed is what some services need of the files.
+// needed is what some services need from the files.
 type needed struct {
 	graph *graph
 	nodes map[*node]bool
 	known map[*knowledge]bool
 	// parts are the elements of all that is needed: inputs, decisions, business knowledge, types and services.
 	parts map[*dmn.Element]bool
-	// clean has what was found of nodes, business knowledge and types.
+	// clean keeps the results for nodes, business knowledge and types.
 	clean map[interface{}]bool
 }
 
@@ -59,7 +59,7 @@ func (n *needed) knowledge(k *knowledge) {
 	}
 }
 
-// types notes the types that an element names, and those that they are made of.
+// types notes the types that an element names, and the types within them.
 func (n *needed) types(of *types, e *dmn.Element) {
 	if ref := e.Attribute("typeRef"); ref != "" {
 		n.item(of, of.item(ref))
@@ -80,7 +80,7 @@ func (n *needed) item(of *types, item *dmn.ItemDefinition) {
 	}
 }
 
-// item is the definition of a name as resolve finds it; nil where there is none.
+// item returns the definition of a name as resolve finds it; nil if there is none.
 func (t *types) item(ref string) *dmn.ItemDefinition {
 	if item := t.items[feel.Canonical(ref)]; item != nil || ref == "" {
 		return item
@@ -88,7 +88,7 @@ func (t *types) item(ref string) *dmn.ItemDefinition {
 	return t.items[feel.Canonical(ref[strings.LastIndexByte(ref, ':')+1:])]
 }
 
-// isClean tells whether a service needs no part that can't be made.
+// isClean reports whether a service needs only parts that can be made.
 func (n *needed) isClean(s service) bool {
 	clean := s.origin == nil || !n.graph.refusals.spoiled[s.origin]
 	for _, one := range s.nodes {
@@ -97,7 +97,7 @@ func (n *needed) isClean(s service) bool {
 	return clean
 }
 
-// isCleanNode tells it of a node. One that is being asked is not clean: it needs itself.
+// isCleanNode is isClean for a node. A node reached from itself is not clean.
 func (n *needed) isCleanNode(one *node) bool {
 	if known, found := n.clean[one]; found {
 		return known
@@ -127,7 +127,7 @@ func (n *needed) isCleanKnowledge(k *knowledge) bool {
 	return clean
 }
 
-// isCleanPart tells whether an element and the types that it names can be made.
+// isCleanPart reports whether an element and the types that it names can be made.
 func (n *needed) isCleanPart(of *types, e *dmn.Element) bool {
 	if n.graph.refusals.spoiled[e] {
 		return false
@@ -155,7 +155,7 @@ func (n *needed) isCleanItem(of *types, item *dmn.ItemDefinition) bool {
 	return clean
 }
 
-// keep leaves in the graph what is needed.
+// keep removes all that isn't needed from the graph.
 func (g *graph) keep(n *needed) {
 	keep := func(nodes []*node) (kept []*node) {
 		for _, one := range nodes {
@@ -183,7 +183,7 @@ func (g *graph) keep(n *needed) {
 	}
 }
 
-// only leaves the refusals that concern some parts.
+// only keeps the refusals that concern some parts.
 func (r *refusals) only(parts map[*dmn.Element]bool) {
 	var all []Refusal
 	var owners [][]*dmn.Element

@@ -10,16 +10,16 @@ import (
 	"gateway/lines"
 )
 
-// mostScale is how many decimals a value on the way may have: one of more would nearly always be past the range.
+// mostScale is how many decimals an intermediate value may have: with more it would nearly always be past the range.
 const mostScale = 36
 
-// mostDecimals is how many decimals a number of the standard has at most, which are those of IEEE 754's decimal128.
+// mostDecimals is the most decimals of a number in the standard, as in IEEE 754's decimal128.
 const mostDecimals = 6176
 
 // quotientInstead is what to write in place of a calculation with a quotient.
 const quotientInstead = "the products first and the division last, as x * 0.05 / 12, or a rounding round the quotient: decimal(x / 3, 2)"
 
-// fraction translates a numeric literal with decimals: its digits, in the unit that they have.
+// fraction translates a numeric literal with decimals, to its digits in their unit.
 func (t *translator) fraction(n *feel.Number) phrase {
 	t.fractions = true
 	scale := decimalsOf(n.Text)
@@ -35,7 +35,7 @@ func (t *translator) fraction(n *feel.Number) phrase {
 	return made
 }
 
-// decimalsOf is how many decimals a literal has, without zeros at its end.
+// decimalsOf returns how many decimals a literal has, without trailing zeros.
 func decimalsOf(text string) int {
 	point := strings.IndexByte(text, '.')
 	if point < 0 {
@@ -44,7 +44,7 @@ func decimalsOf(text string) int {
 	return len(strings.TrimRight(text[point+1:], "0"))
 }
 
-// constantNumber is a number that ends, in the coarsest unit that it has.
+// constantNumber returns a terminating number in its coarsest unit.
 func constantNumber(value *big.Rat) phrase {
 	if few, is := fewDigitsOf(value); is {
 		return few.constant(value)
@@ -58,7 +58,7 @@ func constantNumber(value *big.Rat) phrase {
 	return constantAt(value, units{scale: maximum(removed(rest, 2), removed(rest, 5))})
 }
 
-// scaledBy is a number times 10^scale.
+// scaledBy returns a number times 10^scale.
 func scaledBy(value *big.Rat, scale int) *big.Rat {
 	switch {
 	case scale == 0 || value.Sign() == 0:
@@ -74,7 +74,7 @@ func scaledBy(value *big.Rat, scale int) *big.Rat {
 	return new(big.Rat).Mul(value, new(big.Rat).SetInt(decimal.Power(scale)))
 }
 
-// constantAt is a number as it is counted in some units, in which it has to be whole.
+// constantAt returns a number in units of which it is a whole number.
 func constantAt(value *big.Rat, u units) phrase {
 	made := wholeConstant(inUnits(value, u).Num())
 	made.number, made.of = value, numberOf(u)
@@ -91,10 +91,10 @@ func wholeConstant(digits *big.Int) phrase {
 	return constant(digits.String(), numberType)
 }
 
-// isNumber tells whether a whole number is one of the engine's.
+// isNumber reports whether a whole number is in the engine's range.
 func isNumber(n *big.Int) bool { return n.IsInt64() && n.Int64() >= -lines.MaxNumber }
 
-// exact refuses what is no plain number: a quotient, and a constant past the range.
+// exact refuses all but plain numbers: quotients, and constants past the range.
 func (t *translator) exact(n feel.Node, p phrase) phrase {
 	if p.isQuotient() {
 		return t.refuse(n, "a quotient may only be compared, rounded, negated, chosen, or be a result: it is rounded to "+
@@ -118,7 +118,7 @@ func (t *valueType) isPlain() bool { return t.units.isPlain() }
 
 func (t *valueType) isFractional() bool { return t.units.isFractional() }
 
-// recounted is a number in finer units. Why is empty, or tells why it can't be had.
+// recounted returns a number in finer units. Why says why that is impossible, or is empty.
 func (t *translator) recounted(p phrase, to units) (made phrase, why string) {
 	if to.per == tooManyParts {
 		return p, "the quotients have no common divisor in the range"
@@ -154,7 +154,7 @@ func (t *translator) recounted(p phrase, to units) (made phrase, why string) {
 	return times(p, factor, t.kept.recounted(p.of, units{scale: to.scale, per: to.per, meets: to.meets})), ""
 }
 
-// times is a phrase times a whole number.
+// times returns a phrase times a whole number.
 func times(p phrase, factor *big.Int, of *valueType) phrase {
 	if factor.IsInt64() && factor.Int64() == 1 {
 		p.of = of
@@ -165,7 +165,7 @@ func times(p phrase, factor *big.Int, of *valueType) phrase {
 	return made
 }
 
-// recountedOr is a number in finer units, refused where it can't be had.
+// recountedOr returns a number in finer units, and refuses it if that is impossible.
 func (t *translator) recountedOr(n feel.Node, p phrase, to units) phrase {
 	t.countedFinely(to)
 	made, why := t.recounted(p, to)
@@ -175,10 +175,10 @@ func (t *translator) recountedOr(n feel.Node, p phrase, to units) phrase {
 	return t.shallow(made)
 }
 
-// countedFinely notes how a number on the way is counted.
+// countedFinely notes the units of an intermediate number.
 func (t *translator) countedFinely(u units) { t.finest = maximum(t.finest, u.scale) }
 
-// noteRange says from which size on the answer of a decision is limit.
+// noteRange notes from which size on the answer of a decision is a limit error.
 func (t *translator) noteRange(n *node) {
 	if finest := maximum(t.finest, t.within(n.of).scale); t.counts && finest > 0 {
 		t.refusals.note(n.element(), fmt.Sprintf("numbers on the way have up to %d decimals: one past %s is limit", finest,
@@ -186,8 +186,8 @@ func (t *translator) noteRange(n *node) {
 	}
 }
 
-// aligned is a value that is counted as values of another type, which may be had by multiplying numbers; refused where it
-// may not.
+// aligned returns a value counted as values of another type, which may multiply numbers. It refuses what it can't
+// align.
 func (t *translator) aligned(p phrase, to *valueType, refuse func(why, instead string)) phrase {
 	if !t.counts || !t.isCounted(to) && !t.isCounted(p.of) {
 		return p
@@ -217,10 +217,11 @@ func (t *translator) aligned(p phrase, to *valueType, refuse func(why, instead s
 	return p
 }
 
-// isAsItIs tells whether a value that meets no other one stays what it is.
+// isAsItIs reports whether a value that meets no other one stays as it is.
 func (p phrase) isAsItIs() bool { return p.of.kind != numberKind || p.of.units.per != tooManyParts }
 
-// isCountedAs tells whether values of a type, a scalar or lists of such, are surely counted as those of another one.
+// isCountedAs reports whether values of a type, a scalar or a list of scalars, are surely counted as those of another
+// one.
 func isCountedAs(of, to *valueType) bool {
 	for of != to && of.kind == listKind && to.kind == listKind {
 		of, to = of.element, to.element
@@ -228,7 +229,7 @@ func isCountedAs(of, to *valueType) bool {
 	return of == to || of.kind == numberKind && to.kind == numberKind && of.units.isAs(to.units)
 }
 
-// together aligns values that meet in a list, a branch or a column, and gives the type that all of them have.
+// together aligns values that meet in a list, a branch or a column, and returns their common type.
 func (t *translator) together(values []phrase, refuse func(why, instead string)) *valueType {
 	of, seen := nullType, map[*valueType]bool(nil)
 	for i, value := range values {
@@ -256,18 +257,18 @@ func (t *translator) together(values []phrase, refuse func(why, instead string))
 	return of
 }
 
-// refusal refuses a form with a reason that comes later. What is refused of each member of a list is refused once.
+// refusal returns a function that refuses a form. The same refusal for each member of a list is made once.
 func (t *translator) refusal(n feel.Node) func(why, instead string) {
-	told := ""
+	last := ""
 	return func(why, instead string) {
-		if why != told {
+		if why != last {
 			t.refuse(n, why, instead)
 		}
-		told = why
+		last = why
 	}
 }
 
-// units are those of the sum of operands.
+// unitsOf returns the units of the sum of operands.
 func unitsOf(operands []phrase) units {
 	all := operands[0].of.units
 	for _, o := range operands[1:] {
@@ -277,7 +278,8 @@ func unitsOf(operands []phrase) units {
 	return all
 }
 
-// folded is the value of a calculation with constants; nil where some operand is none, or the standard rounds on the way.
+// folded returns the value of a calculation with constants; nil if some operand isn't constant, or the standard rounds
+// on the way.
 func folded(operator string, operands []phrase, operators []string) *big.Rat {
 	for i := range operands {
 		if operands[i].number == nil {
@@ -309,16 +311,17 @@ func folded(operator string, operands []phrase, operators []string) *big.Rat {
 	return value
 }
 
-// shortPower is a power of ten that a number of 19 digits may be multiplied by without having more than 34.
+// shortPower is a power of ten that can multiply a number of 19 digits without exceeding 34.
 const shortPower = 1_000_000_000_000_000
 
-// mostBitsOfDigits is how many bits a number may have that surely has at most 34 digits, mostBitsOfParts how many 10^72 has.
+// mostBitsOfDigits is how many bits a number with surely at most 34 digits may have, mostBitsOfParts how many 10^72
+// has.
 const mostBitsOfDigits, mostBitsOfParts = 112, 240
 
-// mostDecimalsOnTheWay is how many decimals a constant may have on the way.
+// mostDecimalsOnTheWay is how many decimals an intermediate constant may have.
 const mostDecimalsOnTheWay = 2 * mostScale
 
-// ends tells whether a number has at most 34 digits.
+// ends reports whether a number has at most 34 digits.
 func ends(value *big.Rat) bool {
 	if value.Num().IsInt64() && value.Denom().IsInt64() && shortPower%value.Denom().Int64() == 0 {
 		return true
@@ -327,7 +330,7 @@ func ends(value *big.Rat) bool {
 	return is && made.fits()
 }
 
-// countedSum is the sum of operands that are counted in units.
+// countedSum returns the sum of operands counted in units.
 func (t *translator) countedSum(n *feel.Chain, operands []phrase) phrase {
 	u, value := unitsOf(operands), folded("+", operands, n.Operators)
 	if value != nil && !u.isPlain() {
@@ -341,7 +344,7 @@ func (t *translator) countedSum(n *feel.Chain, operands []phrase) phrase {
 	return made
 }
 
-// countedProduct is the product of operands: their decimals add up.
+// countedProduct returns the product of operands. Their decimals add up.
 func (t *translator) countedProduct(n feel.Node, operands []phrase) phrase {
 	u := t.unitsOfProduct(operands)
 	t.countedFinely(u)
@@ -358,7 +361,7 @@ func (t *translator) countedProduct(n feel.Node, operands []phrase) phrase {
 	return made
 }
 
-// unitsOfProduct are those of the product of operands.
+// unitsOfProduct returns the units of the product of operands.
 func (t *translator) unitsOfProduct(operands []phrase) (u units) {
 	for i := range operands {
 		switch of := operands[i].of.units; {
@@ -372,7 +375,8 @@ func (t *translator) unitsOfProduct(operands []phrase) (u units) {
 	return u
 }
 
-// factors are the operands of a product that are written: a constant as 0.1 is one of its unit, and says how the others are counted.
+// factors returns the operands to write in a product. A constant such as 0.1, which is 1 in its unit, is left out and
+// changes the units of the others.
 func factors(operands []phrase) []phrase {
 	var all []phrase
 	for i, o := range operands {
@@ -393,7 +397,7 @@ func factors(operands []phrase) []phrase {
 // timesSigns are the operators of short products.
 var timesSigns = strings.Split(strings.Repeat("*", mostChain), "")
 
-// repeated is an operator so many times.
+// repeated returns count times an operator.
 func repeated(operator string, count int) []string {
 	if operator == "*" && count <= len(timesSigns) {
 		return timesSigns[:count]
@@ -405,7 +409,7 @@ func repeated(operator string, count int) []string {
 	return operators
 }
 
-// hasNumber tells whether an operand is a number, and no constant: then the product is null where it is.
+// hasNumber reports whether an operand is a number and not a constant: then the product is null if that operand is.
 func hasNumber(operands []phrase) bool {
 	for _, o := range operands {
 		if o.number == nil && o.of.kind == numberKind {
@@ -415,7 +419,7 @@ func hasNumber(operands []phrase) bool {
 	return false
 }
 
-// productWithQuotients is a product with divisions or quotients in it, from the left.
+// productWithQuotients translates a product with divisions or quotients, from the left.
 func (t *translator) productWithQuotients(n *feel.Chain, operands []phrase) phrase {
 	soFar := operands[0]
 	for i, operator := range n.Operators {
@@ -430,12 +434,12 @@ func (t *translator) productWithQuotients(n *feel.Chain, operands []phrase) phra
 	return soFar
 }
 
-// isQuotient tells whether a phrase is a quotient by a constant or a variable.
+// isQuotient reports whether a phrase is a quotient by a constant or a variable.
 func (p phrase) isQuotient() bool {
 	return p.over() != nil || p.of.kind == numberKind && p.of.units.per != 0
 }
 
-// multiplied is a product; a quotient may be multiplied by powers of ten alone.
+// multiplied returns a product. A quotient may only be multiplied by powers of ten.
 func (t *translator) multiplied(n feel.Node, a, b phrase) phrase {
 	if b.isQuotient() {
 		a, b = b, a
@@ -450,7 +454,7 @@ func (t *translator) multiplied(n feel.Node, a, b phrase) phrase {
 	return t.shifted(n, a, power)
 }
 
-// powerOfTen is the exponent of a constant that is a power of ten.
+// powerOfTen returns the exponent of a constant power of ten.
 func powerOfTen(value *big.Rat) (int, bool) {
 	if value == nil || value.Sign() <= 0 {
 		return 0, false
@@ -467,10 +471,10 @@ func powerOfTen(value *big.Rat) (int, bool) {
 	return sign * power, is && power <= decimal.Digits
 }
 
-// mostBits is how many a whole number of 34 digits and one more has.
+// mostBits is how many bits a whole number of 35 digits has.
 const mostBits = 117
 
-// shifted is a quotient times 10^power.
+// shifted returns a quotient times 10^power.
 func (t *translator) shifted(n feel.Node, p phrase, power int) phrase {
 	own := *p.of
 	own.units.scale -= power
@@ -490,7 +494,7 @@ func (t *translator) shifted(n feel.Node, p phrase, power int) phrase {
 	return p
 }
 
-// divided is a quotient. Of a divisor of twos and fives alone it is exact; by 0 it is null.
+// divided returns a quotient. It is exact if the divisor has only twos and fives; by 0 it is null.
 func (t *translator) divided(n feel.Node, a, b phrase) phrase {
 	switch {
 	case a.of.kind == refusedKind || b.of.kind == refusedKind:
@@ -512,8 +516,8 @@ func (t *translator) divided(n feel.Node, a, b phrase) phrase {
 	return t.ratio(n, a, b)
 }
 
-// dividedBy is a number divided by a constant: where the divisor has twos and fives alone, a number with more decimals, else a
-// quotient of parts.
+// dividedBy returns a number divided by a constant: a number with more decimals if the divisor has only twos and fives,
+// else a quotient of parts.
 func (t *translator) dividedBy(n feel.Node, a phrase, divisor *big.Rat) phrase {
 	others := withoutTens(divisor.Num())
 	if a.number != nil && (a.number.Sign() == 0 || others.CmpAbs(a.number.Num()) <= 0) {
@@ -531,7 +535,7 @@ func (t *translator) dividedBy(n feel.Node, a phrase, divisor *big.Rat) phrase {
 	}
 	a.number = nil
 	if a.of.kind != numberKind && factor.IsInt64() && factor.Int64() == 1 {
-		// Of what is no number the quotient is null.
+		// The quotient of anything but a number is null.
 		return infix(a, "*", constant("1", numberType), rankProduct, numberOf(u))
 	}
 	if a.depth >= mostOperandDepth {
@@ -540,7 +544,8 @@ func (t *translator) dividedBy(n feel.Node, a phrase, divisor *big.Rat) phrase {
 	return times(a, factor, t.kept.numberOf(u))
 }
 
-// withoutTens is the size of a number without its twos and fives: a quotient ends where the dividend has what is left.
+// withoutTens returns the size of a number without its twos and fives. A quotient terminates if the dividend has the
+// factor that is left.
 func withoutTens(n *big.Int) *big.Int {
 	rest := new(big.Int).Abs(n)
 	removed(rest, 2)
@@ -548,7 +553,7 @@ func withoutTens(n *big.Int) *big.Int {
 	return rest
 }
 
-// fractional notes that fractions meet a number. Where none are counted nobody asks which do.
+// fractional notes that fractions meet a number. If none are counted nobody asks which do.
 func (t *translator) fractional(u units) units {
 	if !t.counts && u.meets == nil {
 		u.meets = t.kept.uncounted
@@ -557,7 +562,8 @@ func (t *translator) fractional(u units) units {
 	return u.fractional()
 }
 
-// partsBy are the units of the quotient of a number of some decimals by a constant, and by what the number is multiplied for them.
+// partsBy returns the units of the quotient of a number with scale decimals by a constant, and the factor of the number
+// in these units.
 func partsBy(divisor *big.Rat, scale int) (u units, factor *big.Int) {
 	if u, few, is := partsByFew(divisor, scale); is {
 		return u, big.NewInt(few)
@@ -565,7 +571,7 @@ func partsBy(divisor *big.Rat, scale int) (u units, factor *big.Int) {
 	return partsByMany(divisor, scale)
 }
 
-// partsByMany is partsBy of any divisor.
+// partsByMany is partsBy for any divisor.
 func partsByMany(divisor *big.Rat, scale int) (u units, factor *big.Int) {
 	factor, parts := new(big.Int).Set(divisor.Denom()), decimal.Power(scale)
 	parts.Mul(parts, divisor.Num())
@@ -580,7 +586,8 @@ func partsByMany(divisor *big.Rat, scale int) (u units, factor *big.Int) {
 	return u, factor.Mul(factor, finer)
 }
 
-// commonParts is the common divisor of the denominator of a number, which may be below 0, and of its numerator times 10^scale.
+// commonParts returns the common divisor of a number's denominator, which may be negative, and of its numerator times
+// 10^scale.
 func commonParts(denominator, parts *big.Int, scale int) *big.Int {
 	size := new(big.Int).Abs(denominator)
 	if twosOf, fivesOf, is := endingParts(size); is && scale >= 0 {
@@ -593,7 +600,7 @@ func power(base int64, exponent int) *big.Int {
 	return new(big.Int).Exp(big.NewInt(base), big.NewInt(int64(exponent)), nil)
 }
 
-// ratio is a quotient by a variable: its numerator, null where there is no quotient, over a divisor above 0.
+// ratio returns a quotient by a variable: its numerator, null if there is no quotient, over a positive divisor.
 func (t *translator) ratio(n feel.Node, a, b phrase) phrase {
 	t.fractions = true
 	u := units{scale: a.of.units.scale - b.of.units.scale, meets: met(a.of.units.fractional(), b.of.units.fractional())}
@@ -611,7 +618,7 @@ func (t *translator) ratio(n feel.Node, a, b phrase) phrase {
 	return made
 }
 
-// parenthesized is a text that may stand behind a minus.
+// parenthesized returns a text that may follow a minus.
 func parenthesized(text string) string {
 	if strings.ContainsAny(text, " -") && !strings.HasPrefix(text, "(") {
 		return "(" + text + ")"
@@ -619,14 +626,14 @@ func parenthesized(text string) string {
 	return text
 }
 
-// powered is a ** b with a whole literal from 1 to 8: a product.
+// powered translates a ** b, with a literal b from 1 to 8, to a product.
 func (t *translator) powered(n *feel.Binary, s *scope) phrase {
 	t.fractions = true
 	base, exponent := t.operand(n.Left, s), t.operand(n.Right, s)
 	return t.power(n, base, exponent)
 }
 
-// power is a power of a base. That of a name or a constant is calculated once.
+// power returns a power of a base. For a name or a constant it is calculated once.
 func (t *translator) power(n *feel.Binary, base, exponent phrase) phrase {
 	if known, is := t.kept.powers[powerOf{base.text, base.of, base.number, exponent.number}]; is && base.rare == nil {
 		t.finest = maximum(t.finest, known.finest)

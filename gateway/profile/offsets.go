@@ -8,11 +8,12 @@ import (
 	"gateway/feel"
 )
 
-// A timeSort says whether the times of an input have an offset: where the caller says so, or where they meet others that have one.
+// A timeSort says whether the times of an input have an offset: because the caller says so, or because they meet others
+// that do.
 type timeSort struct {
 	name              string
 	hasOffset, wanted bool
-	// types are those of the input.
+	// types are the types of the input.
 	types []*valueType
 }
 
@@ -23,7 +24,7 @@ func (s *timeSort) want() {
 	}
 }
 
-// either is the one of two that there is.
+// either returns the one of two that isn't nil.
 func either(a, b *timeSort) *timeSort {
 	if a != nil {
 		return a
@@ -42,13 +43,14 @@ func (s *timeSort) take() {
 // offsets are the sorts of all times of inputs, and how many decimals of a second the files have.
 type offsets struct {
 	all []*timeSort
-	// tick is what times and days and time durations are counted in, in all files alike; wanted is how many decimals literals have.
+	// tick is the unit of times and of days and time durations, in all files; wanted is how many decimals literals
+	// have.
 	tick   calendar.Tick
 	wanted int
-	// timed are the names of inputs with such, said the decimals that the caller says.
+	// timed are the names of inputs with such values, said the decimals given by the caller.
 	timed []string
 	said  *Decimals
-	// asked has the name in --offset of each canonical name, used those that are some input's.
+	// asked has the spelling in --offset of each canonical name, used the ones that some input has.
 	asked map[string]string
 	used  map[string]bool
 }
@@ -64,19 +66,19 @@ func newOffsets(g *graph, options Options) *offsets {
 	return o
 }
 
-// add gives each time of an input a sort of its own.
+// add gives each time of an input its own sort.
 func (o *offsets) add(n *node) {
 	if n.of.some((*valueType).isTimed) {
 		n.of = o.of(n.of, n.name)
 	}
 }
 
-// isTimed tells whether values are counted in parts of seconds.
+// isTimed reports whether values are counted in parts of seconds.
 func (t *valueType) isTimed() bool {
 	return withOffset[t.kind] != 0 || t.kind == dayDurationKind || t.kind == offsetTimeKind || t.kind == offsetDateTimeKind
 }
 
-// timedDecimals are those that the caller says of a name, or of what it is a part of, where it is timed.
+// timedDecimals returns the decimals that the caller gives for a timed name, or for what it is part of.
 func (o *offsets) timedDecimals(name string) {
 	o.timed = append(o.timed, name)
 	if o.said == nil {
@@ -124,7 +126,7 @@ func (o *offsets) of(of *valueType, name string) *valueType {
 	return &own
 }
 
-// isAsked tells whether --offset has a name, or that of what it is a part of.
+// isAsked reports whether --offset has a name, or that of what it is part of.
 func (o *offsets) isAsked(canonical string) bool {
 	if name, is := o.asked[canonical]; is {
 		o.used[name] = true
@@ -134,7 +136,7 @@ func (o *offsets) isAsked(canonical string) bool {
 	return dot > 0 && o.isAsked(strings.TrimSpace(canonical[:dot]))
 }
 
-// names are those of the inputs whose times have an offset.
+// names returns the names of the inputs whose times have an offset.
 func (o *offsets) names() []string {
 	var all []string
 	for _, each := range o.all {
@@ -145,7 +147,7 @@ func (o *offsets) names() []string {
 	return all
 }
 
-// settle takes on the offsets and decimals that are wanted, and tells whether there were any.
+// settle adopts the wanted offsets and decimals, and reports whether there were any.
 func (o *offsets) settle() bool {
 	changed := o.wanted > o.tick.Decimals
 	o.tick.Decimals = maximum(o.tick.Decimals, o.wanted)
@@ -158,7 +160,7 @@ func (o *offsets) settle() bool {
 	return changed
 }
 
-// refuseUnused refuses names of --offset that no time of an input has, and tells whether there are any.
+// refuseUnused refuses names in --offset that no time of an input has, and reports whether there were any.
 func (o *offsets) refuseUnused(g *graph) bool {
 	var unused []string
 	for _, name := range o.asked {
@@ -173,7 +175,7 @@ func (o *offsets) refuseUnused(g *graph) bool {
 	return len(unused) > 0
 }
 
-// checkOffsets refuses a decision whose value has a time with an offset: how it would be written isn't known any more.
+// checkOffsets refuses a decision whose value has a time with an offset, as its written form is no longer known.
 func (t *translator) checkOffsets(n *node) {
 	if n.of.some(func(part *valueType) bool { return part.kind == offsetTimeKind || part.kind == offsetDateTimeKind }) {
 		t.refusals.refuse(n.element(), textOf(n.decision.Logic), "its value has a time with an offset, which comparisons and differences "+

@@ -4,19 +4,21 @@ import (
 	"gateway/feel"
 )
 
-// chain translates operands with operators of one rank between them.
+// chain translates operands joined by operators of one rank.
 func (t *translator) chain(n *feel.Chain, s *scope) phrase {
 	return t.once(n, n.Operands, func() phrase { return t.chained(n, s) })
 }
 
-// A fold is the value of a calculation with literals, the most decimals on the way to it, and whether it asks for fractions.
+// A fold is the value of a calculation with literals, the most decimals on the way to it, and whether it needs
+// fractions.
 type fold struct {
 	value     phrase
 	finest    int
 	fractions bool
 }
 
-// once calculates with operands. What has literals alone is calculated once, unless it puts entries in front, which this frame alone has.
+// once calculates with operands. A calculation with literals only is made once, unless it adds entries, which belong to
+// its frame.
 func (t *translator) once(n feel.Node, operands []feel.Node, calculate func() phrase) phrase {
 	known, is := t.folds[n]
 	if !is {
@@ -32,7 +34,7 @@ func (t *translator) once(n feel.Node, operands []feel.Node, calculate func() ph
 	return known.value
 }
 
-// areLiterals tells whether each operand is a literal, or a calculation with literals.
+// areLiterals reports whether each operand is a literal, or a calculation with literals.
 func (t *translator) areLiterals(operands []feel.Node) bool {
 	for _, operand := range operands {
 		if negation, is := operand.(*feel.Negation); is {
@@ -48,7 +50,7 @@ func (t *translator) areLiterals(operands []feel.Node) bool {
 	return true
 }
 
-// chained translates a chain anew.
+// chained translates a chain without looking it up.
 func (t *translator) chained(n *feel.Chain, s *scope) phrase {
 	operands := make([]phrase, len(n.Operands))
 	isProduct := n.Operators[0] == "*" || n.Operators[0] == "/"
@@ -91,7 +93,7 @@ func (t *translator) product(n *feel.Chain, operands []phrase) phrase {
 	return t.countedProduct(n, operands)
 }
 
-// sum translates + and -. Where both sides of a + may be texts the standard joins them, and the engine doesn't.
+// sum translates + and -. For + the standard joins texts, and the engine doesn't.
 func (t *translator) sum(n *feel.Chain, operands []phrase) phrase {
 	soFar := operands[0].of
 	for i, operator := range n.Operators {
@@ -126,10 +128,10 @@ func (t *translator) in(n *feel.In, s *scope) phrase {
 	return anyOf(alternatives)
 }
 
-// anyOf is the or of conditions.
+// anyOf joins conditions by or.
 func anyOf(alternatives []phrase) phrase { return joinedBy("or", alternatives, rankOr) }
 
-// allOf is the and of conditions.
+// allOf joins conditions by and.
 func allOf(conditions []phrase) phrase { return joinedBy("and", conditions, rankAnd) }
 
 func joinedBy(operator string, operands []phrase, rank int32) phrase {
@@ -142,7 +144,7 @@ func joinedBy(operator string, operands []phrase, rank int32) phrase {
 	return chained(operands, repeated(operator, len(operands)-1), rank, booleanType)
 }
 
-// condition translates a test to a condition of a value x.
+// condition translates a test to a condition on a value x.
 func (t *translator) condition(test feel.Node, x phrase, s *scope) phrase {
 	switch n := test.(type) {
 	case *feel.Anything:
@@ -169,7 +171,7 @@ func (t *translator) condition(test feel.Node, x phrase, s *scope) phrase {
 	return t.compare(test, x, "=", value)
 }
 
-// conditions is the or of tests.
+// conditions joins tests by or.
 func (t *translator) conditions(tests []feel.Node, x phrase, s *scope) phrase {
 	all := make([]phrase, len(tests))
 	for i, test := range tests {
@@ -205,8 +207,8 @@ func (t *translator) inRange(n *feel.Range, x phrase, s *scope) phrase {
 	return allOf([]phrase{t.compare(n, x, from, low), t.compare(n, x, to, high)})
 }
 
-// oneOf translates a list that is written out as a test: x is one of its members, or is the list itself. It is true or
-// false of each x, where = says null of a value of another kind.
+// oneOf translates a written-out list as a test: x is one of its members, or is the list itself. It is true or false
+// for each x, while = is null for values of different kinds.
 func (t *translator) oneOf(n *feel.List, x phrase, s *scope) phrase {
 	if holdsTests(n) {
 		return t.refuseTests(n)
@@ -229,13 +231,13 @@ func (t *translator) oneOf(n *feel.List, x phrase, s *scope) phrase {
 	return anyOf(all)
 }
 
-// isTrue is a condition that is false where another one is null.
+// isTrue returns a condition that is false if another one is null.
 func isTrue(p phrase) phrase {
 	return infix(p, "=", constant("true", booleanType), rankComparison, booleanType)
 }
 
-// holdsTests tells whether a list has members that are lists or tests themselves: whether the value is compared with such
-// a member or looked for in it can be read in both ways.
+// holdsTests reports whether a list has members that are lists or tests. It is then ambiguous whether the value is
+// compared with such a member or looked up in it.
 func holdsTests(n *feel.List) bool {
 	for _, item := range n.Items {
 		switch item.(type) {
@@ -254,7 +256,7 @@ func (t *translator) refuseTests(n *feel.List) phrase {
 		"the tests without brackets round them, as 1, [5..7]")
 }
 
-// doubtfulTest tells why an expression in the place of a test may be read in two ways; empty where it may not.
+// doubtfulTest says why an expression in the place of a test is ambiguous; empty if it isn't.
 func doubtfulTest(n feel.Node, value phrase) string {
 	if literalType(n) != nil {
 		return ""
@@ -270,13 +272,13 @@ func doubtfulTest(n feel.Node, value phrase) string {
 	return ""
 }
 
-// slice is the text of a form.
+// slice returns the text of a form.
 func (t *translator) slice(n feel.Node) string {
 	span := n.At()
 	return "(" + t.text.Text[span.Start:span.End] + ")"
 }
 
-// usesInput tells whether a form has ? in it.
+// usesInput reports whether a form contains ?.
 func usesInput(n feel.Node) bool {
 	return feel.Any(n, func(n feel.Node) bool { _, is := n.(*feel.Input); return is })
 }

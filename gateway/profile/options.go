@@ -1,22 +1,22 @@
 package profile
 
-// Options say what of the files is wanted, and how they are read.
+// Options say what is wanted from the files, and how to read them.
 type Options struct {
-	// Service is the name of the only service that the model gets: a decision service or a decision. Empty is all of them.
-	// A place that can't be taken is refused where this service needs it.
+	// Service is the name of the only service in the model: a decision service or a decision. If it is empty the model
+	// has all of them. A place that can't be translated is only refused if this service needs it.
 	Service string
-	// Partial makes the services that need no place that can't be taken, where there are such places.
+	// Partial leaves out the services that need a place that can't be translated, and makes the others.
 	Partial bool
-	// FreeInputs makes an input of each name that nothing declares, where a column with a type has it as its whole expression.
+	// FreeInputs makes an input of each undeclared name that is the whole expression of a typed column.
 	FreeInputs bool
-	// Clock is the zone of the clock that today() and now() ask; without one they are refused.
+	// Clock is the time zone of today() and now(). Without one they are refused.
 	Clock string
 	// Offsets are the names of inputs whose times have an offset.
 	Offsets []string
-	// Decimals say how many decimals the numbers of inputs have; nil where nothing is said.
+	// Decimals say how many decimals the numbers of inputs have; nil if not given.
 	Decimals *Decimals
-	// Nullable has the names of inputs that may be missing or null though a type is declared for them.
+	// Nullable has the names of inputs with a declared type that may still be missing or null.
 	Nullable []string
-	// Part says that the files are a part of some others: a name of Decimals that no input has is one of theirs.
+	// Part is true if the files are a part of others: a name in Decimals that no input has belongs to one of those.
 	Part bool
 }

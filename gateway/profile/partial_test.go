@@ -9,7 +9,7 @@ import (
 	"gateway/profile"
 )
 
-// service is a decisionService: its outputs, and lists as "i:input", "e:encapsulated" and "g:given".
+// service returns a decisionService: its outputs, and lists as "i:input", "e:encapsulated" and "g:given".
 func service(name, output string, lists ...string) string {
 	var all strings.Builder
 	fmt.Fprintf(&all, `<outputDecision href="#%s"/>`, output)
@@ -23,7 +23,7 @@ func service(name, output string, lists ...string) string {
 	return fmt.Sprintf(`<decisionService id="s-%[1]s" name="%[1]s">%[2]s</decisionService>`, name, all.String())
 }
 
-// names has the names of a model's decisions and services.
+// names returns the names of a model's decisions and services.
 func names(r *profile.Result) string {
 	var all []string
 	for _, d := range r.Model.Decisions {
@@ -36,11 +36,11 @@ func names(r *profile.Result) string {
 	return strings.Join(all, " ")
 }
 
-// bad is an expression that can't be taken.
+// bad is an expression that is always refused.
 var bad = literal("string length(a)")
 
-// TestOneBadPlaceRefusesWhatNeedsIt has files with a bad place each: what --partial makes of them (decisions and services),
-// and how many services are left out.
+// TestOneBadPlaceRefusesWhatNeedsIt tests files with one bad place each: the decisions and services that --partial
+// makes of them, and how many services are left out.
 func TestOneBadPlaceRefusesWhatNeedsIt(t *testing.T) {
 	one, a := literal("1"), input("a", "string")
 	dated := `<itemDefinition name="tBad"><typeRef>context</typeRef></itemDefinition>` +
@@ -130,7 +130,7 @@ func TestAServiceAloneNeedsItsOwnPlaces(t *testing.T) {
 	}
 }
 
-// TestAFileWithoutARefusalIsWhole holds that the options change nothing of a file that is taken.
+// TestAFileWithoutARefusalIsWhole checks that the options don't change an accepted file.
 func TestAFileWithoutARefusalIsWhole(t *testing.T) {
 	file := definitions(input("b", "number"), decision("y", "", literal("b + 1"), "b"), decision("w", "", literal("1")))
 	due, _ := profile.Line(&run(t, profile.Options{}, file).Result.Model)
@@ -144,7 +144,7 @@ func TestAFileWithoutARefusalIsWhole(t *testing.T) {
 	}
 }
 
-// TestADecisionPastALineSpoilsNoOther has an invocation that doubles, and a service that doesn't need it.
+// TestADecisionPastALineSpoilsNoOther tests an invocation that doubles, and a service that doesn't need it.
 func TestADecisionPastALineSpoilsNoOther(t *testing.T) {
 	parts := []string{knowledge("f0", nil, literal("1"))}
 	for i := 1; i < 30; i++ {
@@ -156,13 +156,13 @@ func TestADecisionPastALineSpoilsNoOther(t *testing.T) {
 	if report := run(t, profile.Options{Service: "y"}, file); report.Result == nil || names(report.Result) != "y / y" {
 		t.Errorf("the service alone: %s", said(report.Refusals))
 	}
-	// What stands behind it was not translated, so it is not made.
+	// Later decisions were not translated, so they are not made.
 	if report := run(t, profile.Options{Partial: true}, file); report.Result != nil {
 		t.Errorf("made is %s", names(report.Result))
 	}
 }
 
-// TestTooManyDecisionsForOneModel has more than a model may have, of which some can't be taken.
+// TestTooManyDecisionsForOneModel tests more decisions than a model may have, some of them bad.
 func TestTooManyDecisionsForOneModel(t *testing.T) {
 	parts := []string{input("a", "string")}
 	for i := 0; i < 1001; i++ {
@@ -182,7 +182,7 @@ func TestTooManyDecisionsForOneModel(t *testing.T) {
 	}
 }
 
-// TestBadPlacesOfAGreatFile measures a file of many decisions and types, each bad or with a need of a bad one.
+// TestBadPlacesOfAGreatFile measures a file of many decisions and types, each bad or in need of a bad one.
 func TestBadPlacesOfAGreatFile(t *testing.T) {
 	parts := []string{`<itemDefinition name="t0"><typeRef>context</typeRef></itemDefinition>`, input("a", "string")}
 	for i := 1; i < 2000; i++ {

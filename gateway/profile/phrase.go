@@ -5,7 +5,7 @@ import (
 	"strings"
 )
 
-// The ranks of the engine's language, the loosest first.
+// The ranks of the engine's language, loosest first.
 const (
 	rankIf = iota
 	rankOr
@@ -19,29 +19,29 @@ const (
 )
 
 const (
-	// mostOperandDepth is how deep a form may be that stands in another one; a deeper one becomes an entry of its own.
-	// The engine reads to 64.
+	// mostOperandDepth is how deep a nested form may be. A deeper one becomes an entry of its own. The engine reads to
+	// 64.
 	mostOperandDepth = 30
-	// mostChain is how many operands stand in one chain; longer ones are regrouped as pairs of halves.
+	// mostChain is how many operands are in one chain. Longer ones are regrouped as pairs of halves.
 	mostChain = 24
-	// mostRepeated is the most bytes of a form that is written more than once.
+	// mostRepeated is how many bytes a form may have to be written more than once.
 	mostRepeated = 64
 )
 
-// A phrase is an expression of the engine's language, with what it is made of.
+// A phrase is an expression of the engine's language, and what it is made of.
 type phrase struct {
 	text string
-	// rank tells which operators may stand beside it without parentheses, depth how deep it is as the engine counts.
+	// rank is that of its operator, depth how deep it is as the engine counts.
 	rank, depth int32
 	// of is the type of its values.
 	of *valueType
-	// number is the value of a constant number; nil of what is none.
+	// number is the value of a constant number; nil for others.
 	number *big.Rat
-	// rare is what few phrases have; nil of the others. It is made once, and written no more.
+	// rare is nil for most phrases. It is made once, and not changed.
 	rare *rare
 }
 
-// rare is what few phrases have beside their text, which are so many that each is small.
+// rare has the fields that few phrases use, since there are many phrases.
 type rare struct {
 	moment       *int64
 	inDays, over *phrase
@@ -50,7 +50,7 @@ type rare struct {
 	branches     *branches
 }
 
-// moment is the whole number of a constant date or duration; nil of what is none.
+// moment returns the whole number of a constant date or duration; nil for others.
 func (p phrase) moment() *int64 {
 	if p.rare == nil {
 		return nil
@@ -58,7 +58,7 @@ func (p phrase) moment() *int64 {
 	return p.rare.moment
 }
 
-// inDays is how many days a days and time duration has that is known to be of whole days; nil of others.
+// inDays returns the number of days of a days and time duration known to be whole days; nil for others.
 func (p phrase) inDays() *phrase {
 	if p.rare == nil {
 		return nil
@@ -66,7 +66,7 @@ func (p phrase) inDays() *phrase {
 	return p.rare.inDays
 }
 
-// over is the divisor of a quotient by a variable, which is above 0 or the quotient null; nil of what is none.
+// over returns the divisor of a quotient by a variable: it is positive, or the quotient is null. Nil for others.
 func (p phrase) over() *phrase {
 	if p.rare == nil {
 		return nil
@@ -74,7 +74,7 @@ func (p phrase) over() *phrase {
 	return p.rare.over
 }
 
-// product says of what times a constant it is; nil of what is none, or isn't known to be.
+// product returns what the phrase is a constant times of; nil if not known.
 func (p phrase) product() *product {
 	if p.rare == nil {
 		return nil
@@ -82,7 +82,7 @@ func (p phrase) product() *product {
 	return p.rare.product
 }
 
-// members are those of a list that is written out; nil of what is none.
+// members returns the members of a written-out list; nil for others.
 func (p phrase) members() []phrase {
 	if p.rare == nil {
 		return nil
@@ -90,7 +90,7 @@ func (p phrase) members() []phrase {
 	return p.rare.members
 }
 
-// branches are those of a choice; nil of what is none.
+// branches returns the parts of an if; nil for others.
 func (p phrase) branches() *branches {
 	if p.rare == nil {
 		return nil
@@ -107,15 +107,15 @@ type product struct {
 // branches are the parts of an if.
 type branches struct{ condition, then, otherwise phrase }
 
-// refused stands for what was refused.
+// refused is the phrase of refused forms.
 var refused = phrase{text: "null", rank: rankPrimary, depth: 1, of: refusedType}
 
-// constant is a phrase of depth 1.
+// constant returns a phrase of depth 1.
 func constant(text string, of *valueType) phrase {
 	return phrase{text: text, rank: rankPrimary, depth: 1, of: of}
 }
 
-// within gives a phrase that may stand where a rank is asked for, with parentheses where it needs them.
+// within returns the phrase for a place of a rank, in parentheses if it needs them.
 func (p phrase) within(rank int32) phrase {
 	if p.rank >= rank {
 		return p
@@ -123,12 +123,12 @@ func (p phrase) within(rank int32) phrase {
 	return phrase{text: "(" + p.text + ")", rank: rankPrimary, depth: p.depth + 1, of: p.of, number: p.number}
 }
 
-// isShort tells whether a phrase may be written more than once.
+// isShort reports whether a phrase may be written more than once.
 func (p phrase) isShort() bool {
 	return p.rank >= rankPath && len(p.text) <= mostRepeated && p.depth <= 8
 }
 
-// infix joins two phrases by an operator that groups to the left.
+// infix joins two phrases by a left-associative operator.
 func infix(left phrase, operator string, right phrase, rank int32, of *valueType) phrase {
 	l, r := left.within(rank), right.within(rank+1)
 	if rank == rankComparison {
@@ -137,7 +137,7 @@ func infix(left phrase, operator string, right phrase, rank int32, of *valueType
 	return phrase{text: l.text + " " + operator + " " + r.text, rank: rank, depth: 1 + deepest(l, r), of: of}
 }
 
-// call is a function over arguments.
+// call returns a function call.
 func call(function string, of *valueType, arguments ...phrase) phrase {
 	texts := make([]string, len(arguments))
 	for i, a := range arguments {
@@ -147,7 +147,7 @@ func call(function string, of *valueType, arguments ...phrase) phrase {
 		depth: 1 + deepest(arguments...), of: of}
 }
 
-// listing is a list of phrases.
+// listing returns a list of phrases.
 func listing(members []phrase, of *valueType) phrase {
 	size := 2
 	for i := range members {
@@ -167,18 +167,18 @@ func listing(members []phrase, of *valueType) phrase {
 		rare: &rare{members: members}}
 }
 
-// choice is an if.
+// choice returns an if.
 func choice(condition, then, otherwise phrase) phrase {
 	return choiceOf(joined(then.of, otherwise.of), condition, then, otherwise)
 }
 
-// choiceOf is an if with the type that its branches have in common.
+// choiceOf returns an if, with the common type of its branches.
 func choiceOf(of *valueType, condition, then, otherwise phrase) phrase {
 	return phrase{text: "if " + condition.text + " then " + then.text + " else " + otherwise.text, rank: rankIf,
 		depth: 1 + deepest(condition, then, otherwise), of: of, rare: &rare{branches: &branches{condition, then, otherwise}}}
 }
 
-// negated is the not of a phrase.
+// negated returns the not of a phrase.
 func negated(p phrase) phrase { return call("not", booleanType, p) }
 
 func deepest(phrases ...phrase) int32 {
@@ -189,8 +189,8 @@ func deepest(phrases ...phrase) int32 {
 	return depth
 }
 
-// chained joins operands by operators of one rank: "or", "and", "*", or "+" and "-". A long chain is regrouped, which
-// changes none of these: a - b - c is a - (b + c).
+// chained joins operands by operators of one rank: "or", "and", "*", or "+" and "-". It regroups a long chain without
+// changing its value: a - b - c is a - (b + c).
 func chained(operands []phrase, operators []string, rank int32, of *valueType) phrase {
 	if len(operands) == 1 {
 		return operands[0].within(rank)
@@ -213,7 +213,7 @@ type chainWriter struct {
 	rank int32
 }
 
-// chain writes some of the operands, the later half of many in parentheses, and gives how deep they are.
+// chain writes operands, of many the later half in parentheses, and returns their depth.
 func (w *chainWriter) chain(operands []phrase, operators []string) (depth int32) {
 	if len(operands) > mostChain {
 		middle := len(operands) / 2
@@ -239,7 +239,7 @@ func (w *chainWriter) operator(operator string) {
 	w.text.WriteByte(' ')
 }
 
-// operand writes one where a rank is asked for.
+// operand writes one for a place of a rank.
 func (w *chainWriter) operand(o *phrase, rank int32) (depth int32) {
 	if o.rank >= rank {
 		w.text.WriteString(o.text)
@@ -258,7 +258,7 @@ func deeper(a, b int32) int32 {
 	return b
 }
 
-// turned gives the operators of a part that stands in parentheses behind an operator: behind a minus the signs turn.
+// turned returns the operators of a part in parentheses: after a minus the signs change.
 func turned(operators []string, joint string) []string {
 	if joint != "-" {
 		return operators
@@ -290,5 +290,5 @@ func minimum(a, b int) int {
 
 var escapes = strings.NewReplacer(`\`, `\\`, `"`, `\"`, "\n", `\n`, "\r", `\r`, "\t", `\t`)
 
-// quotedText is a text as a string of the engine's language.
+// quotedText returns a text as a string of the engine's language.
 func quotedText(value string) string { return `"` + escapes.Replace(value) + `"` }

@@ -7,7 +7,7 @@ import (
 	"gateway/dmn"
 )
 
-// where is a place as an editor shows it: decision "Discount", rule 2, output "Discount".
+// where returns a place as an editor shows it: decision "Discount", rule 2, output "Discount".
 func (r *refusals) where(e *dmn.Element) string {
 	var steps []string
 	for ; e != nil && e.Tag != "definitions"; e = r.homes[e].parent {
@@ -21,19 +21,19 @@ func (r *refusals) where(e *dmn.Element) string {
 	return strings.Join(steps, ", ")
 }
 
-// namedSteps are the tags that are shown by their names, with the word for each.
+// namedSteps are the tags shown with their names, and the word for each.
 var namedSteps = map[string]string{"decision": "decision", "inputData": "input", "decisionService": "decision service",
 	"businessKnowledgeModel": "business knowledge", "itemDefinition": "type", "itemComponent": "component",
 	"formalParameter": "parameter", "column": "column"}
 
-// plainSteps are the tags that are shown by a word alone.
+// plainSteps are the tags shown as a word alone.
 var plainSteps = map[string]string{"inputValues": "input values", "outputValues": "output values",
 	"defaultOutputEntry": "default", "allowedValues": "allowed values", "typeConstraint": "allowed values", "if": "if",
 	"then": "then", "else": "else", "informationRequirement": "requirement", "knowledgeRequirement": "requirement",
 	"outputDecision": "output decision", "encapsulatedDecision": "encapsulated decision", "inputDecision": "input decision",
 	"import": "import"}
 
-// step is what one element is in a place; empty where an editor shows nothing of it.
+// step returns one element of a place; empty if an editor doesn't show it.
 func (r *refusals) step(e *dmn.Element) string {
 	if word := namedSteps[e.Tag]; word != "" && (e.Tag != "inputData" || r.isPart(e)) {
 		return withName(word, e.Name())
@@ -61,10 +61,10 @@ func (r *refusals) step(e *dmn.Element) string {
 	return r.memberStep(e, plainSteps[e.Tag])
 }
 
-// isPart tells whether an element is a part of the model by itself, and no reference in another one.
+// isPart reports whether an element is itself a part of the model, not a reference in another one.
 func (r *refusals) isPart(e *dmn.Element) bool { return r.partOf(e) == e }
 
-// withName is a word with a name, where there is one.
+// withName returns a word, with a name if there is one.
 func withName(word, name string) string {
 	if name == "" {
 		return word
@@ -91,7 +91,7 @@ func (r *refusals) memberStep(e *dmn.Element, word string) string {
 	return word
 }
 
-// columnStep names a column of a table, or a cell of it, as the editor heads the column.
+// columnStep names a column of a table, or a cell of it, by the column's head in an editor.
 func (r *refusals) columnStep(e *dmn.Element, tag string) string {
 	clause := e
 	if e.Tag != tag {
@@ -109,7 +109,7 @@ func (r *refusals) columnStep(e *dmn.Element, tag string) string {
 	return fmt.Sprintf("%s %d", tag, r.homes[clause].index+1)
 }
 
-// headOf is how the editor heads a column: by its label or name, else by the text of its expression.
+// headOf returns the head of a column in an editor: its label or name, else the text of its expression.
 func headOf(clause *dmn.Element) string {
 	if label := clause.Attribute("label"); label != "" {
 		return label
@@ -127,7 +127,7 @@ func headOf(clause *dmn.Element) string {
 	return ""
 }
 
-// nth is the child of a tag at a place among those of the tag; nil where there is none.
+// nth returns the child at an index among those of a tag; nil if there is none.
 func nth(e *dmn.Element, tag string, at int) *dmn.Element {
 	if e == nil {
 		return nil

@@ -9,7 +9,7 @@ import (
 	"gateway/profile"
 )
 
-// TestPlacesAsInAnEditor has a place that can't be taken for each kind of element, and how it is named.
+// TestPlacesAsInAnEditor tests the name of a bad place in each kind of element.
 func TestPlacesAsInAnEditor(t *testing.T) {
 	no := literal("1 ** 0.5")
 	twoOutputs := []column{{text: "Discount"}, {text: "b"}}
@@ -60,7 +60,7 @@ func TestPlacesAsInAnEditor(t *testing.T) {
 	}
 }
 
-// TestPlacesOfManyRules measures a table of many rules, each with a place that can't be taken.
+// TestPlacesOfManyRules measures a table of many rules, each with a bad place.
 func TestPlacesOfManyRules(t *testing.T) {
 	var rows [][]string
 	for i := 0; i < 20_000; i++ {
@@ -75,7 +75,7 @@ func TestPlacesOfManyRules(t *testing.T) {
 	t.Logf("%d bytes took %v", len(file), time.Since(before))
 }
 
-// TestRenamedKeysAreNoted has the names that requests write otherwise.
+// TestRenamedKeysAreNoted tests the notes on names that requests spell differently.
 func TestRenamedKeysAreNoted(t *testing.T) {
 	types := `<itemDefinition name="tCar"><itemComponent name="Actual Speed"><typeRef>number</typeRef></itemComponent>` +
 		`<itemComponent name="plain"><typeRef>number</typeRef></itemComponent></itemDefinition>`
@@ -95,7 +95,7 @@ func TestRenamedKeysAreNoted(t *testing.T) {
 	}
 }
 
-// TestAMissingComponentIsNamed has contexts that are not of a declared type.
+// TestAMissingComponentIsNamed tests contexts that don't fit a declared type.
 func TestAMissingComponentIsNamed(t *testing.T) {
 	types := `<itemDefinition name="t"><itemComponent name="a"><typeRef>number</typeRef></itemComponent>` +
 		`<itemComponent name="b c"><typeRef>number</typeRef></itemComponent></itemDefinition>` +

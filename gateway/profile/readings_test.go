@@ -5,7 +5,7 @@ import (
 	"testing"
 )
 
-// Each test of this file is a place that may be read in two ways, or that a file may spell in two ways.
+// Each test of this file is about a place that can be read, or that a file may spell, in two ways.
 
 func TestAListWithinAListAsATest(t *testing.T) {
 	for _, list := range []string{"[[1, 2]]", "[3, [1, 2]]", "[[1..3]]", "[< 3]"} {
@@ -21,7 +21,7 @@ func TestAListWithinAListAsATest(t *testing.T) {
 }
 
 func TestAListAsATestOfAList(t *testing.T) {
-	// A list as a test has the value as a member, or is equal to it.
+	// A list as a test contains the value, or equals it.
 	due := [][2]string{{`{"a":1}`, "true"}, {`{"a":2}`, "true"}, {`{"a":[1,2]}`, "true"}, {`{"a":[1]}`, "false"},
 		{`{"a":[2,1]}`, "false"}, {`{"a":"x"}`, "false"}, {`{"a":null}`, "false"}, {`{"a":[]}`, "false"}}
 	answers(t, expression("a in [1, 2]", "", input("a", "")), "d", due)
@@ -42,7 +42,7 @@ func TestAListOfValuesOfAnotherKindSaysFalse(t *testing.T) {
 	answers(t, expression("a in [n, s]", "", parts...), "d", [][2]string{{`{"a":"x","n":1,"s":"y"}`, "false"},
 		{`{"a":1,"n":1,"s":"y"}`, "true"}, {`{"a":"y","n":1,"s":"y"}`, "true"}, {`{"a":true,"n":1,"s":"y"}`, "false"}})
 	answers(t, expression("not(a in [n])", "", parts...), "d", [][2]string{{`{"a":"x","n":1}`, "true"}})
-	// Tests without brackets are joined by or: of another kind it is unknown.
+	// Tests without brackets are joined by or. For another kind the result is unknown.
 	answers(t, expression("a in (n, s)", "", parts...), "d", [][2]string{{`{"a":true,"n":1,"s":"y"}`, "null"}})
 }
 
@@ -61,7 +61,7 @@ func TestTheLanguageOfTheFile(t *testing.T) {
 		refusedWith(t, file(literal("a + 1")), "not FEEL")
 		_, refusals := imported(t, file(table("", in, out, []string{"5", "1"})))
 		if len(refusals) != 3 {
-			t.Errorf("three texts are in another language, and told is %v", refusals)
+			t.Errorf("three texts are in another language, and the refusals are %v", refusals)
 		}
 		own := strings.Replace(file(literal("a + 1")), "<literalExpression>", `<literalExpression expressionLanguage="FEEL">`, 1)
 		answers(t, own, "d", [][2]string{{`{"a":1}`, "2"}})
@@ -81,7 +81,7 @@ func TestFunctionsOfOneName(t *testing.T) {
 	value := strings.Replace(input("f", "number"), `id="f"`, `id="v"`, 1)
 	refusedWith(t, definitions(f, value, decision("d", "", literal("1"), "k:f", "v")), "a value and a function of this name")
 	twice := knowledge("h", []string{"x:number", "x:number"}, literal("x"))
-	refusedWith(t, definitions(twice, decision("d", "", literal("h(1, 2)"), "k:h")), "the parameter's name stands twice")
+	refusedWith(t, definitions(twice, decision("d", "", literal("h(1, 2)"), "k:h")), "duplicate parameter name")
 }
 
 func TestADifferenceBehindAPoint(t *testing.T) {
@@ -93,7 +93,7 @@ func TestADifferenceBehindAPoint(t *testing.T) {
 	answers(t, expression("(o.a) - b", "", parts...), "d", [][2]string{{request, "4"}})
 	answers(t, expression("o.a - (b)", "", parts...), "d", [][2]string{{request, "4"}})
 	refusedWith(t, expression("o.a - b", "", parts...), "one name or a calculation")
-	// Where the type of what is before the point is not known, nothing tells which of the two is meant.
+	// If the type of what precedes the point isn't known, either may be meant.
 	unknown := []string{order, input("u", ""), input("b", "number")}
 	refusedWith(t, expression("u.a-b", "", unknown...), "one name or a calculation")
 	answers(t, expression("u.`a-b`", "", unknown...), "d", [][2]string{{`{"u":{"a":7,"a_b":50},"b":3}`, "50"}})
@@ -156,7 +156,7 @@ func TestBareWordsAmongValues(t *testing.T) {
 	refusedWith(t, definitions(item, input("a", "tS"), decision("d", "", literal("a"), "a")), "Summer is no value")
 }
 
-// TestRefusedParts has an element for each part of DMN that the profile has not, with words of its reason.
+// TestRefusedParts tests an element for each part of DMN that the profile lacks, with words of the reason.
 func TestRefusedParts(t *testing.T) {
 	functionOf := func(kind string) string {
 		return strings.Replace(knowledge("f", []string{"x:number"}, `<context><contextEntry><variable name="class"/>`+

@@ -5,7 +5,7 @@ import (
 	"gateway/feel"
 )
 
-// listOfBoxes aligns the members of a list, and gives its type.
+// listOfBoxes aligns the members of a list, and returns its type.
 func (t *translator) listOfBoxes(made *box, all []*valueType, refuse func(why, instead string)) *valueType {
 	of := nullType
 	for _, member := range all {
@@ -20,7 +20,7 @@ func (t *translator) listOfBoxes(made *box, all []*valueType, refuse func(why, i
 	return listOf(of)
 }
 
-// alignedBox is a box whose value is counted as values of another type.
+// alignedBox returns a box whose value is counted as values of another type.
 func (t *translator) alignedBox(b *box, of, to *valueType, refuse func(why, instead string)) *box {
 	switch {
 	case !t.counts || !t.isCounted(of) && !t.isCounted(to) || of.kind == refusedKind:
@@ -48,7 +48,7 @@ func (t *translator) alignedBox(b *box, of, to *valueType, refuse func(why, inst
 	return b
 }
 
-// alignedRow is the row of a relation, whose entries don't see each other.
+// alignedRow returns the row of a relation, whose entries don't see each other.
 func (t *translator) alignedRow(b *box, of, to *valueType, refuse func(why, instead string)) *box {
 	aligned := *b
 	aligned.entries = append([]boxEntry(nil), b.entries...)
@@ -61,7 +61,7 @@ func (t *translator) alignedRow(b *box, of, to *valueType, refuse func(why, inst
 	return &aligned
 }
 
-// underRule translates an output entry, which counts where its rule hits.
+// underRule translates an output entry, which counts if its rule hits.
 func (r *tableReader) underRule(entry *dmn.Text, due *valueType, rules []int, isHit bool) phrase {
 	if !r.counts {
 		return r.cell(entry, due)

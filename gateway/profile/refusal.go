@@ -8,26 +8,26 @@ import (
 	"gateway/dmn"
 )
 
-// A Refusal is a place of a file that can't be taken.
+// A Refusal is a place of a file that can't be translated.
 type Refusal struct {
-	// File is the path of the file; Line and Column are numbered from 1, and 0 for the file as a whole.
+	// File is the path of the file. Line and Column count from 1, and are 0 for the file as a whole.
 	File         string
 	Line, Column int
-	// Element is the tag of the element, Name and ID its own or those of the nearest element around it that has any;
-	// each may be empty.
+	// Element is the tag of the element, Name and ID its own or those of the nearest element around it that has any.
+	// Each may be empty.
 	Element, Name, ID string
 	// Where is the place as an editor shows it; empty for the file itself.
 	Where string
-	// Text is what stands there; it may be empty.
+	// Text is the text of the place; it may be empty.
 	Text string
-	// Why tells why it can't be taken, Instead what to write; Instead may be empty.
+	// Why is the reason, Instead what to write; Instead may be empty.
 	Why, Instead string
 }
 
 // mostText is how many characters of a text a refusal shows.
 const mostText = 100
 
-// String is the refusal on one line.
+// String returns the refusal on one line.
 func (r Refusal) String() string {
 	var line strings.Builder
 	line.WriteString(r.File + ":")
@@ -38,7 +38,7 @@ func (r Refusal) String() string {
 	return strings.Join(strings.Fields(line.String()), " ")
 }
 
-// Sentence is the refusal without its file, line and column.
+// Sentence returns the refusal without its file, line and column.
 func (r Refusal) Sentence() string {
 	var line strings.Builder
 	if r.Where != "" {
@@ -56,7 +56,7 @@ func (r Refusal) Sentence() string {
 	return strings.Join(strings.Fields(line.String()), " ")
 }
 
-// colon ends a part of a line, where it has no colon at its end.
+// colon returns the colon that ends a part of a line, unless it has one.
 func colon(line *strings.Builder) string {
 	if line.Len() == 0 || strings.HasSuffix(line.String(), ":") {
 		return ""
@@ -75,30 +75,30 @@ func shortened(text string) string {
 	return text
 }
 
-// A sameRefusal is what two refusals of one place have in common. Texts of one length that begin alike are one: a text may be as
-// long as a file.
+// A sameRefusal is what equal refusals of one place have in common. It treats texts of one length that begin alike as
+// the same, as a text may be as long as a file.
 type sameRefusal struct {
 	element              *dmn.Element
 	length               int
 	begins, why, instead string
 }
 
-// refusals collects the places of one run, none twice.
+// refusals collects the refusals of one run, each once.
 type refusals struct {
 	all []Refusal
 	// owners has, for each of them, the parts of the files that can't be made with it; spoiled has all such parts.
 	owners  [][]*dmn.Element
 	spoiled map[*dmn.Element]bool
-	// notes are of places that are taken, with something to be told.
+	// notes are remarks on places that are accepted.
 	notes []Refusal
 	seen  map[sameRefusal]bool
-	// muted lets all go, in the pass that finds types.
+	// muted drops all refusals, in the pass that finds types.
 	muted bool
-	// elements tells the file and the parent of each element.
+	// homes has the file and the parent of each element.
 	homes map[*dmn.Element]home
 }
 
-// A home is where an element stands: index counts the elements of its tag before it in its parent, place all of them.
+// A home is the position of an element: index counts the earlier elements of its tag in the parent, place all of them.
 type home struct {
 	path         string
 	order        int
@@ -110,7 +110,7 @@ func newRefusals() *refusals {
 	return &refusals{seen: map[sameRefusal]bool{}, homes: map[*dmn.Element]home{}, spoiled: map[*dmn.Element]bool{}}
 }
 
-// copied are the refusals so far, to which a pass may go back.
+// copied returns the refusals so far, for a pass that may go back to them.
 func (r *refusals) copied() refusals {
 	own := *r
 	own.spoiled, own.seen = map[*dmn.Element]bool{}, map[sameRefusal]bool{}
@@ -123,7 +123,7 @@ func (r *refusals) copied() refusals {
 	return own
 }
 
-// know notes where the elements of a file stand.
+// know notes the positions of a file's elements.
 func (r *refusals) know(file *dmn.File, order int) {
 	var walk func(e *dmn.Element, at home)
 	walk = func(e *dmn.Element, at home) {
@@ -140,10 +140,10 @@ func (r *refusals) know(file *dmn.File, order int) {
 	walk(file.Root, home{path: file.Path, order: order})
 }
 
-// mostTold is how many places are told of a run.
-const mostTold = 100_000
+// mostReported is how many places a run reports.
+const mostReported = 100_000
 
-// refuse notes that an element can't be taken, and with it the part of the file that it is in; nor can the parts of other
+// refuse notes that an element can't be translated, nor the part of the file that contains it, nor the parts of other
 // elements that it concerns.
 func (r *refusals) refuse(e *dmn.Element, text, why, instead string, concerned ...*dmn.Element) {
 	if r.muted {
@@ -153,7 +153,7 @@ func (r *refusals) refuse(e *dmn.Element, text, why, instead string, concerned .
 	for _, other := range concerned {
 		owners = append(owners, r.spoil(other))
 	}
-	if len(r.all) > mostTold {
+	if len(r.all) > mostReported {
 		return
 	}
 	made, fresh := r.made(e, text, why, instead)
@@ -161,13 +161,13 @@ func (r *refusals) refuse(e *dmn.Element, text, why, instead string, concerned .
 		return
 	}
 	r.all, r.owners = append(r.all, made), append(r.owners, owners)
-	if len(r.all) == mostTold {
-		made, _ = r.made(e, "", fmt.Sprintf("over %d places can't be taken: those that were looked at later are not told", mostTold), "")
+	if len(r.all) == mostReported {
+		made, _ = r.made(e, "", fmt.Sprintf("over %d places can't be taken: those that were looked at later are not reported", mostReported), "")
 		r.all, r.owners = append(r.all, made), append(r.owners, owners)
 	}
 }
 
-// spoil notes that the part of the file that an element is in can't be made, and gives this part.
+// spoil notes that the part around an element can't be made, and returns this part.
 func (r *refusals) spoil(e *dmn.Element) *dmn.Element {
 	part := r.partOf(e)
 	if !r.muted {
@@ -176,7 +176,7 @@ func (r *refusals) spoil(e *dmn.Element) *dmn.Element {
 	return part
 }
 
-// partOf is the input, decision, type, service or other part of the file that an element is in, or is.
+// partOf returns the input, decision, type, service or other part of the file that contains or is an element.
 func (r *refusals) partOf(e *dmn.Element) *dmn.Element {
 	for {
 		parent := r.homes[e].parent
@@ -187,14 +187,14 @@ func (r *refusals) partOf(e *dmn.Element) *dmn.Element {
 	}
 }
 
-// note notes what is to be told of an element that is taken.
+// note notes a remark on an element that is accepted.
 func (r *refusals) note(e *dmn.Element, why, instead string) {
 	if made, fresh := r.made(e, "", why, instead); fresh {
 		r.notes = append(r.notes, made)
 	}
 }
 
-// made is a refusal, and whether it is to be told: none is told twice.
+// made returns a refusal, and whether to report it: each is reported once.
 func (r *refusals) made(e *dmn.Element, text, why, instead string) (made Refusal, fresh bool) {
 	if r.muted {
 		return made, false
@@ -211,7 +211,7 @@ func (r *refusals) made(e *dmn.Element, text, why, instead string) (made Refusal
 	return made, true
 }
 
-// called is the name and the id by which people find an element.
+// called returns the name and the id by which people find an element.
 func (r *refusals) called(e *dmn.Element) (name, id string) {
 	for ; e != nil && e.Tag != "definitions"; e = r.homes[e].parent {
 		if name == "" {
@@ -224,7 +224,7 @@ func (r *refusals) called(e *dmn.Element) (name, id string) {
 	return name, id
 }
 
-// inOrder gives the refusals in the order of the files' lines.
+// inOrder returns the refusals in the order of the files' lines.
 func (r *refusals) inOrder(files []*dmn.File) []Refusal {
 	rank := map[string]int{}
 	for i, f := range files {
@@ -253,7 +253,7 @@ func (r *refusals) inOrder(files []*dmn.File) []Refusal {
 	return sorted
 }
 
-// RefusalOf is the refusal of a file that is no DMN.
+// RefusalOf returns the refusal of a file that isn't DMN.
 func RefusalOf(path string, fault *dmn.Fault) Refusal {
 	r := Refusal{File: path, Line: fault.Place.Line, Column: fault.Place.Column, Text: fault.Text, Why: fault.Why,
 		Instead: fault.Instead}

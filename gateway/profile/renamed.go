@@ -5,8 +5,8 @@ import (
 	"strings"
 )
 
-// renamed notes the names that requests and answers write otherwise than the file: of inputs, of services, of the
-// decisions that they answer, and of the entries of contexts in these.
+// renamed notes the names that requests and answers spell differently from the file: of inputs, of services, of the
+// decisions that they answer, and of the entries of their contexts.
 func (r *run) renamed(result *Result) {
 	used := map[string]bool{}
 	var order []string
@@ -53,7 +53,7 @@ func (r *run) renamed(result *Result) {
 	}
 }
 
-// keysOf are the names of the entries of a type's contexts.
+// keysOf returns the names of the entries of a type's contexts.
 func keysOf(of *valueType, seen map[*valueType]bool) []string {
 	if of == nil || seen[of] {
 		return nil

@@ -8,15 +8,15 @@ import (
 	"gateway/feel"
 )
 
-// requiredInputs are the words of the inputs with a declared type whose allowed values don't list null, but for those that are
-// nullable by name.
+// requiredInputs are the words of the inputs with a type whose allowed values don't list null, but for those that are nullable by name
+// and those that a clock fills. A type is declared, or taken from a column.
 func requiredInputs(g *graph, nullable []string) (words []string) {
 	may := map[string]bool{}
 	for _, name := range nullable {
 		may[name] = true
 	}
 	for _, n := range g.inputs {
-		if n.of != nil && !n.of.open && !n.free && n.of.kind != anyKind && !n.of.allowed.listsNull() && !may[n.name] && !may[n.word] {
+		if n.isTyped() && n.of.clock == "" && !n.of.promised().listsNull() && !may[n.name] && !may[n.word] {
 			words = append(words, n.word)
 		}
 	}
@@ -24,8 +24,21 @@ func requiredInputs(g *graph, nullable []string) (words []string) {
 	return words
 }
 
+// isTyped tells whether an input has a type. A context of which no more is known than the entries that are taken of it is none.
+func (n *node) isTyped() bool {
+	return n.of != nil && n.of.kind != anyKind && n.of.kind != refusedKind && !(n.of.open && n.of.kind == contextKind)
+}
+
+// promised are the allowed values of a type, or else the input values of a column that callers promise.
+func (t *valueType) promised() valueList {
+	if len(t.allowed.nodes()) == 0 && isSchema(t.noted.nodes()) {
+		return t.noted
+	}
+	return t.allowed
+}
+
 // listsNull tells whether null is written among the values.
-func (v *valueList) listsNull() bool {
+func (v valueList) listsNull() bool {
 	for _, n := range v.nodes() {
 		if _, is := n.(*feel.Null); is {
 			return true
@@ -34,7 +47,7 @@ func (v *valueList) listsNull() bool {
 	return false
 }
 
-// UnknownNullable says which names of the options no input of the result has; nil where there are none.
+// UnknownNullable reports the nullable names that no input of the result has; nil if there are none.
 func (r *Result) UnknownNullable(nullable []string) error {
 	known := map[string]bool{}
 	for _, word := range r.Model.Inputs {

@@ -12,16 +12,16 @@ import (
 
 // A rounding is a function that rounds to a number of decimals.
 type rounding struct {
-	// optional tells that the scale may be left out: 0 then.
+	// optional is true if the scale may be omitted, and is then 0.
 	optional bool
-	// away tells when the size of a number goes up to the next multiple of p: by the quotient q below it, the rest, and p.
-	// It is empty for never.
+	// away is the condition under which the size of a number goes up to the next multiple of p, given the quotient q
+	// below it, the rest, and p. It is empty for never.
 	away func(q, rest, p string) string
-	// below and above tell that this is so of numbers below 0 alone, or of those above.
+	// below and above restrict that to negative numbers, or to positive ones.
 	below, above bool
 }
 
-// roundings are the functions that round; those of two or three words are of DMN 1.4.
+// roundings are the functions that round. Those of two or three words are of DMN 1.4.
 var roundings = map[string]rounding{
 	"decimal": {away: func(q, rest, p string) string {
 		return fmt.Sprintf("%[2]s > %[3]s - %[2]s or (%[2]s = %[3]s - %[2]s and modulo(%[1]s, 2) = 1)", q, rest, p)
@@ -38,7 +38,7 @@ var roundings = map[string]rounding{
 
 func hasRest(_, rest, _ string) string { return rest + " > 0" }
 
-// result is the rounded number: of x, the quotient q of its size, and the rest and p.
+// result returns the rounded number, given x, the quotient q of its size, the rest, and p.
 func (r rounding) result(x, q, rest, p string) string {
 	size, plain := q, q
 	if r.away != nil {
@@ -53,7 +53,7 @@ func (r rounding) result(x, q, rest, p string) string {
 	return fmt.Sprintf("if %s < 0 then -%[2]s else %[2]s", x, size)
 }
 
-// folded rounds a constant at the unit that it is rounded to.
+// folded rounds a constant to its unit.
 func (r rounding) folded(name string, at *big.Rat) *big.Int {
 	size := new(big.Rat).Abs(at)
 	whole, rest := new(big.Int).QuoRem(size.Num(), size.Denom(), new(big.Int))
@@ -69,10 +69,10 @@ func (r rounding) folded(name string, at *big.Rat) *big.Int {
 	return whole
 }
 
-// mostDigits is how far a rounding goes on either side of the point.
+// mostDigits is how far from the point a rounding may be, on either side.
 const mostDigits = 18
 
-// roundedCall translates a function that rounds.
+// roundedCall translates a rounding function.
 func (t *translator) roundedCall(n *feel.Call, name string, s *scope) phrase {
 	t.fractions = true
 	how := roundings[name]
@@ -105,14 +105,14 @@ func (t *translator) roundedCall(n *feel.Call, name string, s *scope) phrase {
 	return t.rounded(n, name, arguments[0], digits)
 }
 
-// noteVersion notes a rounding that the version of the file's namespace may not have: once for each decision and each body.
+// noteVersion notes a rounding that the version of the file's namespace may lack: once for each decision and each body.
 func (t *translator) noteVersion(name string) {
 	if strings.Contains(name, " ") {
 		t.refusals.note(t.near, name+" is of DMN 1.4 and rounds as there", "")
 	}
 }
 
-// rounded is a number rounded to some decimals, which may be below 0. Its unit is that of what is left.
+// rounded returns a number rounded to digits decimals, which may be negative. Its unit is that of the result.
 func (t *translator) rounded(n feel.Node, name string, x phrase, digits int) phrase {
 	x.of = withUnits(x.of, x.of.units.fractional())
 	u := units{scale: maximum(digits, 0), meets: &meeting{fractional: digits > 0}}
@@ -134,7 +134,7 @@ func (t *translator) rounded(n feel.Node, name string, x phrase, digits int) phr
 	return t.roundedAt(roundings[name], f, digits, u)
 }
 
-// unrounded is a number that has no more decimals than it is rounded to.
+// unrounded returns a number that has no more decimals than it is rounded to.
 func unrounded(x phrase, u units) phrase {
 	u.scale = x.of.units.scale
 	u.meets = met(u, x.of.units)
@@ -152,7 +152,7 @@ type fraction struct {
 	over phrase
 }
 
-// atDigits is a number in the unit that it is rounded to, in its lowest terms. Why tells where it is past the range.
+// atDigits returns a number in the unit that it is rounded to, in lowest terms. Why says that it is past the range.
 func atDigits(x phrase, digits int) (f fraction, why string) {
 	by, over := big.NewInt(1), big.NewInt(x.of.units.parts())
 	shift := x.of.units.scale - digits
@@ -188,7 +188,7 @@ func pastTheRange(x phrase, digits int) string {
 	return fmt.Sprintf("a number that is counted with %d decimals is rounded to %d", x.of.units.scale, digits)
 }
 
-// lowest is x * by / over in its lowest terms; where the divisor is past the range it has no text.
+// lowest returns x * by / over in lowest terms; without a text if the divisor is past the range.
 func lowest(x phrase, by, over *big.Int) fraction {
 	common := new(big.Int).GCD(nil, nil, new(big.Int).Abs(by), over)
 	f := fraction{x: x, by: new(big.Int).Quo(by, common)}
@@ -202,7 +202,7 @@ func lowest(x phrase, by, over *big.Int) fraction {
 	return f
 }
 
-// roundedAt is a fraction rounded to a whole number, times 10^-digits where these are below 0.
+// roundedAt returns a fraction rounded to a whole number, times 10^-digits if digits is negative.
 func (t *translator) roundedAt(how rounding, f fraction, digits int, u units) phrase {
 	if t.full {
 		return constant("null", numberOf(u))
@@ -220,7 +220,7 @@ func (t *translator) roundedAt(how rounding, f fraction, digits int, u units) ph
 	return t.step("rounded", text, numberOf(u))
 }
 
-// withUnits is a type with other units.
+// withUnits returns a type with other units.
 func withUnits(of *valueType, u units) *valueType {
 	if of.kind != numberKind && of.kind != anyKind {
 		return of

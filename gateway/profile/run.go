@@ -10,19 +10,19 @@ import (
 // mostDecisions is how many decisions a model may have.
 const mostDecisions = 1000
 
-// A Report is what came of files.
+// A Report is the outcome of an import.
 type Report struct {
-	// Result is the model; nil where none is made.
+	// Result is the model; nil if none was made.
 	Result *Result
-	// Refusals are the places that can't be taken, in the order of the files. With a service asked for they are those that
-	// it needs. Beside a result they are of what is left out.
+	// Refusals are the places that can't be translated, in the order of the files; for a single service, those that it
+	// needs. With a result they are the reasons for what was left out.
 	Refusals []Refusal
-	// Made and Unmade are the names of the services that can be made, and of those that need a place that can't be taken.
+	// Made and Unmade are the names of the services that can be made, and of those that can't.
 	Made, Unmade []string
 }
 
-// Import translates files to one model. Where a place of them can't be taken it gives each such place, and no result but
-// that of Options.Partial.
+// Import translates files to one model. If there are refusals it returns all of them, and a result only with
+// Options.Partial.
 func Import(files []*dmn.File, options Options) (*Result, []Refusal) {
 	report := Run(files, options)
 	return report.Result, report.Refusals
@@ -44,8 +44,8 @@ func Run(files []*dmn.File, options Options) *Report {
 	return alone.report()
 }
 
-// Check finds what options say of files: the names that become inputs by FreeInputs and by Clock; and as refusals what they say
-// of an input that the files don't have.
+// Check returns the names that FreeInputs and Clock turn into inputs, and a refusal for each option about an input that
+// the files don't have.
 func Check(files []*dmn.File, options Options) (free []string, faults []Refusal) {
 	if !options.FreeInputs && options.Clock == "" && options.Offsets == nil && options.Decimals == nil {
 		return nil, nil
@@ -65,8 +65,8 @@ func Check(files []*dmn.File, options Options) (free []string, faults []Refusal)
 	return free, faults
 }
 
-// Settled are options that say of files what was found of all of them: how many decimals the numbers of inputs have, and which
-// times have an offset. So a part of the files is read as the whole.
+// Settled returns options that fix what was found in all of the files: the decimals of inputs, and which times have an
+// offset. With them a part of the files is read like the whole.
 func Settled(files []*dmn.File, options Options) Options {
 	r := newRun(files, options)
 	r.translate()
@@ -92,11 +92,11 @@ type run struct {
 	options  Options
 	refusals *refusals
 	graph    *graph
-	// alone are the parts of the files that the service needs which is asked for; nil where all parts are translated.
+	// alone are the parts that the requested service needs; nil if all parts are translated.
 	alone map[*dmn.Element]bool
-	// units has how the inputs are counted; nil where all numbers are whole.
+	// units has the units of the inputs; nil if all numbers are whole.
 	units *cells
-	// fault tells that the options say something of what the files don't have.
+	// fault is true if an option is about something that the files don't have.
 	fault bool
 }
 
@@ -105,7 +105,7 @@ func newRun(files []*dmn.File, options Options) *run {
 	return &run{files: files, options: options, refusals: r, graph: newGraph(files, r, newWords(), options)}
 }
 
-// translate makes the passes: those that find types are muted, the last ones translate.
+// translate makes the passes. Those that find types are muted; the last ones translate.
 func (r *run) translate() {
 	trees := map[*dmn.Text]*tree{}
 	r.refusals.muted = true
@@ -136,7 +136,7 @@ func (r *run) translate() {
 	}
 }
 
-// mostPasses is how many passes look for units that fit: each makes some unit finer.
+// mostPasses is how many passes look for units that fit. Each makes some unit finer.
 const mostPasses = 20
 
 // pass makes the pass whose texts are kept: the first one that needs no finer unit of an input.
@@ -153,7 +153,7 @@ func (r *run) pass(trees map[*dmn.Text]*tree, counts bool) {
 	}
 }
 
-// restrict leaves in the graph what the service needs that is asked for; false where there is no such service.
+// restrict reduces the graph to what the requested service needs; false if there is no such service.
 func (r *run) restrict() bool {
 	services := newServices(r.graph).all(r.options.Service)
 	if len(services) == 0 {
@@ -165,11 +165,11 @@ func (r *run) restrict() bool {
 	return true
 }
 
-// report makes the result, where there is one.
+// report makes the report, with the result if there is one.
 func (r *run) report() *Report {
 	g := r.graph
 	services := newServices(g).all(r.options.Service)
-	report := &Report{Refusals: r.told()}
+	report := &Report{Refusals: r.reported()}
 	if len(report.Refusals) > 0 {
 		candidates := services
 		if len(candidates) == 0 && r.options.Service == "" {
@@ -196,10 +196,11 @@ func (r *run) report() *Report {
 	if tooLarge != nil {
 		r.refusals.refuse(tooLarge.element(), tooLarge.name, fmt.Sprintf("the schemas of the values up to here have over %d bytes in all",
 			mostOfSchemas), "smaller types, or fewer decisions of them")
-		report.Refusals = r.told()
+		report.Refusals = r.reported()
 		return report
 	}
 	result.Required = requiredInputs(g, r.options.Nullable)
+	result.Domains = domains(g, result.Required)
 	if r.options.Service == "" && len(services) == 0 && len(g.decisions) <= mostDecisions {
 		defaultServices(g, result)
 	}
@@ -207,14 +208,14 @@ func (r *run) report() *Report {
 	result.Notes = r.refusals.notes
 	r.fitsLine(result)
 	if len(r.refusals.all) > before {
-		report.Refusals = r.told()
+		report.Refusals = r.reported()
 		return report
 	}
 	report.Result = result
 	return report
 }
 
-// sorted gives the services that need no place that can't be taken, and notes in the report which these are.
+// sorted returns the services that can be made, and notes in the report which these are.
 func (r *run) sorted(report *Report, services []service) []service {
 	n := r.graph.needed(nil)
 	var clean []service
@@ -229,8 +230,8 @@ func (r *run) sorted(report *Report, services []service) []service {
 	return clean
 }
 
-// told are the refusals in the order of the files: all, or those of the service that is asked for.
-func (r *run) told() []Refusal {
+// reported returns the refusals in the order of the files: all, or those of the requested service.
+func (r *run) reported() []Refusal {
 	if r.alone != nil {
 		r.refusals.only(r.alone)
 	}
@@ -240,14 +241,14 @@ func (r *run) told() []Refusal {
 	return r.refusals.inOrder(r.files)
 }
 
-// serviceRefusal is the refusal of a service that the files don't have.
+// serviceRefusal returns the refusal of a service that the files don't have.
 func (r *run) serviceRefusal() []Refusal {
 	for _, refusal := range r.refusals.all {
 		if refusal.Why == noSuchService {
 			return []Refusal{refusal}
 		}
 	}
-	return r.told()
+	return r.reported()
 }
 
 // fitsLine refuses a model that doesn't fit in a line.
@@ -263,7 +264,7 @@ func (r *run) fitsLine(result *Result) {
 	r.refusals.refuse(r.files[0].Root, "", why, "several models, each with fewer decisions")
 }
 
-// eachDecision has a service for each decision.
+// eachDecision returns a service for each decision.
 func (g *graph) eachDecision() []service {
 	all := make([]service, 0, len(g.decisions))
 	for _, n := range g.decisions {
@@ -272,7 +273,7 @@ func (g *graph) eachDecision() []service {
 	return all
 }
 
-// Summary is the line that says which services can be made, where some can't; empty where it has nothing to say.
+// Summary returns the line that says which services can be made, if some can't; empty if there is nothing to say.
 func (r *Report) Summary() string {
 	switch all := len(r.Made) + len(r.Unmade); {
 	case len(r.Made) == 0 || len(r.Unmade) == 0:

@@ -8,7 +8,7 @@ import (
 	"gateway/profile"
 )
 
-// TestDecimalsOfInputDecisions says how many decimals a decision's value has, which a request may bring.
+// TestDecimalsOfInputDecisions gives the decimals of a decision's value, which a request may bring.
 func TestDecimalsOfInputDecisions(t *testing.T) {
 	file := definitions(input("x", "number"), decision("base price", "number", literal("x * 0.5"), "x"),
 		decision("total", "number", literal("base price * 1.19"), "base price"), decision("name", "string", literal(`"a"`)))

@@ -11,20 +11,21 @@ import (
 	"gateway/feel"
 )
 
-// mostOfSchemas is how many bytes all schemas of a model may have, and those of its places: one for each decision and input, whose
-// values all have the same large type.
+// mostOfSchemas is how many bytes all schemas of a model and its places may have. There is one for each decision and
+// input, and all their values may have the same large type.
 const mostOfSchemas = 16 << 20
 
-// A schemaWriter writes the JSON Schemas of types, of whose times the ticks are given. Null conforms to each type; a number is whole.
+// A schemaWriter writes the JSON Schemas of types, whose times are in ticks. Null conforms to each type; a number is
+// whole.
 type schemaWriter struct {
 	words *words
 	tick  calendar.Tick
 	text  []byte
-	// plain are the schemas of numbers of some units, and of texts and booleans, without values.
+	// plain are the schemas of numbers in units, texts and booleans, without values.
 	plain map[plainType][]byte
 }
 
-// A plainType is a scalar type of which no more is known than how it is counted.
+// A plainType is a scalar type of which only the units are known.
 type plainType struct {
 	kind  kindOfType
 	scale int
@@ -35,14 +36,14 @@ func newSchemaWriter(w *words, tick calendar.Tick) *schemaWriter {
 	return &schemaWriter{words: w, tick: tick, plain: map[plainType][]byte{}}
 }
 
-// schema is the schema of a type.
+// schema returns the schema of a type.
 func (w *schemaWriter) schema(of *valueType) json.RawMessage {
 	w.text = w.text[:0]
 	w.write(of)
 	return append(json.RawMessage(nil), w.text...)
 }
 
-// write writes the schema of a type, as far as a model may have it.
+// write writes the schema of a type, up to the limit of a model.
 func (w *schemaWriter) write(of *valueType) {
 	if len(w.text) > mostOfSchemas {
 		return
@@ -59,13 +60,13 @@ func (w *schemaWriter) write(of *valueType) {
 	}
 }
 
-// isPlainScalar tells whether a type is a scalar of which the schema says no more than how it is counted.
+// isPlainScalar reports whether a type is a scalar whose schema has only its units.
 func (t *valueType) isPlainScalar() bool {
 	isScalar := t.kind == numberKind || t.kind == textKind || t.kind == booleanKind || t.kind == anyKind
 	return isScalar && len(t.allowed.nodes()) == 0 && len(t.noted.nodes()) == 0
 }
 
-// members writes what a schema says in the order of the names.
+// members writes the members of a schema, ordered by name.
 func (w *schemaWriter) members(of *valueType, said map[string]interface{}) {
 	names := make([]string, 0, len(said))
 	for name := range said {
@@ -127,7 +128,7 @@ func (w *schemaWriter) value(of interface{}) {
 	w.text = append(w.text, text...)
 }
 
-// describe is what the schema of a type says; of items and properties no more than that there are some.
+// describe returns the schema of a type; for items and properties, only that there are some.
 func describe(of *valueType, tick calendar.Tick) map[string]interface{} {
 	made := map[string]interface{}{}
 	switch of.kind {
@@ -159,7 +160,7 @@ func describe(of *valueType, tick calendar.Tick) map[string]interface{} {
 	return made
 }
 
-// describe says in a schema how numbers are counted: as multiples of a power of ten, or a quotient as parts of one.
+// describe adds to a schema how numbers are counted: as multiples of a power of ten, or a quotient as parts of one.
 func (u units) describe(made map[string]interface{}) {
 	switch {
 	case u.isPlain():
@@ -170,8 +171,7 @@ func (u units) describe(made map[string]interface{}) {
 	}
 }
 
-// narrow adds allowed values to a schema: literals as an enumeration, one range as its ends. What is neither is left
-// out.
+// narrow adds allowed values to a schema: literals as an enumeration, one range as its ends. It leaves out others.
 func narrow(made map[string]interface{}, allowed []feel.Node) {
 	if len(allowed) == 0 {
 		return
@@ -197,7 +197,7 @@ func narrow(made map[string]interface{}, allowed []feel.Node) {
 	made["enum"] = values
 }
 
-// isSchema tells whether a schema says all of allowed values: they are literals, or a range of numbers.
+// isSchema reports whether a schema has all of the allowed values: they are literals, or a range of numbers.
 func isSchema(allowed []feel.Node) bool {
 	if len(allowed) == 0 {
 		return false
@@ -215,8 +215,8 @@ func isSchema(allowed []feel.Node) bool {
 	return true
 }
 
-// limit adds an end of a range, where it is a number, or a date or a duration: minimum or exclusiveMinimum, and of these
-// formatMinimum or formatExclusiveMinimum; so of the maximum.
+// limit adds an end of a range that is a number, a date or a duration. For numbers the key is minimum or
+// exclusiveMinimum, for others formatMinimum or formatExclusiveMinimum; likewise for the maximum.
 func limit(made map[string]interface{}, end feel.Node, open bool, key string) {
 	first := "m"
 	if open {
@@ -233,7 +233,7 @@ func limit(made map[string]interface{}, end feel.Node, open bool, key string) {
 	made[first+key] = json.Number(text)
 }
 
-// literalValue is a literal as a JSON value; false where it is none.
+// literalValue returns a literal as a JSON value; false for others.
 func literalValue(n feel.Node) (interface{}, bool) {
 	switch n := n.(type) {
 	case *feel.String:

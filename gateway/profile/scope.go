@@ -10,26 +10,26 @@ type binding struct {
 	value phrase
 	// function is the business knowledge that the name invokes; nil for a value.
 	function *knowledge
-	// input tells that it is an input of the model.
+	// input is true for an input of the model.
 	input bool
-	// service tells that it is a decision service, which can't be invoked.
+	// service is true for a decision service, which can't be invoked.
 	service bool
-	// member tells that it is an entry of the member that a filter looks at.
+	// member is true for an entry of the member that a filter looks at.
 	member bool
-	// logic is that of a decision or an entry; nil of others.
+	// logic is that of a decision or an entry; nil for others.
 	logic *box
-	// free is the node of an input that nothing declares; nil for others.
+	// free is the node of an undeclared input; nil for others.
 	free *node
 }
 
-// A scope is the names that an expression sees, canonical, inner ones before outer ones.
+// A scope has the names that an expression sees, canonical, inner ones before outer ones.
 type scope struct {
 	parent *scope
 	// few are the first names, names has the others.
 	few   []boundName
 	names map[string]*binding
 	reads *feel.Scope
-	// isRead tells that the texts which see the names were read, so that reads doesn't have them.
+	// isRead is true if the texts that see the names were read already, so that reads doesn't have them.
 	isRead bool
 }
 
@@ -39,7 +39,7 @@ type boundName struct {
 	*binding
 }
 
-// mostFew is how many names are looked through one by one.
+// mostFew is how many names are searched one by one.
 const mostFew = 4
 
 func newScope(parent *scope) *scope {
@@ -52,7 +52,7 @@ func newScope(parent *scope) *scope {
 	return s
 }
 
-// within is a scope for the names of a form within a text, which was read as a whole.
+// within returns a scope for the names of a form within a text that was read as a whole.
 func (s *scope) within() *scope { return &scope{parent: s, reads: s.reads, isRead: true} }
 
 // bind puts a name into scope.
@@ -80,7 +80,7 @@ func (s *scope) put(canonical string, b *binding) {
 	s.names[canonical] = b
 }
 
-// bindWord puts a name into scope that has its value under a word.
+// bindWord puts a name into scope whose value is under a word.
 func (s *scope) bindWord(name, word string, of *valueType) {
 	s.bind(name, &binding{value: phrase{text: word, rank: rankPrimary, depth: 1, of: of}})
 }
@@ -99,7 +99,7 @@ func (s *scope) find(canonical string) *binding {
 	return nil
 }
 
-// knowledge is a business knowledge model as the translation sees it.
+// knowledge is a business knowledge model during translation.
 type knowledge struct {
 	*dmn.BusinessKnowledge
 	name  string

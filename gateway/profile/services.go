@@ -16,18 +16,18 @@ type services struct {
 	written int
 }
 
-// A service is one of the files with the element that it came from; nil for one that the files don't have.
+// A service is one of the model, with its element; nil for one that the files don't have.
 type service struct {
 	model.Service
 	name   string
 	origin *dmn.Element
-	// nodes are what it lists and what that needs.
+	// nodes are what it lists, and what those need.
 	nodes []*node
 }
 
 func newServices(g *graph) *services { return &services{graph: g, names: map[string]bool{}} }
 
-// all are the services of the files; with a name only the one of that name, or else that of the decision.
+// all returns the services of the files; with a name only the service of that name, or else that of the decision.
 func (s *services) all(only string) []service {
 	var made []service
 	for _, source := range s.graph.sources {
@@ -58,7 +58,7 @@ func (s *services) all(only string) []service {
 
 const noSuchService = "no decision service and no decision has this name"
 
-// isCalled tells whether a name, or its word, is the one that is asked for.
+// isCalled reports whether asked is a name, or its word.
 func (g *graph) isCalled(name, asked string) bool {
 	return feel.Canonical(name) == feel.Canonical(asked) || g.words.of(name) == asked
 }
@@ -91,9 +91,9 @@ func (s *services) declared(source *source, d *dmn.DecisionService, name string)
 	return made
 }
 
-// unlisted finds the decisions that a service reaches and doesn't list: they are evaluated all the same. An input that
-// it doesn't list is refused, for no request would bring it, unless nothing declares it; so is a decision that is given
-// and evaluated too.
+// unlisted finds the decisions that a service reaches without listing them: they are evaluated all the same. It refuses
+// an unlisted input, which no request would bring, unless it is undeclared; and a decision that is both given and
+// evaluated.
 func (s *services) unlisted(e *dmn.Element, outputs, encapsulated, given, inputs []*node) (further, free []*node) {
 	isGiven, isListed := setOf(given), setOf(outputs, encapsulated, given, inputs)
 	for _, n := range append(append([]*node(nil), outputs...), encapsulated...) {
@@ -125,7 +125,7 @@ func setOf(lists ...[]*node) map[*node]bool {
 	return set
 }
 
-// decisions finds decisions that a service lists.
+// decisions finds the decisions that a service lists.
 func (s *services) decisions(source *source, references []*dmn.Reference) []*node {
 	return s.listed(source, references, func(n *node) bool { return n.decision != nil }, "it is no decision")
 }
@@ -152,7 +152,7 @@ func (s *services) listed(source *source, references []*dmn.Reference, is func(*
 	return all
 }
 
-// reach is what is reached from some decisions, without what the given ones need.
+// reach returns what some decisions reach, without what only the given ones need.
 func (g *graph) reach(outputs []*node, given map[*node]bool) []*node {
 	g.walks++
 	var all []*node
@@ -172,7 +172,7 @@ func (g *graph) reach(outputs []*node, given map[*node]bool) []*node {
 	return all
 }
 
-// serviceOf is the service that answers one decision, on the inputs that it needs.
+// serviceOf returns the service that answers one decision, on the inputs that it needs.
 func (g *graph) serviceOf(n *node) service {
 	made := service{Service: model.Service{Name: n.word, Outputs: []string{n.word}, Encapsulated: []string{},
 		InputDecisions: []string{}, InputData: []string{}}, name: n.name, nodes: g.reach([]*node{n}, nil)}
@@ -188,7 +188,7 @@ func (g *graph) serviceOf(n *node) service {
 }
 
 // defaultServices gives a model without services one for each decision that no other needs, then one for each other
-// decision while the model fits in a line. What finds no place is left out.
+// decision while the model fits in a line. It notes those left out.
 func defaultServices(g *graph, result *Result) {
 	line, err := Line(&result.Model)
 	if err != nil {
@@ -202,7 +202,7 @@ func defaultServices(g *graph, result *Result) {
 			}
 			one := g.serviceOf(n).Service
 			text, err := (&model.Model{Services: []model.Service{one}}).JSON()
-			// What stands round the service in this text is more than the comma behind it.
+			// What surrounds the service in this text is longer than the comma after it.
 			if err != nil || size+len(text) > MostLine {
 				result.LeftOut = append(result.LeftOut, n.name)
 				continue
@@ -213,7 +213,7 @@ func defaultServices(g *graph, result *Result) {
 	}
 }
 
-// Line is the line that puts a model in force: {"model":M}, without its newline.
+// Line returns the line that puts a model in force, {"model":M}, without a newline.
 func Line(m *model.Model) ([]byte, error) {
 	text, err := m.JSON()
 	if err != nil {

@@ -9,7 +9,7 @@ import (
 	"gateway/profile"
 )
 
-// TestSettled has what a file says of inputs in other decisions than the one that is read alone.
+// TestSettled reads one decision with what a file says about inputs in other decisions.
 func TestSettled(t *testing.T) {
 	file := definitions(input("a", "date and time"), input("n", "number"), input("t", "days and time duration"), decision("x", "", literal("a > @\"2026-01-01T00:00:00Z\""), "a"),
 		decision("y", "", literal("n * 0.5 + t.seconds"), "n", "t"), decision("z", "", literal("t > duration(\"PT0.125S\")"), "t"))

@@ -2,8 +2,8 @@ package profile
 
 import "gateway/feel"
 
-// asScalars gives a function that wants scalars what the standard gives it for lists: the member of a list of one, else null.
-// A value of no known type is asked for its member at run time; a list that is not written out is refused.
+// asScalars returns a function of scalars what the standard gives it for lists: the member of a list of one, else null.
+// A value of unknown type is asked for its member at run time. A list that isn't written out is refused.
 func (t *translator) asScalars(n *feel.Call, name string, arguments []phrase) (scalars []phrase, fine bool) {
 	test := asNumber
 	switch name {
@@ -30,7 +30,7 @@ func (t *translator) asScalars(n *feel.Call, name string, arguments []phrase) (s
 	return arguments, true
 }
 
-// scalarOf is a value, or the member of a list of one, where it is a number or a boolean; else null.
+// scalarOf returns a value, or the member of a list of one, if it is a number or a boolean; else null.
 func (t *translator) scalarOf(x phrase, test func(string) string, isBoolean bool) phrase {
 	x = t.short(x)
 	of := booleanType

@@ -9,11 +9,11 @@ import (
 	"gateway/profile"
 )
 
-// mostSeconds is how long the import of a file of this test takes at most, of processor time: it takes a tenth of that, and took
-// many times more where some work grew with the square of the file.
+// mostSeconds is how much processor time the import of a file of this test may take. It takes a tenth of that, and took
+// many times more when some work grew with the square of the file.
 const mostSeconds = 3.0
 
-// processorTime is what this process took by now, in seconds.
+// processorTime returns the processor time of this process so far, in seconds.
 func processorTime(t *testing.T) (all float64) {
 	t.Helper()
 	var used syscall.Rusage
@@ -26,19 +26,19 @@ func processorTime(t *testing.T) (all float64) {
 	return all
 }
 
-// filled is a text so often that it has a size, with a joint in between.
+// filled returns a text repeated up to a size, with a joint in between.
 func filled(text, joint string, size int) string {
 	return strings.TrimSuffix(strings.Repeat(text+joint, size/len(text+joint)), joint)
 }
 
 const dearSize, halfSize = 100_000, 50_000
 
-// overX is a file with a decision q over a number x.
+// overX returns a file with a decision q over a number x.
 func overX(text string) string {
 	return definitions(input("x", "number"), decision("q", "", literal(text), "x"))
 }
 
-// dearContexts are files over contexts with thousands of entries, of an input that declares no type.
+// dearContexts returns files over contexts with thousands of entries, from an undeclared input.
 func dearContexts() map[string]string {
 	var entries strings.Builder
 	for i := 0; i < 4000; i++ {
@@ -52,7 +52,7 @@ func dearContexts() map[string]string {
 	return map[string]string{"comparisons of an open context": over("c = c"), "choices of open contexts": over("if true then c else e")}
 }
 
-// dearExpressions are files of one long expression.
+// dearExpressions returns files of one long expression.
 func dearExpressions() map[string]string {
 	finest := "0." + strings.Repeat("0", 6000) + "1"
 	long, tight := strings.Repeat("a + ", 240)+"b", strings.Repeat("a+", 450)+"b"
@@ -74,7 +74,7 @@ func dearExpressions() map[string]string {
 	}
 }
 
-// dearParts are files of many parts, or with parts that are asked for many times.
+// dearParts returns files of many parts, or with parts that are used many times.
 func dearParts() map[string]string {
 	var words strings.Builder
 	var known, needs []string
@@ -103,7 +103,7 @@ func dearParts() map[string]string {
 	}
 }
 
-// dearTypes are files whose values have large types, or types with many values.
+// dearTypes returns files whose values have large types, or types with many values.
 func dearTypes() map[string]string {
 	var doubled, passed, chosen, wide []string
 	for i := 1; i < 40; i++ {
@@ -133,7 +133,7 @@ func dearTypes() map[string]string {
 	}
 }
 
-// filledWith are so many texts.
+// filledWith returns count texts.
 func filledWith(text string, count int) []string {
 	return strings.Split(strings.TrimSuffix(strings.Repeat(text+"|", count), "|"), "|")
 }
@@ -145,7 +145,7 @@ func inputsOfNumbers(names []string) (all []string) {
 	return all
 }
 
-// manyEntries are entries of a context with the same value.
+// manyEntries returns count entries of a context with the same value.
 func manyEntries(value string, count int) string {
 	all := make([]string, count)
 	for i := range all {
@@ -154,7 +154,7 @@ func manyEntries(value string, count int) string {
 	return strings.Join(all, ", ")
 }
 
-// dearRelations are files that go through a relation again and again.
+// dearRelations returns files that go through a relation again and again.
 func dearRelations() map[string]string {
 	columns := []string{"p", "q", "r", "s", "t"}
 	var rows [][]string
@@ -169,7 +169,7 @@ func dearRelations() map[string]string {
 		"rows of a relation": over("rows[7].q"), "sums over a relation": over("count(rows[p > x])")}
 }
 
-// TestDearShapes measures files of about a tenth of a megabyte, each of a shape that asks for much: whether they are taken or not.
+// TestDearShapes measures files of about a tenth of a megabyte, each with an expensive shape, accepted or not.
 func TestDearShapes(t *testing.T) {
 	for _, shapes := range []map[string]string{dearContexts(), dearExpressions(), dearParts(), dearTypes(), dearRelations()} {
 		for name, file := range shapes {

@@ -2,19 +2,19 @@ package profile
 
 import "gateway/feel"
 
-// A guard is a condition under which an expression counts: a branch that is taken, a rule that hits. What is put in front of
-// the expression is evaluated in any case, so it carries the condition, for it may break a limit.
+// A guard is a condition under which an expression counts: a branch is taken, a rule hits. Entries before the
+// expression are always evaluated, and may exceed a limit, so they carry the condition.
 type guard struct {
 	// outer is the guard around it; nil for none.
 	outer *guard
-	// frame is where the entry of the condition goes, word its name once it is there.
+	// frame gets the entry of the condition; word is its name once it is there.
 	frame *frame
 	word  string
-	// make puts the condition into the frame: an entry that is true where the expression counts.
+	// make adds the condition to the frame: an entry that is true if the expression counts.
 	make func(frame *frame, outer string) string
 }
 
-// name is the word of the entry that is true where the guarded expression counts; empty where it always counts.
+// guardWord returns the word of the entry that is true if the guarded expression counts; empty if it always counts.
 func (t *translator) guardWord(g *guard) string {
 	if g == nil {
 		return ""
@@ -46,7 +46,7 @@ func (t *translator) under(condition phrase, isThen bool, translate func() phras
 	return translate()
 }
 
-// entryIn makes a box an entry of a frame, and gives its word.
+// entryIn makes a box an entry of a frame, and returns its word.
 func (t *translator) entryIn(f *frame, base string, b *box) string {
 	word := t.words.fresh(base)
 	if b.kind == textBox {
@@ -57,7 +57,7 @@ func (t *translator) entryIn(f *frame, base string, b *box) string {
 	return word
 }
 
-// step makes a text an entry in front of the expression, under the condition of its branch.
+// step makes a text an entry before the expression, under the condition of its branch.
 func (t *translator) step(base, text string, of *valueType) phrase {
 	if t.full {
 		return constant("null", of)
@@ -66,10 +66,10 @@ func (t *translator) step(base, text string, of *valueType) phrase {
 	return t.hoisted(base, t.boxed(t.conditioned(p)), of)
 }
 
-// depthOfStep is how deep the text of a step is at most.
+// depthOfStep is the greatest depth of a step's text.
 const depthOfStep = 16
 
-// conditioned is a phrase that is null where its branch isn't taken.
+// conditioned returns a phrase that is null if its branch isn't taken.
 func (t *translator) conditioned(p phrase) phrase {
 	if !t.counts || t.full {
 		return p
@@ -85,7 +85,7 @@ func (t *translator) conditioned(p phrase) phrase {
 // maybeQuotient translates a form that may be a quotient.
 func (t *translator) maybeQuotient(n feel.Node, s *scope) phrase { return t.shallow(t.value(n, s)) }
 
-// chosen translates a form that may be a quotient by a constant, and none by a variable.
+// chosen translates a form that may be a quotient by a constant, but not by a variable.
 func (t *translator) chosen(n feel.Node, s *scope) phrase {
 	return t.bounded(n, t.constantQuotient(n, t.maybeQuotient(n, s)))
 }

@@ -9,24 +9,24 @@ import (
 	"gateway/model"
 )
 
-// A column is an input column as the translation sees it.
+// A column is an input column during translation.
 type column struct {
 	clause *dmn.InputClause
-	// value is the input expression, written as it may stand more than once.
+	// value is the input expression, in a form that may be repeated.
 	value phrase
-	// text is the input expression as the table has it.
+	// text is the input expression as in the table.
 	text string
-	// allowed are the input values; none where there are none.
+	// allowed are the input values, if any.
 	allowed valueList
 }
 
 // An output is an output column.
 type output struct {
 	clause *dmn.OutputClause
-	// of is the declared type, nil where there is none; gives joins the types of the entries.
+	// of is the declared type, nil if there is none; gives joins the types of the entries.
 	of, gives *valueType
 	allowed   valueList
-	// cells are the entries of the rules, other is the default; nil where there is none.
+	// cells are the entries of the rules, other is the default; nil if there is none.
 	cells []phrase
 	other *phrase
 }
@@ -41,7 +41,7 @@ type tableReader struct {
 	// named are the words of the outputs.
 	named map[string]bool
 	made  *box
-	// conditions are of the further column: for each rule the condition that stands there, or empty.
+	// conditions are those in the further column, one for each rule; it may be empty.
 	conditions []string
 }
 
@@ -76,10 +76,10 @@ func (t *translator) table(x *dmn.Table, s *scope) (*box, *valueType) {
 var hitPolicies = map[string]string{"UNIQUE": "U", "ANY": "A", "PRIORITY": "P", "FIRST": "F", "RULE ORDER": "R",
 	"OUTPUT ORDER": "O", "COLLECT": "C"}
 
-// aggregations are the signs behind C.
+// aggregations are the signs after C.
 var aggregations = map[string]string{"": "", "LIST": "", "SUM": "+", "MIN": "<", "MAX": ">", "COUNT": "#"}
 
-// hitPolicy is the hit policy as the model has it; empty where it is refused.
+// hitPolicy returns the hit policy in the model's form; empty if it is refused.
 func (r *tableReader) hitPolicy() string {
 	x := r.source
 	policy, known := hitPolicies[x.HitPolicy]
@@ -90,14 +90,14 @@ func (r *tableReader) hitPolicy() string {
 	}
 	sign, known := aggregations[x.Aggregation]
 	if !known || sign != "" && policy != "C" {
-		r.refusals.refuse(x.Element, x.Aggregation, "the aggregation is none, or stands without COLLECT",
+		r.refusals.refuse(x.Element, x.Aggregation, "the aggregation is unknown, or without COLLECT",
 			"SUM, MIN, MAX or COUNT, under COLLECT")
 		return ""
 	}
 	return policy + sign
 }
 
-// isWhole tells whether the table has outputs, each rule an entry for each column, and what its hit policy needs.
+// isWhole reports whether the table has outputs, an entry for each column in each rule, and what its hit policy needs.
 func (r *tableReader) isWhole() bool {
 	x := r.source
 	whole := len(x.Outputs) > 0
@@ -140,7 +140,7 @@ func (r *tableReader) inputColumn(clause *dmn.InputClause) {
 	r.made.inputs = append(r.made.inputs, clause.Element)
 }
 
-// inputExpression translates an input expression: how conditions of its entries write it, and how the table does.
+// inputExpression translates an input expression: as conditions in its entries use it, and as the table does.
 func (r *tableReader) inputExpression(x *dmn.Text) (value phrase, text string) {
 	if value, is := r.ratioExpression(x); is {
 		return value, value.text
@@ -155,7 +155,7 @@ func (r *tableReader) inputExpression(x *dmn.Text) (value phrase, text string) {
 	return value, value.text
 }
 
-// columnValue is the value of a column as conditions write it, which may be many times.
+// columnValue returns the value of a column as conditions use it, perhaps many times.
 func (r *tableReader) columnValue(i int) phrase {
 	c := &r.columns[i]
 	if !c.value.isShort() {
@@ -164,7 +164,7 @@ func (r *tableReader) columnValue(i int) phrase {
 	return c.value
 }
 
-// noted notes the input values of a column that is an input of the model by itself, for who calls.
+// noted notes, for the caller, the input values of a column that is an input of the model.
 func (r *tableReader) noted(c column) {
 	of := r.inputOf(c)
 	switch {
@@ -176,13 +176,13 @@ func (r *tableReader) noted(c column) {
 	}
 }
 
-// isPromised tells whether who calls keeps the input values of a column.
+// isPromised reports whether the caller promises the input values of a column.
 func (r *tableReader) isPromised(c column) bool {
 	of := r.inputOf(c)
 	return of != nil && !of.notedTwice && len(of.allowed.nodes()) == 0 && isSchema(c.allowed.nodes())
 }
 
-// inputOf is the type of the input that a column is by itself; nil where it is none.
+// inputOf returns the type of the input that a column is; nil if it isn't one.
 func (r *tableReader) inputOf(c column) *valueType {
 	kept := r.trees[c.clause.Expression]
 	if kept == nil || kept.fault != nil {
@@ -209,12 +209,12 @@ func (r *tableReader) outputColumn(clause *dmn.OutputClause, i int) {
 	if name == "" {
 		name = "result"
 		if len(r.source.Outputs) > 1 {
-			r.refusals.refuse(clause.Element, "", "an output without a name, beside another output", "a name for each")
+			r.refusals.refuse(clause.Element, "", "an output without a name, next to another output", "a name for each")
 		}
 	}
 	made := model.Output{Name: r.words.of(name)}
 	if r.named[made.Name] {
-		r.refusals.refuse(clause.Element, name, "the output's name stands twice", "another name")
+		r.refusals.refuse(clause.Element, name, "duplicate output name", "another name")
 	}
 	r.named[made.Name] = true
 	if clause.Values != nil {
@@ -239,7 +239,7 @@ func (r *tableReader) byPriority() bool {
 	return r.source.HitPolicy == "PRIORITY" || r.source.HitPolicy == "OUTPUT ORDER"
 }
 
-// listed are output values as literals; nil where one is none.
+// listed returns output values as literals; nil if one isn't a literal.
 func listed(values []feel.Node) []string {
 	var all []string
 	for _, value := range values {
@@ -276,20 +276,20 @@ func (r *tableReader) rule(rule *dmn.Rule) {
 	r.made.rows = append(r.made.rows, rule.Element)
 }
 
-// conditionText is the entry of the further column for some conditions; empty where there are none.
+// conditionText returns the entry of the further column for some conditions; empty if there are none.
 func conditionText(conditions []phrase) string {
 	if len(conditions) == 0 {
 		return ""
 	}
 	all := allOf(conditions)
 	if strings.HasPrefix(all.text, "not") {
-		// As a whole text, not( .. ) is a list of tests and no condition.
+		// At the start of a text, not( .. ) is a list of tests and not a condition.
 		return "(" + all.text + ")"
 	}
 	return all.text
 }
 
-// furtherColumn adds the column for conditions, where some rule has one.
+// furtherColumn adds the column for conditions if some rule has one.
 func (r *tableReader) furtherColumn() {
 	needed := false
 	for _, condition := range r.conditions {
@@ -319,7 +319,7 @@ func (r *tableReader) outputEntry(entry *dmn.Text, i, rule int) {
 	o.cells = append(o.cells, value)
 }
 
-// cell translates an expression in a table, which is a text in any case, and holds it against its own declared type and
+// cell translates an expression in a table, which is always a text, and checks it against its own declared type and
 // that of its column.
 func (r *tableReader) cell(entry *dmn.Text, ofColumn *valueType) phrase {
 	b, of := r.literal(entry, r.scope)
@@ -340,8 +340,8 @@ func (r *tableReader) cell(entry *dmn.Text, ofColumn *valueType) phrase {
 	return r.hoisted("value", b, of)
 }
 
-// defaultOf translates the default of an output. Under the policies that give a list it may be meant as the list or as
-// its member, so it is refused there.
+// defaultOf translates the default of an output. If the policy gives a list, the default may be meant as the list or as
+// its member, so it is refused.
 func (r *tableReader) defaultOf(i int) {
 	o := &r.outputs[i]
 	hit := r.made.table.Hit
@@ -373,7 +373,8 @@ func (r *tableReader) defaultOf(i int) {
 	o.other = &value
 }
 
-// noteNoHit tells what comes of no hit where tools differ: the standard has null for a table without a default.
+// noteNoHit notes what the model does if no rule hits, where tools differ. The standard has null for a table without a
+// default.
 func (r *tableReader) noteNoHit(hit string) {
 	other := map[string]string{"C": "an empty list", "R": "an empty list", "O": "an empty list", "C#": "0"}[hit]
 	if other == "" || r.alwaysHits() || r.outputs[0].clause.Default != nil {
@@ -382,7 +383,7 @@ func (r *tableReader) noteNoHit(hit string) {
 	r.refusals.note(r.source.Element, "where no rule hits its value is null, as the standard says; some tools give "+other, "")
 }
 
-// alwaysHits tells whether some rule has no test.
+// alwaysHits reports whether some rule has no test.
 func (r *tableReader) alwaysHits() bool {
 	for _, rule := range r.made.table.Rules {
 		if strings.Trim(strings.Join(rule.When, ""), "-") == "" {
@@ -392,7 +393,7 @@ func (r *tableReader) alwaysHits() bool {
 	return false
 }
 
-// typeOf is the type of the table's value.
+// typeOf returns the type of the table's value.
 func (r *tableReader) typeOf(hit string) *valueType {
 	of := r.outputType(0)
 	if len(r.outputs) > 1 {

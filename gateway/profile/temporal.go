@@ -8,8 +8,8 @@ import (
 	"gateway/feel"
 )
 
-// Dates and durations are whole numbers in the model, as package calendar counts them: nothing there tells a date from a
-// number. So a value of such a kind meets its own kind alone, and is never of the type Any.
+// Dates and durations are whole numbers in the model, as package calendar counts them: nothing there distinguishes a
+// date from a number. So a value of such a kind only meets its own kind, and is never of the type Any.
 
 var (
 	dateType          = &valueType{kind: dateKind, isShared: true}
@@ -21,27 +21,27 @@ var (
 	instantType  = &valueType{kind: offsetDateTimeKind, isShared: true}
 )
 
-// temporalNames are the kinds in the words of DMN.
+// temporalNames are the kinds as DMN names them.
 var temporalNames = map[kindOfType]string{dateKind: "date", dayDurationKind: "days and time duration",
 	monthDurationKind: "years and months duration", timeKind: "time", dateTimeKind: "date and time", offsetTimeKind: "time with an offset",
 	offsetDateTimeKind: "date and time with an offset"}
 
-// withOffset are the kinds with an offset of those without.
+// withOffset maps the kinds without an offset to those with one.
 var withOffset = map[kindOfType]kindOfType{timeKind: offsetTimeKind, dateTimeKind: offsetDateTimeKind}
 
-// isTemporal tells whether values are dates or durations.
+// isTemporal reports whether values are dates or durations.
 func (t *valueType) isTemporal() bool { return t.kind >= dateKind && t.kind <= offsetDateTimeKind }
 
-// isNothing tells whether there is no value of a type that another one could be told from.
+// isNothing reports whether a type has no values that could be distinguished from another's.
 func (t *valueType) isNothing() bool {
 	return t.kind == nullKind || t.kind == refusedKind || t.kind == anyKind && t.unasked
 }
 
-// mixed are the first parts of two types by which their values must not meet, for one is a date or a duration and the other of
-// another kind; nil where they may.
+// mixed returns the first parts of two types whose values must not meet, as one is a date or a duration and the other
+// of another kind; nil if there are none.
 func mixed(a, b *valueType) (one, other *valueType) {
 	switch {
-	case a == b || a.isNothing() || b.isNothing() || a.told || b.told:
+	case a == b || a.isNothing() || b.isNothing() || a.reported || b.reported:
 		return nil, nil
 	case a.kind == listKind && b.kind == listKind:
 		return mixed(a.element, b.element)
@@ -59,7 +59,8 @@ func mixed(a, b *valueType) (one, other *valueType) {
 	return nil, nil
 }
 
-// mixedContexts are those of two contexts. Nothing is known of the entries of what may be either of two with other names.
+// mixedContexts is mixed for two contexts. The entries of a value that may be either of two contexts with other
+// names are unknown.
 func mixedContexts(a, b *valueType) (one, other *valueType) {
 	isOther := len(a.order) != len(b.order) || len(a.order) > mostJoined || len(a.more)+len(b.more) > 0
 	for _, name := range a.order {
@@ -78,7 +79,7 @@ func mixedContexts(a, b *valueType) (one, other *valueType) {
 	return nil, nil
 }
 
-// whyMixed tells why values of two types must not meet, and what to write; empty where they may.
+// whyMixed says why values of two types must not meet, and what to write; empty if they may.
 func whyMixed(a, b *valueType) (why, instead string) {
 	one, other := mixed(a, b)
 	if one == nil {
@@ -90,7 +91,7 @@ func whyMixed(a, b *valueType) (why, instead string) {
 	return fmt.Sprintf("a value of the type %s meets one of the type %s", one, other), insteadOfMixed(one, other)
 }
 
-// insteadOfMixed tells what to write where a date or a duration meets another kind.
+// insteadOfMixed says what to write if a date or a duration meets another kind.
 func insteadOfMixed(one, other *valueType) string {
 	switch {
 	case withOffset[one.kind] == other.kind && other.isTemporal():
@@ -117,7 +118,7 @@ var literalOf = map[kindOfType]string{dateKind: `date("2026-01-31") for a date`,
 	dateTimeKind: `date and time("2026-01-31T12:30:00")`, offsetTimeKind: `time("12:30:00+02:00")`,
 	offsetDateTimeKind: `date and time("2026-01-31T12:30:00+02:00")`}
 
-// refuseMixed refuses where two values must not meet, and tells whether they do.
+// refuseMixed refuses two values that must not meet, and reports whether it did.
 func refuseMixed(a, b *valueType, refuse func(why, instead string)) bool {
 	why, instead := whyMixed(a, b)
 	if why == "" {
@@ -127,7 +128,7 @@ func refuseMixed(a, b *valueType, refuse func(why, instead string)) bool {
 	return true
 }
 
-// withoutTemporals tells why a function can't have its arguments, since one is a date or a duration; empty where it may.
+// withoutTemporals says why a function can't have its arguments, since one is a date or a duration; empty if it may.
 func withoutTemporals(name string, arguments []phrase) (why, instead string) {
 	switch name {
 	case "min", "max", "count":
@@ -141,7 +142,7 @@ func withoutTemporals(name string, arguments []phrase) (why, instead string) {
 	return "", ""
 }
 
-// describeTemporal says in a schema how a date or a duration is written, and what it is counted in.
+// describeTemporal adds to a schema how a date or a duration is written, and its unit.
 func (t *valueType) describeTemporal(made map[string]interface{}, tick calendar.Tick) {
 	if t.isTimed() && tick.Decimals > 0 {
 		made["decimals"] = tick.Decimals
@@ -166,7 +167,8 @@ func (t *valueType) describeTemporal(made map[string]interface{}, tick calendar.
 	}
 }
 
-// instanceOfTemporal translates "x instance of date" and its kin, of what is a date or a duration by its type.
+// instanceOfTemporal translates "x instance of date" and the like, if the type of x says whether it is a date or a
+// duration.
 func (t *translator) instanceOfTemporal(n *feel.InstanceOf, s *scope) (phrase, bool) {
 	due := builtinTypes[strings.ToLower(feel.Canonical(n.Type))]
 	if due == nil || !due.isTemporal() || t.types.items[feel.Canonical(n.Type)] != nil {

@@ -8,7 +8,7 @@ import (
 	"gateway/feel"
 )
 
-// timeText is a time, or a date and time, of the text of a literal.
+// timeText returns the time, or the date and time, of a literal's text.
 func (t *translator) timeText(n feel.Node, text string, kind kindOfType) phrase {
 	t.offsets.want(calendar.DecimalsIn(text))
 	read := t.offsets.tick.Time
@@ -50,7 +50,7 @@ func (t *translator) timeCall(n *feel.Call, s *scope) phrase {
 	return t.refuse(n, "times are read of literals, and taken of a date and time without an offset", `time("12:30:00"), or an input of the type time`)
 }
 
-// timeOfParts is a time of constants.
+// timeOfParts returns the time of constant parts.
 func (t *translator) timeOfParts(n *feel.Call, parts []phrase) phrase {
 	var numbers [3]int64
 	for i, part := range parts {
@@ -65,7 +65,7 @@ func (t *translator) timeOfParts(n *feel.Call, parts []phrase) phrase {
 	return t.timeText(n, fmt.Sprintf("%02d:%02d:%02d", numbers[0], numbers[1], numbers[2]), timeKind)
 }
 
-// dateTimeCall translates date and time("2026-01-31T12:30:00"), and that of a date and a time.
+// dateTimeCall translates date and time("2026-01-31T12:30:00"), and the one of a date and a time.
 func (t *translator) dateTimeCall(n *feel.Call, s *scope) phrase {
 	if text, is := literalArgument(n, "from"); is {
 		return t.timeText(n, text, dateTimeKind)
@@ -92,7 +92,7 @@ func (t *translator) dateTimeCall(n *feel.Call, s *scope) phrase {
 	return t.refuse(n, "dates and times are read of literals alone", literalOf[dateTimeKind]+", or an input of the type date and time")
 }
 
-// joinedTime is the date and time of a date, or that of a date and time, and a time.
+// joinedTime returns the date and time of a date, or of a date and time, and a time.
 func (t *translator) joinedTime(n feel.Node, date, time phrase) phrase {
 	if date.of.kind == dateTimeKind {
 		date = t.dayOf(date)
@@ -119,7 +119,7 @@ func (t *translator) joinedTime(n feel.Node, date, time phrase) phrase {
 	return infix(seconds, "+", time, rankSum, of)
 }
 
-// dayOf is the date of a date and time without an offset.
+// dayOf returns the date of a date and time without an offset.
 func (t *translator) dayOf(p phrase) phrase {
 	t.fractions = true
 	if p.moment() != nil {
@@ -129,7 +129,7 @@ func (t *translator) dayOf(p phrase) phrase {
 	return t.step("day", wholeQuotient(fmt.Sprintf("%[1]s - modulo(%[1]s, %[2]d)", p.text, t.perDay()), t.perDay()), dateType)
 }
 
-// timeOf is the time of a date and time without an offset.
+// timeOf returns the time of a date and time without an offset.
 func (t *translator) timeOf(p phrase) phrase {
 	t.fractions = true
 	if p.moment() != nil {
@@ -138,8 +138,8 @@ func (t *translator) timeOf(p phrase) phrase {
 	return call("modulo", timeType, p, constant(fmt.Sprint(t.perDay()), numberType))
 }
 
-// secondsLater is a time, or a date and time, plus or minus a days and time duration. A time goes round the day; a date and time
-// with an offset is never written, so it may be past the years.
+// secondsLater returns a time, or a date and time, plus or minus a days and time duration. A time wraps around at
+// midnight. A date and time with an offset is never written, so it may be outside the years.
 func (t *translator) secondsLater(n feel.Node, a phrase, operator string, length phrase) phrase {
 	of := &valueType{kind: a.of.kind, sort: a.of.sort}
 	sum := infix(a, operator, length, rankSum, of)
@@ -162,7 +162,7 @@ func (t *translator) secondsLater(n feel.Node, a phrase, operator string, length
 	return t.checkedTime(t.step("time", sum.text, numberType), of)
 }
 
-// signed is a number as an operator adds it.
+// signed returns a number with the sign of an operator.
 func signed(operator string, value int64) int64 {
 	if operator == "-" {
 		return -value
@@ -170,13 +170,13 @@ func signed(operator string, value int64) int64 {
 	return value
 }
 
-// checkedTime is a date and time, or a limit where it is past the years.
+// checkedTime returns a date and time, or exceeds a limit if it is outside the years.
 func (t *translator) checkedTime(at phrase, of *valueType) phrase {
 	return t.step("time", fmt.Sprintf("if %[1]s < %[2]d or %[1]s > %[3]d then %[4]s else %[1]s", at.text, calendar.FirstDay*t.perDay(),
 		(calendar.LastDay+1)*t.perDay()-1, pastRange), of)
 }
 
-// timeMonthsLater is a date and time without an offset plus or minus a years and months duration.
+// timeMonthsLater returns a date and time without an offset plus or minus a years and months duration.
 func (t *translator) timeMonthsLater(n feel.Node, a phrase, operator string, length phrase) phrase {
 	a = t.short(a)
 	made := t.joinedTime(n, t.shallow(t.monthsLater(n, t.dayOf(a), operator, length)), t.timeOf(a))
@@ -186,7 +186,7 @@ func (t *translator) timeMonthsLater(n feel.Node, a phrase, operator string, len
 	return made
 }
 
-// timePart is a part of a time, or of a date and time, without an offset.
+// timePart returns a part of a time, or of a date and time, without an offset.
 func (t *translator) timePart(p phrase, name string) phrase {
 	second := t.offsets.tick.PerSecond()
 	parts := map[string][2]int64{"hour": {t.perDay(), 3600 * second}, "minute": {3600 * second, 60 * second}, "second": {60 * second, 1}}
@@ -209,13 +209,13 @@ func (t *translator) timePart(p phrase, name string) phrase {
 	return phrase{}
 }
 
-// perDay is how many ticks a day has.
+// perDay returns how many ticks a day has.
 func (t *translator) perDay() int64 { return t.offsets.tick.PerDay() }
 
-// secondType is that of seconds as numbers, which have decimals where they are counted.
+// secondType returns the type of seconds as numbers, with decimals if they are counted.
 func (t *translator) secondType() *valueType { return numberOf(units{scale: t.offsets.tick.Decimals}) }
 
-// secondsOf is a number of seconds that is given in ticks.
+// secondsOf returns a number of seconds given in ticks.
 func (t *translator) secondsOf(ticks int64) phrase {
 	return constantNumber(scaledBy(new(big.Rat).SetInt64(ticks), -t.offsets.tick.Decimals))
 }

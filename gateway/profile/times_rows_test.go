@@ -7,7 +7,8 @@ import (
 	"gateway/profile"
 )
 
-// timeParts are the parts of a file beside its decisions: x and y are times, a and b dates and times, d a date, t and k durations.
+// timeParts returns the parts of a file except its decisions: x and y are times, a and b dates and times, d a date, t
+// and k durations.
 func timeParts() []string {
 	return []string{`<itemDefinition name="tOrder"><itemComponent name="placed"><typeRef>date and time</typeRef></itemComponent></itemDefinition>`,
 		input("x", "time"), input("y", "time"), input("a", "date and time"), input("b", "dateTime"), input("d", "date"), input("n", "number"),
@@ -58,7 +59,7 @@ var timeRows = []decimalRow{
 	{`date and time("2026-01-31T12:00:00@Europe/Berlin") < a`, `{}`, "refused: written as"}, {`a in [@"2026-01-31T12:00:00Z"..@"2026-02-01T12:00:00Z")`, `{"a":"2026-02-01T14:00:00+02:00"}`, "false"},
 }
 
-// TestTimeRows holds the rows against the engine.
+// TestTimeRows checks the rows against the engine.
 func TestTimeRows(t *testing.T) {
 	d := startDesk(t)
 	for _, row := range timeRows {
@@ -80,7 +81,7 @@ func timeFile(text string) string {
 	return definitions(append(timeParts(), decision("q", "", literal(text), timeNeeds...))...)
 }
 
-// TestFractionsOfSeconds has decimals of seconds, as literals and --decimals say.
+// TestFractionsOfSeconds tests decimals of seconds, from literals and --decimals.
 func TestFractionsOfSeconds(t *testing.T) {
 	d := startDesk(t)
 	all := &profile.Decimals{All: 3}
@@ -122,7 +123,7 @@ func TestFractionsOfSeconds(t *testing.T) {
 	}
 }
 
-// TestOffsets says that inputs have an offset.
+// TestOffsets tests inputs with an offset.
 func TestOffsets(t *testing.T) {
 	d := startDesk(t)
 	for _, row := range []struct {

@@ -6,7 +6,7 @@ import (
 	"testing"
 )
 
-// TestEachHitPolicy asks the tables that docs/MODEL.md has for each hit policy; the values are worked out by hand.
+// TestEachHitPolicy asks the tables of docs/MODEL.md for each hit policy. The values are worked out by hand.
 func TestEachHitPolicy(t *testing.T) {
 	in := []column{{text: "a", of: "number"}}
 	for _, c := range []struct {
@@ -49,7 +49,7 @@ func TestATableIsTranslatedAsItIs(t *testing.T) {
 	}
 }
 
-// TestExpressions translates texts and holds the words of the model against what is due.
+// TestExpressions checks the model's text for each expression.
 func TestExpressions(t *testing.T) {
 	parts := []string{input("a", "number"), input("b", "number"), input("s", "string"), input("net price", "number"),
 		input("Größe", "number"), input("f", "boolean")}
@@ -89,12 +89,12 @@ func TestExpressions(t *testing.T) {
 	}
 }
 
-// quoted is a text in JSON.
+// quoted returns a text in JSON.
 func quoted(text string) string {
 	return `"` + strings.NewReplacer(`\`, `\\`, `"`, `\"`).Replace(text) + `"`
 }
 
-// TestRefusedForms has a text for each form that the profile has not, with words of its reason.
+// TestRefusedForms tests a text for each form that the profile lacks, with words of the reason.
 func TestRefusedForms(t *testing.T) {
 	parts := []string{input("a", "number"), input("l", "tList"),
 		`<itemDefinition name="tList" isCollection="true"><typeRef>number</typeRef></itemDefinition>`}
@@ -117,7 +117,7 @@ func TestRefusedForms(t *testing.T) {
 		"a instance of context":                 "no instance of",
 		"[1..3]":                                "ranges and tests are no values",
 		"? > 3":                                 "? stands for",
-		"sum(a, a, x: 1)":                       "is none of list",
+		"sum(a, a, x: 1)":                       "is not one of list",
 		"modulo(a)":                             "1 arguments, where 2 are due",
 		"a.b":                                   "no component b",
 		"a(1)":                                  "no function",
@@ -125,7 +125,7 @@ func TestRefusedForms(t *testing.T) {
 		"1 +":                                   "at character 4 the text ends",
 		"a b":                                   "at character 3 it stops at",
 		`"\d"`:                                  "no escape",
-		"{a: 1, a: 2}":                          "stands twice",
+		"{a: 1, a: 2}":                          "duplicate key",
 		"l[1] + 1.0 / 1":                        "",
 		"distinct values(l)":                    "no function distinct values",
 		"mean(l)":                               "no function mean",
@@ -203,7 +203,7 @@ func TestInvocations(t *testing.T) {
 		literal("10") + `</binding><binding><parameter name="base price"/>` + literal("n + 1") + "</binding></invocation>"
 	answers(t, definitions(f, input("n", "number"), decision("d", "", boxed, "n", "k:monthly fee")), "d",
 		[][2]string{{`{"n":2}`, "20"}})
-	// Of knowledge that invokes knowledge, with a table as its body.
+	// Knowledge that invokes knowledge, with a table as its body.
 	g := knowledge("g", []string{"n:number"}, table("", []column{{text: "n", of: "number"}}, []column{{text: "r"}},
 		[]string{"> 5", "monthly fee(n, 2)"}, []string{"<= 5", "n"}), "k:monthly fee")
 	answers(t, definitions(f, g, decision("d", "", literal("[g(7), g(5), g(g(7))]"), "k:g")), "d",
@@ -212,7 +212,7 @@ func TestInvocations(t *testing.T) {
 		"monthly fee(1)":             "1 arguments, where monthly fee has 2",
 		"monthly fee(1, 2, 3)":       "3 arguments",
 		"monthly fee(n: 1, m: 2)":    "no parameter of monthly fee",
-		"monthly fee(n: 1, n: 2)":    "stands twice",
+		"monthly fee(n: 1, n: 2)":    "is given twice",
 		`monthly fee(1, "x")`:        "the argument for n: it is of the type string",
 		"[monthly fee]":              "functions are no values",
 		"monthly fee(1, 2).years":    "no component",
@@ -307,7 +307,8 @@ func TestChainsDeeperThanTheEngineReads(t *testing.T) {
 		strings.Repeat("]", 80)}})
 }
 
-// TestDeepLiterals has literals so deep that some stand in front, in one decision and in business knowledge that two decisions invoke.
+// TestDeepLiterals tests literals so deep that some become entries, in one decision and in business knowledge that two
+// decisions invoke.
 func TestDeepLiterals(t *testing.T) {
 	deep := strings.Repeat("(", 80) + "1" + strings.Repeat(" + 2) * 1", 80)
 	answers(t, expression("a + "+deep, "", input("a", "number")), "d", [][2]string{{`{"a":1}`, "162"}})
@@ -400,7 +401,7 @@ func TestPlaces(t *testing.T) {
 		"/decisions/0/expr/context/0/expr/result/table/rules/0": "rule_1",
 	} {
 		if got := result.Places[pointer].ID; got != id {
-			t.Errorf("at %s stands %q, of %v", pointer, got, result.Places)
+			t.Errorf("at %s is %q, of %v", pointer, got, result.Places)
 		}
 	}
 }

@@ -8,71 +8,71 @@ import (
 	"gateway/feel"
 )
 
-// MostLine is the most bytes of a line of the engine, which a model has to fit in.
+// MostLine is the most bytes of a line of the engine, into which a model has to fit.
 const MostLine = 1 << 20
 
-// bytesOfEntry is about what an entry of a context takes beside its text.
+// bytesOfEntry is about what an entry of a context takes besides its text.
 const bytesOfEntry = 24
 
 // A translator makes one pass over the files.
 type translator struct {
 	words    *words
 	refusals *refusals
-	// types are those of the file that is translated, members the names that may stand behind a point.
+	// types are those of the current file, members the names that may follow a point.
 	types   *types
 	members *feel.Scope
-	// trees keeps what a text was read as: the scope of a text has the same names each time.
+	// trees keeps the trees of texts, as the scope of a text has the same names each time.
 	trees map[*dmn.Text]*tree
 	frame *frame
-	// text is the one that is translated, column what ? stands for in it; nil outside of input entries.
+	// text is the current one, column the value of ? in it; nil outside of input entries.
 	text   *dmn.Text
 	column *phrase
-	// near is the element of the decision or business knowledge that is translated.
+	// near is the element of the current decision or business knowledge.
 	near *dmn.Element
-	// free are the names that nothing declares, node is the decision at hand; nil in business knowledge that nothing invokes.
+	// free are the undeclared names, node is the current decision; nil in business knowledge that nothing invokes.
 	free *freeNames
 	node *node
 	// clock has the inputs that a clock fills.
 	clock *clock
-	// gone counts the members of lists that were gone through, writtenOut the bytes of what was written out for them.
+	// gone counts the members of lists that were gone through, writtenOut the bytes written out for them.
 	gone, writtenOut int
-	// inCell tells that an output entry is held against its types: what it needs goes in front of the table.
+	// inCell is true while an output entry is checked against its types: what it needs goes before the table.
 	inCell bool
-	// active is the business knowledge that is being invoked, one in the other.
+	// active is the business knowledge being invoked, nested.
 	active map[*knowledge]bool
-	// counts tells that numbers are counted in units, fractions that the files have what asks for it: decimals, a division,
-	// a power, a rounding.
+	// counts is true if numbers are counted in units, fractions if the files need that: for decimals, a division, a
+	// power, a rounding.
 	counts, fractions bool
-	// said are the decimals that are said of names; nil where nothing is counted.
+	// said are the decimals given for names; nil if nothing is counted.
 	said *cells
-	// finest is the most decimals with which a number of the decision at hand is counted.
+	// finest is the most decimals of a number in the current decision.
 	finest int
-	// guard is the condition of the branch or the rule at hand; nil where there is none.
+	// guard is the condition of the current branch or rule; nil if there is none.
 	guard *guard
-	// offsets say what times are counted in.
+	// offsets have the units of times.
 	offsets *offsets
 	// constants are the numbers that were read, by their texts.
 	constants map[string]phrase
-	// folds are the calculations with literals alone: business knowledge may have long ones, and be invoked many times.
+	// folds are the calculations with literals only: business knowledge may have long ones, and be invoked many times.
 	folds map[feel.Node]fold
-	// kept has what was found of contexts.
+	// kept has what was found about contexts.
 	kept *kept
-	// civils are the parts of dates that were asked for.
+	// civils are the parts of dates that were needed.
 	civils map[civilKey]*civil
 	// written counts the bytes of the model so far.
 	written int
 	full    bool
 }
 
-// A tree is what a text was read as.
+// A tree is the parsed form of a text.
 type tree struct {
 	nodes []feel.Node
 	fault *feel.Fault
-	// why is what the fault is and where; empty without one.
+	// why is the fault and its place; empty without one.
 	why string
 }
 
-// framed translates with a frame of its own, and puts the entries that come of it in front.
+// framed translates with a frame of its own, and puts the frame's entries before the result.
 func (t *translator) framed(translate func() *box) *box {
 	before := t.frame
 	t.frame = &frame{}
@@ -81,7 +81,7 @@ func (t *translator) framed(translate func() *box) *box {
 	return t.frame.around(made)
 }
 
-// hoisted makes a box an entry in front of the expression, and gives its word.
+// hoisted makes a box an entry before the expression, and returns its word.
 func (t *translator) hoisted(base string, b *box, of *valueType) phrase {
 	if t.full {
 		return constant(base, of)
@@ -89,7 +89,8 @@ func (t *translator) hoisted(base string, b *box, of *valueType) phrase {
 	return t.inFront(t.words.fresh(base), b, of)
 }
 
-// inFront makes a box the entry of a word in front of the expression. A model that is longer than a line gets no more of them.
+// inFront makes a box the entry of a word before the expression. A model that is longer than a line gets no more of
+// them.
 func (t *translator) inFront(word string, b *box, of *valueType) phrase {
 	if t.full {
 		return constant(word, of)
@@ -99,7 +100,7 @@ func (t *translator) inFront(word string, b *box, of *valueType) phrase {
 	return constant(word, of)
 }
 
-// short is a phrase that may be written more than once.
+// short returns a phrase that may be written more than once.
 func (t *translator) short(p phrase) phrase {
 	if p.isShort() || p.number != nil && t.counts || p.moment() != nil {
 		return p
@@ -107,7 +108,7 @@ func (t *translator) short(p phrase) phrase {
 	return t.part(p)
 }
 
-// part makes a phrase an entry in front of the expression, under the condition of its branch.
+// part makes a phrase an entry before the expression, under the condition of its branch.
 func (t *translator) part(p phrase) phrase {
 	made := constant("part", p.of)
 	if !t.full {
@@ -120,7 +121,7 @@ func (t *translator) part(p phrase) phrase {
 	return made
 }
 
-// shallow is a phrase that may stand in another one.
+// shallow returns a phrase that may be inside another one.
 func (t *translator) shallow(p phrase) phrase {
 	if p.depth <= mostOperandDepth {
 		return p
@@ -128,13 +129,13 @@ func (t *translator) shallow(p phrase) phrase {
 	return t.part(p)
 }
 
-// boxed is the box of a phrase, whose text is counted.
+// boxed returns the box of a phrase, and counts its text.
 func (t *translator) boxed(p phrase) *box {
 	t.wrote(len(p.text))
 	return boxOf(p)
 }
 
-// wrote counts bytes of the model. The first text past a line is refused, and no more is invoked from there on.
+// wrote counts bytes of the model. It refuses the first text past a line, and nothing more is invoked from then on.
 func (t *translator) wrote(bytes int) {
 	t.written += bytes
 	if t.written <= MostLine || t.full {
@@ -149,7 +150,7 @@ func (t *translator) wrote(bytes int) {
 		"each invocation takes what it invokes along", MostLine), "fewer invocations, or a decision in place of one")
 }
 
-// refuse refuses a form of the text that is translated.
+// refuse refuses a form of the current text.
 func (t *translator) refuse(n feel.Node, why, instead string) phrase {
 	span := n.At()
 	text := t.text.Text
@@ -160,7 +161,7 @@ func (t *translator) refuse(n feel.Node, why, instead string) phrase {
 	return refused
 }
 
-// read gives the tree of a text, or nil where it can't be read, which is told.
+// read returns the tree of a text, or refuses it and returns nil.
 func (t *translator) read(text *dmn.Text, s *scope, asTests bool) []feel.Node {
 	kept := t.trees[text]
 	if kept == nil {
@@ -188,7 +189,7 @@ func readTree(text *dmn.Text, s *scope, members *feel.Scope, asTests bool) *tree
 	return made
 }
 
-// at translates with another text at hand.
+// at translates with another current text.
 func (t *translator) at(text *dmn.Text, translate func()) {
 	before := t.text
 	t.text = text

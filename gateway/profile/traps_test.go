@@ -5,8 +5,7 @@ import (
 	"testing"
 )
 
-// Each test of this file is a trap: a place where a translation that follows the letters decides otherwise than the
-// file, without a word.
+// Each test of this file is a trap: a place where a literal translation silently decides differently from the file.
 
 func expression(text, of string, parts ...string) string {
 	var needs []string
@@ -94,15 +93,15 @@ func TestAConditionUsedAsAnEntry(t *testing.T) {
 }
 
 func TestCaptureOfAParametersName(t *testing.T) {
-	// f(x, y) is x - y. Within the decision x is an input, so a parameter that is bound by its own name would hide it.
+	// f(x, y) is x - y. Within the decision x is an input, which a parameter bound by its own name would hide.
 	f := knowledge("f", []string{"x:number", "y:number"}, literal("x - y"))
 	file := definitions(input("x", "number"), input("y", "number"), f,
 		decision("d", "", literal("f(y, x) * 100 + x"), "x", "y", "k:f"))
 	answers(t, file, "d", [][2]string{{`{"x":2,"y":9}`, "702"}})
-	// The body sees its parameters alone: y of the decision isn't y of the body.
+	// The body only sees its parameters: y of the decision isn't y of the body.
 	g := knowledge("g", []string{"x:number"}, literal("x + y"))
 	refusedWith(t, definitions(input("y", "number"), g, decision("d", "", literal("g(1)"), "y", "k:g")), "no name in scope")
-	// A context within the body hides the parameter there, and not outside.
+	// A context within the body hides the parameter inside, not outside.
 	h := knowledge("h", []string{"x:number"}, `<context><contextEntry><variable name="x"/>`+literal("x + 1")+
 		`</contextEntry><contextEntry>`+literal("x * 10")+`</contextEntry></context>`)
 	answers(t, definitions(input("x", "number"), h, decision("d", "", literal("h(x) + h(h(0)) + x"), "x", "k:h")), "d",
@@ -134,15 +133,15 @@ func TestLiteralsAgainstTheirTypeRef(t *testing.T) {
 }
 
 func TestAValueThatMayNotBeOfItsTypeRef(t *testing.T) {
-	// What the request brings is not known here: the standard makes null of it where it is no number, and a member of a
-	// list of one.
+	// The value in the request isn't known here: the standard makes null of it unless it is a number, or the member of
+	// a list of one.
 	needs := input("a", "")
 	answers(t, expression("if a = null then 0 else a", "number", needs), "d", [][2]string{
 		{`{"a":7}`, "7"}, {`{"a":"x"}`, "null"}, {`{"a":[7]}`, "7"}, {`{"a":[7,8]}`, "null"}, {`{}`, "0"}})
 	answers(t, expression("if a = null then false else a", "boolean", needs), "d", [][2]string{
 		{`{"a":true}`, "true"}, {`{"a":"x"}`, "null"}, {`{"a":[false]}`, "false"}, {`{"a":[7]}`, "null"}, {`{}`, "false"}})
 	refusedWith(t, expression(`if a = null then "x" else a`, "string", needs), "may be of another type")
-	// An input without a type takes the one that it is given to, and the request has to keep it.
+	// An input without a type takes the type that is expected of it, and the request has to keep it.
 	result := taken(t, expression("a", "string", needs))
 	if got := string(result.Types["a"]); got != `{"type":["string","null"]}` {
 		t.Errorf("the type of a is %s", got)
@@ -208,11 +207,11 @@ func TestNoHitUnderCollectRuleOrderAndOutputOrder(t *testing.T) {
 	in := []column{{text: "a", of: "number"}}
 	out := []column{{text: "r", of: "number", values: "1, 2"}}
 	for _, policy := range []string{"COLLECT", "RULE ORDER", "OUTPUT ORDER"} {
-		// Where no rule hits, and there is no default, the value is null.
+		// If no rule hits and there is no default, the value is null.
 		answers(t, definitions(input("a", "number"), decision("d", "", table(`hitPolicy="`+policy+`"`, in, out,
 			[]string{"> 5", "2"}), "a")), "d", [][2]string{{`{"a":1}`, "null"}, {`{"a":6}`, "[2]"}})
 	}
-	// Some tools give an empty list or 0 there, so it is told.
+	// Some tools give an empty list or 0 here, so there is a note.
 	count := func(rule string) string {
 		return definitions(input("a", "number"), decision("d", "", table(`hitPolicy="COLLECT" aggregation="COUNT"`, in, out,
 			[]string{rule, "2"}), "a"))
@@ -248,7 +247,7 @@ func TestAListOfOneForAScalar(t *testing.T) {
 }
 
 func TestNotOfATextAskedOfAnotherKind(t *testing.T) {
-	// not("a") asked of 1: = says null of two kinds, so not says null, and the rule doesn't hit.
+	// not("a") for 1: = is null for different kinds, so not is null, and the rule doesn't hit.
 	in := []column{{text: "a"}}
 	out := []column{{text: "r"}}
 	answers(t, definitions(input("a", ""), decision("d", "", table("", in, out, []string{`not("a", "b")`, "1"}), "a")), "d",

@@ -13,15 +13,15 @@ type types struct {
 	refusals *refusals
 	items    map[string]*dmn.ItemDefinition
 	resolved map[*dmn.ItemDefinition]*valueType
-	// active are the definitions that are being resolved: one of them again is a cycle.
+	// active are the definitions being resolved: meeting one of them again is a cycle.
 	active map[*dmn.ItemDefinition]bool
-	// fractions tells that some allowed value has decimals.
+	// fractions is true if some allowed value has decimals.
 	fractions bool
-	// changes counts those of the types of inputs that declare none.
+	// changes counts the changes in the types of undeclared inputs.
 	changes *changes
 }
 
-// isFraction tells whether a form is a number with decimals.
+// isFraction reports whether a form is a number with decimals.
 func isFraction(n feel.Node) bool {
 	number, is := n.(*feel.Number)
 	return is && strings.Contains(strings.TrimRight(number.Text, "0"), ".") && !strings.HasSuffix(strings.TrimRight(number.Text, "0"), ".")
@@ -33,7 +33,7 @@ func newTypes(r *refusals, file *dmn.File, changes *changes) *types {
 	for _, item := range file.Types {
 		name := feel.Canonical(item.Name())
 		if t.items[name] != nil {
-			r.refuse(item.Element, item.Name(), "a type of this name stands before", "another name", t.items[name].Element)
+			r.refuse(item.Element, item.Name(), "a type of this name is defined earlier", "another name", t.items[name].Element)
 			continue
 		}
 		t.items[name] = item
@@ -45,7 +45,7 @@ func newTypes(r *refusals, file *dmn.File, changes *changes) *types {
 	return t
 }
 
-// refuseCycles refuses definitions that are made of themselves, also where nothing uses them. Each is visited once.
+// refuseCycles refuses definitions that contain themselves, even unused ones. Each is visited once.
 func (t *types) refuseCycles(item *dmn.ItemDefinition, state map[*dmn.ItemDefinition]int) {
 	switch state[item] {
 	case visited:
@@ -64,7 +64,7 @@ func (t *types) refuseCycles(item *dmn.ItemDefinition, state map[*dmn.ItemDefini
 	state[item] = visited
 }
 
-// builtinTypes are FEEL's own types, and those that older tools write, in lower case.
+// builtinTypes are FEEL's own types, and those of older tools, in lower case.
 var builtinTypes = map[string]*valueType{
 	"any": anyType, "number": numberType, "integer": numberType, "long": numberType, "double": numberType,
 	"string": textType, "boolean": booleanType, "list": listOf(anyType), "null": nullType,
@@ -73,16 +73,15 @@ var builtinTypes = map[string]*valueType{
 	"time": timeType, "date and time": dateTimeType, "datetime": dateTimeType,
 }
 
-// mostParts is how many parts a type may have: a value of more could not be.
+// mostParts is how many parts a type may have: a value of more couldn't exist.
 const mostParts = 10_000
 
-// foreignTypes are the types that the model has no values of, with what to write instead.
+// foreignTypes are the types without values in the model, with what to write instead.
 var foreignTypes = map[string]string{
 	"function": "business knowledge models are invoked by their names", "context": "a type with its components",
 }
 
-// resolve gives the type of a name that stands at an element; nil where none is declared. A name that is no type is
-// refused.
+// resolve returns the type named at an element; nil if none is declared. It refuses unknown names.
 func (t *types) resolve(e *dmn.Element, ref string) *valueType {
 	if ref == "" {
 		return nil
@@ -107,13 +106,13 @@ func (t *types) resolve(e *dmn.Element, ref string) *valueType {
 	return refusedType
 }
 
-// isFunction tells whether a name is that of a type of functions.
+// isFunction reports whether a name is that of a function type.
 func (t *types) isFunction(ref string) bool {
 	item, found := t.items[feel.Canonical(ref)]
 	return found && item.Function || strings.HasPrefix(strings.ToLower(ref[strings.LastIndexByte(ref, ':')+1:]), "function")
 }
 
-// ofItem is the type of a definition; refusedType where it is made of itself.
+// ofItem returns the type of a definition; refusedType if it contains itself.
 func (t *types) ofItem(item *dmn.ItemDefinition) *valueType {
 	if done, found := t.resolved[item]; found {
 		return done
@@ -139,7 +138,7 @@ func (t *types) ofItem(item *dmn.ItemDefinition) *valueType {
 	return made
 }
 
-// plainItem is the type of a definition without its allowed values, and of one member where it is a collection.
+// plainItem returns the type of a definition without its allowed values, and of one member if it is a collection.
 func (t *types) plainItem(item *dmn.ItemDefinition) *valueType {
 	switch {
 	case item.Function:
@@ -162,7 +161,7 @@ func (t *types) plainItem(item *dmn.ItemDefinition) *valueType {
 	return anyType
 }
 
-// narrowed is a type with the allowed values of a definition.
+// narrowed returns a type with the allowed values of a definition.
 func (t *types) narrowed(item *dmn.ItemDefinition, plain *valueType) *valueType {
 	allowed := t.values(item.Allowed, plain)
 	if len(allowed.nodes()) == 0 {
@@ -173,7 +172,7 @@ func (t *types) narrowed(item *dmn.ItemDefinition, plain *valueType) *valueType 
 	return &narrow
 }
 
-// values reads a list of values; each literal has to be of the type. Where the text can't be read it is none.
+// values reads a list of values; each literal has to be of the type. It returns none if the text can't be read.
 func (t *types) values(text *dmn.Text, of *valueType) valueList {
 	if strings.TrimSpace(text.Text) == "" {
 		return valueList{}
@@ -206,7 +205,7 @@ func (t *types) values(text *dmn.Text, of *valueType) valueList {
 	return made
 }
 
-// notOfType tells why a form can't be one of the values of a type; empty where it may be.
+// notOfType says why a form can't be one of a type's values; empty if it may be.
 func notOfType(node feel.Node, of *valueType) (why, instead string) {
 	if name, is := node.(*feel.Name); is {
 		return fmt.Sprintf("%s is no value", name.Name), "a text stands in quotes"
@@ -217,7 +216,7 @@ func notOfType(node feel.Node, of *valueType) (why, instead string) {
 	return "", ""
 }
 
-// literalType is the type of a literal; nil where the form is none.
+// literalType returns the type of a literal; nil for others.
 func literalType(node feel.Node) *valueType {
 	switch n := node.(type) {
 	case *feel.Number:

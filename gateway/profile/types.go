@@ -11,70 +11,73 @@ const (
 	listKind
 	contextKind
 	dateKind
-	// dayDurationKind is of days and time durations, monthDurationKind of years and months durations.
+	// dayDurationKind is for days and time durations, monthDurationKind for years and months durations.
 	dayDurationKind
 	monthDurationKind
-	// timeKind and dateTimeKind are without an offset, the others with one.
+	// timeKind and dateTimeKind have no offset, the others do.
 	timeKind
 	dateTimeKind
 	offsetTimeKind
 	offsetDateTimeKind
-	// refusedKind is of what was refused: it fits everywhere, so that nothing is told of it twice.
+	// refusedKind is for what was refused: it fits everywhere, so that nothing is reported twice.
 	refusedKind
 )
 
-// A valueType is what is known of the values of an expression. Null conforms to every type.
+// A valueType is what is known about the values of an expression. Null conforms to every type.
 type valueType struct {
 	kind kindOfType
-	// narrow is whether the type or a part of it has allowed values.
+	// narrow says whether the type or a part of it has allowed values.
 	narrow narrowness
-	// open tells that it is of an input without a declared type, or of an entry of such: what it is given to may tell its type.
+	// open is true for the type of an undeclared input, or an entry of one: its use may determine its type.
 	open bool
-	// unasked tells that it is of a parameter without a declared type of business knowledge that nothing invokes.
+	// unasked is true for the type of an undeclared parameter of business knowledge that nothing invokes.
 	unasked bool
-	// told tells that it is of what was refused: what it meets is told no more.
-	told bool
-	// notedTwice tells that columns have different input values for it: then none is for who calls.
+	// reported is true for what was refused: what it meets isn't reported again.
+	reported bool
+	// notedTwice is true if columns have different input values for it: the caller then gets none.
 	notedTwice bool
 	// element is the type of a list's members; never nil for a list.
 	element *valueType
-	// deepest is a type within lists of lists, of which it may be asked often; nil where it isn't kept.
+	// deepest is the innermost type of lists of lists, which may be asked for often; nil if not kept.
 	deepest *valueType
-	// listed is the type of calculated lists of it; nil, or that of a type of which this one is a copy, where none was made.
+	// listed is the type of calculated lists of it, or of the type that it is a copy of; nil if none was made.
 	listed *valueType
-	// isShared tells that all runs share the type, which are to write nothing into it.
+	// isShared is true if all runs share the type, which they must not change.
 	isShared bool
 	// fields are the types of a context's entries by their canonical names, order their order.
 	fields map[string]*valueType
 	order  []string
 	// parts counts the type itself and all parts of its parts.
 	parts int
-	// allowed are the values that the type is narrowed to; none where it isn't. Implying keeps of which types all values are allowed.
+	// allowed are the values that the type is narrowed to, if any. Implying keeps the types all of whose values are
+	// allowed.
 	allowed  valueList
 	implying map[*valueType]implied
 
-	// common are values that all those of a type are among which was joined of two.
+	// common includes all values of a type joined from two.
 	common valueList
 
-	// noted are the input values of a column that is an input of the model by itself: they are for who calls.
+	// noted are the input values of a column that is an input of the model, for the caller.
 	noted valueList
 
-	// units are how numbers of the type are counted; of Any, all numbers within it. Those of a list or a context are its parts'.
+	// units are those of numbers of the type; for Any, of all numbers within it. A list or a context has those of its
+	// parts.
 	units units
-	// more are entries that values have beside those of a declared type: they can't be named, but they are counted too.
+	// more are entries that values have besides those of a declared type: they can't be named, but they are counted
+	// too.
 	more map[string]*valueType
 
-	// sort says of an input whether its times have an offset; nil of others.
+	// sort says of an input whether its times have an offset; nil for others.
 	sort *timeSort
-	// clock is the zone of the clock that fills an input; empty of others.
+	// clock is the zone of the clock that fills an input; empty for others.
 	clock string
 
-	// parent and field tell of which entry of an input without a declared type it is.
+	// parent and field give the entry of an undeclared input that it is the type of.
 	parent  *valueType
 	changes *changes
 	// known are the facts of a context that were found.
 	known *knownFacts
-	// fitting keeps how other contexts stand to this one, which may have many entries.
+	// fitting keeps how other contexts fit this one, which may have many entries.
 	fitting map[*valueType]fitted
 	field   string
 }
@@ -96,7 +99,7 @@ func listOf(element *valueType) *valueType {
 	return made
 }
 
-// innermost is what is no list in a list, in lists of lists too; of others, the type itself.
+// innermost returns the type of the members that aren't lists, in lists of lists too; for other types, the type itself.
 func (t *valueType) innermost() *valueType {
 	for t.kind == listKind {
 		if t.deepest != nil {
@@ -108,7 +111,7 @@ func (t *valueType) innermost() *valueType {
 	return t
 }
 
-// String is the type in the words of DMN.
+// String returns the type in the words of DMN.
 func (t *valueType) String() string {
 	switch t.kind {
 	case nullKind:
@@ -134,10 +137,10 @@ func (t *valueType) isScalar() bool {
 	return t.kind == numberKind || t.kind == textKind || t.kind == booleanKind || t.isTemporal()
 }
 
-// mayBe tells whether a value of the type may be of a kind, null apart.
+// mayBe reports whether a value of the type may be of a kind. Null is disregarded.
 func (t *valueType) mayBe(kind kindOfType) bool { return t.kind == anyKind || t.kind == kind }
 
-// A fit is how a type stands to a declared one.
+// A fit is how a type fits a declared one.
 type fit uint8
 
 const (
@@ -146,11 +149,11 @@ const (
 	mayFit
 	// never: no value but null conforms.
 	never
-	// single: a list, where a member is due.
+	// single: a list, where a member is expected.
 	single
 )
 
-// fitOf tells how values of a type stand to a declared type. What is open takes on the declared type.
+// fitOf returns how values of a type fit a declared type. An open type becomes the declared one.
 func (t *valueType) fitOf(due *valueType) fit {
 	if t.open && t.kind == anyKind && due.kind != anyKind && due.kind != refusedKind {
 		t.becomes(due)
@@ -172,13 +175,13 @@ func (t *valueType) fitOf(due *valueType) fit {
 	return fits
 }
 
-// A fitted is how a context stood to a declared one, when there were so many changes that may concern an open one.
+// A fitted is how a context fitted a declared one, and the number of changes then, as a change may concern an open one.
 type fitted struct {
 	fit     fit
 	changes int
 }
 
-// contextFit tells how a context stands to a declared one; of each two it is found out once while nothing changes.
+// contextFit returns how a context fits a declared one, and keeps the result while nothing changes.
 func (t *valueType) contextFit(due *valueType) fit {
 	if known, is := due.fitting[t]; is && (!t.open || known.changes == t.changes.now()) {
 		return known.fit
@@ -249,7 +252,7 @@ func (t *valueType) setField(name string, field *valueType) {
 	t.fields[name], t.narrow, t.implying, t.known = field, unknown, nil, nil
 }
 
-// joined is a type that the values of both types have.
+// joined returns a type that the values of both types have.
 func joined(a, b *valueType) *valueType {
 	switch {
 	case a == b, b.kind == nullKind, a.kind == refusedKind:
@@ -271,7 +274,7 @@ func joined(a, b *valueType) *valueType {
 	return &made
 }
 
-// joinedLists is one of the types where they are of calculated lists and have the same members.
+// joinedLists returns one of the types if both are of calculated lists with the same members.
 func joinedLists(a, b *valueType) *valueType {
 	element := joined(a.element, b.element)
 	if element == a.element && a.isCalculatedList() {
@@ -280,19 +283,19 @@ func joinedLists(a, b *valueType) *valueType {
 	return listOf(element)
 }
 
-// isCalculatedList tells whether a type is that of calculated lists, of which no more is known than what their members are.
+// isCalculatedList reports whether a type is that of calculated lists, of which only the member type is known.
 func (t *valueType) isCalculatedList() bool {
 	isNarrow := len(t.allowed.nodes()) > 0 || t.noted.at() != nil || t.notedTwice
-	return t.kind == listKind && t.parts == 0 && t.units == (units{}) && !isNarrow && !t.told && !t.open && t.sort == nil
+	return t.kind == listKind && t.parts == 0 && t.units == (units{}) && !isNarrow && !t.reported && !t.open && t.sort == nil
 }
 
-// isCalculated tells whether a type is that of calculated numbers of some units, of which no more is known.
+// isCalculated reports whether a type is that of calculated numbers, of which only the units are known.
 func (t *valueType) isCalculated(u units) bool {
 	isNarrow := len(t.values().nodes()) > 0 || t.noted.at() != nil || t.notedTwice
-	return t.kind == numberKind && t.units == u && u.cell == nil && !isNarrow && !t.told && !t.open
+	return t.kind == numberKind && t.units == u && u.cell == nil && !isNarrow && !t.reported && !t.open
 }
 
-// mostJoined is how many entries two contexts may have that are joined entry by entry; of greater ones nothing is known.
+// mostJoined is how many entries two contexts may have to be joined entry by entry. Nothing is known about larger ones.
 const mostJoined = 100
 
 func joinedContexts(a, b *valueType) *valueType {
@@ -310,8 +313,8 @@ func joinedContexts(a, b *valueType) *valueType {
 	return both
 }
 
-// member is the type of the entry of a name: of a list, the list of its members' entries. It is nil where there can't
-// be such an entry.
+// member returns the type of the entry of a name; for a list, the list of its members' entries. It is nil if there
+// can't be such an entry.
 func (t *valueType) member(name string) *valueType {
 	switch t.kind {
 	case anyKind:

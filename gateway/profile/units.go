@@ -7,16 +7,16 @@ import (
 	"gateway/decimal"
 )
 
-// units say how a number is counted: as a whole number of 10^-scale, or of one part of per of that. A value without units
-// stands for itself.
+// units say how a number is counted: as a whole number of 10^-scale, or of one part of per of that. A value without
+// units is counted in ones.
 type units struct {
-	// scale is 0 or more; of a quotient by a variable it may be below 0.
+	// scale is 0 or more; for a quotient by a variable it may be negative.
 	scale int
-	// per is over 1 of a quotient by a constant, else 0.
+	// per is over 1 for a quotient by a constant, else 0.
 	per int64
-	// cell is of a number of an input: its scale may be made finer.
+	// cell is for a number of an input: its scale may be made finer.
 	cell *cell
-	// meets is the class of all numbers that it meets; nil where it met none.
+	// meets is the class of all numbers that it meets; nil if it met none.
 	meets *meeting
 }
 
@@ -24,12 +24,12 @@ type units struct {
 type cell struct {
 	// name is as --decimals spells it.
 	name string
-	// fixed tells that the file or the caller says the scale.
+	// fixed is true if the file or the caller gives the scale.
 	fixed bool
 	scale int
-	// wanted is a finer scale that values need which it meets, and which can't be counted otherwise.
+	// wanted is a finer scale needed by values that it meets, and that can't be counted otherwise.
 	wanted int
-	// types are those of the input that have the scale.
+	// types are those of the input with the scale.
 	types []*valueType
 	meets *meeting
 }
@@ -53,7 +53,7 @@ func (m *meeting) root() *meeting {
 	return m
 }
 
-// met is the class of two numbers that meet.
+// met returns the class of two numbers that meet.
 func met(a, b units) *meeting {
 	first, second := a.meets.root(), b.meets.root()
 	if first == nil {
@@ -81,7 +81,7 @@ func (u units) fractional() units {
 	return u
 }
 
-// uncelled are the units of what was calculated: they are no input's.
+// uncelled returns the units of a calculated value, which belongs to no input.
 func uncelled(u units) units {
 	u.cell = nil
 	return u
@@ -89,10 +89,10 @@ func uncelled(u units) units {
 
 func (u units) isFractional() bool { return u.scale > 0 || u.per > 1 }
 
-// isPlain tells whether the numbers stand for themselves.
+// isPlain reports whether numbers are counted in ones.
 func (u units) isPlain() bool { return u.scale == 0 && u.per <= 1 }
 
-// isAs tells whether numbers are counted alike.
+// isAs reports whether numbers are counted alike.
 func (u units) isAs(other units) bool { return u.scale == other.scale && u.parts() == other.parts() }
 
 func (u units) parts() int64 {
@@ -102,7 +102,7 @@ func (u units) parts() int64 {
 	return 1
 }
 
-// joinedUnits are those in which both numbers can be counted.
+// joinedUnits returns units in which both numbers can be counted.
 func joinedUnits(a, b units) units {
 	both := units{scale: maximum(a.scale, b.scale), meets: met(a, b)}
 	if a.per > 1 || b.per > 1 {
@@ -114,10 +114,10 @@ func joinedUnits(a, b units) units {
 	return both
 }
 
-// tooManyParts stands for a divisor that is past the range.
+// tooManyParts marks a divisor past the range.
 const tooManyParts = -1
 
-// joinedParts are the units of the fewest parts of 1 of which both numbers have a whole number.
+// joinedParts returns the units with the fewest parts of 1 of which both numbers are multiples.
 func joinedParts(a, b units) (scale int, per int64) {
 	if a.per == tooManyParts || b.per == tooManyParts {
 		return maximum(a.scale, b.scale), tooManyParts
@@ -134,10 +134,10 @@ func joinedParts(a, b units) (scale int, per int64) {
 	return both.scale, both.per
 }
 
-// mostFewParts is a number of parts of which two may be multiplied.
+// mostFewParts is the number of parts up to which two of them may be multiplied.
 const mostFewParts = 1 << 31
 
-// fewParts is how many parts of 1 the numbers count; 0 where these are many.
+// fewParts returns how many parts of 1 the numbers count; 0 if too many.
 func (u units) fewParts() int64 {
 	parts := u.parts()
 	if u.scale < 0 || parts >= mostFewParts {
@@ -158,7 +158,7 @@ func commonDivisor(a, b int64) int64 {
 	return a
 }
 
-// unitsOfFewParts is unitsOfParts of a number of parts that is one of the engine's.
+// unitsOfFewParts is unitsOfParts for a number of parts in the engine's range.
 func unitsOfFewParts(parts int64) (scale int, per int64) {
 	rest, twos, fives := parts, 0, 0
 	for ; rest%2 == 0; rest /= 2 {
@@ -176,15 +176,14 @@ func unitsOfFewParts(parts int64) (scale int, per int64) {
 	return scale, parts
 }
 
-// mostTwos and mostFives are how many more twos, or fives, than the other ones a number of parts may have whose parts are counted as
-// decimals: by them a number is multiplied by fives, or twos.
+// mostTwos and mostFives limit how many more twos than fives, or fives than twos, a number of parts may have to be
+// counted as decimals: the number is then multiplied by as many fives, or twos.
 const mostTwos, mostFives = 27, 62
 
-// areDecimals tells whether parts of twos and fives are counted as decimals.
+// areDecimals reports whether parts with these factors are counted as decimals.
 func areDecimals(twos, fives int) bool { return twos-fives <= mostTwos && fives-twos <= mostFives }
 
-// factorBetween is by what a number of some units is multiplied to be counted in others that aren't coarser; nil where that is no
-// whole number.
+// factorBetween returns the factor from units to others that aren't coarser; nil if it isn't a whole number.
 func factorBetween(from, to units) *big.Int {
 	finer := units{scale: to.scale - from.scale, per: to.per}
 	if few := finer.fewParts(); few > 0 {
@@ -200,14 +199,15 @@ func factorBetween(from, to units) *big.Int {
 	return factor
 }
 
-// partsOfOne is how many parts of 1 the numbers count.
+// partsOfOne returns how many parts of 1 the numbers count.
 func (u units) partsOfOne() *big.Int {
 	parts := decimal.Power(u.scale)
 	return parts.Mul(parts, big.NewInt(u.parts()))
 }
 
-// unitsOfParts are the units of numbers that count so many parts of 1, which may have to be made finer by a factor: to decimals where
-// the number of parts has twos and fives alone, and not too many of one, and where it is past the range.
+// unitsOfParts returns the units of numbers that count parts of 1, and a factor by which the parts have to be made
+// finer. They become decimals if the number of parts has only twos and fives, and not too many of one, and if it is
+// past the range.
 func unitsOfParts(parts *big.Int) (u units, finer *big.Int) {
 	rest := new(big.Int).Set(parts)
 	twos, fives := removed(rest, 2), removed(rest, 5)
@@ -231,7 +231,7 @@ func unitsOfParts(parts *big.Int) (u units, finer *big.Int) {
 	return u, finer
 }
 
-// numberOf is the type of numbers of some units.
+// numberOf returns the type of numbers in units.
 func numberOf(u units) *valueType {
 	if u == (units{}) {
 		return numberType
@@ -239,7 +239,7 @@ func numberOf(u units) *valueType {
 	return &valueType{kind: numberKind, units: u}
 }
 
-// anyOfUnits is the type Any for values of both types.
+// anyOfUnits returns the type Any for values of both types.
 func anyOfUnits(a, b *valueType) *valueType {
 	both := joinedUnits(a.within(), b.within())
 	if both == (units{}) {
@@ -248,7 +248,7 @@ func anyOfUnits(a, b *valueType) *valueType {
 	return &valueType{kind: anyKind, units: both}
 }
 
-// within are the units of all numbers in values of a type, where these are one; else the finest.
+// within returns the units of all numbers in values of a type, if these are the same; else the finest.
 func (t *valueType) within() units {
 	if t = t.innermost(); t.kind == contextKind {
 		var all units
@@ -267,15 +267,15 @@ func (t *valueType) within() units {
 	return t.units
 }
 
-// isCounted tells whether some number in values of a type is counted in units.
+// isCounted reports whether some numbers in values of a type are counted in units.
 func (t *valueType) isCounted() bool {
 	return t.some(func(part *valueType) bool { return !part.units.isPlain() })
 }
 
-// hasQuotient tells whether some number in values of a type is a quotient.
+// hasQuotient reports whether some numbers in values of a type are quotients.
 func (t *valueType) hasQuotient() bool { return t.facts().quotients }
 
-// countedAs gives a declared type the units of the values that it is declared for.
+// countedAs returns a declared type the units of its values.
 func (t *translator) countedAs(due, of *valueType) *valueType {
 	if !of.hasUnits() && !of.hasTemporal() {
 		return due
@@ -326,8 +326,8 @@ func (t *translator) countedContext(due, of *valueType) *valueType {
 	return &own
 }
 
-// countedAlike tells why values of a type aren't counted as those of another one; empty where they are, or where the inputs
-// that they come from can be counted so, which is noted.
+// countedAlike says why values of a type aren't counted as those of another one. It is empty if they are, or if the
+// inputs that they come from can be counted so, which it notes.
 func countedAlike(of, to *valueType) string {
 	switch {
 	case of == to || !of.hasNumbers() || to.kind == nullKind || to.kind == refusedKind:

@@ -8,20 +8,20 @@ import (
 	"gateway/feel"
 )
 
-// A valueList is a list of allowed values, of input values or of output values. Without any it allows all.
+// A valueList is a list of allowed values, of input values or of output values. An empty one allows all.
 type valueList struct{ *listedValues }
 
-// listedValues are those of a list with some.
+// listedValues are the values of a list that isn't empty.
 type listedValues struct {
 	all []feel.Node
 	// literals has the literals as the engine reads them; others are the ranges and tests.
 	literals map[string]bool
 	others   []feel.Node
-	// text is where they stand.
+	// text is the list's text.
 	text *dmn.Text
 }
 
-// nodes are all of them.
+// nodes returns all values.
 func (v valueList) nodes() []feel.Node {
 	if v.listedValues == nil {
 		return nil
@@ -29,7 +29,7 @@ func (v valueList) nodes() []feel.Node {
 	return v.all
 }
 
-// words are the literals as the engine reads them.
+// words returns the literals as the engine reads them.
 func (v valueList) words() map[string]bool {
 	if v.listedValues == nil {
 		return nil
@@ -37,7 +37,7 @@ func (v valueList) words() map[string]bool {
 	return v.literals
 }
 
-// tests are the ranges and tests.
+// tests returns the ranges and tests.
 func (v valueList) tests() []feel.Node {
 	if v.listedValues == nil {
 		return nil
@@ -45,7 +45,7 @@ func (v valueList) tests() []feel.Node {
 	return v.others
 }
 
-// at is where they stand; nil where there are none.
+// at returns the list's text; nil if the list is empty.
 func (v valueList) at() *dmn.Text {
 	if v.listedValues == nil {
 		return nil
@@ -53,7 +53,7 @@ func (v valueList) at() *dmn.Text {
 	return v.text
 }
 
-// mostOthers is how many ranges and tests a list may have: each literal is held against each of them.
+// mostOthers is how many ranges and tests a list may have: each literal is checked against each of them.
 const mostOthers = 100
 
 func listOfValues(nodes []feel.Node) valueList {
@@ -68,7 +68,7 @@ func listOfValues(nodes []feel.Node) valueList {
 	return made
 }
 
-// allows tells whether a form may be one of the values: only a literal can be told not to be. Null is, always.
+// allows reports whether a form may be one of the values. Only a literal can be ruled out. Null never is.
 func (v *valueList) allows(n feel.Node) bool {
 	literal := literalType(n)
 	if literal == nil || literal.kind == nullKind || len(v.nodes()) == 0 || v.words()[literalText(n)] {
@@ -83,7 +83,7 @@ func (v *valueList) allows(n feel.Node) bool {
 	return false
 }
 
-// mayLieIn tells whether a number lies in a range of numbers; it is true where one of them is none.
+// mayLieIn reports whether a number may lie in a range. It is true if either isn't of numbers.
 func mayLieIn(literal feel.Node, interval *feel.Range) bool {
 	x, low, high := rational(literal), rational(interval.Low), rational(interval.High)
 	if x == nil || low == nil || high == nil {
@@ -93,7 +93,7 @@ func mayLieIn(literal feel.Node, interval *feel.Range) bool {
 	return (from > 0 || from == 0 && !interval.LowOpen) && (to < 0 || to == 0 && !interval.HighOpen)
 }
 
-// rational is the number of a literal; nil where it is none.
+// rational returns the number of a literal; nil for others.
 func rational(n feel.Node) *big.Rat {
 	if negation, is := n.(*feel.Negation); is {
 		if inside := rational(negation.Operand); inside != nil {
@@ -112,13 +112,14 @@ func rational(n feel.Node) *big.Rat {
 	return value
 }
 
-// shortest is a number that ends as a decimal in its shortest form.
+// shortest returns a terminating number in its shortest form.
 func shortest(value *big.Rat) string {
 	text := value.FloatString(2 * mostScale)
 	return strings.TrimSuffix(strings.TrimRight(text, "0"), ".")
 }
 
-// literalText is a literal in its shortest form; empty where it is none, or a number past the range or of too many decimals.
+// literalText returns a literal in its shortest form; empty for other forms, and for a number past the range or with
+// too many decimals.
 func literalText(n feel.Node) string {
 	switch n := n.(type) {
 	case *feel.String:
@@ -145,7 +146,7 @@ func literalText(n feel.Node) string {
 	return ""
 }
 
-// isShortest tells whether a numeric literal is in its shortest form, and surely in the range.
+// isShortest reports whether a numeric literal is in its shortest form, and surely in the range.
 func isShortest(text string) bool {
 	point := strings.IndexByte(text, '.')
 	isLong, hasEmptyEnd := len(text) >= len(largestNumber), point == 0 || text[len(text)-1] == '0' && point > 0

@@ -10,21 +10,21 @@ import (
 // mostWord is how many bytes a word of the model may have.
 const mostWord = 64
 
-// reserved are the words that are no names of the model.
+// reserved are the words that the model can't use as names.
 var reserved = map[string]bool{
 	"if": true, "then": true, "else": true, "and": true, "or": true, "not": true, "between": true, "null": true,
 	"true": true, "false": true,
 }
 
-// words is the one table of names and words.
+// words is the table of names and words.
 type words struct {
 	// byName has the word of each canonical name, names the name as the file spells it.
 	byName map[string]string
 	names  map[string]string
-	// locals has the name, as the file spells it, of each word that stands within one decision alone.
+	// locals has the name, as the file spells it, of each word that occurs within one decision.
 	locals map[string]string
 	taken  map[string]bool
-	// next has the number to try next behind a word that was taken.
+	// next has the number to try next after a word that was taken.
 	next map[string]int
 }
 
@@ -33,7 +33,7 @@ func newWords() *words {
 		taken: map[string]bool{}, next: map[string]int{}}
 }
 
-// of is the word of a name; a name that is new gets one.
+// of returns the word of a name, and gives one to a new name.
 func (w *words) of(name string) string {
 	canonical := feel.Canonical(name)
 	if word, found := w.byName[canonical]; found {
@@ -45,10 +45,10 @@ func (w *words) of(name string) string {
 	return word
 }
 
-// spelled is a name as the file spells it, without blanks around it and with one within it at most.
+// spelled returns a name as the file spells it, with blanks trimmed and collapsed.
 func spelled(name string) string { return strings.Join(strings.Fields(name), " ") }
 
-// declare gives words to names, those that are words already first, so that they keep their own.
+// declare gives words to names, first to those that are words already, so that they keep their own.
 func (w *words) declare(names []string) {
 	for _, name := range names {
 		if name == asWord(name) {
@@ -60,17 +60,17 @@ func (w *words) declare(names []string) {
 	}
 }
 
-// fresh is a word that no name has.
+// fresh returns a word that no name has.
 func (w *words) fresh(base string) string { return w.free(asWord(base) + "_1") }
 
-// local is a fresh word for a name of the file that stands within one decision, as a parameter's.
+// local returns a fresh word for a name of the file within one decision, such as a parameter's.
 func (w *words) local(name string) string {
 	word := w.fresh(name)
 	w.locals[word] = spelled(name)
 	return word
 }
 
-// free takes the word, or the first of its successors that is not taken.
+// free returns the word, or the first successor that isn't taken.
 func (w *words) free(word string) string {
 	base := strings.TrimSuffix(word, "_1")
 	candidate := word
@@ -81,7 +81,7 @@ func (w *words) free(word string) string {
 			stem = stem[:mostWord-len(suffix)]
 		}
 		if tried := w.next[stem]; tried > n {
-			// Longer words that are cut to the same stem took what lies between.
+			// Longer words with the same truncated stem took the ones in between.
 			n = tried - 1
 			continue
 		}
@@ -92,7 +92,7 @@ func (w *words) free(word string) string {
 	return candidate
 }
 
-// forgetFresh gives the fresh words free, so that a second pass takes the same ones.
+// forgetFresh frees the fresh words, so that a second pass takes the same ones.
 func (w *words) forgetFresh() {
 	w.next, w.locals = map[string]int{}, map[string]string{}
 	w.taken = make(map[string]bool, len(w.names))
@@ -101,7 +101,7 @@ func (w *words) forgetFresh() {
 	}
 }
 
-// latin spells letters beyond ASCII by those of ASCII.
+// latin spells letters beyond ASCII in ASCII.
 var latin = strings.NewReplacer(
 	"ä", "ae", "ö", "oe", "ü", "ue", "Ä", "Ae", "Ö", "Oe", "Ü", "Ue", "ß", "ss",
 	"æ", "ae", "Æ", "Ae", "ø", "o", "Ø", "O", "å", "a", "Å", "A", "œ", "oe", "Œ", "Oe",
@@ -111,7 +111,7 @@ var latin = strings.NewReplacer(
 	"ó", "o", "ò", "o", "ô", "o", "õ", "o", "ú", "u", "ù", "u", "û", "u", "ý", "y",
 	"č", "c", "š", "s", "ž", "z", "Č", "C", "Š", "S", "Ž", "Z", "ł", "l", "Ł", "L", "ő", "o", "ű", "u", "€", "euro")
 
-// asWord spells a name by the letters, digits and underscores of a word.
+// asWord spells a name with the letters, digits and underscores of a word.
 func asWord(name string) string {
 	var word strings.Builder
 	for _, r := range latin.Replace(spelled(name)) {

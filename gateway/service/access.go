@@ -10,25 +10,25 @@ import (
 	"gateway/lines"
 )
 
-// A told is one line of the log as JSON: of a call, or of what someone did.
-type told struct {
+// A logLine is one line of the log as JSON: about a call, or about what someone did.
+type logLine struct {
 	text []byte
 }
 
-// tell begins a line; nil where the log has text.
-func (s *Service) tell(level, event string) *told {
+// line begins a line; nil if the log is text.
+func (s *Service) line(level, event string) *logLine {
 	if s.options.Access == nil {
 		return nil
 	}
 	text := time.Now().UTC().AppendFormat([]byte(`{"time":"`), "2006-01-02T15:04:05.000000Z")
-	t := &told{append(text, '"')}
+	t := &logLine{append(text, '"')}
 	t.word("level", level)
 	t.word("event", event)
 	return t
 }
 
 // word adds a text, unless it is empty.
-func (t *told) word(key, text string) {
+func (t *logLine) word(key, text string) {
 	if text == "" {
 		return
 	}
@@ -36,18 +36,18 @@ func (t *told) word(key, text string) {
 	t.text = lines.AppendQuoted(t.text, text)
 }
 
-func (t *told) number(key string, n int64) {
+func (t *logLine) number(key string, n int64) {
 	t.key(key)
 	t.text = strconv.AppendInt(t.text, n, 10)
 }
 
-func (t *told) key(key string) {
+func (t *logLine) key(key string) {
 	t.text = append(append(append(t.text, `,"`...), key...), `":`...)
 }
 
-func (s *Service) write(t *told) { s.options.Access(append(t.text, "}\n"...)) }
+func (s *Service) write(t *logLine) { s.options.Access(append(t.text, "}\n"...)) }
 
-// A trace is what a call's header traceparent says (W3C Trace Context): the one that was taken, and the one that is given.
+// A trace is the traceparent of a call (W3C Trace Context): the one received, and the one sent back.
 type trace struct{ taken, given string }
 
 // Places in a traceparent: 00-TRACE-SPAN-FLAGS.
@@ -58,7 +58,8 @@ const (
 	traceFlagsAt = 53
 )
 
-// traceOf reads the header, and gives the answer one with the same trace. Without one a trace begins, where the log has JSON.
+// traceOf reads the header, and gives the answer one of the same trace. Without one it begins a trace if the log is
+// JSON.
 func (s *Service) traceOf(w http.ResponseWriter, r *http.Request) (it trace) {
 	if values := r.Header["Traceparent"]; len(values) == 1 && isTrace(values[0]) {
 		it.taken = values[0]
@@ -77,7 +78,7 @@ func (s *Service) traceOf(w http.ResponseWriter, r *http.Request) (it trace) {
 	return it
 }
 
-// isTrace says whether a text is a traceparent of version 00 with a trace and a span.
+// isTrace reports whether a text is a traceparent of version 00 with a trace and a span.
 func isTrace(text string) bool {
 	if len(text) != traceLength || text[:traceAt] != "00-" || text[spanAt-1] != '-' || text[traceFlagsAt-1] != '-' {
 		return false
@@ -108,7 +109,7 @@ func isZero(text string) bool {
 	return true
 }
 
-// A visit is what the log says of a call beside its status.
+// A visit is what the log says about a call besides its status.
 type visit struct {
 	service, record string
 	who             caller
@@ -117,7 +118,7 @@ type visit struct {
 	queue, engine   time.Duration
 }
 
-// see notes what a call was.
+// see notes what kind of call it was.
 func (v *visit) see(c *call) {
 	v.service, v.requests = c.decision.name, len(c.outcomes)
 	for _, job := range c.jobs {
@@ -136,7 +137,7 @@ func (s *Service) visited(v *visit, id string, status int, took time.Duration) {
 	if status >= http.StatusInternalServerError {
 		level = "error"
 	}
-	t := s.tell(level, "call")
+	t := s.line(level, "call")
 	if t == nil {
 		return
 	}
@@ -157,9 +158,9 @@ func (s *Service) visited(v *visit, id string, status int, took time.Duration) {
 	s.write(t)
 }
 
-// refusedToken writes that a caller had no token of the file.
+// refusedToken logs that a caller had no token of the file.
 func (s *Service) refusedToken(r *http.Request) {
-	if t := s.tell("warn", "token"); t != nil {
+	if t := s.line("warn", "token"); t != nil {
 		t.word("from", r.RemoteAddr)
 		t.word("method", r.Method)
 		t.word("path", r.URL.Path)
@@ -168,9 +169,9 @@ func (s *Service) refusedToken(r *http.Request) {
 	}
 }
 
-// toldPut says that someone put a model; p is why it was refused, or nil.
-func (s *Service) toldPut(id string, who caller, page *putPage, p *problem) {
-	t := s.tell("info", "put")
+// logPut logs that someone put a model; p is why it was refused, or nil.
+func (s *Service) logPut(id string, who caller, page *putPage, p *problem) {
+	t := s.line("info", "put")
 	if t == nil {
 		return
 	}
@@ -190,9 +191,9 @@ func (s *Service) toldPut(id string, who caller, page *putPage, p *problem) {
 	s.write(t)
 }
 
-// toldRelease says that a release of the folder is in force.
-func (s *Service) toldRelease(who string, before, model *served) {
-	if t := s.tell("info", "release"); t != nil {
+// logRelease logs that a release of the folder is in force.
+func (s *Service) logRelease(who string, before, model *served) {
+	if t := s.line("info", "release"); t != nil {
 		t.word("caller", who)
 		t.word("name", model.source.namedBy().Name)
 		t.word("version", model.source.namedBy().Version)

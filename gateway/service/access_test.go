@@ -54,7 +54,7 @@ func TestAccessLog(t *testing.T) {
 	if len(written) != len(due) {
 		t.Fatalf("%d lines: %s", len(written), written)
 	}
-	// A line is written after its answer, so two callers' lines come in any order.
+	// A line is written after its answer, so lines of two callers come in any order.
 	all := strings.Join(written, "")
 	for _, part := range due {
 		if strings.Count(all, part) != 1 {

@@ -17,7 +17,7 @@ import (
 	"gateway/engine"
 )
 
-// A caller that closes its side of the connection behind its request has an answer or a problem, and nothing else.
+// A caller that closes its side of the connection after its request gets an answer or a problem, and nothing else.
 func TestHalfClosed(t *testing.T) {
 	r := serve(t, slow(2_000), Options{Processes: 1})
 	defer r.stop(t)
@@ -48,7 +48,8 @@ func TestHalfClosed(t *testing.T) {
 	}
 }
 
-// handing is a model of the service s: it makes a value of about 10 MB, hands it on by so many decisions, and counts it.
+// handing returns a model of the service s: it makes a value of about 10 MB, passes it through that many decisions, and
+// counts it.
 func handing(times int) string {
 	texts := strings.TrimSuffix(strings.Repeat("t,", 9998), ",")
 	decisions := `{"name":"d0","needs":["t"],"expr":"[` + texts + `]"}`
@@ -62,7 +63,7 @@ func handing(times int) string {
 		`],"inputDecisions":[],"inputData":["t"]}]}`
 }
 
-// Explanations that are too long are said to be: those that the engine does not tell, and those that are not kept.
+// Explanations that are too long are reported as such: those that the engine doesn't give, and those that aren't kept.
 func TestLongExplanations(t *testing.T) {
 	request := func(length int) string { return `{"t":"` + strings.Repeat("x", length) + `"}` }
 	r := serve(t, handing(6), Options{Deadline: time.Minute})
@@ -86,7 +87,7 @@ func TestLongExplanations(t *testing.T) {
 	}
 }
 
-// A result that finds no room among the bytes that are held is refused, and gives nothing back that it did not take.
+// A result without room in the byte budget is refused, and gives nothing back that it didn't take.
 func TestResultsWithoutRoom(t *testing.T) {
 	s := &Service{clients: newClients(10, 10)}
 	s.bodies.limit = 10
@@ -117,7 +118,7 @@ func TestResultsWithoutRoom(t *testing.T) {
 	}
 }
 
-// A model for which the engine has too little memory is refused, and the one before stays.
+// A model for which the engine has too little memory is refused, and the previous one stays.
 func TestModelsThatTakeTooMuch(t *testing.T) {
 	r := serve(t, adding(1), Options{Processes: 1, Memory: 64 << 20})
 	defer r.stop(t)
@@ -130,7 +131,7 @@ func TestModelsThatTakeTooMuch(t *testing.T) {
 	}
 }
 
-// A request is behind those of its client whose bodies came whole before, however long these take to be read.
+// A request comes after those of its client whose bodies arrived earlier, however long these take to read.
 func TestLongListsKeepTheirTurn(t *testing.T) {
 	r := serve(t, adding(1), Options{Processes: 1})
 	defer r.stop(t)
@@ -160,7 +161,7 @@ func TestLongListsKeepTheirTurn(t *testing.T) {
 	}
 }
 
-// metric is what /metrics says of one.
+// metric returns a value from /metrics.
 func (r *running) metric(t *testing.T, name string) float64 {
 	t.Helper()
 	_, text, _ := send(t, "GET", r.url+"/metrics", "")
@@ -177,7 +178,7 @@ func (r *running) metric(t *testing.T, name string) float64 {
 	return 0
 }
 
-// hasCome says whether something of an answer is here, and waits for nothing.
+// hasCome reports whether part of an answer has arrived, without waiting.
 func hasCome(t *testing.T, connection net.Conn) bool {
 	t.Helper()
 	raw, err := connection.(*net.TCPConn).SyscallConn()
@@ -191,7 +192,7 @@ func hasCome(t *testing.T, connection net.Conn) bool {
 	return err == nil && count > 0
 }
 
-// The text of the model in force is the one whose sum the headers have.
+// The model text in force has the sum in the headers.
 func TestModelText(t *testing.T) {
 	r := serve(t, adding(1), Options{Processes: 1})
 	defer r.stop(t)

@@ -8,13 +8,14 @@ import (
 	"gateway/lines"
 )
 
-// An Asked is a model that is asked without HTTP. It reads requests and writes results just as HTTP does: names, types and
-// limits are the same.
+// An Asked is a model that is asked without HTTP. It reads requests and writes results as over HTTP, with the same
+// names, types and limits.
 type Asked struct {
 	model *served
 }
 
-// Ask reads a model. Where it has a fault the error is an *engine.FaultyModel. Memory limits the engine, in bytes; 0 is none.
+// Ask reads a model. If it has a fault the error is an *engine.FaultyModel. Memory limits the engine, in bytes; 0 is no
+// limit.
 func Ask(ctx context.Context, path string, memory uint64, source *Source) (*Asked, error) {
 	s := &Service{options: Options{Engine: path, Memory: memory}}
 	model, err := s.read(ctx, source, "")
@@ -27,13 +28,13 @@ func Ask(ctx context.Context, path string, memory uint64, source *Source) (*Aske
 	return &Asked{model}, nil
 }
 
-// A Refusal says why a request is not taken.
+// A Refusal says why a request is refused.
 type Refusal struct {
 	// Kind is the word of the problem, as in the addresses of /problems/.
 	Kind string
 	// Pointer is the JSON Pointer of the value within the inputs, or empty.
 	Pointer string
-	// Line and Column are those within the text of the inputs at which reading stops, or 0.
+	// Line and Column are where reading stopped in the text of the inputs, or 0.
 	Line, Column int
 	Detail       string
 }
@@ -56,16 +57,16 @@ func refusalOf(p *problem) *Refusal {
 	return r
 }
 
-// Model is the model as engines take it.
+// Model returns the model as engines take it.
 func (a *Asked) Model() *engine.Model { return a.model.engine }
 
-// Form is what the engine says of the model: its inputs, decisions and services by their words.
+// Form returns the engine's description of the model: its inputs, decisions and services by their words.
 func (a *Asked) Form() *engine.Lawful { return a.model.lawful }
 
-// Name is the name in the file of a word.
+// Name returns the file's name for a word.
 func (a *Asked) Name(word string) string { return a.model.nameOf(word) }
 
-// Word is the word of a name in the file; another text is given back as it is.
+// Word returns the word of a name in the file, and any other text unchanged.
 func (a *Asked) Word(name string) string {
 	if word, is := a.model.words[name]; is {
 		return word
@@ -73,10 +74,10 @@ func (a *Asked) Word(name string) string {
 	return name
 }
 
-// Has says whether there is a service with this word or name.
+// Has reports whether there is a service with this word or name.
 func (a *Asked) Has(service string) bool { return a.model.services[service] != nil }
 
-// Request makes the request of a service from the text of its inputs. Its line is added to room, which is given back.
+// Request makes the request of a service from the text of its inputs. It appends the line to room, and returns that.
 func (a *Asked) Request(service string, inputs []byte, job *engine.Job, room []byte) ([]byte, *Refusal) {
 	of := a.model.services[service]
 	if of == nil {
@@ -89,7 +90,7 @@ func (a *Asked) Request(service string, inputs []byte, job *engine.Job, room []b
 	return room, nil
 }
 
-// EngineRequest makes the request of a service, by its word, from inputs as an engine takes them.
+// EngineRequest makes the request of a service, by its word, from inputs in the engine's form.
 func (a *Asked) EngineRequest(service string, inputs []byte, job *engine.Job) *Refusal {
 	of := a.model.services[service]
 	if of == nil {
@@ -100,7 +101,7 @@ func (a *Asked) EngineRequest(service string, inputs []byte, job *engine.Job) *R
 	return nil
 }
 
-// Refused is why there is no result in an outcome, or nil where there is one.
+// Refused says why an outcome has no result; nil if it has one.
 func (a *Asked) Refused(outcome engine.Outcome) *Refusal {
 	if p := problemOf(outcome); p != nil {
 		return refusalOf(p)
@@ -108,7 +109,7 @@ func (a *Asked) Refused(outcome engine.Outcome) *Refusal {
 	return nil
 }
 
-// Result is a result with the names and decimals of the file.
+// Result returns a result with the names and decimals of the file.
 func (a *Asked) Result(service string, value []byte) []byte {
 	if of := a.model.services[service]; of != nil {
 		return of.shown(value)
@@ -116,13 +117,13 @@ func (a *Asked) Result(service string, value []byte) []byte {
 	return value
 }
 
-// Explained is an explanation with the names of the file.
-func (a *Asked) Explained(told []byte) []byte { return a.model.named(told) }
+// Explained returns an explanation with the names of the file.
+func (a *Asked) Explained(explained []byte) []byte { return a.model.named(explained) }
 
-// Rules are the rules that decided as JSON, with what the file says of them.
+// Rules returns the deciding rules as JSON, with the file's notes on them.
 func (a *Asked) Rules(decided []engine.Decided) []byte { return a.model.appendRules(nil, decided) }
 
-// Inputs are the inputs of a request as an engine takes them, with the names and decimals of the file.
+// Inputs returns the inputs of a request in the engine's form, with the names and decimals of the file.
 func (a *Asked) Inputs(service string, inputs []byte) []byte {
 	if a.model.services[service] == nil {
 		return inputs
@@ -130,7 +131,7 @@ func (a *Asked) Inputs(service string, inputs []byte) []byte {
 	return a.model.shownInputs(inputs)
 }
 
-// shownInputs are inputs as an engine takes them, with the names and decimals of the file.
+// shownInputs returns inputs in the engine's form with the names and decimals of the file.
 func (m *served) shownInputs(inputs []byte) []byte {
 	if len(m.words) == 0 && !m.counts {
 		return inputs

@@ -13,7 +13,7 @@ import (
 // maxAnswers is the most bytes of results and explanations of one call.
 const maxAnswers = 64 << 20
 
-// A call is what one body asks for: a single request, or a list of them.
+// A call is the content of one body: a single request, or a list.
 type call struct {
 	service *Service
 	model   *served
@@ -21,24 +21,24 @@ type call struct {
 	decision *decisionService
 	client   *client
 	isList   bool
-	// isUnasked says that no engine of the pool is asked: the answers come with their explanations.
+	// isUnasked is true if the pool isn't asked: the answers come with their explanations.
 	isUnasked bool
-	// problems has those of the requests that no engine is asked, outcomes what became of the others.
+	// problems has those of the requests that no engine is asked, outcomes the outcomes of the others.
 	problems []*problem
 	outcomes []engine.Outcome
 	jobs     []*engine.Job
-	// sent has the inputs of requests that were refused before an engine was asked, where they are recorded; asked has the job
-	// of each request, once that was needed.
+	// sent has the inputs of requests that were refused before an engine was asked, if they are recorded; asked has the
+	// job of each request once that was needed.
 	sent  map[int][]byte
 	asked []*engine.Job
-	// explained has how each answer came about, where that was asked for and there is an answer.
+	// explained has the explanation of each answer that has one.
 	explained []engine.Explanation
-	// left is how many jobs are out, users how many of the jobs and the handler still hold the bytes.
+	// left is how many jobs are unanswered, users how many of the jobs and the handler still hold the bytes.
 	left, users atomic.Int32
-	// bytes is how much of the service's budget is held, answers how much of that are results and explanations.
+	// bytes is the call's share of the service's budget, answers how much of that are results and explanations.
 	bytes, answers atomic.Int64
 	done           chan struct{}
-	// one has the room of a call that is a single request, so that it is made with the call.
+	// one has the storage of a single request, so that it is allocated with the call.
 	one struct {
 		problem [1]*problem
 		outcome [1]engine.Outcome
@@ -47,8 +47,8 @@ type call struct {
 	}
 }
 
-// newCall reads the body of a call to a service, which is named by its word or by its name in the file.
-// What the file requires is asked for where a caller asks to decide.
+// newCall reads the body of a call to a service, named by its word or its name in the file. It enforces the file's
+// required inputs if decides is true.
 func (s *Service) newCall(model *served, name string, body []byte, decides bool) (*call, *problem) {
 	service := model.services[name]
 	if service != nil && decides {
@@ -104,7 +104,7 @@ func (c *call) readList(service *decisionService, body []byte) *problem {
 	return nil
 }
 
-// note keeps the inputs of a request that is refused, where that is recorded.
+// note keeps the inputs of a refused request if they are recorded.
 func (c *call) note(at int, inputs []byte, p *problem) {
 	c.problems[at] = p
 	if c.service.recorder == nil || !p.isRecorded() {
@@ -116,14 +116,14 @@ func (c *call) note(at int, inputs []byte, p *problem) {
 	c.sent[at] = oneLine(inputs)
 }
 
-// add adds a request, which settle is told of.
+// add adds a request, whose outcome goes to settle.
 func (c *call) add(at int, job *engine.Job, settle func(*engine.Job, engine.Outcome)) {
 	job.Place = at
 	job.Done = settle
 	c.jobs = append(c.jobs, job)
 }
 
-// settle notes what became of a request.
+// settle notes the outcome of a request.
 func (c *call) settle(job *engine.Job, outcome engine.Outcome) {
 	switch c.hold(len(outcome.Value)) {
 	case problemHuge:
@@ -140,8 +140,8 @@ func (c *call) settle(job *engine.Job, outcome engine.Outcome) {
 	c.release()
 }
 
-// hold takes bytes of a result or an explanation into the budgets of the call and of the service, or says which of them has
-// no room.
+// hold takes bytes of a result or an explanation from the budgets of the call and of the service, or says which is
+// exhausted.
 func (c *call) hold(size int) *problemKind {
 	switch {
 	case size == 0:
@@ -163,8 +163,8 @@ func (c *call) release() {
 	}
 }
 
-// put puts the requests in, behind those of the calls before. With engine.ErrSwitched the call is to be made anew, since
-// another model is in force by now.
+// put puts the requests in, after those of earlier calls. On engine.ErrSwitched the call has to be made again, as
+// another model is in force.
 func (c *call) put(asked *asking) (*problem, error) {
 	n := len(c.jobs)
 	if n == 0 {
@@ -212,7 +212,7 @@ func (c *call) wait(ctx context.Context) error {
 	}
 }
 
-// problemOf is the problem of an outcome, or nil where it is a result.
+// problemOf returns the problem of an outcome; nil for a result.
 func problemOf(outcome engine.Outcome) *problem {
 	switch outcome.Kind {
 	case engine.Result:
@@ -231,21 +231,21 @@ func problemOf(outcome engine.Outcome) *problem {
 	return problemInside.with("the engine refused the request: " + outcome.Word)
 }
 
-// appendResult adds a result as an object, with how it came about where that was asked for.
+// appendResult appends a result as an object, with its explanation if asked for.
 func (c *call) appendResult(to []byte, at int) []byte {
 	to = append(to, `{"result":`...)
 	to = append(to, c.decision.shown(c.outcomes[at].Value)...)
-	switch told := c.explanation(at); {
-	case told.IsLong:
+	switch explained := c.explanation(at); {
+	case explained.IsLong:
 		to = append(to, `,"explained":"long"`...)
-	case told.Decisions != nil:
+	case explained.Decisions != nil:
 		to = append(to, `,"decisions":`...)
-		to = append(to, told.Decisions...)
+		to = append(to, explained.Decisions...)
 	}
 	return append(to, '}')
 }
 
-// problemAt is the problem of a request, or nil where it has a result.
+// problemAt returns the problem of a request; nil if it has a result.
 func (c *call) problemAt(at int) *problem {
 	if c.problems[at] != nil {
 		return c.problems[at]
@@ -254,9 +254,9 @@ func (c *call) problemAt(at int) *problem {
 	if p == nil {
 		return nil
 	}
-	told := c.explanation(at)
-	p.Decisions = told.Decisions
-	if told.IsLong {
+	explained := c.explanation(at)
+	p.Decisions = explained.Decisions
+	if explained.IsLong {
 		p.Explained = "long"
 	}
 	return p

@@ -11,20 +11,20 @@ import (
 	"gateway/engine"
 )
 
-// statusGone is what is counted where the caller went away before its answer.
+// statusGone is counted if the caller went away before its answer.
 const statusGone = 499
 
-// An asking is what a call's head and body say, with the call's place among those of its client.
+// An asking is the head and body of a call, and the call's turn among those of its client.
 type asking struct {
 	who     caller
-	id      string // no other call has it
+	id      string // unique
 	name    string
 	explain bool
 	body    []byte
 	turn    *turn
 }
 
-// servicesPath answers POST /v1/services/SERVICE, and gives the status. What the log says of it is noted in v.
+// servicesPath answers POST /v1/services/SERVICE, and returns the status. It notes in v what to log.
 func (s *Service) servicesPath(w http.ResponseWriter, r *http.Request, id string, v *visit) int {
 	if !takes(w, r, http.MethodPost) {
 		return http.StatusMethodNotAllowed
@@ -49,7 +49,7 @@ func (s *Service) servicesPath(w http.ResponseWriter, r *http.Request, id string
 	}
 	defer c.release()
 	defer s.clients.leave(c.client)
-	// The jobs have what they need of it.
+	// The jobs have copied what they need.
 	asked.body = nil
 	err := c.wait(r.Context())
 	if errors.Is(err, errLater) {
@@ -57,7 +57,7 @@ func (s *Service) servicesPath(w http.ResponseWriter, r *http.Request, id string
 		return c.later(w, id, asked.id)
 	}
 	if err != nil {
-		// Whoever closed no more than its own side reads this.
+		// A caller that only closed its own side reads this.
 		problemLeft.with("").write(w, id)
 		return statusGone
 	}
@@ -71,7 +71,7 @@ func (s *Service) servicesPath(w http.ResponseWriter, r *http.Request, id string
 	return c.answer(w, r, id, asked.turn, p)
 }
 
-// naming is by what a call is known. Where it is recorded the answer has its own id.
+// naming returns how a call is identified. If it is recorded the answer has its own id.
 func (s *Service) naming(w http.ResponseWriter, r *http.Request, id string, who caller) naming {
 	name := naming{own: id, who: who}
 	if s.recorder == nil {
@@ -84,8 +84,8 @@ func (s *Service) naming(w http.ResponseWriter, r *http.Request, id string, who 
 	return name
 }
 
-// answer gives the answer, or a problem of the whole call. Where engines were asked it comes behind those of the calls
-// before, and is on its way when it returns.
+// answer sends the answer, or a problem of the whole call. If engines were asked it follows the answers of earlier
+// calls, and is on its way when answer returns.
 func (c *call) answer(w http.ResponseWriter, r *http.Request, id string, t *turn, p *problem) int {
 	if len(c.jobs) > 0 {
 		t.waitToAnswer()
@@ -103,7 +103,7 @@ func (c *call) answer(w http.ResponseWriter, r *http.Request, id string, t *turn
 	return status
 }
 
-// readAsking reads a call's head, and then its body, whose bytes are held in the budget of the service.
+// readAsking reads a call's head and body. The body's bytes are held in the service's budget.
 func (s *Service) readAsking(w http.ResponseWriter, r *http.Request) (it asking, p *problem) {
 	if it.who, p = s.caller(r); p != nil {
 		return it, p
@@ -127,10 +127,10 @@ func (s *Service) readAsking(w http.ResponseWriter, r *http.Request) (it asking,
 	return it, nil
 }
 
-// nameBelow is the service that a path names below its start.
+// nameBelow returns the name of the service in a path below its start.
 func nameBelow(path *url.URL, start string) (string, *problem) {
 	if path.RawPath == "" {
-		// The path was written as it is written by default, so nothing is lost in the text that stands for it.
+		// The path is in its default form, so its decoded text loses nothing.
 		return strings.TrimPrefix(path.Path, start), nil
 	}
 	name, err := url.PathUnescape(strings.TrimPrefix(path.EscapedPath(), start))
@@ -140,7 +140,7 @@ func nameBelow(path *url.URL, start string) (string, *problem) {
 	return name, nil
 }
 
-// wantsExplanation reads the parameters of a call: explain, true or false.
+// wantsExplanation reads the parameter of a call: explain, true or false.
 func wantsExplanation(query string) (bool, *problem) {
 	if query == "" {
 		return false, nil
@@ -156,8 +156,8 @@ func wantsExplanation(query string) (bool, *problem) {
 	return wanted == "true", nil
 }
 
-// ask makes a call and puts its requests in, under the model in force at that moment. With a problem the call is there where
-// its requests were read.
+// ask makes a call and puts its requests in, under the current model. With a problem it still returns the call if its
+// requests were read.
 func (s *Service) ask(asked asking) (*call, *problem) {
 	for {
 		c, p := s.newCall(s.model.Load(), asked.name, asked.body, true)
@@ -186,7 +186,7 @@ func (s *Service) ask(asked asking) (*call, *problem) {
 	}
 }
 
-// write gives the answer.
+// write writes the answer.
 func (c *call) write(w http.ResponseWriter, r *http.Request, id string) int {
 	if c.isList {
 		text := c.appendList(nil)
@@ -205,10 +205,10 @@ func (c *call) write(w http.ResponseWriter, r *http.Request, id string) int {
 	return http.StatusOK
 }
 
-// firstRoom is how much of a body is made room for before it comes.
+// firstRoom is how much room a body gets before it arrives.
 const firstRoom = 16 << 10
 
-// readBody reads a body whole. Its bytes are held in the budget of the service, as they come.
+// readBody reads a whole body. Its bytes are held in the service's budget as they arrive.
 func (s *Service) readBody(w http.ResponseWriter, r *http.Request) ([]byte, *problem) {
 	if r.ContentLength > MaxBody {
 		return nil, s.tooLong(w)
@@ -243,7 +243,7 @@ func (s *Service) readBody(w http.ResponseWriter, r *http.Request) ([]byte, *pro
 	}
 }
 
-// roomier gives a full body room for more: as much as is to come, where this is not far more than what came.
+// roomier returns a full body with room for more: for all that is to come, unless that is far more than has come.
 func roomier(body []byte, length int64) []byte {
 	room := 4 * int64(len(body))
 	if length < room && length >= int64(len(body)) {
@@ -257,7 +257,7 @@ func (s *Service) tooLong(w http.ResponseWriter) *problem {
 	return problemLong.with("a body has at most 16 MiB")
 }
 
-// logJournal tells the operator of a journal that fails, not more than once a second.
+// logJournal logs that the journal fails, at most once a second.
 func (s *Service) logJournal(err error) {
 	now := time.Now().Unix()
 	if last := s.metrics.lastFault.Swap(now); last != now {

@@ -11,40 +11,42 @@ import (
 	"gateway/tell"
 )
 
-// A wholePage is a model with all that is known of it, for who draws it.
+// A wholePage is a model with all that is known about it, for drawing it.
 type wholePage struct {
 	Sum      string `json:"sha256"`
 	IsLawful bool   `json:"lawful"`
 	Fault    string `json:"fault,omitempty"`
-	// Findings are lines of `desk check --json` behind the first: faults or warnings, each at its place.
+	// Findings are the lines of `desk check --json` after the first: faults or warnings, each with its place.
 	Findings []json.RawMessage `json:"findings"`
 	analysed
 	imported
 }
 
-// An analysed is what is found of the tables of a model.
+// An analysed is what was found about the tables of a model.
 type analysed struct {
-	// Tables are the lines that `--tables` adds; null where there are none for a reason.
+	// Tables are the lines that `--tables` adds; null if there are none for a reason.
 	Tables []json.RawMessage `json:"tables"`
+	// Gives has in words what decisions can give, by their words, but those whose numbers are counted.
+	Gives map[string]string `json:"gives,omitempty"`
 	// Missing is that reason.
 	Missing missing `json:"tablesMissing,omitempty"`
 }
 
-// A missing says why the lines about the tables of a model were not made.
+// A missing says why the lines about a model's tables were not made.
 type missing string
 
 const (
-	// missingUnasked is that of a model as such, missingFault that of a model that has a fault.
+	// missingUnasked is for the model alone, missingFault for a model with a fault.
 	missingUnasked missing = "unasked"
 	missingFault   missing = "fault"
-	// missingEngine is that of an engine that can't check tables.
+	// missingEngine is for an engine that can't check tables.
 	missingEngine missing = "engine"
-	// missingLate says that the check took too long, missingDied that the engine ended at it.
+	// missingLate means that the check took too long, missingDied that the engine ended during it.
 	missingLate missing = "late"
 	missingDied missing = "died"
 )
 
-// missingFor is the reason that an error of the engine is.
+// missingFor returns the reason for an error of the engine.
 func missingFor(err error) missing {
 	if errors.Is(err, context.DeadlineExceeded) {
 		return missingLate
@@ -65,16 +67,16 @@ func (m *served) whole() *wholePage {
 	return newWhole(m.source, m.wholeSum, m.warnings)
 }
 
-// mostKept is how many models are kept that were checked and not put.
+// mostKept is how many checked models are kept without being put.
 const mostKept = 8
 
-// A shelf keeps models that were checked and not put, so that they can be tried: the last ones.
+// A shelf keeps the last models that were checked and not put, so that they can be tried.
 type shelf struct {
 	mu     sync.Mutex
 	models []*served
 }
 
-// key is the sum by which a model is found: that of its text where nothing else is known of it.
+// key returns the sum by which a model is found: that of its text if nothing else is known.
 func (m *served) key() string {
 	if m.wholeSum == "" {
 		return m.engine.Sum
@@ -95,7 +97,7 @@ func (s *shelf) add(model *served) {
 	}
 }
 
-// find gives the model with a SHA-256 that was checked last, or nil.
+// find returns the most recently checked model with a SHA-256, or nil.
 func (s *shelf) find(sum string) *served {
 	s.mu.Lock()
 	defer s.mu.Unlock()
@@ -107,7 +109,8 @@ func (s *shelf) find(sum string) *served {
 	return nil
 }
 
-// asked is the model that a request names by its SHA-256: the one in force, also where it names none, or one that is kept.
+// asked returns the model that a request names by its SHA-256: the one in force, which is also the default, or a kept
+// one.
 func (s *Service) asked(r *http.Request) (*served, *problem) {
 	inForce := s.model.Load()
 	sum := r.URL.Query().Get("model")
@@ -120,7 +123,8 @@ func (s *Service) asked(r *http.Request) (*served, *problem) {
 	return nil, problemUnkept.with("no model with the SHA-256 " + sum + " is kept")
 }
 
-// checkPath answers POST /v1/check: a model is checked, and kept so that it can be tried. It is not put in force.
+// checkPath answers POST /v1/check. It checks a model, and keeps it so that it can be tried. It doesn't put it in
+// force.
 func (s *Service) checkPath(w http.ResponseWriter, r *http.Request) {
 	page, p := s.checked(w, r)
 	limitWrite(r, longAnswer+1)
@@ -168,13 +172,14 @@ func (s *Service) checked(w http.ResponseWriter, r *http.Request) (*wholePage, *
 	return page, nil
 }
 
-// An analysis is what is found of the tables of a model, once that was asked.
+// An analysis is what was found about the tables of a model, once that was asked.
 type analysis struct {
 	mu    sync.Mutex
 	found []engine.Place
+	gives map[string]string
 }
 
-// tables has a model's tables checked, if that was not done before.
+// tables returns a model's tables checked, once.
 func (s *Service) tables(ctx context.Context, model *served) (analysed, error) {
 	if !s.hasTables {
 		return analysed{Missing: missingEngine}, nil
@@ -183,22 +188,48 @@ func (s *Service) tables(ctx context.Context, model *served) (analysed, error) {
 	it.mu.Lock()
 	defer it.mu.Unlock()
 	if it.found != nil {
-		return analysed{Tables: it.found}, nil
+		return analysed{Tables: it.found, Gives: it.gives}, nil
 	}
 	found, err := engine.Tables(ctx, s.options.Engine, s.options.Memory, model.source.Text)
 	if err == nil {
 		it.found, err = tell.TableLines(model.source.Text, found)
 	}
-	return analysed{Tables: it.found}, err
+	if err == nil && s.hasGives {
+		it.gives = s.gives(ctx, model)
+	}
+	return analysed{Tables: it.found, Gives: it.gives}, err
 }
 
-// A tablesPage is what is found of the tables of a model.
+// gives has in words what a model's decisions can give, but those whose numbers are counted: the engine's numbers are others than the
+// file's.
+func (s *Service) gives(ctx context.Context, model *served) map[string]string {
+	text, err := plainJSON(imported{Model: model.source.Text, Domains: model.source.Domains})
+	var lines []engine.Place
+	if err == nil {
+		lines, err = engine.Gives(ctx, s.options.Engine, s.options.Memory, text)
+	}
+	var found map[string]string
+	if err == nil {
+		found, err = tell.GivesWords(lines)
+	}
+	if err != nil {
+		s.options.Log("what decisions can give is not known: %v", err)
+	}
+	for word := range found {
+		if model.typeOf(word).IsCounted() {
+			delete(found, word)
+		}
+	}
+	return found
+}
+
+// A tablesPage is what was found about the tables of a model.
 type tablesPage struct {
 	Sum string `json:"sha256"`
 	analysed
 }
 
-// tablesPath answers GET /v1/tables: what is found of the tables of a model, which may take long.
+// tablesPath answers GET /v1/tables with what is found about the tables of a model, which may take long.
 func (s *Service) tablesPath(w http.ResponseWriter, r *http.Request) {
 	if !takes(w, r, http.MethodGet, http.MethodHead) {
 		return
@@ -228,7 +259,7 @@ func (s *Service) tablesOf(r *http.Request) (*tablesPage, *problem) {
 	return page, p
 }
 
-// askedBody reads the body of a POST of someone who may call.
+// askedBody reads the body of a POST from someone with the right to call.
 func (s *Service) askedBody(w http.ResponseWriter, r *http.Request) ([]byte, *problem) {
 	if r.Method != http.MethodPost {
 		p := problemMethod.with("it takes POST")
@@ -241,7 +272,7 @@ func (s *Service) askedBody(w http.ResponseWriter, r *http.Request) ([]byte, *pr
 	return s.readBody(w, r)
 }
 
-// explainStart is where POST asks how answers come about. What is asked there stands in no journal.
+// explainStart is the path of explanations, before the service. These requests are not journaled.
 const explainStart = "/v1/explain/"
 
 // explainPath answers POST /v1/explain/SERVICE.
@@ -267,7 +298,7 @@ func (s *Service) explainPath(w http.ResponseWriter, r *http.Request) {
 	c.write(w, r, id)
 }
 
-// askedCall makes the call of an explanation, of which no engine is asked before.
+// askedCall makes the call for an explanation, without asking an engine first.
 func (s *Service) askedCall(r *http.Request, body []byte) (*call, *problem) {
 	model, p := s.asked(r)
 	if p != nil {

@@ -5,7 +5,7 @@ import (
 	"sync/atomic"
 )
 
-// clients counts what is taken and not yet answered, in all and for each client.
+// clients counts unanswered requests, in all and for each client.
 type clients struct {
 	clientLimit, limit int
 
@@ -14,10 +14,10 @@ type clients struct {
 	out    int
 }
 
-// A client is a name that has calls.
+// A client is a name with calls.
 type client struct {
 	name string
-	// out is how many requests of it are out, calls how many calls are not over.
+	// out is how many of its requests are unanswered, calls how many calls are not over.
 	out, calls int
 }
 
@@ -25,8 +25,8 @@ func newClients(clientLimit, limit int) *clients {
 	return &clients{clientLimit: clientLimit, limit: limit, byName: map[string]*client{}}
 }
 
-// enter takes a call of this many requests, or says why not. Without a name there is no client. One call may have as many
-// requests as a list may; the limit counts what other calls of the client have out.
+// enter admits a call of this many requests, or says why not. Without a name there is no client. One call may have as
+// many requests as a list may have; the limit counts what other calls of the client have out.
 func (c *clients) enter(name string, requests int) (*client, *problemKind) {
 	c.mu.Lock()
 	defer c.mu.Unlock()
@@ -51,7 +51,7 @@ func (c *clients) enter(name string, requests int) (*client, *problemKind) {
 	return it, nil
 }
 
-// answered counts requests of a call that are out no more.
+// answered counts requests of a call as answered.
 func (c *clients) answered(it *client, requests int) {
 	c.mu.Lock()
 	defer c.mu.Unlock()
@@ -79,20 +79,20 @@ func (c *clients) forget(it *client) {
 	}
 }
 
-// count is how many requests and how many named clients are there.
+// count returns the numbers of unanswered requests and of named clients.
 func (c *clients) count() (requests, named int) {
 	c.mu.Lock()
 	defer c.mu.Unlock()
 	return c.out, len(c.byName)
 }
 
-// A budget is a number of bytes that may be held.
+// A budget limits how many bytes may be held.
 type budget struct {
 	limit int64
 	held  atomic.Int64
 }
 
-// take holds more bytes, or none where they are too many.
+// take holds more bytes, or none if they are too many.
 func (b *budget) take(bytes int64) bool {
 	if b.held.Add(bytes) > b.limit {
 		b.held.Add(-bytes)

@@ -6,7 +6,7 @@ import (
 	"gateway/lines"
 )
 
-// addInput adds a parameter to what requests bring, or to what the clock fills.
+// addInput adds a parameter to those that requests bring, or to those that the clock fills.
 func (m *served) addInput(service *decisionService, word string) {
 	if !m.types[word].HasClock() {
 		service.inputs = append(service.inputs, word)
@@ -16,7 +16,7 @@ func (m *served) addInput(service *decisionService, word string) {
 	m.clocks[word], m.clocks[m.nameOf(word)] = word, word
 }
 
-// addClocks adds the inputs that the clock fills to those of a request, unless it brings them.
+// addClocks adds the inputs that the clock fills to those of a request, unless it has them.
 func (m *served) addClocks(inputs []byte, service *decisionService, members []lines.Member) []byte {
 	if len(service.clocks) == 0 {
 		return inputs
@@ -35,7 +35,7 @@ func (m *served) addClocks(inputs []byte, service *decisionService, members []li
 	return inputs
 }
 
-// clockProblem refuses a request that brings what the clock fills; it is nil for others.
+// clockProblem refuses a request that has an input that the clock fills; nil for others.
 func (m *served) clockProblem(text []byte) *problem {
 	if len(m.clocks) == 0 || !lines.HasKey(text, m.clocks) {
 		return nil

@@ -9,29 +9,30 @@ import (
 	"time"
 )
 
-// connections bounds how many connections there are, in all and from one address. Where places get scarce, those that have been
-// idle longest are closed for new ones. Connections from this machine through a unix socket have no address, and one bound alone.
+// connections limits the number of connections, in all and from one address. When places run out, the connections that
+// have been idle longest are closed for new ones. Connections from this machine through a unix socket have no address,
+// and share one limit.
 type connections struct {
 	limit, addressLimit int
 
 	mu sync.Mutex
-	// all has the connections that are open, byAddress how many of them each address has.
+	// all has the open connections, byAddress the number from each address.
 	all       map[net.Conn]*place
 	byAddress map[netip.Addr]*peer
 	// idle has those that wait for a request, the longest first.
 	idle list.List
-	// freed is closed, and made anew, whenever a place gets free.
+	// freed is closed, and made again, whenever a place is freed.
 	freed chan struct{}
 }
 
 // A place is one connection.
 type place struct {
 	of *peer
-	// idle is its element among those that are idle, in all and of its address; nil where it is not.
+	// idle and own are its elements in the idle lists, of all and of its address; nil while it isn't idle.
 	idle, own *list.Element
 }
 
-// A peer is what one address has.
+// A peer is one address with its connections.
 type peer struct {
 	address netip.Addr
 	count   int
@@ -43,14 +44,15 @@ func newConnections(limit, addressLimit int) *connections {
 		freed: make(chan struct{})}
 }
 
-// count is how many connections are open.
+// count returns how many connections are open.
 func (c *connections) count() int {
 	c.mu.Lock()
 	defer c.mu.Unlock()
 	return len(c.all)
 }
 
-// addressOf is the address of who is connected; the same for all that have none. Those of a network of 64 bits are one.
+// addressOf returns the peer's address, which is the same for all that have none. IPv6 addresses of one /64 network are
+// one.
 func addressOf(connection net.Conn) netip.Addr {
 	from, err := netip.ParseAddrPort(connection.RemoteAddr().String())
 	if err != nil {
@@ -65,7 +67,7 @@ func addressOf(connection net.Conn) netip.Addr {
 	return address
 }
 
-// enter takes a connection, which may cost an idle one its place, or says that there is none for its address.
+// enter admits a connection, which may replace an idle one, or reports that its address has no place.
 func (c *connections) enter(connection net.Conn) bool {
 	address := addressOf(connection)
 	c.mu.Lock()
@@ -80,12 +82,12 @@ func (c *connections) enter(connection net.Conn) bool {
 	}
 	of.count++
 	c.all[connection] = &place{of: of}
-	// One that has said nothing yet is idle too.
+	// A connection is idle until it sends something.
 	c.rest(connection)
 	return true
 }
 
-// closeOldest closes the connection of a list that has been idle longest, and says whether there was one.
+// closeOldest closes the connection of a list that has been idle longest, and reports whether there was one.
 func (c *connections) closeOldest(idle *list.List) bool {
 	first := idle.Front()
 	if first == nil {
@@ -93,19 +95,19 @@ func (c *connections) closeOldest(idle *list.List) bool {
 	}
 	connection := first.Value.(net.Conn)
 	c.leave(connection)
-	// It may have to say that it ends, which is not to be waited for.
+	// Close may have to send a closing message; don't wait for that.
 	go connection.Close()
 	return true
 }
 
-// rest says that a connection waits for a request.
+// rest notes that a connection waits for a request.
 func (c *connections) rest(connection net.Conn) {
 	if it := c.all[connection]; it != nil && it.idle == nil {
 		it.idle, it.own = c.idle.PushBack(connection), it.of.idle.PushBack(connection)
 	}
 }
 
-// wake says that a connection has a request.
+// wake notes that a connection has a request.
 func (c *connections) wake(connection net.Conn) {
 	if it := c.all[connection]; it != nil && it.idle != nil {
 		c.idle.Remove(it.idle)
@@ -114,7 +116,7 @@ func (c *connections) wake(connection net.Conn) {
 	}
 }
 
-// leave takes a connection out.
+// leave removes a connection.
 func (c *connections) leave(connection net.Conn) {
 	it := c.all[connection]
 	if it == nil {
@@ -129,7 +131,7 @@ func (c *connections) leave(connection net.Conn) {
 	c.freed = make(chan struct{})
 }
 
-// see notes what a connection does.
+// see notes the state of a connection.
 func (c *connections) see(connection net.Conn, state http.ConnState) {
 	c.mu.Lock()
 	defer c.mu.Unlock()
@@ -143,7 +145,8 @@ func (c *connections) see(connection net.Conn, state http.ConnState) {
 	}
 }
 
-// room waits until there is a place for one more connection, or the channel is closed. An idle one loses its place for it.
+// room waits until there is a place for another connection, or the channel is closed. An idle connection loses its
+// place for it.
 func (c *connections) room(ended <-chan struct{}) {
 	for {
 		c.mu.Lock()
@@ -161,17 +164,17 @@ func (c *connections) room(ended <-chan struct{}) {
 	}
 }
 
-// A boundListener accepts connections for which there is a place.
+// A boundListener accepts connections while there is a place.
 type boundListener struct {
 	net.Listener
 	places *connections
 	ended  chan struct{}
 	once   sync.Once
-	// refused is told of an address that has its places taken.
+	// refused is called with an address whose places are taken.
 	refused func(from net.Addr)
 }
 
-// Accept gives the next connection that has a place.
+// Accept returns the next connection that has a place.
 func (b *boundListener) Accept() (net.Conn, error) {
 	for {
 		b.places.room(b.ended)
@@ -187,13 +190,13 @@ func (b *boundListener) Accept() (net.Conn, error) {
 	}
 }
 
-// Close ends it.
+// Close closes the listener.
 func (b *boundListener) Close() error {
 	b.once.Do(func() { close(b.ended) })
 	return b.Listener.Close()
 }
 
-// refusedConnection counts a connection for which its address had no place, and logs one a minute.
+// refusedConnection counts a connection whose address had no place, and logs one a minute.
 func (s *Service) refusedConnection(from net.Addr) {
 	s.metrics.refusedConnections.Inc()
 	now := time.Now().Unix()

@@ -14,12 +14,13 @@ import (
 // A countedPart says how the values of a part of a model are counted.
 type countedPart struct {
 	of *types.Type
-	// over is the entry of the same context that has the divisor of a quotient; decimals is how many more the numerator has.
+	// over is the entry of the same context with the divisor of a quotient; decimals is how many more the numerator
+	// has.
 	over     string
 	decimals int
 }
 
-// countParts reads how the values at the places of the model are counted.
+// countParts reads how the values at the model's places are counted.
 func (m *served) countParts() error {
 	m.parts, m.fromFile = map[string]countedPart{}, map[string]bool{}
 	if err := m.pointTo(); err != nil {
@@ -70,10 +71,10 @@ func (m *served) pointTo() error {
 	return nil
 }
 
-// countDecisions gives the values of an explanation's decisions their decimals, and leaves out the entries that the file
+// countDecisions gives the values of an explanation's decisions their decimals, and drops the entries that the file
 // doesn't have.
-func (m *served) countDecisions(told any) {
-	decisions, _ := told.([]any)
+func (m *served) countDecisions(explained any) {
+	decisions, _ := explained.([]any)
 	for _, decision := range decisions {
 		members, is := decision.(map[string]any)
 		word, named := members["name"].(string)
@@ -83,7 +84,8 @@ func (m *served) countDecisions(told any) {
 	}
 }
 
-// countPart does the same of a part, whose values are of a type; entries are those of the context that it is the result of.
+// countPart does the same for a part, whose values have a type; entries are those of the context that it is the result
+// of.
 func (m *served) countPart(part map[string]any, pointer string, of *types.Type, entries map[string]any) {
 	if of == nil {
 		of = types.Any
@@ -106,8 +108,8 @@ func (m *served) countPart(part map[string]any, pointer string, of *types.Type, 
 	m.countContext(part, pointer, of)
 }
 
-// countContext does the same of the entries and the result of a part. What only the translation has is left out; the result
-// takes its place where nothing else is there.
+// countContext does the same for the entries and the result of a part. It drops what only the translation has. If
+// nothing is left, the result replaces the part.
 func (m *served) countContext(part map[string]any, pointer string, of *types.Type) {
 	list, _ := part["entries"].([]any)
 	values := map[string]any{}
@@ -149,13 +151,14 @@ func (m *served) countContext(part map[string]any, pointer string, of *types.Typ
 	}
 }
 
-// A hiddenTable is one of the file that the translation put in front: its value is tested after it, or counted again.
+// A hiddenTable is a table of the file that the translation moved to an entry: its value is tested after it, or counted
+// again.
 type hiddenTable struct {
 	table   map[string]any
 	pointer string
 }
 
-// hidden is the table of an entry that the translation made of one in the file; else that of an entry before it.
+// hidden returns the table of an entry that the translation made from one in the file; else that of an earlier entry.
 func (m *served) hidden(entry map[string]any, pointer string, before hiddenTable) hiddenTable {
 	if table, is := entry["table"].(map[string]any); is && m.fromFile[pointer+"/expr"] {
 		return hiddenTable{table, pointer + "/expr"}
@@ -163,7 +166,7 @@ func (m *served) hidden(entry map[string]any, pointer string, before hiddenTable
 	return before
 }
 
-// countHidden gives the inputs of such a table their decimals. The unit of what its rules give isn't known here.
+// countHidden gives the inputs of such a table their decimals. The unit of its rules' results isn't known here.
 func (m *served) countHidden(hidden hiddenTable, entries map[string]any) {
 	m.countTable(hidden.table, hidden.pointer, types.Any, entries)
 	hits, _ := hidden.table["hits"].([]any)
@@ -174,14 +177,14 @@ func (m *served) countHidden(hidden hiddenTable, entries map[string]any) {
 	}
 }
 
-// isOfFile says whether the file has a name for a word.
+// isOfFile reports whether the file has a name for a word.
 func (m *served) isOfFile(word string) bool {
 	_, named := m.source.Names[word]
 	_, local := m.source.Locals[word]
 	return named || local
 }
 
-// countTable does the same of a table.
+// countTable does the same for a table.
 func (m *served) countTable(table map[string]any, pointer string, of *types.Type, entries map[string]any) {
 	if inputs, is := table["inputs"].([]any); is {
 		for at, value := range inputs {
@@ -209,7 +212,7 @@ func (m *served) countTable(table map[string]any, pointer string, of *types.Type
 	}
 }
 
-// quotientOf is the quotient of two whole numbers of the engine, whose numerator has more decimals.
+// quotientOf returns the quotient of two whole numbers of the engine, whose numerator has more decimals.
 func quotientOf(numerator, divisor any, decimals int) any {
 	n, isNumber := numerator.(json.Number)
 	d, isAlso := divisor.(json.Number)
@@ -229,11 +232,11 @@ func quotientOf(numerator, divisor any, decimals int) any {
 	return json.Number(decimal.Quotient(over, by))
 }
 
-// countedNames gives an explanation decimals, and the names of the file.
-func (m *served) countedNames(told json.RawMessage) json.RawMessage {
-	tree, err := lines.Tree(told)
+// countedNames returns an explanation the decimals and the names of the file.
+func (m *served) countedNames(explained json.RawMessage) json.RawMessage {
+	tree, err := lines.Tree(explained)
 	if err != nil {
-		return told
+		return explained
 	}
 	m.countDecisions(tree)
 	m.nameDecisions(tree)

@@ -5,8 +5,8 @@ import (
 	"testing"
 )
 
-// priced is what desk import writes of a decision price = amount * rate / 3 with amounts in cents and rates in thousandths, a
-// list of parts, and a table over amount / parts.
+// priced is the output of desk import for a decision price = amount * rate / 3 with amounts in cents and rates in
+// thousandths, a list of parts, and a table over amount / parts.
 const priced = `{"model":{"inputs":["amount","rate","parts","any"],"decisions":[` +
 	`{"name":"Full_Price","needs":["amount","rate"],"expr":"amount * rate"},` +
 	`{"name":"third","needs":["Full_Price"],"expr":{"context":[{"name":"part_1","expr":"Full_Price * 1"}],"result":"part_1"}},` +
@@ -40,7 +40,7 @@ func TestLenientInputs(t *testing.T) {
 	}
 }
 
-// TestDecimalsOverHTTP sends decimals, and has results and explanations with them.
+// TestDecimalsOverHTTP sends decimals, and gets them in results and explanations.
 func TestDecimalsOverHTTP(t *testing.T) {
 	r := serve(t, priced, Options{})
 	defer r.stop(t)
@@ -90,7 +90,8 @@ func TestDecimalsOverHTTP(t *testing.T) {
 	}
 }
 
-// divided is what desk import writes of b: x / 3 > 1 of whole numbers, and of a table c whose value is tested and counted again.
+// divided is the output of desk import for b: x / 3 > 1 of whole numbers, and for a table c whose value is tested and
+// counted again.
 const divided = `{"model":{"inputs":["x"],"decisions":[{"name":"b","needs":["x"],"expr":{"context":[{"name":"numerator_1","expr":"x"}],"result":"numerator_1 > 3"}},` +
 	`{"name":"c","needs":["x"],"expr":{"context":[{"name":"rule_1","expr":{"table":{"hit":"U","inputs":["x"],"outputs":[{"name":"o"}],"rules":[{"when":["-"],` +
 	`"then":["true"]}]}}},{"name":"value_1","expr":{"table":{"hit":"F","inputs":["x"],"outputs":[{"name":"o"}],"rules":[{"when":["< 3"],"then":["5"]},` +
@@ -99,8 +100,8 @@ const divided = `{"model":{"inputs":["x"],"decisions":[{"name":"b","needs":["x"]
 	`"inputData":["x"]}]},"names":{"x":"x","b":"b","c":"c","o":"o"},"types":{"x":{"type":["integer","null"]},"b":{"type":["boolean","null"]}},` +
 	`"places":{"/decisions/0/expr":{"id":"","name":"","text":"x / 3 > 1"},"/decisions/1/expr/context/1/expr/table/rules/0/then/0":{"id":"","name":"","text":"0.5"}}}`
 
-// TestWhatIsTranslatedIsNotExplained explains what the file has, also where no number is counted in a unit: entries that the translation
-// put in front are left out, and the table of one that came from the file is told.
+// TestWhatIsTranslatedIsNotExplained checks that explanations have what is in the file, even if no number is counted in
+// a unit: entries added by the translation are left out, and the table of one that came from the file is there.
 func TestWhatIsTranslatedIsNotExplained(t *testing.T) {
 	r := serve(t, divided, Options{})
 	defer r.stop(t)

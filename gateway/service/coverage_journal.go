@@ -9,15 +9,15 @@ import (
 	"gateway/lines"
 )
 
-// recordedLines are what is known of the lines of a journal in a body.
+// recordedLines is what is known about the lines of a journal in a body.
 type recordedLines struct {
-	// read reads the model of a file, and find looks for one that was checked.
+	// read reads the model of a file, and find looks for a checked one.
 	read func(*Source) (*served, error)
 	find func(sum string) *served
 	// known has models by their sums, sources those of the files whose beginnings were read.
 	known   map[string]*served
 	sources map[string]*Source
-	// release is the sum of the release of the last line, or empty.
+	// release is the sum of the last line's release, or empty.
 	release string
 }
 
@@ -38,18 +38,19 @@ var (
 	recordedStart = []byte(`{"client":"`)
 )
 
-// RecordedSource is the model of a file of a journal: its first line has the model, and the one about it what else decides.
+// RecordedSource returns the model of a journal file, from its first line with the model and the one about it with the
+// rest.
 func RecordedSource(model, about []byte) (*Source, error) {
 	model, about = bytes.TrimSpace(model), bytes.TrimSpace(about)
 	if len(model) == 0 || len(about) == 0 {
 		return nil, ErrNoModel
 	}
-	// One object of both is what desk import writes.
+	// Both in one object are what desk import writes.
 	text := append(append([]byte(nil), model[:len(model)-1]...), ',')
 	return ReadSource(append(text, about[1:]...))
 }
 
-// model is that of a release; nil where it is not known.
+// model returns the model of a release; nil if it isn't known.
 func (r *recordedLines) model(sum string) (*served, error) {
 	if it := r.known[sum]; it != nil {
 		return it, nil
@@ -67,15 +68,15 @@ func (r *recordedLines) model(sum string) (*served, error) {
 	return it, nil
 }
 
-// heldLine reads a line that none is about; there may be no such line.
+// heldLine reads a line without one about it; text may be nil.
 func (c *covering) heldLine(number int, text []byte) {
 	if text != nil {
 		c.line(number, text)
 	}
 }
 
-// aboutLine reads a line of a journal with the one about it. An answer may have the one about it alone, and where a body is cut
-// there may be none.
+// aboutLine reads a line of a journal with the one about it. An answer may only have the one about it, and in a
+// truncated body there may be none.
 func (c *covering) aboutLine(number int, text, about []byte) {
 	if at := bytes.IndexByte(about, ','); at > 0 && bytes.HasPrefix(about[at:], beginsKey) {
 		if source, err := RecordedSource(text, about); err == nil {
@@ -99,7 +100,7 @@ func (c *covering) aboutLine(number int, text, about []byte) {
 	c.line(number, text)
 }
 
-// releaseIn is the sum of the release in the line about an answer, or empty.
+// releaseIn returns the sum of the release in the line about an answer, or empty.
 func releaseIn(about []byte) string {
 	_, rest, is := bytes.Cut(about, releaseKey)
 	end := bytes.IndexByte(rest, '"')
@@ -109,7 +110,7 @@ func releaseIn(about []byte) string {
 	return string(rest[:end])
 }
 
-// recordedLine makes the request of a line, whose service and inputs are those that an engine was asked.
+// recordedLine makes the request of a line, whose service and inputs are in the engine's form.
 func (c *covering) recordedLine(number int, found askedLine) lineAsked {
 	it := lineAsked{number: number, client: found.client, service: found.service}
 	word := lines.Text(found.service)

@@ -9,28 +9,28 @@ import (
 	"testing"
 )
 
-// cover counts over lines, and gives what was said of each: its line with its result or the kind of its problem.
+// cover counts over lines, and returns for each its line number and its result or the kind of its problem.
 func (r *running) cover(t *testing.T, query, body string) string {
 	t.Helper()
 	status, text, _ := send(t, "POST", r.url+"/v1/coverage"+query, body)
-	var told struct {
+	var answer struct {
 		Answers []struct {
 			Line    int
 			Problem string
 			Result  json.RawMessage
 		}
 	}
-	if err := json.Unmarshal([]byte(text), &told); err != nil || status != 200 {
+	if err := json.Unmarshal([]byte(text), &answer); err != nil || status != 200 {
 		t.Fatalf("%d %s", status, text)
 	}
 	var said []string
-	for _, it := range told.Answers {
+	for _, it := range answer.Answers {
 		said = append(said, fmt.Sprint(it.Line, " ", it.Problem, string(it.Result)))
 	}
 	return strings.Join(said, "|")
 }
 
-// recordedText is the one file of a journal in which a model answered requests, each a service and its inputs.
+// recordedText returns the journal of a model that answered requests, each a service and its inputs.
 func recordedText(t *testing.T, model string, requests ...string) string {
 	t.Helper()
 	folder := t.TempDir()
@@ -51,7 +51,7 @@ func recordedText(t *testing.T, model string, requests ...string) string {
 	return string(text)
 }
 
-// TestCoverageOfJournal counts over a journal, whose lines have inputs as an engine takes them: days as numbers.
+// TestCoverageOfJournal counts over a journal, whose lines have inputs in the engine's form: days as numbers.
 func TestCoverageOfJournal(t *testing.T) {
 	text := recordedText(t, dated, `late {"Due Date":"2026-02-28","paid":"2026-03-01"}`, `late {"Due Date":"2026-02-30"}`,
 		`both {"Due Date":"2024-02-28"}`)
@@ -60,10 +60,10 @@ func TestCoverageOfJournal(t *testing.T) {
 	r := serve(t, dated, Options{})
 	defer r.stop(t)
 	for name, row := range map[string]struct{ body, due string }{
-		"whole":                    {text, due},
-		"behind its beginning":     {strings.Join(lines[2:], ""), `1 "P1D"|4 {"class":"2024-02-28","next":"2024-02-29"}`},
-		"cut before what is said":  {strings.Join(lines[2:6], ""), `1 "P1D"|4 {"class":"2024-02-28","next":"2024-02-29"}`},
-		"cut behind what is asked": {strings.Join(lines[3:], ""), `3 {"class":"2024-02-28","next":"2024-02-29"}`},
+		"whole":                   {text, due},
+		"after its beginning":     {strings.Join(lines[2:], ""), `1 "P1D"|4 {"class":"2024-02-28","next":"2024-02-29"}`},
+		"cut before what is said": {strings.Join(lines[2:6], ""), `1 "P1D"|4 {"class":"2024-02-28","next":"2024-02-29"}`},
+		"cut after what is asked": {strings.Join(lines[3:], ""), `3 {"class":"2024-02-28","next":"2024-02-29"}`},
 		"with another request": {text + `{"service":"late","inputs":{"Due Date":"2026-02-28","paid":"2026-03-02"}}` + "\n{}\n" +
 			`{"service":"late","inputs":{"Due Date":"2026-02-28","paid":"2026-03-02"}}`, due + `|8 "P2D"|9 shape|10 "P2D"`},
 		"requests alone": {`{"service":"late","inputs":{"Due Date":"2026-02-28","paid":"2026-03-02"}}`, `1 "P2D"`},
@@ -74,8 +74,8 @@ func TestCoverageOfJournal(t *testing.T) {
 	}
 }
 
-// TestCoverageOfAnotherRelease counts over a journal of another model than the one that is asked: what stands there has the words
-// and the units of its own.
+// TestCoverageOfAnotherRelease counts over a journal of another model than the current one: its lines have that model's
+// words and units.
 func TestCoverageOfAnotherRelease(t *testing.T) {
 	text := recordedText(t, dated, `late {"Due Date":"2026-02-28","paid":"2026-03-01"}`)
 	other := strings.NewReplacer("Due_Date", "d_u_e", "86400", "172800").Replace(dated)

@@ -13,7 +13,7 @@ import (
 	"gateway/lines"
 )
 
-// A lineAsked is a line of a file of requests, with what is said of it.
+// A lineAsked is a line of a file of requests, and its answer.
 type lineAsked struct {
 	number          int
 	client, service []byte
@@ -24,35 +24,35 @@ type lineAsked struct {
 	of *decisionService
 }
 
-// A covering is what is asked over the lines of one body.
+// A covering is a count over the lines of one body.
 type covering struct {
 	model *served
-	// service is that of lines which are inputs alone; nil where such lines are not taken.
+	// service is for lines that are only inputs; nil if such lines are refused.
 	service *decisionService
 	reader  lines.Reader
-	// count is how many lines the body has, blank ones and others that are skipped among them.
+	// count is how many lines the body has, including blank and skipped ones.
 	count int
 	lines []lineAsked
 	jobs  []*engine.Job
 	room  []byte
-	// recorded is what is known of the lines of a journal.
+	// recorded is what is known about the lines of a journal.
 	recorded recordedLines
-	// mu guards counts, to which each engine's are added in the end.
+	// mu guards counts, to which the counts of each engine are added at the end.
 	mu     sync.Mutex
 	counts *coverage.Counts
 }
 
-// A counting is what one engine tells of its lines.
+// A counting has the counts over one engine's lines.
 type counting struct {
 	*covering
 	counts *coverage.Counts
-	// shown has results as people have them: few differ, mostly.
+	// shown has results in the file's terms. Mostly, few differ.
 	shown map[serviceResult][]byte
 }
 
-// coveragePath answers POST /v1/coverage: how often each rule hit and decided over the lines of the body, and the answer of
-// each. The body has lines as `desk serve` reads them, those of a journal, or inputs alone where the parameter service names a
-// service.
+// coveragePath answers POST /v1/coverage: how often each rule hit and decided over the lines of the body, and the
+// answer to each. The body has lines as `desk serve` reads them, those of a journal, or inputs alone if the parameter
+// service names a service.
 func (s *Service) coveragePath(w http.ResponseWriter, r *http.Request) {
 	text, p := s.covered(w, r)
 	if p != nil {
@@ -88,14 +88,14 @@ func (s *Service) covered(w http.ResponseWriter, r *http.Request) ([]byte, *prob
 	return text, nil
 }
 
-// fewBytes is how many bytes most requests have at least.
+// fewBytes is the least size of most requests.
 const fewBytes = 100
 
-// read makes a request of each line of a body.
+// read makes a request from each line of a body.
 func (c *covering) read(body []byte) {
 	requests := len(body)/fewBytes + 1
 	c.room, c.lines, c.jobs = make([]byte, 0, len(body)+len(body)/4), make([]lineAsked, 0, requests), make([]*engine.Job, 0, requests)
-	// A line of a journal is known by the one about it, which comes behind it.
+	// A line of a journal is recognized by the one about it, which follows it.
 	var held []byte
 	at, isBehind := 0, false
 	for ; len(body) > 0; c.count++ {
@@ -126,7 +126,7 @@ func (c *covering) read(body []byte) {
 	}
 }
 
-// line reads one line: a request, the inputs of one, or one of the other lines that `desk serve` takes, which is skipped.
+// line reads one line: a request, the inputs of one, or another line of `desk serve`, which is skipped.
 func (c *covering) line(number int, text []byte) {
 	it := lineAsked{number: number}
 	object, other, fault := c.reader.Read(text, lines.MaxNesting)
@@ -166,11 +166,11 @@ func (c *covering) line(number int, text []byte) {
 	c.lines = append(c.lines, it)
 }
 
-// An askedLine has the client, the service and the inputs of a line, as they are written.
+// An askedLine has the client, the service and the inputs of a line, as written.
 type askedLine struct{ client, service, inputs []byte }
 
-// requestIn gives the parts of a line that has a service and inputs, and nothing else but a client, and says whether it is
-// one.
+// requestIn returns the parts of a line that has a service and inputs, and at most a client besides, and reports
+// whether it is one.
 func requestIn(text []byte, members []lines.Member) (it askedLine, is bool) {
 	for _, member := range members {
 		value := text[member.Value.Start:member.Value.End]
@@ -188,7 +188,7 @@ func requestIn(text []byte, members []lines.Member) (it askedLine, is bool) {
 	return it, it.service != nil && it.inputs != nil
 }
 
-// serviceOf is the service whose name stands in quotes, or nil.
+// serviceOf returns the service with a quoted name, or nil.
 func (c *covering) serviceOf(quoted []byte) *decisionService {
 	if quoted[0] != '"' {
 		return nil
@@ -196,7 +196,7 @@ func (c *covering) serviceOf(quoted []byte) *decisionService {
 	return c.model.services[lines.Text(quoted)]
 }
 
-// isOther says whether a line is one of a model, a close or a resize.
+// isOther reports whether a line is one of a model, a close or a resize.
 func isOther(text []byte, members []lines.Member) bool {
 	keys := map[string]byte{}
 	for _, member := range members {
@@ -211,10 +211,10 @@ func isOther(text []byte, members []lines.Member) bool {
 	return len(keys) == 1 && keys["model"] == '{' || has("client", "close") || has("resize", "capacity")
 }
 
-// leastSlice is how many requests an engine is asked at least where several are asked at once.
+// leastSlice is the least number of requests for each engine when several are asked at once.
 const leastSlice = 2500
 
-// slices are the requests, in parts for several engines at once where they are many.
+// slices returns the requests, divided among several engines if they are many.
 func (c *covering) slices(most int) (slices [][]*engine.Job) {
 	count := len(c.jobs) / leastSlice
 	if count > most {
@@ -231,7 +231,7 @@ func (c *covering) slices(most int) (slices [][]*engine.Job) {
 	return slices
 }
 
-// ask has the requests explained, and counts what is told.
+// ask returns the requests explained, and counts the results.
 func (c *covering) ask(ctx context.Context, s *Service) (first *problem) {
 	ctx, stop := context.WithCancel(ctx)
 	defer stop()
@@ -270,7 +270,7 @@ func (c *covering) explain(ctx context.Context, explainer *engine.Explainer, job
 			it.problem = problemHuge.with("its explanation has over 16 MiB")
 			return nil
 		}
-		return of.told(it, text)
+		return of.tally(it, text)
 	})
 	c.mu.Lock()
 	defer c.mu.Unlock()
@@ -278,8 +278,8 @@ func (c *covering) explain(ctx context.Context, explainer *engine.Explainer, job
 	return err
 }
 
-// told counts what is told of a line, and keeps its answer.
-func (c *counting) told(it *lineAsked, text []byte) error {
+// tally counts the explanation of a line, and keeps its answer.
+func (c *counting) tally(it *lineAsked, text []byte) error {
 	answer, err := c.counts.Add(text)
 	switch {
 	case err != nil:
@@ -300,10 +300,10 @@ type serviceResult struct {
 	text string
 }
 
-// mostShown is how many results are kept as people have them, and how long each is at most.
+// mostShown is how many results are kept in the file's terms, and how long each may be.
 const mostShown = 1000
 
-// named is a result as people have it.
+// named returns a result in the file's terms.
 func (c *counting) named(of *decisionService, result []byte) []byte {
 	if shown, is := c.shown[serviceResult{of, string(result)}]; is {
 		return shown
@@ -315,10 +315,10 @@ func (c *counting) named(of *decisionService, result []byte) []byte {
 	return shown
 }
 
-// aroundAnswers and aroundAnswer are about how many bytes stand around the lists of an answer, and around what is told of a line.
+// aroundAnswers and aroundAnswer are about how many bytes surround the lists of an answer, and each line in it.
 const aroundAnswers, aroundAnswer = 64, 64
 
-// text is the answer: the counts of each table, and what became of each line.
+// text returns the answer: the counts of each table, and the result of each line.
 func (c *covering) text() ([]byte, error) {
 	var names []string
 	for _, decision := range c.model.lawful.Decisions {

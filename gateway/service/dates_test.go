@@ -12,7 +12,7 @@ import (
 	"gateway/engine"
 )
 
-// dated is what desk import writes of decisions over dates: a day is its number, of which 0001-01-01 is the first.
+// dated is the output of desk import for decisions over dates: a day is its number, counted from 1 for 0001-01-01.
 const dated = `{"model":{"inputs":["Due_Date","paid","today"],"decisions":[` +
 	`{"name":"late","needs":["Due_Date","paid"],"expr":"(paid - Due_Date) * 86400"},` +
 	`{"name":"next","needs":["Due_Date"],"expr":"Due_Date + 1"},` +
@@ -29,7 +29,7 @@ const dated = `{"model":{"inputs":["Due_Date","paid","today"],"decisions":[` +
 	`"day":{"type":["string","null"],"format":"date"}},"places":{` +
 	`"/decisions/2/expr/table/inputs/0":{"id":"","name":"","type":{"type":["string","null"],"format":"date"}}}}`
 
-// TestDatesOverHTTP sends dates, and has results and explanations with them.
+// TestDatesOverHTTP sends dates, and gets them in results and explanations.
 func TestDatesOverHTTP(t *testing.T) {
 	r := serve(t, dated, Options{})
 	defer r.stop(t)
@@ -71,7 +71,7 @@ func TestDatesOverHTTP(t *testing.T) {
 	}
 }
 
-// TestClockRefusedLeniently has a request with the day where inputs that the model doesn't have are ignored.
+// TestClockRefusedLeniently sends the day to a service that ignores unknown inputs.
 func TestClockRefusedLeniently(t *testing.T) {
 	r := serve(t, dated, Options{Lenient: true})
 	defer r.stop(t)
@@ -80,7 +80,7 @@ func TestClockRefusedLeniently(t *testing.T) {
 	}
 }
 
-// TestClockInJournal has the day in the journal, in the zone of the model.
+// TestClockInJournal finds the day in the journal, in the zone of the model.
 func TestClockInJournal(t *testing.T) {
 	folder := t.TempDir()
 	zone, err := calendar.Zone("Pacific/Kiritimati")
@@ -109,7 +109,7 @@ func TestClockInJournal(t *testing.T) {
 	}
 }
 
-// TestAskedBringsTheDay has a day in a request that comes by no caller: it stands for the clock's.
+// TestAskedBringsTheDay sends a day in a request that isn't from a caller: it replaces the clock's.
 func TestAskedBringsTheDay(t *testing.T) {
 	source, err := ReadSource([]byte(dated))
 	if err != nil {

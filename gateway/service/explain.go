@@ -11,14 +11,15 @@ import (
 )
 
 const (
-	// maxExplained is the most requests of a list of which it is told how their answers came about.
+	// maxExplained is the most requests of a list whose answers are explained.
 	maxExplained = 100
-	// ExplainPatience is how long that may take beside the deadline: a process is begun for it, and reads the model.
+	// ExplainPatience is how long that may take in addition to the deadline: it starts a process, which reads the
+	// model.
 	ExplainPatience = 20 * time.Second
 )
 
-// explain asks how the answers of a call came about: its results, and those that broke a limit. Where no engine was asked
-// before, the answers are those that are told with it.
+// explain explains the answers of a call: its results, and those that exceeded a limit. If no engine was asked before,
+// it also gives the answers.
 func (c *call) explain(ctx context.Context, misses bool) *problem {
 	var asked []*engine.Job
 	for _, job := range c.jobs {
@@ -31,9 +32,9 @@ func (c *call) explain(ctx context.Context, misses bool) *problem {
 	}
 	explainer := c.service.explainer(misses)
 	room := func(size int) bool { return c.hold(size) == nil }
-	var told []engine.Explanation
+	var explained []engine.Explanation
 	p := c.service.explained(ctx, theExplanation, func(ctx context.Context) (err error) {
-		told, err = explainer.Explain(ctx, c.model.engine, asked, room)
+		explained, err = explainer.Explain(ctx, c.model.engine, asked, room)
 		return err
 	})
 	if p != nil {
@@ -41,10 +42,10 @@ func (c *call) explain(ctx context.Context, misses bool) *problem {
 	}
 	c.explained = make([]engine.Explanation, len(c.outcomes))
 	for at, job := range asked {
-		told[at].Decisions = c.model.named(told[at].Decisions)
-		c.explained[job.Place] = told[at]
+		explained[at].Decisions = c.model.named(explained[at].Decisions)
+		c.explained[job.Place] = explained[at]
 		if c.isUnasked {
-			c.outcomes[job.Place] = told[at].Outcome
+			c.outcomes[job.Place] = explained[at].Outcome
 		}
 	}
 	return nil
@@ -54,13 +55,13 @@ func (s *Service) explainer(misses bool) *engine.Explainer {
 	return &engine.Explainer{Path: s.options.Engine, Memory: s.options.Memory, Misses: misses}
 }
 
-// What is asked of an engine beside the pool.
+// What is asked of an engine outside the pool.
 const (
 	theExplanation = "the explanation"
 	theTables      = "the check of the tables"
 )
 
-// explained has a place in which explanations are made, and bounds how long they take. What says what is asked.
+// explained runs explain when there is a place, and limits how long it takes. What says what is asked.
 func (s *Service) explained(ctx context.Context, what string, explain func(ctx context.Context) error) *problem {
 	select {
 	case s.explaining <- struct{}{}:
@@ -83,7 +84,7 @@ func (s *Service) explained(ctx context.Context, what string, explain func(ctx c
 	return problemDied.with(what + " failed")
 }
 
-// explanation is what is told of a request: nothing where that was not asked for.
+// explanation returns the explanation of a request; empty if not asked for.
 func (c *call) explanation(at int) engine.Explanation {
 	if c.explained == nil {
 		return engine.Explanation{}
@@ -91,25 +92,25 @@ func (c *call) explanation(at int) engine.Explanation {
 	return c.explained[at]
 }
 
-// named gives the decisions of an explanation the names of the file.
-func (m *served) named(told json.RawMessage) json.RawMessage {
-	if m.isTranslated && told != nil {
-		return m.countedNames(told)
+// named returns the decisions of an explanation the names of the file.
+func (m *served) named(explained json.RawMessage) json.RawMessage {
+	if m.isTranslated && explained != nil {
+		return m.countedNames(explained)
 	}
-	if len(m.words) == 0 || told == nil {
-		return told
+	if len(m.words) == 0 || explained == nil {
+		return explained
 	}
-	tree, err := lines.Tree(told)
+	tree, err := lines.Tree(explained)
 	if err != nil {
-		return told
+		return explained
 	}
 	m.nameDecisions(tree)
 	return lines.Compact(nil, tree)
 }
 
 // nameDecisions names the decisions of an explanation, with their parts.
-func (m *served) nameDecisions(told any) {
-	decisions, _ := told.([]any)
+func (m *served) nameDecisions(explained any) {
+	decisions, _ := explained.([]any)
 	for _, decision := range decisions {
 		members, is := decision.(map[string]any)
 		word, named := members["name"].(string)
@@ -130,7 +131,7 @@ func (m *served) nameDecisions(told any) {
 	}
 }
 
-// namePart names a part of an explanation: a decision, an entry, a member, a result, or a list of them.
+// namePart names a part of an explanation: a decision, an entry, a member, a result, or a list of these.
 func (m *served) namePart(part any) {
 	if parts, is := part.([]any); is {
 		for _, part := range parts {
@@ -159,7 +160,7 @@ func (m *served) namePart(part any) {
 	}
 }
 
-// nameValues names the entries of the values under some keys.
+// nameValues names the entries of the values of some keys.
 func (m *served) nameValues(members map[string]any, keys ...string) {
 	for _, key := range keys {
 		if value, is := members[key]; is {

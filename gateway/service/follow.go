@@ -14,9 +14,9 @@ import (
 )
 
 const (
-	// followPause is how often the folder of releases is looked at.
+	// followPause is the interval between looks at the folder of releases.
 	followPause = 500 * time.Millisecond
-	// againPause is how long a release that could not be put in force is not tried again.
+	// againPause is the time until a release that could not be put in force is tried again.
 	againPause = 5 * time.Second
 	// originRelease is the origin of a model from the folder of releases.
 	originRelease = "release"
@@ -24,13 +24,14 @@ const (
 
 // A following is what was last seen of the folder of releases.
 type following struct {
-	// seen is the text that names the release in force, failed when it could not be put in force, and said what was logged then.
+	// seen is the text that names the release in force, failed the time when it could not be put in force, and said
+	// what was logged then.
 	seen   []byte
 	failed time.Time
 	said   string
 }
 
-// follow puts the release in force that the folder names, whenever it names another, until the context ends.
+// follow puts the release that the folder names in force, whenever that changes, until the context ends.
 func (s *Service) follow(ctx context.Context) {
 	ticker := time.NewTicker(followPause)
 	defer ticker.Stop()
@@ -44,7 +45,7 @@ func (s *Service) follow(ctx context.Context) {
 	}
 }
 
-// followOnce looks at the folder once. With anew the release is read again though the folder names no other.
+// followOnce looks at the folder once. With anew it reads the release again even if the folder names the same one.
 func (s *Service) followOnce(ctx context.Context, anew bool) {
 	s.putting.Lock()
 	defer s.putting.Unlock()
@@ -72,7 +73,7 @@ func (s *Service) followOnce(ctx context.Context, anew bool) {
 	}
 }
 
-// switchTo puts a release in force, unless it is.
+// switchTo puts a release in force unless it already is.
 func (s *Service) switchTo(ctx context.Context, active *release.Active) error {
 	source, err := s.readRelease(active)
 	if err != nil {
@@ -90,7 +91,7 @@ func (s *Service) switchTo(ctx context.Context, active *release.Active) error {
 	}
 	s.inForce(ctx, model, func() {
 		s.logModel(fmt.Sprintf("the release %s is in force, put there by %s", model.called(), orNobody(active.Who)), before, model)
-		s.toldRelease(active.Who, before, model)
+		s.logRelease(active.Who, before, model)
 	})
 	return nil
 }
@@ -102,7 +103,7 @@ func orNobody(who string) string {
 	return who
 }
 
-// namedBy is what a release is called; never nil.
+// namedBy returns the name and version of a release; never nil.
 func (s *Source) namedBy() *Release {
 	if s.Release == nil {
 		return &Release{}
@@ -112,7 +113,7 @@ func (s *Source) namedBy() *Release {
 
 func (r releasePage) namedBy() *Release { return &r.Release }
 
-// called is a model's release by name and version, or by its file.
+// called returns a model's release by name and version, or by its file.
 func (m *served) called() string {
 	it := m.source.namedBy()
 	switch {
@@ -141,7 +142,7 @@ func (s *Service) readRelease(active *release.Active) (*Source, error) {
 	return source, nil
 }
 
-// firstRelease is the release in force at the start, or the model of the command line where the folder names none.
+// firstRelease returns the release in force at the start, or the model of the command line if the folder names none.
 func (s *Service) firstRelease(ctx context.Context) (*served, error) {
 	active, text, err := release.ReadActive(s.options.Releases)
 	if errors.Is(err, release.ErrNone) && s.options.Model != nil {
@@ -163,8 +164,8 @@ func (s *Service) firstRelease(ctx context.Context) (*served, error) {
 	return model, nil
 }
 
-// keepRelease writes a model that was put as a release, and names it as the one in force. Where only the one of a SHA-256 is to be
-// followed, it is the one that the folder names: another service may have put one that is not followed here yet.
+// keepRelease writes a model that was put as a release, and names it as the one in force. If after isn't empty, the
+// folder has to name the release with that SHA-256: another service may have put one that isn't followed here yet.
 func (s *Service) keepRelease(model *served, after string) error {
 	text, err := model.source.text()
 	if err != nil {
@@ -176,7 +177,7 @@ func (s *Service) keepRelease(model *served, after string) error {
 		if after == "" || before == nil {
 			return nil
 		}
-		// What can't be read is in force nowhere.
+		// A release that can't be read is in force nowhere.
 		if source, err := s.readRelease(before); err == nil && source.Sum() != after {
 			return fmt.Errorf("%w: the release in force has the SHA-256 %s", errMatch, source.Sum())
 		}
@@ -189,14 +190,14 @@ func (s *Service) keepRelease(model *served, after string) error {
 	return err
 }
 
-// errMatch says that another release is in force than the one that was to be followed.
+// errMatch means that the release in force isn't the expected one.
 var errMatch = errors.New("If-Match names another")
 
-// versionForm is the form of a version that is made of a time.
+// versionForm is the form of a version made from a time.
 const versionForm = "20060102T150405.000Z"
 
-// released says which release a model is that is put now: what the query or the body says, and else the name of the one
-// before with the time as version.
+// released returns the release of a model that is put now: named by the query or the body, or else by the name of the
+// previous one, with the time as version.
 func (s *Service) released(source *Source, before *served, who caller, query func(string) string) *Release {
 	now := time.Now().UTC()
 	it := *source.namedBy()
@@ -220,13 +221,13 @@ func (s *Service) released(source *Source, before *served, who caller, query fun
 	return &it
 }
 
-// maxCalled is how many bytes a name or a version has at most, maxWhy how many the reason has.
+// maxCalled is how many bytes a name or a version may have, maxWhy how many the reason.
 const (
 	maxCalled = 100
 	maxWhy    = 1000
 )
 
-// problem says what is wrong with what a release is called.
+// problem says what is wrong with the names of a release.
 func (r *Release) problem() *problem {
 	if !lines.IsText(r.Name, maxCalled) || !lines.IsText(r.Version, maxCalled) || r.Why != "" && !lines.IsText(r.Why, maxWhy) {
 		return problemHeader.with(fmt.Sprintf("a release's name and version are texts of 1 to %d bytes in UTF-8, and why is one of %d at most",

@@ -39,7 +39,7 @@ func activate(t *testing.T, folder, file string) {
 	}
 }
 
-// waitFor asks until the answer is the one that is due.
+// waitFor asks until the answer is the expected one.
 func (r *running) waitFor(t *testing.T, due string) time.Duration {
 	t.Helper()
 	begin := time.Now()
@@ -61,7 +61,7 @@ func (r *running) said() string {
 	return strings.Join(r.log, "\n")
 }
 
-// A release is put in force by a rename, and everything that tells the model in force tells it.
+// A release is put in force by a rename, and everything that names the model in force names it.
 func TestFollowsReleases(t *testing.T) {
 	folder := t.TempDir()
 	one, two := putRelease(t, folder, "adding", "1", adding(1)), putRelease(t, folder, "adding", "2", adding(2))
@@ -97,7 +97,7 @@ func TestFollowsReleases(t *testing.T) {
 	}
 }
 
-// A release that has a fault, or is not the one that was put in force, changes nothing; the next one is taken.
+// A release that has a fault, or isn't the one that was put in force, changes nothing. The next one is taken.
 func TestFaultyReleases(t *testing.T) {
 	folder := t.TempDir()
 	activate(t, folder, putRelease(t, folder, "adding", "1", adding(1)))
@@ -127,7 +127,7 @@ func (r *running) wait(t *testing.T, due string) {
 	}
 }
 
-// PUT makes a release, which a service that is started again serves, whatever the command line says.
+// PUT makes a release. A restarted service serves it, whatever the command line says.
 func TestPutMakesARelease(t *testing.T) {
 	folder := filepath.Join(t.TempDir(), "releases")
 	if err := os.Mkdir(folder, 0o700); err != nil {
@@ -174,7 +174,7 @@ func TestReleasesAreReadAgain(t *testing.T) {
 	r.waitFor(t, `{"result":6}`)
 }
 
-// What was put before is told at the start, with who put it, and by a metric.
+// A model put earlier is logged at the start, with who put it, and has a metric.
 func TestOverriddenModels(t *testing.T) {
 	state := filepath.Join(t.TempDir(), "state.json")
 	r := serve(t, adding(1), Options{State: state})
@@ -189,11 +189,11 @@ func TestOverriddenModels(t *testing.T) {
 		t.Errorf("%q", said)
 	}
 	if r.metric(t, "desk_http_model_overridden") != 1 {
-		t.Error("the metric does not tell it")
+		t.Error("the metric does not say so")
 	}
 }
 
-// Where there is a folder of releases its files win, and what was put before is told.
+// With a folder of releases its files win, and a model put earlier is logged.
 func TestReleasesWinOverWhatWasPut(t *testing.T) {
 	journal, folder := filepath.Join(t.TempDir(), "journal"), t.TempDir()
 	r := serve(t, adding(1), Options{Journal: journal})
@@ -211,7 +211,8 @@ func TestReleasesWinOverWhatWasPut(t *testing.T) {
 	}
 }
 
-// Who puts a release names it with the token's name; If-Match holds for what the folder names, which another service may have put.
+// A release has the name of the token that put it. If-Match refers to what the folder names, which another service may
+// have put.
 func TestPutFollowsWhatTheFolderNames(t *testing.T) {
 	folder := t.TempDir()
 	activate(t, folder, putRelease(t, folder, "adding", "1", adding(1)))
@@ -229,7 +230,7 @@ func TestPutFollowsWhatTheFolderNames(t *testing.T) {
 	if status, text := put(0, 2); status != 200 || !strings.Contains(text, `"who":"deploy"`) {
 		t.Errorf("%d %s", status, text)
 	}
-	// Whether the second service follows by now or not, it is another release that is in force.
+	// Whether or not the second service follows yet, another release is in force.
 	if status, text := put(1, 3); status != 412 || !strings.Contains(text, "/problems/match") {
 		t.Errorf("%d %s", status, text)
 	}
@@ -239,7 +240,7 @@ func TestPutFollowsWhatTheFolderNames(t *testing.T) {
 	}
 }
 
-// The file that names the release in force may be renamed by hand, and the log as JSON has a line for it.
+// The file that names the release in force may be renamed by hand, and the JSON log has a line for it.
 func TestRenamedByHand(t *testing.T) {
 	folder := t.TempDir()
 	activate(t, folder, putRelease(t, folder, "adding", "1", adding(1)))
@@ -271,7 +272,7 @@ func TestRenamedByHand(t *testing.T) {
 	}
 }
 
-// The file of a release is read once, and again where another is in its place; one that is gone is forgotten.
+// The file of a release is read once, and again when another takes its place. A removed one is forgotten.
 func TestReleasesAreReadOnce(t *testing.T) {
 	folder := t.TempDir()
 	file := putRelease(t, folder, "adding", "1", adding(1))

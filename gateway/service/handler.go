@@ -20,7 +20,7 @@ import (
 	"gateway/page"
 )
 
-// servicesPath is before the name of a service; listStart is the path of their list.
+// servicesPath comes before the name of a service; listStart is the path of their list.
 const (
 	servicesPath = "/v1/services/"
 	listStart    = "/v1/services"
@@ -30,7 +30,7 @@ func servicePath(name string) string {
 	return servicesPath + url.PathEscape(name)
 }
 
-// pages are the paths that don't depend on the model.
+// pages returns the paths that don't depend on the model.
 func (s *Service) pages() map[string]http.HandlerFunc {
 	pages := map[string]http.HandlerFunc{
 		"/v1/model":     s.modelPath,
@@ -54,7 +54,7 @@ func (s *Service) pages() map[string]http.HandlerFunc {
 	return pages
 }
 
-// handler finds what a path stands for.
+// handler returns the handler of all paths.
 func (s *Service) handler() http.Handler {
 	pages := s.pages()
 	below := map[string]http.HandlerFunc{"/problems/": s.problemsPath, explainStart: s.explainPath, page.Files: page.Handle}
@@ -100,7 +100,7 @@ func (s *Service) handler() http.Handler {
 			problemPath.with(r.URL.Path).write(w, id)
 			return
 		}
-		// A model that is put or checked may take long, and so may explanations; all else is at hand.
+		// Putting or checking a model may take long, and so may explanations. All else is at hand.
 		if r.Method != http.MethodPut && r.Method != http.MethodPost {
 			limitWrite(r, longAnswer+1)
 		}
@@ -108,7 +108,7 @@ func (s *Service) handler() http.Handler {
 	})
 }
 
-// adminHandler answers those who look after the service.
+// adminHandler answers operators.
 func (s *Service) adminHandler() http.Handler {
 	pages := map[string]http.HandlerFunc{"/healthz": s.healthPath, "/readyz": s.readyPath, "/metrics": s.metrics.handler().ServeHTTP}
 	return http.HandlerFunc(func(w http.ResponseWriter, r *http.Request) {
@@ -123,12 +123,12 @@ func (s *Service) adminHandler() http.Handler {
 	})
 }
 
-// maxID is the most bytes of a caller's id: with the number of a request in a list it is the name of a client in the
+// maxID is the most bytes of a caller's id. With the number of a request in a list it is a client's name in the
 // journal, which has at most 64.
 const maxID = 57
 
-// requestID is the caller's X-Request-Id where it is of 1 to 57 letters, digits and signs of `-._~:/+=@`, and else one that
-// begins with the time.
+// requestID returns the caller's X-Request-Id if it has 1 to 57 letters, digits and signs of `-._~:/+=@`, or else one
+// that begins with the time.
 func requestID(r *http.Request, now time.Time) string {
 	if values := r.Header["X-Request-Id"]; len(values) == 1 && isID(values[0]) {
 		return values[0]
@@ -136,10 +136,10 @@ func requestID(r *http.Request, now time.Time) string {
 	return ownID(now)
 }
 
-// idTime is how an id of the service's own begins.
+// idTime is the form of the beginning of generated ids.
 const idTime = "20060102T150405.000Z"
 
-// ownID is an id that no other call has.
+// ownID returns a unique id.
 func ownID(now time.Time) string {
 	id := make([]byte, 0, 48)
 	id = now.UTC().AppendFormat(id, idTime+"-")
@@ -147,7 +147,7 @@ func ownID(now time.Time) string {
 	return string(strconv.AppendUint(id, idCount.Add(1), 10))
 }
 
-// idStart and idCount tell the ids that are made apart: those of two processes, and those of one.
+// idStart distinguishes the ids of two processes, idCount those of one.
 var (
 	idStart = func() string {
 		var random [4]byte
@@ -171,7 +171,7 @@ func isID(id string) bool {
 	return true
 }
 
-// takes says whether a method is one of these, and answers where it is not.
+// takes reports whether a method is one of these, and answers if it isn't.
 func takes(w http.ResponseWriter, r *http.Request, methods ...string) bool {
 	for _, method := range methods {
 		if r.Method == method {
@@ -192,7 +192,7 @@ func writeJSON(w http.ResponseWriter, status int, text []byte) {
 	_, _ = w.Write(text)
 }
 
-// plainJSON writes a value as JSON, with nothing escaped that need not be.
+// plainJSON writes a value as JSON, with no unnecessary escapes.
 func plainJSON(value any) ([]byte, error) {
 	var text bytes.Buffer
 	encoder := json.NewEncoder(&text)
@@ -216,7 +216,7 @@ func (s *Service) healthPath(w http.ResponseWriter, r *http.Request) {
 	}
 }
 
-// unready says why requests are better sent elsewhere, or nothing.
+// unready says why requests should go elsewhere; empty if they needn't.
 func (s *Service) unready() string {
 	switch {
 	case s.stopping.Load():
@@ -239,7 +239,7 @@ func (s *Service) readyPath(w http.ResponseWriter, r *http.Request) {
 		return
 	}
 	if s.recorder != nil {
-		// What is gone under it is seen here too.
+		// This also notices if the journal's files are gone.
 		_ = s.recorder.journal.Look()
 	}
 	page := map[string]any{"status": "ready", "engines": s.pool.Ready(), "due": s.pool.Processes(),
@@ -302,11 +302,11 @@ func (s *Service) openAPIPath(w http.ResponseWriter, r *http.Request) {
 	writeJSON(w, http.StatusOK, page)
 }
 
-// longAnswer is the most bytes of an answer that the system takes whether the caller reads or not.
+// longAnswer is the most bytes of an answer that the system takes whether or not the caller reads.
 const longAnswer = 4096
 
-// limitWrite bounds how long a caller may take to read an answer of this many bytes. Without it the limit is that of the
-// whole exchange.
+// limitWrite limits how long a caller may take to read an answer of this many bytes. Without it the limit is that of
+// the whole exchange.
 func limitWrite(r *http.Request, bytes int) {
 	if bytes <= longAnswer {
 		return

@@ -11,15 +11,15 @@ import (
 )
 
 const (
-	// handshakePatience is how long a connection that has begun may take to be there.
+	// handshakePatience is how long a connection may take to be established once it has begun.
 	handshakePatience = 250 * time.Millisecond
-	// acceptPatience is how long connections that are there may take to be accepted.
+	// acceptPatience is how long established connections may take to be accepted.
 	acceptPatience = 2 * time.Second
 )
 
-// shutOut lets no connection begin at a socket any more, and waits until those that have begun are accepted: what waits in
-// the kernel when a socket is closed is reset, though its caller may have sent a request. Callers that come meanwhile have no
-// answer from the kernel; they try again after a second, and are refused once the socket is closed.
+// shutOut stops new connections at a socket, and waits until those that have begun are accepted. The kernel resets
+// connections that still wait when a socket is closed, though their callers may have sent a request. Meanwhile new
+// callers get no answer from the kernel; they try again after a second, and are refused once the socket is closed.
 func shutOut(listener net.Listener) error {
 	socket, is := listener.(*net.TCPListener)
 	if !is {
@@ -39,14 +39,14 @@ func shutOut(listener net.Listener) error {
 	return nil
 }
 
-// Places in a TCP header.
+// Offsets in a TCP header.
 const (
 	flagsAt = 13
 	flagSYN = 0x02
 	flagACK = 0x10
 )
 
-// dropBeginnings has the kernel drop what would begin a connection: a segment with SYN and without ACK.
+// dropBeginnings makes the kernel drop segments that begin a connection: those with SYN and without ACK.
 func dropBeginnings(raw syscall.RawConn) error {
 	program, err := bpf.Assemble([]bpf.Instruction{
 		bpf.LoadAbsolute{Off: flagsAt, Size: 1},
@@ -73,11 +73,11 @@ func dropBeginnings(raw syscall.RawConn) error {
 	return err
 }
 
-// waiting is how many connections wait to be accepted.
+// waiting returns how many connections wait to be accepted.
 func waiting(raw syscall.RawConn) int {
 	count := 0
 	_ = raw.Control(func(descriptor uintptr) {
-		// Of a socket that listens, this number is that of the connections in its queue.
+		// For a listening socket this is the number of connections in its queue.
 		if info, err := unix.GetsockoptTCPInfo(int(descriptor), unix.IPPROTO_TCP, unix.TCP_INFO); err == nil {
 			count = int(info.Unacked)
 		}

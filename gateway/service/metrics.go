@@ -11,14 +11,14 @@ import (
 	"github.com/prometheus/client_golang/prometheus/promhttp"
 )
 
-// metrics are what /metrics tells. docs/OPERATIONS.md says what each means.
+// metrics are the metrics of /metrics. docs/OPERATIONS.md says what each means.
 type metrics struct {
 	registry *prometheus.Registry
 	calls    *prometheus.CounterVec
 	seconds  prometheus.Histogram
 	requests *prometheus.CounterVec
 	restarts prometheus.Counter
-	// refusedConnections counts those for which their address had no place.
+	// refusedConnections counts connections whose address had no place.
 	refusedConnections prometheus.Counter
 	puts               *prometheus.CounterVec
 	// releaseFaults counts releases that could not be put in force.
@@ -27,7 +27,7 @@ type metrics struct {
 
 	journalLines, journalBytes, journalFaults prometheus.Counter
 	journalSeconds                            prometheus.Histogram
-	// lastFault is the second at which a fault of the journal was last logged.
+	// lastFault is the second at which a journal fault was last logged.
 	lastFault atomic.Int64
 	// ok and result are the counters of the most frequent labels.
 	ok, result prometheus.Counter
@@ -71,7 +71,7 @@ func newMetrics(s *Service) *metrics {
 	return m
 }
 
-// gauges are read when they are asked for.
+// gauges registers the metrics that are read on request.
 func (m *metrics) gauges(s *Service) {
 	gauge := func(name, help string, read func() float64) {
 		m.registry.MustRegister(prometheus.NewGaugeFunc(
@@ -106,16 +106,16 @@ func (m *metrics) gauges(s *Service) {
 	})
 }
 
-// modelInfo is a metric whose labels say which model is in force.
+// modelInfo is a metric whose labels name the model in force.
 type modelInfo struct{ of *Service }
 
 var modelInfoForm = prometheus.NewDesc("desk_model_info", "1, with labels that say which model is in force.",
 	[]string{"name", "version", "sha256", "origin"}, nil)
 
-// Describe says what is collected.
+// Describe sends the description of the metric.
 func (i *modelInfo) Describe(to chan<- *prometheus.Desc) { to <- modelInfoForm }
 
-// Collect gives the metric.
+// Collect sends the metric.
 func (i *modelInfo) Collect(to chan<- prometheus.Metric) {
 	model := i.of.model.Load()
 	if model == nil {
@@ -159,7 +159,7 @@ func (m *metrics) asked(c *call) {
 	}
 }
 
-// synced counts a group of the journal.
+// synced counts a synced group of journal lines.
 func (m *metrics) synced(lines int, bytes int64, took time.Duration, err error) {
 	m.journalSeconds.Observe(took.Seconds())
 	if err != nil {

@@ -7,61 +7,62 @@ import (
 	"time"
 )
 
-// Options says what a service is to do.
+// Options say what a service should do.
 type Options struct {
 	// Engine is the file of the engine.
 	Engine string
-	// Model is the one of the command line, and Named is how the command line calls it.
+	// Model is from the command line, Named is how that names it.
 	Model *Source
 	Named string
-	// ReadDMN reads .dmn files that are put; nil where none are read.
+	// ReadDMN reads .dmn files that are put; nil if they are refused.
 	ReadDMN func(text []byte) (*Source, error)
-	// Trier holds models against each other over the journal; nil where none are.
+	// Trier compares models over the journal; nil if that is refused.
 	Trier Trier
-	// Listener is where connections come in. Shared says that its socket stays open when the service ends, so that what waits
-	// there is taken by another process.
+	// Listener accepts connections. Shared means that its socket stays open when the service ends, so that another
+	// process takes the waiting connections.
 	Listener net.Listener
 	Shared   bool
-	// Admin is where those look after the service who do; nil where they come in by Listener too.
+	// Admin accepts connections of operators; nil if they use Listener too.
 	Admin net.Listener
-	// TLS has the certificates of connections; nil where they are in the clear. Reload reads its files again.
+	// TLS has the certificates of connections; nil for plain text. Reload reads its files again.
 	TLS    *tls.Config
 	Reload func() error
-	// OpenPartitions lets partitions answer the calls, by the model whose line it is given; nil where the engines do. Wait is how long
-	// a call waits for them.
+	// OpenPartitions opens partitions that answer the calls, given the model's line; nil if engines answer. Wait is how
+	// long a call waits for them.
 	OpenPartitions func(model []byte) (Partitions, error)
 	Wait           time.Duration
-	// IsOpen says that anyone may call.
+	// IsOpen lets anyone call.
 	IsOpen bool
 	// AddressLimit is the most connections of one address at once.
 	AddressLimit int
-	// Lenient takes inputs that a service doesn't know, and leaves them aside, also where the model has the types of its inputs.
+	// Lenient ignores inputs that a service doesn't know, even if the model has the types of its inputs.
 	Lenient bool
-	// Processes is the number of engines, Memory the limit of the address space of each in bytes (0 is none), and
-	// Deadline how long an engine may be at one request.
+	// Processes is the number of engines, Memory the limit of each one's address space in bytes (0 is none), and
+	// Deadline how long an engine may take for one request.
 	Processes int
 	Memory    uint64
 	Deadline  time.Duration
-	// Tokens is a file of tokens, Journal a folder, State a file that keeps the model last put; each may be empty.
+	// Tokens is a file of tokens, Journal a folder, State a file that keeps the model last put. Each may be empty.
 	Tokens, Journal, State string
-	// Releases is the folder of releases that is followed, or empty.
+	// Releases is the folder of releases to follow, or empty.
 	Releases string
-	// JournalSize is about how many bytes a file of the journal has at most. Keep is how long its files are kept, and
-	// JournalLimit how many bytes they have at most in all; 0 is forever, and any.
+	// JournalSize is about how many bytes a journal file may have. Keep is how long files are kept, and JournalLimit
+	// how many bytes they may have in all; 0 is no limit.
 	JournalSize, JournalLimit int64
 	Keep                      time.Duration
-	// Redact has the names of inputs whose values the journal is not to have, RedactKey the file of the key of their sums.
+	// Redact has the names of inputs whose values stay out of the journal, RedactKey the file with the key of their
+	// sums.
 	Redact    []string
 	RedactKey string
 	// Version is this program's.
 	Version string
-	// ClientLimit and Limit are the most requests of one client and in all that are taken and not yet answered.
+	// ClientLimit and Limit are the most unanswered requests of one client and in all.
 	ClientLimit, Limit int
 	// Log writes a line for the operator.
 	Log func(form string, words ...any)
-	// Access writes a line of the log as JSON: one for each call, put, release and refused token; nil where the log has text.
+	// Access writes a line of the JSON log: one for each call, put, release and refused token; nil if the log is text.
 	Access func(line []byte)
-	// Turn is sent to whenever the journal is to begin new files and the tokens are to be read again.
+	// Turn receives when the journal should begin new files and the tokens should be read again.
 	Turn <-chan struct{}
 }
 
@@ -71,11 +72,11 @@ const (
 	MaxBody = 16 << 20
 	// MaxList is the most requests in one call.
 	MaxList = 10_000
-	// bodiesLimit is the most bytes of bodies that are read and not yet answered, in all.
+	// bodiesLimit is the most bytes of unanswered bodies, in all.
 	bodiesLimit = 256 << 20
-	// MaxConnections is the most connections at once; more wait until one ends.
+	// MaxConnections is the most connections at once. More wait until one ends.
 	MaxConnections = 8192
-	// maxAdmin is the most at once of those who look after the service.
+	// maxAdmin is the most connections of operators at once.
 	maxAdmin  = 256
 	maxHeader = 16 << 10
 
@@ -83,24 +84,24 @@ const (
 	readPatience   = 30 * time.Second
 	writePatience  = 30 * time.Second
 	idlePatience   = 75 * time.Second
-	// waitPatience is how long a request may wait until an engine is asked.
+	// waitPatience is how long a request may wait for an engine.
 	waitPatience = 30 * time.Second
-	// drainPatience is how long connections that are kept open may bring one more request once the service is to end.
+	// drainPatience is how long open connections may bring another request once the service is ending.
 	drainPatience = 2 * time.Second
-	// stopPatience is how long what was taken may take then.
+	// stopPatience is how long accepted requests may take then.
 	stopPatience = 45 * time.Second
-	// putPatience is how long engines may take until they have a new model.
+	// putPatience is how long engines may take to get a new model.
 	putPatience = 60 * time.Second
-	// engineRequests is the most that an engine has at once.
+	// engineRequests is the most requests that an engine has at once.
 	engineRequests = 128
 )
 
-// answerPatience is the longest that an answer can take, from the request's header on.
+// answerPatience returns the longest that an answer can take, from the request's header on.
 func (o *Options) answerPatience() time.Duration {
 	return readPatience + waitPatience + (engineRequests+2)*o.Deadline + writePatience
 }
 
-// Check says what is wrong with the numbers of the options.
+// Check says what is wrong with the numbers in the options.
 func (o *Options) Check() error {
 	switch {
 	case o.Processes < 1 || o.Processes > 64:

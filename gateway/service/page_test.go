@@ -12,7 +12,7 @@ import (
 	"gateway/engine"
 )
 
-// The page is given with a policy that lets nothing else be loaded or run.
+// The page comes with a policy that lets nothing else be loaded or run.
 func TestPage(t *testing.T) {
 	r := serve(t, adding(1), Options{})
 	defer r.stop(t)
@@ -41,7 +41,7 @@ func TestPage(t *testing.T) {
 	}
 }
 
-// A model that is checked can be tried, and is not put in force; what is asked of it stands in no journal.
+// A checked model can be tried, and is not put in force. Requests to it are not journaled.
 func TestCheckedModels(t *testing.T) {
 	folder := t.TempDir()
 	r := serve(t, adding(1), Options{Journal: folder})
@@ -55,7 +55,7 @@ func TestCheckedModels(t *testing.T) {
 	if err := json.Unmarshal([]byte(text), &whole); err != nil || status != 200 || !whole.Lawful || len(whole.Model.Inputs) != 2 {
 		t.Fatalf("%d %s", status, text)
 	}
-	// The input b is needed nowhere.
+	// Nothing needs the input b.
 	if len(whole.Findings) != 1 || !strings.Contains(string(whole.Findings[0]), `"unneeded"`) {
 		t.Errorf("the findings are %s", whole.Findings)
 	}
@@ -96,7 +96,7 @@ func TestCheckedModels(t *testing.T) {
 		lines += strings.Count(string(text), `"service":`)
 	}
 	if lines != 1 {
-		t.Errorf("%d requests stand in the journal, and 1 is due", lines)
+		t.Errorf("%d requests are in the journal, not 1", lines)
 	}
 }
 
@@ -115,7 +115,7 @@ func TestNamedExplanations(t *testing.T) {
 	}
 }
 
-// first is a model of the service s, whose table has three rules of which the first that hits decides.
+// first returns a model of the service s, whose table has three rules, the first hit of which decides.
 const first = `{"inputs":["a"],"decisions":[{"name":"d","needs":["a"],"expr":{"table":{"hit":"F","inputs":["a"],"outputs":` +
 	`[{"name":"o"}],"rules":[{"when":["> 5"],"then":["\"many\""]},{"when":["> 3"],"then":["\"some\""]},{"when":["9"],"then":["a"]}]}}}],` +
 	`"services":[{"name":"s","outputs":["d"],"encapsulated":[],"inputDecisions":[],"inputData":["a"]}]}`
@@ -134,7 +134,7 @@ func TestCoverage(t *testing.T) {
 [1]
 {"a":`
 	status, text, _ := send(t, "POST", r.url+"/v1/coverage?service=s", body)
-	var told struct {
+	var coverage struct {
 		Tables map[string]struct {
 			Asked, None int
 			Hits        []int
@@ -146,15 +146,15 @@ func TestCoverage(t *testing.T) {
 			Result          any
 		}
 	}
-	if err := json.Unmarshal([]byte(text), &told); err != nil || status != 200 {
+	if err := json.Unmarshal([]byte(text), &coverage); err != nil || status != 200 {
 		t.Fatalf("%d %s", status, text)
 	}
-	table := told.Tables["/decisions/0/expr/table"]
-	if told.Lines != 10 || len(told.Tables) != 1 || table.Asked != 3 || table.None != 1 || fmt.Sprint(table.Hits) != "[1 2 1]" {
-		t.Errorf("%d lines, and the tables are %+v", told.Lines, told.Tables)
+	table := coverage.Tables["/decisions/0/expr/table"]
+	if coverage.Lines != 10 || len(coverage.Tables) != 1 || table.Asked != 3 || table.None != 1 || fmt.Sprint(table.Hits) != "[1 2 1]" {
+		t.Errorf("%d lines, and the tables are %+v", coverage.Lines, coverage.Tables)
 	}
 	var said []string
-	for _, it := range told.Answers {
+	for _, it := range coverage.Answers {
 		said = append(said, fmt.Sprint(it.Line, it.Client, it.Problem, it.Result))
 	}
 	due := "1x many|4 some|5 <nil>|6yservice<nil>|8yvalue<nil>|9shape<nil>|10syntax<nil>"
@@ -170,7 +170,7 @@ func TestCoverage(t *testing.T) {
 	}
 }
 
-// Of many requests several engines are asked at once, and the answers stand in the order of the lines.
+// Many requests go to several engines at once, and the answers are in the order of the lines.
 func TestCoverageInSlices(t *testing.T) {
 	r := serve(t, first, Options{Processes: 3})
 	defer r.stop(t)
@@ -194,24 +194,24 @@ func TestCoverageInSlices(t *testing.T) {
 		}
 	}
 	status, text, _ := send(t, "POST", r.url+"/v1/coverage?service=s", body.String())
-	var told struct {
+	var coverage struct {
 		Tables  map[string]struct{ Hits []int }
 		Answers []struct{ Result json.RawMessage }
 	}
-	if err := json.Unmarshal([]byte(text), &told); err != nil || status != 200 || len(told.Answers) != len(due) {
-		t.Fatalf("%d, %d answers: %.200s", status, len(told.Answers), text)
+	if err := json.Unmarshal([]byte(text), &coverage); err != nil || status != 200 || len(coverage.Answers) != len(due) {
+		t.Fatalf("%d, %d answers: %.200s", status, len(coverage.Answers), text)
 	}
-	for at, answer := range told.Answers {
+	for at, answer := range coverage.Answers {
 		if string(answer.Result) != due[at] {
 			t.Fatalf("answer %d is %s, and %s is due", at, answer.Result, due[at])
 		}
 	}
-	if got := told.Tables["/decisions/0/expr/table"].Hits; fmt.Sprint(got) != fmt.Sprint(hits) {
+	if got := coverage.Tables["/decisions/0/expr/table"].Hits; fmt.Sprint(got) != fmt.Sprint(hits) {
 		t.Errorf("the hits are %v, and %v is due", got, hits)
 	}
 }
 
-// What many requests are parted into has each of them once, in order.
+// The slices of many requests have each of them once, in order.
 func TestSlices(t *testing.T) {
 	for _, it := range []struct{ count, most, due int }{{0, 4, 0}, {1, 4, 1}, {2*leastSlice - 1, 4, 1}, {2 * leastSlice, 4, 2},
 		{20 * leastSlice, 4, 4}, {5*leastSlice + 3, 1, 1}} {
@@ -234,8 +234,8 @@ func TestSlices(t *testing.T) {
 	}
 }
 
-// standIn is an engine that tells of tables what stands in a file, and otherwise is the engine.
-func standIn(t *testing.T, told string) string {
+// standIn returns a program that prints a file for the check of tables, and otherwise is the engine.
+func standIn(t *testing.T, lines string) string {
 	t.Helper()
 	folder := t.TempDir()
 	real, err := filepath.Abs(desk())
@@ -243,8 +243,8 @@ func standIn(t *testing.T, told string) string {
 		t.Fatal(err)
 	}
 	script := fmt.Sprintf("#!/bin/sh\ncase \"$*\" in\n\"help check\") echo '  --tables' ;;\n\"check --json --tables\") cat > /dev/null; "+
-		"cat %q ;;\n*) exec %q \"$@\" ;;\nesac\n", filepath.Join(folder, "told"), real)
-	for name, text := range map[string]string{"told": told, "engine": script} {
+		"cat %q ;;\n*) exec %q \"$@\" ;;\nesac\n", filepath.Join(folder, "lines"), real)
+	for name, text := range map[string]string{"lines": lines, "engine": script} {
 		if err := os.WriteFile(filepath.Join(folder, name), []byte(text), 0o755); err != nil {
 			t.Fatal(err)
 		}
@@ -252,15 +252,15 @@ func standIn(t *testing.T, told string) string {
 	return filepath.Join(folder, "engine")
 }
 
-// What the check finds of tables is told of the model in force and of one that is checked, where the engine tells it.
+// The findings about tables are given for the model in force and for a checked one, if the engine has them.
 func TestTables(t *testing.T) {
 	const model = `{"inputs":["a"],"decisions":[{"name":"d","needs":["a"],"expr":{"table":{"hit":"F","inputs":["a"],"outputs":[{"name":"x"}],` +
 		`"rules":[{"when":["[5..3]"],"then":["1"]}]}}}],"services":[{"name":"s","outputs":["d"],"encapsulated":[],"inputDecisions":[],"inputData":["a"]}]}`
-	told := `{"lawful":true}` + "\n" + `{"table":"/decisions/0/expr/table","complete":false,"steps":7}` + "\n" + `{"finding":"never","rules":[0]}` + "\n"
+	lines := `{"lawful":true}` + "\n" + `{"table":"/decisions/0/expr/table","complete":false,"steps":7}` + "\n" + `{"finding":"never","rules":[0]}` + "\n"
 	// The model is written with sorted keys: {"decisions":[{"expr":{"table":{.
 	const place = `"table":"/decisions/0/expr/table","line":1,"column":32`
 	due := `"tables":[{` + place + `,"complete":false,"asked":null,"words":null,"steps":7},{"finding":"never",` + place + `,"rules":[1]}]`
-	for _, it := range []struct{ engine, due string }{{standIn(t, told), due}, {standIn(t, `{"lawful":true}`+"\n"), `"tables":[]`}} {
+	for _, it := range []struct{ engine, due string }{{standIn(t, lines), due}, {standIn(t, `{"lawful":true}`+"\n"), `"tables":[]`}} {
 		r := serve(t, model, Options{Engine: it.engine, Processes: 1})
 		for _, call := range []struct{ method, path, body string }{{"GET", "/v1/tables", ""}, {"POST", "/v1/check", model}} {
 			if status, text, _ := send(t, call.method, r.url+call.path, call.body); status != 200 || !strings.Contains(text, it.due) {
@@ -270,7 +270,7 @@ func TestTables(t *testing.T) {
 		if status, _, _ := send(t, "GET", r.url+"/v1/tables?model=abc", ""); status != 404 {
 			t.Errorf("another model: %d", status)
 		}
-		// The model as such is told without waiting for it.
+		// The model itself is answered without waiting for that.
 		if _, text, _ := send(t, "GET", r.url+"/v1/model?whole=true", ""); !strings.Contains(text, `"tables":null,"tablesMissing":"unasked"`) {
 			t.Errorf("it is said unasked: %s", text)
 		}
@@ -278,7 +278,7 @@ func TestTables(t *testing.T) {
 	}
 }
 
-// An engine that does not tell what it finds of tables is not asked.
+// An engine that doesn't report findings about tables isn't asked.
 func TestNoTables(t *testing.T) {
 	engine := standIn(t, "")
 	text, err := os.ReadFile(engine)
@@ -295,9 +295,9 @@ func TestNoTables(t *testing.T) {
 	}
 }
 
-// A check whose tables could not be made says why; one of a model without tables has none.
+// A check says why the tables could not be checked; one of a model without tables has no reason.
 func TestMissingTables(t *testing.T) {
-	// The engine ends where it would tell of the tables.
+	// The engine ends when it should report on the tables.
 	engine := standIn(t, "")
 	text, err := os.ReadFile(engine)
 	if err != nil {
@@ -320,7 +320,7 @@ func TestMissingTables(t *testing.T) {
 	}
 }
 
-// Of the models that were checked, the last ones are kept, each once.
+// The last checked models are kept, each once.
 func TestShelf(t *testing.T) {
 	var s shelf
 	of := func(n int) *served {

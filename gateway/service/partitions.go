@@ -14,14 +14,15 @@ import (
 
 // Partitions answer the calls in place of the service's engines.
 type Partitions interface {
-	// Put puts the requests of a call in. Each job is told of its answer.
+	// Put puts the requests of a call in. Each job gets its answer.
 	Put(call calls.Call, jobs []*engine.Job) error
-	// IsSent says whether the partitions have each of so many requests of a call: then it is answered for sure.
+	// IsSent reports whether the partitions have all requests of a call. It is then sure to be answered.
 	IsSent(id string, requests int) bool
-	// Find is what is kept of the answers to a call, or nil. IsOver says of a call that was made then whether they are kept no longer.
+	// Find returns what is kept of the answers to a call, or nil. IsOver reports whether a call's answers are no longer
+	// kept.
 	Find(id string) *calls.Kept
 	IsOver(made time.Time) bool
-	// Ready says whether each partition is reached, and in words.
+	// Ready reports whether each partition is reachable, and in words.
 	Ready() (bool, string)
 	// Done is closed once nothing more is sent, and Err says why.
 	Done() <-chan struct{}
@@ -30,7 +31,7 @@ type Partitions interface {
 	Close(ctx context.Context) error
 }
 
-// answersPath is before the id of a call that was answered with status 202.
+// answersPath comes before the id of a call that was answered with status 202.
 const answersPath = "/v1/answers/"
 
 var (
@@ -40,10 +41,10 @@ var (
 		"Answers of partitions are kept for as long as --keep-answers says, and as long as there is room."}
 )
 
-// errLater says that a call has no answer yet, and is asked for later.
+// errLater means that a call has no answer yet, and should be asked for later.
 var errLater = errors.New("the answer comes later")
 
-// openPartitions lets partitions answer by the model.
+// openPartitions opens the partitions for the model.
 func (s *Service) openPartitions() error {
 	if s.options.OpenPartitions == nil {
 		return nil
@@ -53,7 +54,7 @@ func (s *Service) openPartitions() error {
 	return err
 }
 
-// partitionsEnded is closed if the partitions can't be asked any longer, and nil where there are none.
+// partitionsEnded returns a channel that is closed if the partitions can't be asked any longer; nil if there are none.
 func (s *Service) partitionsEnded() <-chan struct{} {
 	if s.partitions == nil {
 		return nil
@@ -73,7 +74,8 @@ func (c *call) hand(client, id string) error {
 	return c.service.partitions.Put(calls.Call{ID: id, Key: key, Service: c.decision.word, IsList: c.isList}, c.jobs)
 }
 
-// wholeProblem is the problem of a list of which partitions could not answer each request, or nil: it is put in as a whole.
+// wholeProblem returns the problem of a list if partitions could not answer one of its requests, as it is put in as a
+// whole; else nil.
 func (c *call) wholeProblem() *problem {
 	if c.service.partitions == nil || !c.isList {
 		return nil
@@ -88,7 +90,7 @@ func (c *call) wholeProblem() *problem {
 	return nil
 }
 
-// waitPartitions waits for all outcomes, but no longer than partitions are waited for.
+// waitPartitions waits for all outcomes, up to the limit for partitions.
 func (c *call) waitPartitions(ctx context.Context) error {
 	while := time.NewTimer(c.service.options.Wait)
 	defer while.Stop()
@@ -102,7 +104,7 @@ func (c *call) waitPartitions(ctx context.Context) error {
 	}
 }
 
-// later answers a call whose answer comes later, and gives the status.
+// later answers a call whose answer comes later, and returns the status.
 func (c *call) later(w http.ResponseWriter, id, asked string) int {
 	w.Header()["Location"] = []string{answersPath + asked}
 	if !c.service.partitions.IsSent(asked, len(c.jobs)) {
@@ -112,14 +114,14 @@ func (c *call) later(w http.ResponseWriter, id, asked string) int {
 	return writeWaiting(w, asked)
 }
 
-// writeWaiting says that an answer is not there yet, and gives the status.
+// writeWaiting says that an answer isn't there yet, and returns the status.
 func writeWaiting(w http.ResponseWriter, id string) int {
 	w.Header()["Retry-After"] = []string{"1"}
 	writePage(w, http.StatusAccepted, map[string]string{"status": "waiting", "answer": answersPath + id})
 	return http.StatusAccepted
 }
 
-// answersOf answers GET /v1/answers/ID with the answer to a call, as the call would have had it.
+// answersOf answers GET /v1/answers/ID with the answer that the call would have had.
 func (s *Service) answersOf(w http.ResponseWriter, r *http.Request) {
 	own := w.Header().Get("X-Request-Id")
 	if !takes(w, r, http.MethodGet, http.MethodHead) {
@@ -152,7 +154,7 @@ func (s *Service) answersOf(w http.ResponseWriter, r *http.Request) {
 	}
 }
 
-// writeKept gives the answer to a call as the call would have had it.
+// writeKept writes the answer that the call would have had.
 func (s *Service) writeKept(w http.ResponseWriter, r *http.Request, id string, found *calls.Kept) {
 	model := s.model.Load()
 	of := model.services[found.Service]

@@ -15,7 +15,7 @@ import (
 	"gateway/rabbit/calls"
 )
 
-// Slow partitions answer once they are let: to a request its inputs, as text.
+// slowPartitions answer when allowed: a request's answer is its inputs, as text.
 type slowPartitions struct {
 	mutex     sync.Mutex
 	line      string
@@ -23,7 +23,7 @@ type slowPartitions struct {
 	waiting   map[string][]*engine.Job
 	kept      map[string]*calls.Kept
 	keys      map[string]string
-	at        bool // whether they answer at once
+	at        bool // whether to answer at once
 }
 
 func (p *slowPartitions) Put(call calls.Call, jobs []*engine.Job) error {
@@ -65,7 +65,7 @@ func (p *slowPartitions) Done() <-chan struct{}       { return nil }
 func (p *slowPartitions) Err() error                  { return nil }
 func (p *slowPartitions) Close(context.Context) error { return nil }
 
-// asked is what a path answers.
+// asked returns the answer of a path.
 func asked(t *testing.T, method, url, client, body string) (*http.Response, string) {
 	t.Helper()
 	request, err := http.NewRequest(method, url, strings.NewReader(body))
@@ -87,7 +87,7 @@ func asked(t *testing.T, method, url, client, body string) (*http.Response, stri
 	return response, string(text)
 }
 
-// A call waits for the partitions; where that takes longer, status 202 says where its own client asks later.
+// A call waits for the partitions. If that takes too long, status 202 says where its own client can ask later.
 func TestPartitionsAnswer(t *testing.T) {
 	p := &slowPartitions{waiting: map[string][]*engine.Job{}, kept: map[string]*calls.Kept{}, keys: map[string]string{}, at: true, confirmed: true}
 	r := serve(t, adding(1), Options{Wait: 50 * time.Millisecond, OpenPartitions: func(line []byte) (Partitions, error) {
@@ -131,7 +131,7 @@ func TestPartitionsAnswer(t *testing.T) {
 	}
 }
 
-// What partitions can't do is refused, and a request that no broker confirmed isn't said to be taken.
+// What partitions can't do is refused, and a request that no broker confirmed isn't reported as accepted.
 func TestPartitionsThatCannot(t *testing.T) {
 	p := &slowPartitions{waiting: map[string][]*engine.Job{}, kept: map[string]*calls.Kept{}, keys: map[string]string{}}
 	r := serve(t, adding(1), Options{Wait: 50 * time.Millisecond, OpenPartitions: func([]byte) (Partitions, error) { return p, nil }})

@@ -6,7 +6,7 @@ import (
 	"strconv"
 )
 
-// A problemKind is a kind of error: what its type's page says of it.
+// A problemKind is a kind of error, with the content of its type's page.
 type problemKind struct {
 	word   string
 	status int
@@ -107,17 +107,17 @@ type problem struct {
 	Status  int    `json:"status"`
 	Detail  string `json:"detail,omitempty"`
 	Request string `json:"request,omitempty"`
-	// Pointer is the JSON Pointer of the value that is not taken, within the inputs.
+	// Pointer is the JSON Pointer of the refused value within the inputs.
 	Pointer *string `json:"pointer,omitempty"`
-	// Line and Column are those at which reading stops.
+	// Line and Column are where reading stopped.
 	Line   int `json:"line,omitempty"`
 	Column int `json:"column,omitempty"`
-	// Services are those that there are.
+	// Services are the existing ones.
 	Services []string `json:"services,omitempty"`
-	// Fault is the first fault of a model, and Errors has all its places.
+	// Fault is the first fault of a model, and Errors has all places.
 	Fault  string            `json:"fault,omitempty"`
 	Errors []json.RawMessage `json:"errors,omitempty"`
-	// Decisions tell how it came to the problem, where that was asked for. Explained is "long" where they are too long.
+	// Decisions explain the problem if asked for. Explained is "long" if they are too long.
 	Decisions json.RawMessage `json:"decisions,omitempty"`
 	Explained string          `json:"explained,omitempty"`
 
@@ -128,14 +128,14 @@ func (k *problemKind) with(detail string) *problem {
 	return &problem{kind: k, Type: "/problems/" + k.word, Title: k.title, Status: k.status, Detail: detail}
 }
 
-// at is a problem of one value.
+// at returns a problem of one value.
 func (k *problemKind) at(pointer, detail string) *problem {
 	p := k.with(detail)
 	p.Pointer = &pointer
 	return p
 }
 
-// text is the problem as JSON.
+// text returns the problem as JSON.
 func (p *problem) text() []byte {
 	text, err := plainJSON(p)
 	if err != nil {
@@ -144,7 +144,7 @@ func (p *problem) text() []byte {
 	return text
 }
 
-// retrySeconds is what Retry-After says where a request may be tried again, and 0 elsewhere.
+// retrySeconds returns the Retry-After of problems that may pass, and 0 for others.
 func (k *problemKind) retrySeconds() int {
 	switch k.status {
 	case http.StatusTooManyRequests, http.StatusServiceUnavailable:

@@ -51,8 +51,8 @@ func (s *Service) modelPath(w http.ResponseWriter, r *http.Request) {
 	writePage(w, http.StatusOK, model.page(s.version))
 }
 
-// writeText answers with a text that puts the same model when it is sent back: the compact text, or what desk import writes
-// where a file has names or types.
+// writeText answers with a text that puts the same model if sent back: the compact text, or what desk import writes if
+// the file has names or types.
 func (m *served) writeText(w http.ResponseWriter) {
 	text := m.engine.Text
 	if m.wholeSum != m.engine.Sum {
@@ -65,7 +65,7 @@ func (m *served) writeText(w http.ResponseWriter) {
 	writeJSON(w, http.StatusOK, text)
 }
 
-// listPath answers GET /v1/services, also with a slash at its end.
+// listPath answers GET /v1/services, with or without a slash at its end.
 func (s *Service) listPath(w http.ResponseWriter, r *http.Request) {
 	if !takes(w, r, http.MethodGet, http.MethodHead) {
 		return
@@ -79,13 +79,13 @@ func (s *Service) listPath(w http.ResponseWriter, r *http.Request) {
 	writePage(w, http.StatusOK, map[string]any{"services": model.servicePages()})
 }
 
-// Where a model in force may be from.
+// Where a model in force may come from.
 const (
 	originFiles = "command line"
 	originPut   = "put"
 )
 
-// A putPage is what PUT /v1/model answers.
+// A putPage is the answer of PUT /v1/model.
 type putPage struct {
 	Sum      string            `json:"sha256"`
 	Release  *Release          `json:"release"`
@@ -97,7 +97,7 @@ type putPage struct {
 
 func (s *Service) putPath(w http.ResponseWriter, r *http.Request, id string, who caller) {
 	page, model, p := s.putModel(w, r, who)
-	s.toldPut(id, who, page, p)
+	s.logPut(id, who, page, p)
 	if p != nil {
 		s.metrics.puts.WithLabelValues(strconv.Itoa(p.Status)).Inc()
 		p.write(w, id)
@@ -138,7 +138,7 @@ func (s *Service) putModel(w http.ResponseWriter, r *http.Request, who caller) (
 	if p = source.Release.problem(); p != nil {
 		return nil, nil, p
 	}
-	// Whoever puts a model may go away meanwhile; it is put all the same.
+	// The model is put even if the caller goes away.
 	ctx, stop := context.WithTimeout(context.Background(), putPatience)
 	defer stop()
 	model, err := s.read(ctx, source, originPut)
@@ -156,8 +156,8 @@ func (s *Service) putModel(w http.ResponseWriter, r *http.Request, who caller) (
 	return page, model, nil
 }
 
-// putInForce keeps a model, and puts it in force for whatever comes from now on. Where after is not empty, it is the SHA-256 of the
-// model that is in force before.
+// putInForce keeps a model, and puts it in force for whatever comes from now on. If after isn't empty, it is the
+// SHA-256 of the model that has to be in force.
 func (s *Service) putInForce(ctx context.Context, before, model *served, after string) *problem {
 	var err error
 	switch {
@@ -180,14 +180,14 @@ func (s *Service) putInForce(ctx context.Context, before, model *served, after s
 	return nil
 }
 
-// logModel logs that another model is in force, where the log has text.
+// logModel logs that another model is in force, if the log is text.
 func (s *Service) logModel(said string, before, model *served) {
 	if s.options.Access == nil {
 		s.options.Log("%s: SHA-256 %s, before it %s", said, model.wholeSum, before.wholeSum)
 	}
 }
 
-// inForce puts a model in force for whatever comes from now on, and says so at once.
+// inForce puts a model in force for whatever comes from now on, and calls say at once.
 func (s *Service) inForce(ctx context.Context, model *served, say func()) {
 	s.pool.Switch(model.engine, func() {
 		model.since = time.Now()
@@ -219,7 +219,7 @@ func (s *Service) source(body []byte) (*Source, *problem) {
 	return source, nil
 }
 
-// isXML says whether a text begins as XML does, in whatever encoding.
+// isXML reports whether a text begins like XML, in any encoding.
 func isXML(text []byte) bool {
 	begin := bytes.TrimLeft(text, "\xef\xbb\xbf\xff\xfe\x00 \t\r\n")
 	return len(begin) > 0 && begin[0] == '<'
@@ -228,7 +228,7 @@ func isXML(text []byte) bool {
 // Faulty is the error of a model with faults at places of a file.
 type Faulty interface {
 	error
-	// Errors has each place as JSON.
+	// Errors returns each place as JSON.
 	Errors() []json.RawMessage
 }
 

@@ -13,7 +13,7 @@ import (
 // anyName stands for the name of a service in a path.
 const anyName = "*"
 
-// queryWords are the words that the queries of a path take; of other paths any are ignored.
+// queryWords are the parameters that the queries of a path take. Other paths ignore all parameters.
 var queryWords = map[string][]string{
 	"/v1/model":            {"text", "whole", "name", "version", "why"},
 	listStart:              {},
@@ -28,7 +28,7 @@ var queryWords = map[string][]string{
 	"/openapi.json":        {},
 }
 
-// wordsOf are the words that the query of a path takes; false where any are ignored.
+// wordsOf returns the parameters that the query of a path takes; false if it ignores them.
 func wordsOf(path string) ([]string, bool) {
 	for _, start := range []string{servicesPath, explainStart} {
 		if strings.HasPrefix(path, start) && len(path) > len(start) {
@@ -39,7 +39,7 @@ func wordsOf(path string) ([]string, bool) {
 	return words, checked
 }
 
-// queryProblem says which word of a query is not one that its path takes, or is nil.
+// queryProblem says which parameter of a query its path doesn't take; nil if there is none.
 func queryProblem(r *http.Request) *problem {
 	if r.URL.RawQuery == "" {
 		return nil
@@ -80,7 +80,7 @@ func isOneOf(word string, words []string) bool {
 // mostNamed is how many names are listed.
 const mostNamed = 10
 
-// meant says which name was meant where another was written, or else which there are.
+// meant suggests the name that was meant, or lists the existing ones.
 func meant(name string, names []string) string {
 	if nearest := near.To(name, names); nearest != "" {
 		return fmt.Sprintf("; did you mean %q?", nearest)

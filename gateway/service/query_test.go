@@ -7,7 +7,7 @@ import (
 	"testing"
 )
 
-// Each path that the page describes refuses a word of a query that it doesn't know, by each of its methods, and does nothing then.
+// Each path in the description refuses unknown query parameters, by each of its methods, and does nothing then.
 func TestUnknownQueryWords(t *testing.T) {
 	r := serve(t, adding(1), Options{Journal: t.TempDir(), Trier: &stub{}})
 	defer r.stop(t)

@@ -22,7 +22,7 @@ type recorder struct {
 	redact          *redactor
 }
 
-// A Program is a file that runs, by its version and its SHA-256.
+// A Program is an executable file, by its version and its SHA-256.
 type Program struct {
 	Version string `json:"version"`
 	Sum     string `json:"sha256"`
@@ -42,13 +42,13 @@ func programOf(path, version string) (Program, error) {
 	return Program{Version: version, Sum: sum}, nil
 }
 
-// A ruleNote is what the file says of a rule.
+// A ruleNote is what the file says about a rule.
 type ruleNote struct {
 	ID          string   `json:"id"`
 	Annotations []string `json:"annotations"`
 }
 
-// noteRules reads what the file says of rules, and where the expressions of decisions are.
+// noteRules reads what the file says about rules, and where the expressions of decisions are.
 func (m *served) noteRules() error {
 	if m.pointers == nil {
 		if err := m.pointTo(); err != nil {
@@ -71,10 +71,10 @@ func (m *served) noteRules() error {
 	return nil
 }
 
-// AppendLine adds the line of the model.
+// AppendLine appends the line of the model.
 func (m *served) AppendLine(to []byte) []byte { return m.engine.AppendLine(to) }
 
-// AppendAbout adds what a file of the journal says of the model at its beginning: what is needed to ask it again.
+// AppendAbout appends what a journal file says about the model at its beginning: what is needed to ask it again.
 func (m *served) AppendAbout(to []byte) []byte {
 	about := struct {
 		Release  releasePage                `json:"release"`
@@ -108,13 +108,13 @@ func (m *served) release() releasePage {
 	return page
 }
 
-// remember makes what each line of the journal says of the model and of what runs.
+// remember makes what each journal line says about the model and the programs.
 func (m *served) remember(by *recorder) {
 	m.by = by
 	m.recorded = []byte(fmt.Sprintf(`"release":"%s","program":"%s","engine":"%s"`, m.wholeSum, by.program.Sum, by.engine.Sum))
 }
 
-// A naming is by what a call is known: its own id, the one that the caller gave or empty, and the caller.
+// A naming identifies a call: by its own id, the caller's id or empty, and the caller.
 type naming struct {
 	own, given string
 	who        caller
@@ -132,7 +132,7 @@ func (c *call) entriesOf(name naming, p *problem) []journal.Entry {
 	return entries
 }
 
-// entryOf is the entry of one answer; false where there is none.
+// entryOf returns the entry of one answer; false if there is none.
 func (c *call) entryOf(at int, name naming, now []byte, p *problem) (it journal.Entry, is bool) {
 	if p == nil {
 		p = c.problemAt(at)
@@ -165,7 +165,7 @@ func (c *call) entryOf(at int, name naming, now []byte, p *problem) (it journal.
 	return it, true
 }
 
-// jobAt is the request that an engine was asked at a place of the call, or nil.
+// jobAt returns the request that an engine was asked at a place of the call, or nil.
 func (c *call) jobAt(at int) *engine.Job {
 	if c.asked == nil {
 		c.asked = make([]*engine.Job, len(c.outcomes))
@@ -187,7 +187,7 @@ func (c *call) appendAsked(to []byte, at int, name naming, job *engine.Job) []by
 	return append(to, '\n')
 }
 
-// appendID adds an id, which needs no quoting, with the place in a list; nothing where there is none.
+// appendID appends an id, which needs no quoting, and the place in a list; nothing if there is no id.
 func (c *call) appendID(to []byte, at int, id string) []byte {
 	if id == "" {
 		return to
@@ -199,7 +199,7 @@ func (c *call) appendID(to []byte, at int, id string) []byte {
 	return to
 }
 
-// appendNames adds by what an answer is known, and what gave it.
+// appendNames appends what identifies an answer, and what gave it.
 func (c *call) appendNames(to []byte, at int, name naming, now []byte) []byte {
 	to = c.appendID(append(to, `"id":"`...), at, name.own)
 	if name.given != "" {
@@ -215,7 +215,7 @@ func (c *call) appendNames(to []byte, at int, name naming, now []byte) []byte {
 	return append(append(to, ','), c.model.recorded...)
 }
 
-// appendAnswer adds a result or a problem, and the rules that decided.
+// appendAnswer appends a result or a problem, and the deciding rules.
 func (c *call) appendAnswer(to []byte, at int, p *problem) []byte {
 	outcome := &c.outcomes[at]
 	if p == nil {
@@ -233,7 +233,7 @@ func (c *call) appendAnswer(to []byte, at int, p *problem) []byte {
 	return to
 }
 
-// recorded is a problem without its words, which may have values of the inputs.
+// recorded returns a problem without its text, which may have values of the inputs.
 func (p *problem) recorded() []byte {
 	to := lines.AppendQuoted([]byte(`{"type":`), p.kind.word)
 	to = strconv.AppendInt(append(to, `,"status":`...), int64(p.Status), 10)
@@ -243,7 +243,7 @@ func (p *problem) recorded() []byte {
 	return append(to, '}')
 }
 
-// appendRules adds the rules that decided, with what the file says of them.
+// appendRules appends the deciding rules, with what the file says about them.
 func (m *served) appendRules(to []byte, decided []engine.Decided) []byte {
 	to = append(to, '[')
 	for at, table := range decided {
@@ -264,7 +264,7 @@ func (m *served) appendRules(to []byte, decided []engine.Decided) []byte {
 	return append(to, ']')
 }
 
-// appendTable adds the beginning of an object: the decision, and where in it the table is.
+// appendTable appends the beginning of an object: the decision, and the place of the table in it.
 func (m *served) appendTable(to []byte, table *engine.Decided) []byte {
 	to = lines.AppendQuoted(append(to, `{"decision":`...), m.nameOf(table.Decision))
 	if table.Path != "" {
@@ -312,7 +312,7 @@ func isAccepted(kind engine.Kind) bool {
 	return kind == engine.Result || kind == engine.Limit || kind == engine.Huge
 }
 
-// isRecorded says whether a request that was refused before an engine was asked is recorded: it could be read.
+// isRecorded reports whether a request that was refused before an engine was asked is recorded: it could be read.
 func (p *problem) isRecorded() bool {
 	switch p.kind {
 	case problemValue, problemUnknown, problemTwice, problemShape:
@@ -321,7 +321,7 @@ func (p *problem) isRecorded() bool {
 	return false
 }
 
-// oneLine is a JSON text without blanks, in room of its own.
+// oneLine returns a JSON text without blanks, as a copy.
 func oneLine(text []byte) []byte {
 	var compact bytes.Buffer
 	if json.Compact(&compact, text) != nil {

@@ -16,14 +16,14 @@ import (
 	"gateway/journal"
 )
 
-// noted is a model as desk import writes it, with a table, names, and what the file says of its rules.
+// noted is the output of desk import for a model with a table, names, and notes on rules.
 const noted = `{"model":{"inputs":["a_b","c"],"decisions":[{"name":"d_e","needs":["a_b"],"expr":{"table":{"hit":"U","inputs":["a_b"],` +
 	`"outputs":[{"name":"p"}],"rules":[{"when":["< 5"],"then":["1"]},{"when":[">= 5"],"then":["2"]}]}}}],` +
 	`"services":[{"name":"s_t","outputs":["d_e"],"encapsulated":[],"inputDecisions":[],"inputData":["a_b"]}]},` +
 	`"names":{"a_b":"a b","d_e":"d e","s_t":"s t"},"locals":{},"types":{"a_b":{"type":["integer","null"]}},` +
 	`"places":{"/decisions/0/expr/table/rules/1":{"id":"_two","name":"","annotations":["from five on"]}}}`
 
-// entries are those of a journal, without those that begin files.
+// entries returns those of a journal, without those that begin files.
 func entries(t *testing.T, folder string) (asked []string, about []map[string]any) {
 	t.Helper()
 	report, err := journal.Verify(folder, "")
@@ -119,7 +119,7 @@ func TestRecord(t *testing.T) {
 	}
 }
 
-// A file of the journal begins with all that is needed to ask its requests again.
+// A journal file begins with all that is needed to ask its requests again.
 func TestFilesSayWhatDecides(t *testing.T) {
 	folder := filepath.Join(t.TempDir(), "journal")
 	r := serve(t, noted, Options{Journal: folder})
@@ -143,7 +143,7 @@ func TestFilesSayWhatDecides(t *testing.T) {
 	}
 }
 
-// What is deleted under the journal stops answers, and the service says that it isn't ready.
+// Deleting the journal's files stops answers, and the service reports that it isn't ready.
 func TestNoAnswersWithoutJournal(t *testing.T) {
 	folder := filepath.Join(t.TempDir(), "journal")
 	r := serve(t, adding(1), Options{Journal: folder})
@@ -170,7 +170,7 @@ func TestNoAnswersWithoutJournal(t *testing.T) {
 	}
 }
 
-// The value of an input that is redacted is nowhere in the journal, and the same value has the same sum.
+// The value of a redacted input is nowhere in the journal, and equal values have equal sums.
 func TestRedaction(t *testing.T) {
 	folder := filepath.Join(t.TempDir(), "journal")
 	key := filepath.Join(t.TempDir(), "key")
@@ -204,7 +204,7 @@ func TestRedaction(t *testing.T) {
 	}
 }
 
-// What is recorded beside a redacted input has the names and decimals of the file.
+// Inputs next to a redacted one have the names and decimals of the file.
 func TestRedactedInputsHaveTheirNames(t *testing.T) {
 	folder, key := filepath.Join(t.TempDir(), "journal"), filepath.Join(t.TempDir(), "key")
 	if err := os.WriteFile(key, []byte("0123456789abcdef\n"), 0o600); err != nil {
@@ -223,7 +223,8 @@ func TestRedactedInputsHaveTheirNames(t *testing.T) {
 	}
 }
 
-// Under the journal engines tell which rules decide, and what they say of long values is left out: the answers are the same.
+// With the journal, engines report the deciding rules, and what they say about long values is left out: the answers are
+// the same.
 func TestLongValuesUnderTheJournal(t *testing.T) {
 	folder := filepath.Join(t.TempDir(), "journal")
 	r := serve(t, handing(6), Options{Journal: folder, Deadline: time.Minute, JournalSize: 64 << 20})
@@ -240,7 +241,7 @@ func TestLongValuesUnderTheJournal(t *testing.T) {
 	}
 }
 
-// Names and types decide too: the sum is another where they are, in headers, ETag and If-Match.
+// Names and types decide too: changing them changes the sum in headers, ETag and If-Match.
 func TestSumOfAllThatDecides(t *testing.T) {
 	model := func(decimals string) string {
 		return strings.Replace(noted, `{"type":["integer","null"]}`, `{"type":["number","null"],"multipleOf":`+decimals+`}`, 1)

@@ -15,16 +15,16 @@ import (
 
 func newHash() hash.Hash { return sha256.New() }
 
-// A redactor puts sums with a key in the place of inputs that the journal is not to have.
+// A redactor replaces the values of inputs by keyed sums in the journal.
 type redactor struct {
 	names map[string]bool
 	key   []byte
 }
 
-// leastKey is how many bytes a key has at least.
+// leastKey is the least number of bytes in a key.
 const leastKey = 16
 
-// newRedactor reads the key from a file; nil where nothing is redacted.
+// newRedactor reads the key from a file; nil if nothing is redacted.
 func newRedactor(names []string, path string) (*redactor, error) {
 	if len(names) == 0 {
 		return nil, nil
@@ -43,8 +43,8 @@ func newRedactor(names []string, path string) (*redactor, error) {
 	return r, nil
 }
 
-// inputs are the inputs of a request as they are recorded, and the names of those that are redacted. Where something is
-// redacted, so is each input that the service doesn't have: its name may be misspelt. The inputs may be no object.
+// inputs returns the inputs of a request as recorded, and the names of the redacted ones. If anything is redacted, so
+// is each input that the service doesn't have, as its name may be misspelt. The text may not be an object.
 func (r *redactor) inputs(m *served, d *decisionService, text []byte) ([]byte, []string) {
 	if r == nil || !r.isDue(m, d) {
 		return text, nil
@@ -73,7 +73,7 @@ func (r *redactor) inputs(m *served, d *decisionService, text []byte) ([]byte, [
 	return append(made, '}'), names
 }
 
-// isDue says whether a service has an input that is to be redacted.
+// isDue reports whether a service has an input to redact.
 func (r *redactor) isDue(m *served, d *decisionService) bool {
 	for _, input := range d.inputs {
 		if r.names[input] || r.names[m.nameOf(input)] {
@@ -91,7 +91,7 @@ func (r *redactor) isHidden(m *served, d *decisionService, key string) bool {
 	return !d.parameters[word] || r.names[word] || r.names[m.nameOf(word)]
 }
 
-// sum stands for a value: the same for the same value of an input.
+// sum replaces a value: it is the same for the same value of an input.
 func (r *redactor) sum(name string, value []byte) []byte {
 	mac := hmac.New(sha256.New, r.key)
 	mac.Write([]byte(name))

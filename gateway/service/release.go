@@ -8,18 +8,18 @@ import (
 	"gateway/lines"
 )
 
-// A Release says which model one is, and who put it. Each part may be empty.
+// A Release says which model it is, and who put it. Each part may be empty.
 type Release struct {
 	Name    string `json:"name,omitempty"`
 	Version string `json:"version,omitempty"`
 	Who     string `json:"who,omitempty"`
-	// When is a time in universal time, as RFC 3339 writes it.
+	// When is in universal time, as RFC 3339 writes it.
 	When string `json:"when,omitempty"`
 	Why  string `json:"why,omitempty"`
 }
 
-// Sum is the SHA-256, in hexadecimal, of all that decides: of the model's compact text where there is nothing else, and else of
-// the compact text of an object with model, names, locals, required and types.
+// Sum returns the SHA-256, in hexadecimal, of all that decides: of the model's compact text if there is nothing else,
+// or of the compact text of an object with model, names, locals, required and types.
 func (s *Source) Sum() string {
 	if len(s.Names)+len(s.Locals)+len(s.Types) == 0 {
 		return sumOf(s.Text)
@@ -51,7 +51,7 @@ func compactNames(names map[string]string) []byte {
 func compactTypes(types map[string]json.RawMessage) []byte {
 	tree := make(map[string]any, len(types))
 	for word, text := range types {
-		// What is no JSON is refused when the types are read.
+		// Invalid JSON is refused when the types are read.
 		tree[word], _ = lines.Tree(text)
 	}
 	return lines.Compact(nil, tree)

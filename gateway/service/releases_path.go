@@ -21,20 +21,20 @@ type releaseLine struct {
 	Fault string `json:"fault,omitempty"`
 }
 
-// readReleases has what was read of the files of releases. These are not changed, so each is read once; one in whose place another
-// file is by now is read again.
+// readReleases keeps what was read from release files. They don't change, so each is read once. If another file takes
+// its place, that is read.
 type readReleases struct {
 	mu  sync.Mutex
 	all map[string]readRelease
 }
 
-// A readRelease is what was read of a file.
+// A readRelease is what was read from a file.
 type readRelease struct {
 	about fs.FileInfo
 	line  releaseLine
 }
 
-// isOf says whether it was read of this file, as it is now.
+// isOf reports whether it was read from this file, in its present state.
 func (r *readRelease) isOf(about fs.FileInfo) bool {
 	return r.about != nil && os.SameFile(r.about, about) && r.about.Size() == about.Size() && r.about.ModTime().Equal(about.ModTime())
 }
@@ -66,7 +66,7 @@ func readSourceIn(folder, file string) (*Source, error) {
 	return ReadSource(text)
 }
 
-// sourceIn is the release of a file of the folder.
+// sourceIn returns the release in a file of the folder.
 func (s *Service) sourceIn(file string) (*Source, *problem) {
 	source, err := readSourceIn(s.options.Releases, file)
 	if err != nil {
@@ -75,7 +75,7 @@ func (s *Service) sourceIn(file string) (*Source, *problem) {
 	return source, nil
 }
 
-// releases are those of the folder, by their files' names.
+// releases returns those of the folder, by their files' names.
 func (s *Service) releases() ([]releaseLine, error) {
 	folder, r := s.options.Releases, &s.readReleases
 	files, err := release.Files(folder)
@@ -113,7 +113,7 @@ func (s *Service) releasesPath(w http.ResponseWriter, r *http.Request) {
 		if all, err = s.releases(); err != nil {
 			p = problemInside.with(err.Error())
 		}
-		// To read many for the first time takes long.
+		// Reading many for the first time takes long.
 		limitWrite(r, longAnswer+1)
 	}
 	if p != nil {

@@ -8,14 +8,14 @@ import (
 	"gateway/lines"
 )
 
-// lineOverhead is the most that stands on a request's line before its inputs' key.
+// lineOverhead is the most bytes on a request's line before its inputs' key.
 const lineOverhead = len(`{"client":"lane99",`)
 
 // inputsKey is the key of its inputs.
 const inputsKey = `"inputs":`
 
-// request makes the request of a service from the text of its inputs, or says why the engine would not take it. Its line is
-// added to room, which is given back.
+// request makes the request of a service from the text of its inputs, or says why the engine would not take it. It
+// appends the line to room, and returns that.
 func (m *served) request(service *decisionService, text []byte, job *engine.Job, room []byte) ([]byte, *problem) {
 	if lines.Begins(text) != '{' {
 		return room, m.noObject(text)
@@ -30,7 +30,7 @@ func (m *served) request(service *decisionService, text []byte, job *engine.Job,
 	return m.worded(service, text, text, members, job, room)
 }
 
-// renamed makes a request from inputs with names of the file.
+// renamed makes a request from inputs with the file's names.
 func (m *served) renamed(service *decisionService, text []byte, job *engine.Job, room []byte) ([]byte, *problem) {
 	text, p := service.worded(text)
 	if p != nil {
@@ -43,7 +43,7 @@ func (m *served) renamed(service *decisionService, text []byte, job *engine.Job,
 	return m.worded(service, text, text, members, job, room)
 }
 
-// worded makes a request from inputs with the model's words. Their members are bounded within whole, of which they are a part.
+// worded makes a request from inputs with the model's words. Their members are spans of whole.
 func (m *served) worded(service *decisionService, text, whole []byte, members []lines.Member, job *engine.Job,
 	room []byte) ([]byte, *problem) {
 	if p := m.undeclared(service, whole, members); p != nil {
@@ -72,8 +72,8 @@ func (m *served) worded(service *decisionService, text, whole []byte, members []
 	return room, nil
 }
 
-// undeclared refuses an input that no service of the model takes, and says which one is missing, where the model has the types of its
-// inputs.
+// undeclared refuses an input that no service of the model takes, and says which one is missing, if the model has the
+// types of its inputs.
 func (m *served) undeclared(service *decisionService, whole []byte, members []lines.Member) *problem {
 	if !m.isStrict {
 		return nil
@@ -104,7 +104,7 @@ func (m *served) undeclared(service *decisionService, whole []byte, members []li
 	return nil
 }
 
-// hasMember says whether a key is one of the members; last is what lastMembers gives of them.
+// hasMember reports whether a key is one of the members; last is what lastMembers returns for them.
 func hasMember(members []lines.Member, last map[string]int, key string) bool {
 	if last != nil {
 		_, is := last[key]
@@ -131,7 +131,7 @@ func syntaxProblem(fault *lines.SyntaxFault) *problem {
 	return p
 }
 
-// values holds the values of a service's parameters to the engine's limits, and to the types of the file.
+// values checks the values of a service's parameters against the engine's limits and the file's types.
 func (m *served) values(service *decisionService, text []byte, members []lines.Member) *problem {
 	last := lastMembers(members)
 	for at, member := range members {
@@ -153,10 +153,11 @@ func (m *served) values(service *decisionService, text []byte, members []lines.M
 	return nil
 }
 
-// fewMembers is how many members are compared each with each.
+// fewMembers is up to how many members are compared pair by pair.
 const fewMembers = 16
 
-// lastMembers has the place of the last member of each key. Of few members it has none: each of them is compared with each.
+// lastMembers returns the place of the last member of each key. It returns nil for few members, which are compared pair
+// by pair.
 func lastMembers(members []lines.Member) map[string]int {
 	if len(members) <= fewMembers {
 		return nil
@@ -168,7 +169,7 @@ func lastMembers(members []lines.Member) map[string]int {
 	return last
 }
 
-// comesAgain says whether a member's key comes again behind it. The engine keeps the last member of a key alone.
+// comesAgain reports whether a member's key comes again later. The engine keeps only the last member of a key.
 func comesAgain(members []lines.Member, last map[string]int, at int) bool {
 	if last != nil {
 		return last[members[at].Key] != at
@@ -181,7 +182,7 @@ func comesAgain(members []lines.Member, last map[string]int, at int) bool {
 	return false
 }
 
-// pointer is a JSON Pointer with the names of the file.
+// pointer returns a JSON Pointer with the file's names.
 func (m *served) pointer(pointer string) string {
 	if len(m.words) == 0 {
 		return pointer

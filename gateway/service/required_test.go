@@ -6,7 +6,8 @@ import (
 	"testing"
 )
 
-// Inputs that a file requires have to be there, and not null, where a caller asks to decide; who only tries may leave them out.
+// Inputs that a file requires have to be there, and not null, if a caller asks for a decision. Trials may leave them
+// out.
 func TestRequiredInputs(t *testing.T) {
 	model := strings.Replace(strings.Replace(noted, `"inputData":["a_b"]`, `"inputData":["a_b","c"]`, 1),
 		`"locals":{}`, `"locals":{},"required":["a_b"]`, 1)

@@ -14,19 +14,19 @@ import (
 	"gateway/lines"
 )
 
-// A caller is who sends a request.
+// A caller is the sender of a request.
 type caller struct {
-	// client is the name under which its requests keep their order; empty where they keep none.
+	// client is the name under which its requests keep their order; empty if they keep none.
 	client string
-	// token is the name of its token, named what it said in X-Client; each may be empty.
+	// token is the name of its token, named its X-Client header. Each may be empty.
 	token, named string
-	// owner is whose its slow requests are: its token's name, or its address.
+	// owner is the owner of its slow requests: its token's name, or its address.
 	owner string
-	// mayCall, mayPut and mayRead say that it may ask services, that a PUT of it is taken, and that it may read recorded requests.
+	// mayCall, mayPut and mayRead are the rights to ask services, to put models, and to read recorded requests.
 	mayCall, mayPut, mayRead bool
 }
 
-// name is who it is for people.
+// name returns the caller's name for people.
 func (c *caller) name() string {
 	if c.token == "" {
 		return "this machine, without a token"
@@ -37,15 +37,15 @@ func (c *caller) name() string {
 // A token is one line of the file of tokens.
 type token struct {
 	name string
-	// mayCall, mayPut and mayRead are rights. isOrdered says that requests without X-Client keep their order.
+	// mayCall, mayPut and mayRead are rights. isOrdered means that requests without X-Client keep their order.
 	mayCall, mayPut, mayRead, isOrdered bool
 }
 
 // tokens has each token by the SHA-256 of what is sent.
 type tokens map[[sha256.Size]byte]token
 
-// readTokens reads a file of tokens: lines of a name, its rights and the SHA-256 of the token in hexadecimal. Empty lines
-// and those that begin with # are skipped.
+// readTokens reads a file of tokens: lines of a name, its rights and the SHA-256 of the token in hexadecimal. It skips
+// empty lines and those that begin with #.
 func readTokens(path string) (tokens, error) {
 	file, err := os.Open(path)
 	if err != nil {
@@ -112,7 +112,7 @@ func (t tokens) add(text string) error {
 // maxClient is the most bytes of a client's name.
 const maxClient = 64
 
-// caller finds who sends a request, and refuses a POST of who may not call.
+// caller finds who sends a request, and refuses a POST from callers without the right to call.
 func (s *Service) caller(r *http.Request) (caller, *problem) {
 	who, p := s.known(r)
 	if p == nil && r.Method == http.MethodPost && !who.mayCall {
@@ -121,7 +121,7 @@ func (s *Service) caller(r *http.Request) (caller, *problem) {
 	return who, p
 }
 
-// reader finds who asks for recorded requests, and refuses who may not read them.
+// reader finds who asks for recorded requests, and refuses callers without the right to read them.
 func (s *Service) reader(r *http.Request) (caller, *problem) {
 	who, p := s.known(r)
 	if p == nil && !who.mayRead {
@@ -130,7 +130,7 @@ func (s *Service) reader(r *http.Request) (caller, *problem) {
 	return who, p
 }
 
-// known finds who sends a request, and what it may do.
+// known finds who sends a request, and its rights.
 func (s *Service) known(r *http.Request) (caller, *problem) {
 	named := ""
 	if values := r.Header["X-Client"]; len(values) > 0 {
@@ -160,7 +160,7 @@ func (s *Service) known(r *http.Request) (caller, *problem) {
 	return who, nil
 }
 
-// hostOf is an address without its port.
+// hostOf returns an address without its port.
 func hostOf(address string) string {
 	if at := strings.LastIndexByte(address, ':'); at > 0 {
 		return address[:at]
@@ -168,8 +168,8 @@ func hostOf(address string) string {
 	return address
 }
 
-// isLocal says whether a request comes from this machine, straight and by its address: through a proxy, or under another
-// name of the host (as a browser sends it that was led here), it may come from anywhere.
+// isLocal reports whether a request comes from this machine, directly and to its address. Through a proxy, or to
+// another name of the host (as from a browser that was lured here), it may come from anywhere.
 func isLocal(r *http.Request) bool {
 	for _, name := range []string{"Forwarded", "X-Forwarded-For", "X-Real-Ip", "Via"} {
 		if len(r.Header[name]) > 0 {
@@ -186,13 +186,13 @@ func isLocal(r *http.Request) bool {
 	return isLoopbackHost(r)
 }
 
-// isUnix says whether a request comes through a unix socket.
+// isUnix reports whether a request comes through a unix socket.
 func isUnix(r *http.Request) bool {
 	address, is := r.Context().Value(http.LocalAddrContextKey).(net.Addr)
 	return is && address.Network() == "unix"
 }
 
-// isLoopbackHost says whether a request calls this machine by its own address, or localhost.
+// isLoopbackHost reports whether a request addresses this machine by its own address, or as localhost.
 func isLoopbackHost(r *http.Request) bool {
 	host, _, err := net.SplitHostPort(r.Host)
 	if err != nil {

@@ -13,77 +13,79 @@ import (
 	"gateway/types"
 )
 
-// A served is a model with what the service has to know of it.
+// A served is a model with what the service knows about it.
 type served struct {
 	source   *Source
 	engine   *engine.Model
 	lawful   *engine.Lawful
 	warnings []engine.Place
-	// services are found by their words and by their names in the file.
+	// services are by their words and by their names in the file.
 	services map[string]*decisionService
-	// words has the model's word for each name in the file that is another.
+	// words has the model's word for each name in the file that differs from it.
 	words map[string]string
-	// types has the type of each input and decision of which the file says one, by its word; toNames writes the keys of their
-	// values with the names of the file.
+	// types has the types that the file gives to inputs and decisions, by their words; toNames writes the keys of their
+	// values with the file's names.
 	types   map[string]*types.Type
 	toNames map[string]*types.Keys
 	// clocks has the inputs that the clock fills, by their words and names; now is the time.
 	clocks map[string]string
 	now    func() time.Time
-	// counts says that some number is counted in a unit: requests and results have decimals.
+	// counts is true if some number is counted in a unit: requests and results have decimals.
 	counts bool
-	// parts say how values at JSON Pointers into the model are counted, pointers where the expression of a decision is, and fromFile
-	// what the file has. Where isTranslated, the model has parts that the file doesn't have.
+	// parts say how values at JSON Pointers into the model are counted, pointers where the expression of a decision is,
+	// and fromFile what the file has. isTranslated is true if the model has parts that the file doesn't have.
 	parts        map[string]countedPart
 	pointers     map[string]string
 	fromFile     map[string]bool
 	isTranslated bool
-	// isStrict says that the types of the inputs are known, and that inputs which the model doesn't have are refused; isKnown
-	// has those that it has. One that another service takes is left aside.
+	// isStrict is true if the types of the inputs are known, and unknown inputs are refused. isKnown has the known
+	// ones. An input of another service is ignored.
 	isStrict bool
 	isKnown  map[string]bool
 	// origin says where the model came from, and since when it is in force.
 	origin string
 	since  time.Time
-	// wholeSum is the one over all that decides, and sum the header with it.
+	// wholeSum is the sum of all that decides, and sum the header with it.
 	wholeSum string
 	sum      []string
-	// rules has what the file says of rules, by their pointers; recorded is what each line of the journal says of the model.
+	// rules has what the file says about rules, by their pointers; recorded is what each journal line says about the
+	// model.
 	rules    map[string]ruleNote
 	recorded []byte
 	by       *recorder
-	// analysis is what is found of its tables.
+	// analysis is what was found about its tables.
 	analysis analysis
 }
 
 // A decisionService is one service of a model.
 type decisionService struct {
 	word, name string
-	// inputs are the words of its parameters that requests bring, in the model's order; clocks are those that the clock fills.
+	// inputs are the words of its parameters that requests bring, in the model's order; clocks are those that the clock
+	// fills.
 	inputs, clocks []string
-	// required are those of the inputs whose types don't admit null.
+	// required are the inputs whose types don't admit null.
 	required []string
-	// strict is the service as callers have it: it requires also what the file does. nil where that is no more.
+	// strict is the service as callers see it, which also requires what the file does; nil if that is no more.
 	strict *decisionService
-	// notNull has those of the required inputs whose types admit null all the same.
+	// notNull has the required inputs whose types admit null all the same.
 	notNull map[string]bool
 	// outputs are the words of its output decisions.
 	outputs    []string
 	parameters map[string]bool
-	// result is the type of its results where their numbers are counted, else nil.
+	// result is the type of its results if their numbers are counted, else nil.
 	result *types.Type
-	// toWords and toNames write the keys of its inputs and of its results otherwise.
+	// toWords and toNames translate the keys of its inputs and its results.
 	toWords, toNames *types.Keys
-	// tail is what stands behind the inputs on the line of a request.
+	// tail is what follows the inputs on the line of a request.
 	tail []byte
 }
 
-// room is for the lines of so many requests, whose inputs have so many bytes in all.
+// room returns space for the lines of that many requests, with that many bytes of inputs in all.
 func (d *decisionService) room(requests, bytes int) []byte {
 	return make([]byte, 0, bytes+requests*(len(inputsKey)+len(d.tail)))
 }
 
-// read asks the engine what a model is. Where it has a fault the error is a *engine.FaultyModel.
+// read asks the engine about a model. If it has a fault the error is an *engine.FaultyModel.
 func (s *Service) read(ctx context.Context, source *Source, origin string) (*served, error) {
 	lawful, warnings, err := s.check(ctx, source.Text)
 	if err != nil {
@@ -112,7 +114,8 @@ func (s *Service) read(ctx context.Context, source *Source, origin string) (*ser
 	return it, engine.Try(ctx, s.options.Engine, s.options.Memory, it.engine)
 }
 
-// check asks the engine what a model is, and words what it found. What can't be worded is as the engine wrote it.
+// check asks the engine about a model, and words what it found. Findings that can't be worded stay as the engine wrote
+// them.
 func (s *Service) check(ctx context.Context, text []byte) (*engine.Lawful, []engine.Place, error) {
 	lawful, found, err := engine.Check(ctx, s.options.Engine, s.options.Memory, text)
 	var faulty *engine.FaultyModel
@@ -163,7 +166,7 @@ func (m *served) index() (err error) {
 	return m.describe()
 }
 
-// nameOf is the name in the file of a word.
+// nameOf returns the name in the file of a word.
 func (m *served) nameOf(word string) string {
 	if name, is := m.source.Names[word]; is {
 		return name
@@ -174,7 +177,7 @@ func (m *served) nameOf(word string) string {
 	return word
 }
 
-// serviceNames are the names of the services, in the model's order.
+// serviceNames returns the names of the services, in the model's order.
 func (m *served) serviceNames() []string {
 	names := []string{}
 	for _, form := range m.lawful.Services {
@@ -183,7 +186,7 @@ func (m *served) serviceNames() []string {
 	return names
 }
 
-// A modelPage is what GET /v1/model tells.
+// A modelPage is the answer of GET /v1/model.
 type modelPage struct {
 	Sum      string                     `json:"sha256"`
 	TextSum  string                     `json:"textSha256"`
@@ -240,7 +243,7 @@ func (m *served) servicePages() []servicePage {
 	return pages
 }
 
-// schema is the JSON Schema of an input with the names of the file; nil where the file says none.
+// schema returns the JSON Schema of an input with the file's names; nil if the file has none.
 func (m *served) schema(word string) json.RawMessage {
 	text := m.source.Types[word]
 	if text == nil || len(m.words) == 0 {
@@ -254,7 +257,7 @@ func (m *served) schema(word string) json.RawMessage {
 	return lines.Compact(nil, tree)
 }
 
-// resultSchema is the JSON Schema of a service's results with the names of the file; nil where the file says none.
+// resultSchema returns the JSON Schema of a service's results with the file's names; nil if the file has none.
 func (m *served) resultSchema(word string) json.RawMessage {
 	outputs := m.services[word].outputs
 	if len(outputs) == 1 {
@@ -273,7 +276,7 @@ func (m *served) resultSchema(word string) json.RawMessage {
 	return text
 }
 
-// renameProperties gives the properties within a schema the names of the file.
+// renameProperties gives the properties within a schema the file's names.
 func (m *served) renameProperties(schema any) {
 	parts, _ := schema.(map[string]any)
 	if parts["items"] != nil {

@@ -27,12 +27,14 @@ type Service struct {
 	version string
 	// engineHeader is the header with the engine's version.
 	engineHeader []string
-	// hasTables says that the engine's check tells what it finds of tables.
+	// hasTables is true if the engine's check reports on tables.
 	hasTables bool
-	pool      *engine.Pool
+	// hasGives says that it tells what services and decisions can give.
+	hasGives bool
+	pool     *engine.Pool
 	// partitions answer the calls; nil where the engines do.
 	partitions Partitions
-	// recorder is nil where no journal is kept.
+	// recorder is nil if no journal is kept.
 	recorder  *recorder
 	statePath string
 	clients   *clients
@@ -42,40 +44,40 @@ type Service struct {
 	model     atomic.Pointer[served]
 	tokens    atomic.Pointer[tokens]
 	shelf     shelf
-	// explaining bounds how many explanations are made at once.
+	// explaining limits how many explanations are made at once.
 	explaining chan struct{}
 	// trying lets one trial run at a time.
 	trying chan struct{}
-	// putting lets one model be put at a time, following is what was seen of the folder of releases.
+	// putting lets one model be put at a time; following is what was seen of the folder of releases.
 	putting   sync.Mutex
 	following following
-	// readReleases is what was read of the files of releases.
+	// readReleases is what was read from release files.
 	readReleases readReleases
-	// stopping says that the service is to end.
+	// stopping is true once the service is ending.
 	stopping atomic.Bool
-	// isOverridden says that the model of the command line is not served, since another was put before.
+	// isOverridden is true if the model of the command line isn't served, since another was put before.
 	isOverridden bool
 	places       *connections
 	// refusedAt is the second at which a refused connection was last logged.
 	refusedAt atomic.Int64
-	// isPrivate says that this machine alone may call, and without a token.
+	// isPrivate is true if only this machine may call, and without a token.
 	isPrivate bool
 }
 
 var errLongModel = errors.New("the model is too long")
 
-// Most of what a call needs is garbage at its end. So little stays that by Go's own measure garbage would be collected
-// many times a second: it may grow to nine times what stays, and to heapLimit in all.
+// Most memory that a call needs is garbage at its end. So little stays that Go's default would collect garbage many
+// times a second. Let it grow to nine times what stays, and to heapLimit in all.
 const (
 	garbagePercent = 800
 	heapLimit      = 512 << 20
 )
 
-// leastAtOnce is on how many processors this program runs at once at least, so that a long body holds up no small one.
+// leastAtOnce is the least number of processors for this program, so that a long body doesn't hold up small ones.
 const leastAtOnce = 2
 
-// atOnce is on how many processors this program runs at once, of those that there are: on half of them, or on all that the
-// engines leave. On more its threads take time from the engines to wake each other for little.
+// atOnce returns on how many of the processors this program runs at once: on half of them, or on all that the engines
+// leave. On more, its threads would take time from the engines just to wake each other.
 func atOnce(processors, engines int) int {
 	number := processors - engines
 	if half := processors / 2; number < half {
@@ -90,7 +92,7 @@ func atOnce(processors, engines int) int {
 	return number
 }
 
-// setRuntime tells Go's runtime how many processors and how much memory to use. The environment may say otherwise of the
+// setRuntime tells Go's runtime how many processors and how much memory to use. The environment overrides the
 // processors.
 func setRuntime(engines int) {
 	debug.SetGCPercent(garbagePercent)
@@ -100,7 +102,7 @@ func setRuntime(engines int) {
 	}
 }
 
-// Run serves until the context ends and what was taken is answered.
+// Run serves until the context ends and all accepted requests are answered.
 func Run(ctx context.Context, options Options) error {
 	setRuntime(options.Processes)
 	s, err := newService(ctx, options)
@@ -127,7 +129,7 @@ func newService(ctx context.Context, options Options) (*Service, error) {
 		return nil, err
 	}
 	s := &Service{options: options, version: version, engineHeader: []string{version}, statePath: options.State}
-	s.hasTables = engine.HasTables(ctx, options.Engine)
+	s.hasTables, s.hasGives = engine.HasTables(ctx, options.Engine)
 	if options.AddressLimit == 0 {
 		s.options.AddressLimit = MaxConnections / 2
 	}
@@ -215,7 +217,7 @@ func (s *Service) openJournal() error {
 	return nil
 }
 
-// fileEnded logs the head of the journal's chain, which is to be kept where the journal's owner can't change it.
+// fileEnded logs the head of the journal's chain, to be kept where the journal's owner can't change it.
 func (s *Service) fileEnded(path string, last uint64, sum string) {
 	s.options.Log("journal: %s ended; the head of the chain is %s, at entry %d", path, sum, last)
 }
@@ -228,11 +230,11 @@ func (s *Service) filesPruned(paths []string, last uint64, err error) {
 	s.options.Log("journal: %s were removed, with the entries up to %d", strings.Join(paths, ", "), last)
 }
 
-// firstModel is the release in force, or the model last put where one was kept, and else that of the command line.
+// firstModel returns the release in force, or the model last put if one was kept, or else that of the command line.
 func (s *Service) firstModel(ctx context.Context) (*served, error) {
 	if s.options.Releases != "" {
 		if s.options.Journal != "" {
-			s.tellUnserved(filepath.Join(s.options.Journal, stateName))
+			s.logUnserved(filepath.Join(s.options.Journal, stateName))
 		}
 		return s.firstRelease(ctx)
 	}
@@ -258,8 +260,8 @@ func (s *Service) firstModel(ctx context.Context) (*served, error) {
 	return model, nil
 }
 
-// tellUnserved logs that a model was put before there was a folder of releases, whose files are served now.
-func (s *Service) tellUnserved(path string) {
+// logUnserved logs that a model was put before there was a folder of releases, whose files are served now.
+func (s *Service) logUnserved(path string) {
 	switch put, err := readState(path); {
 	case err != nil:
 		s.options.Log("the model last put is not known: %v", err)
@@ -285,7 +287,7 @@ func (s *Service) died(number int, err error) {
 	s.options.Log("engine %d ended and is begun anew: %v", number, err)
 }
 
-// renew begins new files of the journal, and reads the tokens again, whenever it is told to.
+// renew begins new journal files, and reads the tokens again, whenever Turn says so.
 func (s *Service) renew(ctx context.Context) {
 	for {
 		select {
@@ -318,8 +320,8 @@ func (s *Service) renew(ctx context.Context) {
 
 type connectionKey struct{}
 
-// serve answers until the context ends, and then ends in order: no new connection, then what was taken, then the engines,
-// then the journal.
+// serve answers until the context ends, and then ends in order: no new connections, then accepted requests, then the
+// engines, then the journal.
 func (s *Service) serve(ctx context.Context) error {
 	server := s.server(s.handler(), s.places)
 	open := s.options.Listener
@@ -359,7 +361,7 @@ func (s *Service) originOf(model *served) string {
 	return s.options.Named
 }
 
-// server answers connections, whose places are counted.
+// server returns a server whose connections are counted.
 func (s *Service) server(handler http.Handler, places *connections) *http.Server {
 	return &http.Server{
 		Handler:           handler,
@@ -376,7 +378,7 @@ func (s *Service) server(handler http.Handler, places *connections) *http.Server
 	}
 }
 
-// serveAdmin answers those who look after the service, and gives what ends it.
+// serveAdmin answers operators, and returns a function that ends it.
 func (s *Service) serveAdmin() func() {
 	places := newConnections(maxAdmin, maxAdmin)
 	server := s.server(s.adminHandler(), places)
@@ -390,7 +392,7 @@ func (s *Service) serveAdmin() func() {
 	return func() { _ = server.Close() }
 }
 
-// url is where the service is called.
+// url returns the service's address.
 func (s *Service) url() string {
 	at := s.options.Listener.Addr()
 	switch {
@@ -402,7 +404,7 @@ func (s *Service) url() string {
 	return "http://" + at.String()
 }
 
-// stop ends in order. Ended is sent to once no connection is accepted any more.
+// stop ends in order. Ended receives once no connection is accepted any more.
 func (s *Service) stop(server *http.Server, listener net.Listener, ended <-chan error) error {
 	notify("STOPPING=1")
 	s.options.Log("ending: what was taken is answered")
@@ -416,7 +418,8 @@ func (s *Service) stop(server *http.Server, listener net.Listener, ended <-chan 
 	}
 	_ = listener.Close()
 	<-ended
-	// Whoever keeps a connection open may have sent a request that was not read yet. Each answer says that it is the last.
+	// The holder of an open connection may have sent a request that isn't read yet. Each answer says that it is the
+	// last.
 	for until := time.Now().Add(drainPatience); s.places.count() > 0 && time.Now().Before(until); {
 		time.Sleep(10 * time.Millisecond)
 	}
@@ -443,7 +446,7 @@ func (s *Service) stop(server *http.Server, listener net.Listener, ended <-chan 
 	return first
 }
 
-// notify tells systemd how the service stands, where systemd started it so.
+// notify reports the state of the service to systemd, if that started it as such.
 func notify(state string) {
 	path := os.Getenv("NOTIFY_SOCKET")
 	if path == "" {
@@ -460,7 +463,7 @@ func notify(state string) {
 	_, _ = connection.Write([]byte(state))
 }
 
-// logWriter hands lines of net/http on.
+// logWriter passes on lines of net/http.
 type logWriter struct {
 	log func(form string, words ...any)
 }

@@ -33,13 +33,13 @@ func desk() string {
 	return "../../dist/desk"
 }
 
-// adding is a model of the service s, which adds a number to its input a.
+// adding returns a model of the service s, which adds a number to its input a.
 func adding(n int) string {
 	return fmt.Sprintf(`{"inputs":["a","b"],"decisions":[{"name":"d","needs":["a"],"expr":"a + %d"}],"services":[`+
 		`{"name":"s","outputs":["d"],"encapsulated":[],"inputDecisions":[],"inputData":["a"]}]}`, n)
 }
 
-// slow is a model of the service s, whose decision takes the longer the longer the list b is.
+// slow returns a model of the service s, whose decision takes longer for a longer list b.
 func slow(rules int) string {
 	rule := `{"when":[],"then":["b.x"]}`
 	return `{"inputs":["b"],"decisions":[{"name":"d","needs":["b"],"expr":{"table":{"hit":"F","inputs":[],"outputs":` +
@@ -51,7 +51,7 @@ func long(length int) string {
 	return `{"b":[` + strings.TrimSuffix(strings.Repeat(`{"x":1},`, length), ",") + `]}`
 }
 
-// A running service, with what it logged.
+// A running is a running service, with what it logged.
 type running struct {
 	url   string
 	end   context.CancelFunc
@@ -131,10 +131,10 @@ func serve(t *testing.T, model string, options Options) *running {
 	return r
 }
 
-// oneCall takes a connection for each call.
+// oneCall uses a new connection for each call.
 var oneCall = &http.Client{Transport: &http.Transport{DisableKeepAlives: true}}
 
-// send sends a request, and gives its status and body.
+// send sends a request, and returns its status and body.
 func send(t *testing.T, method, url, body string, headers ...string) (int, string, http.Header) {
 	t.Helper()
 	request, err := http.NewRequest(method, url, strings.NewReader(body))
@@ -224,7 +224,7 @@ func TestCalls(t *testing.T) {
 	}
 }
 
-// Results that are null are counted by their service, those of lists too; problems are not.
+// Null results are counted by their service, also within lists; problems are not.
 func TestNullResults(t *testing.T) {
 	r := serve(t, adding(1), Options{})
 	defer r.stop(t)
@@ -258,8 +258,8 @@ func TestHeaders(t *testing.T) {
 	}
 }
 
-// Many call while models are put: nobody gets a model older than one whose PUT was answered before the call, or than an
-// answer before.
+// Many call while models are put: nobody gets a model older than one whose PUT was answered before the call, or than
+// one of an earlier answer.
 func TestPutUnderLoad(t *testing.T) {
 	r := serve(t, adding(0), Options{Processes: 3})
 	defer r.stop(t)
@@ -286,7 +286,7 @@ func TestPutUnderLoad(t *testing.T) {
 				}
 				got := results[0].Result
 				if got < least || got < last || results[1].Result != got {
-					t.Errorf("caller %d has model %v behind %d, and %d was put", caller, results, last, least)
+					t.Errorf("caller %d has model %v after %d, and %d was put", caller, results, last, least)
 				}
 				last = got
 			}
@@ -345,7 +345,7 @@ func TestNoOrder(t *testing.T) {
 	result(t, slow, 0)
 }
 
-// begin sends a request on a connection of its own, and waits for nothing.
+// begin sends a request on a connection of its own, without waiting.
 func (r *running) begin(t *testing.T, inputs, header string) net.Conn {
 	t.Helper()
 	connection, err := net.Dial("tcp", strings.TrimPrefix(r.url, "http://"))
@@ -357,7 +357,7 @@ func (r *running) begin(t *testing.T, inputs, header string) net.Conn {
 	return connection
 }
 
-// outstanding waits until so many requests are taken and not answered.
+// outstanding waits until that many requests are unanswered.
 func (r *running) outstanding(t *testing.T, count int) {
 	t.Helper()
 	for until := time.Now().Add(time.Minute); r.metric(t, "desk_http_outstanding") != float64(count); {
@@ -367,7 +367,7 @@ func (r *running) outstanding(t *testing.T, count int) {
 	}
 }
 
-// result waits for the answer on a connection, which has this result.
+// result waits for the answer on a connection, and checks its result.
 func result(t *testing.T, connection net.Conn, due int) {
 	t.Helper()
 	answer, err := http.ReadResponse(bufio.NewReader(connection), nil)
@@ -452,7 +452,7 @@ func TestPutFromElsewhere(t *testing.T) {
 	}
 }
 
-// What is put is kept: a service that is started again serves it, and says so.
+// A put model is kept: a restarted service serves it, and says so.
 func TestStateAndJournal(t *testing.T) {
 	folder := t.TempDir()
 	r := serve(t, adding(1), Options{Journal: folder})
@@ -464,7 +464,7 @@ func TestStateAndJournal(t *testing.T) {
 	if status, text, _ := send(t, "PUT", r.url+"/v1/model", adding(5)); status != 200 || !strings.Contains(text, `"kept":true`) {
 		t.Errorf("%d %s", status, text)
 	}
-	send(t, "POST", r.url+"/v1/services/s", `[{"a":1},{"a":9223372036854775807},{"a":1.5}]`, "X-Request-Id", "behind")
+	send(t, "POST", r.url+"/v1/services/s", `[{"a":1},{"a":9223372036854775807},{"a":1.5}]`, "X-Request-Id", "after")
 	r.stop(t)
 	r = serve(t, adding(1), Options{Journal: folder})
 	if _, text, _ := send(t, "POST", r.url+"/v1/services/s", `{"a":1}`); text != `{"result":6}` {
@@ -483,9 +483,9 @@ func TestStateAndJournal(t *testing.T) {
 		}
 		all = append(all, text...)
 	}
-	for id, due := range map[string]int{"before": 1, "behind#0": 1, "behind#1": 1, "behind#2": 0} {
+	for id, due := range map[string]int{"before": 1, "after#0": 1, "after#1": 1, "after#2": 0} {
 		if got := bytes.Count(all, []byte(`{"client":"`+id+`",`)); got != due {
-			t.Errorf("%s stands in the journal %d times, and %d is due", id, got, due)
+			t.Errorf("%s is in the journal %d times, not %d", id, got, due)
 		}
 	}
 	if len(names) != 3 {
@@ -493,7 +493,7 @@ func TestStateAndJournal(t *testing.T) {
 	}
 }
 
-// Callers keep their connections while the service ends: each request that was sent on one has its answer.
+// Callers keep their connections while the service ends: each request sent on one is answered.
 func TestStopUnderLoad(t *testing.T) {
 	r := serve(t, adding(1), Options{})
 	var answered atomic.Int64
@@ -577,14 +577,14 @@ func TestLimits(t *testing.T) {
 	c.answered(a, 3)
 	c.leave(a)
 	if _, refused := c.enter("a", 9); refused != problemFull {
-		t.Error("a call beyond the limit is taken beside another")
+		t.Error("a call beyond the limit is accepted next to another")
 	}
 	if requests, named := c.count(); requests != 2 || named != 1 {
 		t.Errorf("%d requests of %d clients", requests, named)
 	}
 }
 
-// The description has every path that there is.
+// The description has every path.
 func TestEveryPathIsDescribed(t *testing.T) {
 	r := serve(t, adding(1), Options{})
 	defer r.stop(t)
@@ -596,7 +596,7 @@ func TestEveryPathIsDescribed(t *testing.T) {
 	s := &Service{metrics: newMetrics(&Service{places: newConnections(1, 1)})}
 	due := []string{"/v1/services/s", "/v1/explain/s", "/problems/{word}"}
 	for path := range s.pages() {
-		// The list of services has a slash at its end or not.
+		// The list of services may have a slash at its end.
 		if path != servicesPath {
 			due = append(due, path)
 		}

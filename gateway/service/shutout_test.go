@@ -16,8 +16,8 @@ import (
 	"time"
 )
 
-// Without tokens this machine alone is answered, by its own names: a name that was made to lead here reads nothing. A POST that a page
-// of another site has a browser send is refused.
+// Without tokens only this machine is answered, by its own names: a name that was made to point here reads nothing. A
+// POST that a browser sends for a page of another site is refused.
 func TestOtherSites(t *testing.T) {
 	r := serve(t, adding(1), Options{})
 	defer r.stop(t)
@@ -75,7 +75,7 @@ func TestOtherSites(t *testing.T) {
 	}
 }
 
-// A token alone spreads: its requests have an order with the right ordered, or X-Client.
+// A plain token spreads: its requests have an order with the right ordered, or X-Client.
 func TestRightOrdered(t *testing.T) {
 	s := &Service{}
 	all, err := readTokens(writeTokens(t, "shop call one", "desk call,ordered two", "old call,spread three"))
@@ -97,7 +97,7 @@ func TestRightOrdered(t *testing.T) {
 	}
 }
 
-// The listener of those who look after the service answers them alone, and the metrics are there alone.
+// The operators' listener only answers operators, and only it has the metrics.
 func TestAdmin(t *testing.T) {
 	admin, err := net.Listen("tcp", "127.0.0.1:0")
 	if err != nil {
@@ -119,7 +119,7 @@ func TestAdmin(t *testing.T) {
 	}
 }
 
-// dial opens a connection that says nothing.
+// dial opens a connection without sending anything.
 func (r *running) dial(t *testing.T) net.Conn {
 	t.Helper()
 	connection, err := net.Dial("tcp", strings.TrimPrefix(r.url, "http://"))
@@ -130,7 +130,7 @@ func (r *running) dial(t *testing.T) net.Conn {
 	return connection
 }
 
-// Where one address has its places taken by connections that are quiet, the one that has been so longest is closed for a new one.
+// If quiet connections take all places of an address, the one that has been quiet longest is closed for a new one.
 func TestQuietConnections(t *testing.T) {
 	const limit = 20
 	r := serve(t, adding(1), Options{AddressLimit: limit})
@@ -152,13 +152,13 @@ func TestQuietConnections(t *testing.T) {
 	}
 }
 
-// Connections that have a request are not closed for others of their address, which are refused.
+// Connections with a request are not closed for others of their address, which are refused.
 func TestBusyConnections(t *testing.T) {
 	const limit = 5
 	r := serve(t, adding(1), Options{AddressLimit: limit, Deadline: time.Minute})
 	defer r.stop(t)
 	for n := 0; n < limit; n++ {
-		// The connection by which the service was seen to be ready may still be counted.
+		// The connection that saw the service ready may still be counted.
 		for until := time.Now().Add(time.Minute); !r.waitsForBody(t); time.Sleep(10 * time.Millisecond) {
 			if time.Now().After(until) {
 				t.Fatalf("%d connections are served", n)
@@ -173,7 +173,7 @@ func TestBusyConnections(t *testing.T) {
 	r.wait(t, "connections of 127.0.0.1")
 }
 
-// waitsForBody opens a connection whose call is read up to its body, and says whether it was.
+// waitsForBody opens a connection whose call is read up to its body, and reports whether it was.
 func (r *running) waitsForBody(t *testing.T) bool {
 	t.Helper()
 	connection := r.dial(t)
@@ -183,7 +183,7 @@ func (r *running) waitsForBody(t *testing.T) bool {
 	return err == nil && strings.Contains(line, "100")
 }
 
-// A unix socket has the service as well, and is this machine.
+// A unix socket serves too, and counts as this machine.
 func TestUnixSocket(t *testing.T) {
 	path := filepath.Join(t.TempDir(), "socket")
 	listener, err := net.Listen("unix", path)

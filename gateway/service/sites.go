@@ -7,8 +7,8 @@ import (
 	"strings"
 )
 
-// siteProblem refuses what pages of other sites send through a browser: requests that would do something, and, where this machine
-// alone may call and needs no token, those under a name that was made to lead here. It is nil of others.
+// siteProblem refuses what pages of other sites send through a browser: requests that would do something, and, if only
+// this machine may call and needs no token, those under a name that was made to point here. It is nil for others.
 func (s *Service) siteProblem(r *http.Request) *problem {
 	if s.isPrivate && s.tokens.Load() == nil && !isUnix(r) && !isLoopbackHost(r) {
 		return problemHost.with("it is called " + r.Host + " here, and not by a loopback address or localhost")
@@ -19,13 +19,13 @@ func (s *Service) siteProblem(r *http.Request) *problem {
 	return nil
 }
 
-// isPrivate says whether this machine alone reaches a listener.
+// isPrivate reports whether only this machine reaches a listener.
 func isPrivate(listener net.Listener) bool {
 	at, is := listener.Addr().(*net.TCPAddr)
 	return is && at.IP.IsLoopback()
 }
 
-// isCrossSite says whether a browser sends a request for a page of another site.
+// isCrossSite reports whether a browser sends a request for a page of another site.
 func isCrossSite(r *http.Request) bool {
 	if site := r.Header.Get("Sec-Fetch-Site"); site != "" {
 		return site != "same-origin" && site != "none"

@@ -10,29 +10,31 @@ import (
 	"gateway/lines"
 )
 
-// A Source is a model as it was read from a file, with what the file says beside it.
+// A Source is a model as read from a file, and what the file says besides.
 type Source struct {
-	// Text is the model's compact text: JSON without blanks, keys in the order of their bytes.
+	// Text is the model's compact text: JSON without blanks, keys in byte order.
 	Text []byte
-	// Names has the name in the file for each word of the model that is another; empty where the words are the names.
+	// Names has the name in the file for each word of the model that differs from it; empty if the words are the names.
 	Names map[string]string
-	// Locals has the same for words that stand within one decision alone.
+	// Locals is like Names, for words that occur within one decision.
 	Locals map[string]string
-	// Types has a JSON Schema for each input of which the file says the type.
+	// Types has a JSON Schema for each input whose type the file gives.
 	Types map[string]json.RawMessage
+	// Domains has unary tests for inputs, by their words: the values that each may have.
+	Domains map[string]string
 	// Required has the words of the inputs that a caller over HTTP has to give, and not as null.
 	Required []string
-	// Places has what stands in the file at each JSON Pointer into the model.
+	// Places has the file's content at each JSON Pointer into the model.
 	Places json.RawMessage
-	// Diagram has where the diagram of the file draws each input and decision, by its word; nil where it draws not all.
+	// Diagram has where the file's diagram draws each input and decision, by its word; nil unless it draws all.
 	Diagram json.RawMessage
-	// Language is that of the file's names and texts, as "de"; empty where it says none.
+	// Language is that of the file's names and texts, as "de"; empty if not given.
 	Language string
-	// Release says which model it is; nil where nothing does.
+	// Release says which model it is; nil if unknown.
 	Release *Release
 }
 
-// ErrNoModel says that a text is no model in JSON. What is wrong inside of a model is not found here.
+// ErrNoModel means that a text isn't a model in JSON. Faults within a model are not found here.
 var ErrNoModel = errors.New("it is no model: neither a model in JSON, nor {\"model\":M}, nor what desk import writes")
 
 // imported is what desk import writes; with the model alone it is a line of the engine.
@@ -41,6 +43,7 @@ type imported struct {
 	Names    map[string]string          `json:"names,omitempty"`
 	Locals   map[string]string          `json:"locals,omitempty"`
 	Types    map[string]json.RawMessage `json:"types,omitempty"`
+	Domains  map[string]string          `json:"domains,omitempty"`
 	Required []string                   `json:"required,omitempty"`
 	Places   json.RawMessage            `json:"places,omitempty"`
 	Diagram  json.RawMessage            `json:"diagram,omitempty"`
@@ -57,7 +60,7 @@ func ReadSource(text []byte) (*Source, error) {
 	if err := json.Unmarshal(text, &it); err != nil {
 		return nil, fmt.Errorf("%w: %v", ErrNoModel, err)
 	}
-	source := &Source{Names: it.Names, Locals: it.Locals, Types: it.Types, Required: it.Required, Places: it.Places, Diagram: it.Diagram,
+	source := &Source{Names: it.Names, Locals: it.Locals, Types: it.Types, Domains: it.Domains, Required: it.Required, Places: it.Places, Diagram: it.Diagram,
 		Language: it.Language, Release: it.Release}
 	model := []byte(it.Model)
 	if model == nil {
@@ -76,14 +79,14 @@ func ReadSource(text []byte) (*Source, error) {
 }
 
 func (s *Source) imported() imported {
-	return imported{Model: s.Text, Names: s.Names, Locals: s.Locals, Types: s.Types, Required: s.Required, Places: s.Places, Diagram: s.Diagram,
+	return imported{Model: s.Text, Names: s.Names, Locals: s.Locals, Types: s.Types, Domains: s.Domains, Required: s.Required, Places: s.Places, Diagram: s.Diagram,
 		Language: s.Language, Release: s.Release}
 }
 
-// Whole is the source as desk import writes it, with its release.
+// Whole returns the source as desk import writes it, with its release.
 func (s *Source) Whole() ([]byte, error) { return s.text() }
 
-// text is the source as desk import writes it.
+// text returns the source as desk import writes it.
 func (s *Source) text() ([]byte, error) {
 	text, err := plainJSON(s.imported())
 	if err != nil {
@@ -92,7 +95,7 @@ func (s *Source) text() ([]byte, error) {
 	return append(text, '\n'), nil
 }
 
-// readState reads the model last put, or gives nil where none was kept.
+// readState reads the model last put; nil if none was kept.
 func readState(path string) (*Source, error) {
 	text, err := os.ReadFile(path)
 	if errors.Is(err, os.ErrNotExist) {
@@ -108,7 +111,7 @@ func readState(path string) (*Source, error) {
 	return source, nil
 }
 
-// writeState keeps a model: after a crash the file has either the one before or this one.
+// writeState keeps a model. After a crash the file has either the previous one or this one.
 func writeState(path string, source *Source) (err error) {
 	defer func() {
 		if err != nil {

@@ -9,7 +9,7 @@ import (
 	"gateway/types"
 )
 
-// A modelForm is what is read of a model to know the keys of its results.
+// A modelForm has what is needed from a model to know the keys of its results.
 type modelForm struct {
 	Decisions []struct {
 		Name string          `json:"name"`
@@ -21,7 +21,8 @@ type modelForm struct {
 	} `json:"services"`
 }
 
-// A boxedForm is what is read of a boxed expression: the entries of a context, the outputs of a table, the members of a list.
+// A boxedForm has what is needed from a boxed expression: the entries of a context, the outputs of a table, the members
+// of a list.
 type boxedForm struct {
 	Context []struct {
 		Name string          `json:"name"`
@@ -36,7 +37,7 @@ type boxedForm struct {
 	List []json.RawMessage `json:"list"`
 }
 
-// membersOf are those of the contexts that a boxed expression makes.
+// membersOf returns the members of the contexts that a boxed expression makes.
 func membersOf(expr json.RawMessage) map[string]*types.Type {
 	var form boxedForm
 	if len(expr) == 0 || expr[0] != '{' || json.Unmarshal(expr, &form) != nil {
@@ -63,7 +64,7 @@ func membersOf(expr json.RawMessage) map[string]*types.Type {
 	return members
 }
 
-// typeOf is the type of an input or a decision.
+// typeOf returns the type of an input or a decision.
 func (m *served) typeOf(word string) *types.Type {
 	if of := m.types[word]; of != nil {
 		return of
@@ -71,7 +72,7 @@ func (m *served) typeOf(word string) *types.Type {
 	return types.Any
 }
 
-// describe finds what is known of the inputs and results of the services.
+// describe finds what is known about the inputs and results of the services.
 func (m *served) describe() error {
 	var form modelForm
 	if err := json.Unmarshal(m.source.Text, &form); err != nil {
@@ -101,7 +102,7 @@ func (m *served) describe() error {
 	return nil
 }
 
-// describe finds what is known of the inputs and results of a service.
+// describe finds what is known about the inputs and results of a service.
 func (d *decisionService) describe(m *served, outputs []string, values map[string]*types.Type) {
 	d.outputs = outputs
 	of, named := m.typeOf(outputs[0]), values[outputs[0]]
@@ -121,7 +122,7 @@ func (d *decisionService) describe(m *served, outputs []string, values map[strin
 	d.toNames = types.ToNames(named, m.source.Names)
 }
 
-// restrict makes the service as callers have it.
+// restrict makes the service as callers see it.
 func (d *decisionService) restrict(m *served) {
 	if !m.isStrict {
 		return
@@ -138,7 +139,7 @@ func (d *decisionService) restrict(m *served) {
 	}
 }
 
-// ofCallers is the service as callers have it.
+// ofCallers returns the service as callers see it.
 func (d *decisionService) ofCallers() *decisionService {
 	if d.strict != nil {
 		return d.strict
@@ -162,7 +163,7 @@ func (m *served) typesOf(words []string) map[string]*types.Type {
 	return of
 }
 
-// worded gives inputs the model's words.
+// worded returns inputs the model's words.
 func (d *decisionService) worded(text []byte) ([]byte, *problem) {
 	tree, err := lines.Tree(text)
 	if err != nil {
@@ -175,7 +176,7 @@ func (d *decisionService) worded(text []byte) ([]byte, *problem) {
 	return lines.Compact(make([]byte, 0, len(text)), written), nil
 }
 
-// shown is a result of the engine as people have it: with decimals, and with the names of the file.
+// shown returns a result in the file's terms: with decimals, and with the file's names.
 func (d *decisionService) shown(value []byte) []byte {
 	if d.result == nil && (d.toNames == nil || bytes.IndexByte(value, '{') < 0) {
 		return value

@@ -5,7 +5,8 @@ import (
 	"testing"
 )
 
-// guests is what desk import writes of a file with the names "Guest Count", "Any Thing", "Guest List" and "First Name".
+// guests is the output of desk import for a file with the names "Guest Count", "Any Thing", "Guest List" and "First
+// Name".
 const guests = `{"model":{"inputs":["Guest_Count","Any_Thing","Guest_List"],"decisions":[` +
 	`{"name":"Same_Thing","needs":["Any_Thing"],"expr":"Any_Thing"},` +
 	`{"name":"Same_List","needs":["Guest_List"],"expr":"Guest_List"},` +
@@ -19,7 +20,7 @@ const guests = `{"model":{"inputs":["Guest_Count","Any_Thing","Guest_List"],"dec
 	`"Guest_List":{"type":["array","null"],"items":{"type":["object","null"],"properties":{"First_Name":{"type":["string","null"]},"Any_Thing":{}}}},` +
 	`"Same_List":{"type":["array","null"],"items":{"type":["object","null"],"properties":{"First_Name":{"type":["string","null"]},"Any_Thing":{}}}}}}`
 
-// Keys that a type names are written as in the file, and by the model's words; all others are the caller's.
+// Keys that a type names are written as in the file, and with the model's words. All others are the caller's.
 func TestKeysOfCallersStay(t *testing.T) {
 	r := serve(t, guests, Options{})
 	defer r.stop(t)
@@ -53,7 +54,8 @@ func TestKeysOfCallersStay(t *testing.T) {
 	}
 }
 
-// An input whose type doesn't admit null has to be there; one whose allowed values list null, or which has no type, need not.
+// An input whose type doesn't admit null has to be there. One whose allowed values list null, or which has no type, may
+// be missing.
 func TestMissingInputs(t *testing.T) {
 	model := strings.Replace(guests, `"Guest_Count":{},"Any`, `"Guest_Count":{"type":"integer","minimum":1},"Any`, 1)
 	model = strings.Replace(model, `"Guest_List":{"type":["array","null"]`, `"Guest_List":{"type":"array"`, 1)

@@ -14,18 +14,18 @@ import (
 	"gateway/release"
 )
 
-// A Trial asks two models for the recorded requests that are wanted.
+// A Trial asks two models the selected recorded requests.
 type Trial struct {
 	Old, New *Source
-	// Client, Service, Rule, Release, From and To say which requests are wanted; empty ones want any.
+	// Client, Service, Rule, Release, From and To select requests; empty ones select all.
 	Client, Service, Rule, Release, From, To string
-	// Asked is told how many requests were asked by now, and ends the trial with an error. Take is told of each that gets another
-	// answer, in their order.
+	// Asked gets the number of requests asked so far, and ends the trial with an error. Take gets each request with a
+	// different answer, in order.
 	Asked func(count int) error
 	Take  func(*TrialDifference) error
 }
 
-// A TrialDifference is a recorded request that gets another answer.
+// A TrialDifference is a recorded request with a different answer.
 type TrialDifference struct {
 	ID      string          `json:"id"`
 	Request string          `json:"request,omitempty"`
@@ -44,7 +44,7 @@ type TrialCount struct {
 	Count int    `json:"count"`
 }
 
-// A Tried is what a trial found. Left counts the requests that can't be asked again.
+// A Tried is the outcome of a trial. Left counts the requests that can't be asked again.
 type Tried struct {
 	Asked     int          `json:"asked"`
 	Differing int          `json:"differing"`
@@ -52,11 +52,11 @@ type Tried struct {
 	By        []TrialCount `json:"by"`
 }
 
-// A Trier holds two models against each other.
+// A Trier compares two models.
 type Trier interface {
-	// Changes has what differs between the models themselves, as JSON.
+	// Changes returns the differences between the models themselves, as JSON.
 	Changes(old, new *Source) (json.RawMessage, error)
-	// Try asks both for the requests of a journal.
+	// Try asks both the requests of a journal.
 	Try(ctx context.Context, folder string, it *Trial) (*Tried, error)
 }
 
@@ -68,15 +68,15 @@ type trying struct {
 	table   *csv.Writer
 	flush   func()
 	trial   *Trial
-	// most is how many differing requests are listed, listed how many are.
+	// most is how many differing requests may be listed, listed how many are.
 	most, listed int
 }
 
-// mostTried is how many differing requests are listed unless the query says another number.
+// mostTried is how many differing requests are listed by default.
 const mostTried = 1000
 
-// trialPath answers POST /v1/trial: the recorded requests are asked of two models. The answer is lines of JSON as they are found, or
-// CSV.
+// trialPath answers POST /v1/trial: it asks two models the recorded requests. The answer is lines of JSON as
+// differences are found, or CSV.
 func (s *Service) trialPath(w http.ResponseWriter, r *http.Request) {
 	t, who, p := s.newTrial(r)
 	var changes json.RawMessage
@@ -107,7 +107,7 @@ func (s *Service) trialPath(w http.ResponseWriter, r *http.Request) {
 	t.end(tried, err)
 }
 
-// newTrial reads what is to be tried.
+// newTrial reads what to try.
 func (s *Service) newTrial(r *http.Request) (*trying, caller, *problem) {
 	if r.Method != http.MethodPost {
 		p := problemMethod.with("it takes POST")
@@ -152,7 +152,7 @@ func (s *Service) readTrial(r *http.Request) (*trying, *problem) {
 	return t, p
 }
 
-// sourceOf is the model with a SHA-256: the one in force, also where the sum is empty, one that was checked, or a release.
+// sourceOf returns the model with a SHA-256: the one in force, which is also the default, a checked one, or a release.
 func (s *Service) sourceOf(sum string) (*Source, *problem) {
 	inForce := s.model.Load()
 	if sum == "" || sum == inForce.wholeSum {
@@ -211,7 +211,7 @@ var (
 	contentCSV   = []string{"text/csv; charset=utf-8"}
 )
 
-// errEnding ends a trial since the service ends.
+// errEnding ends a trial because the service is ending.
 var errEnding = errors.New("the service is about to end")
 
 func (t *trying) run(changes json.RawMessage) (*Tried, error) {
@@ -229,7 +229,7 @@ func (t *trying) run(changes json.RawMessage) (*Tried, error) {
 	return t.service.options.Trier.Try(t.request.Context(), t.service.options.Journal, t.trial)
 }
 
-// line writes a line of JSON, and lets all be read that was written; there are none in CSV.
+// line writes a line of JSON, and flushes; CSV has no such lines.
 func (t *trying) line(value any) error {
 	defer t.flush()
 	if t.table != nil {
@@ -243,7 +243,7 @@ func (t *trying) line(value any) error {
 	return err
 }
 
-// take lists a request that gets another answer.
+// take lists a request with a different answer.
 func (t *trying) take(it *TrialDifference) error {
 	if t.table != nil {
 		return t.table.Write([]string{it.ID, it.Request, it.Time, it.Service, string(it.Inputs), it.Old, it.New, it.Rules})
@@ -259,7 +259,7 @@ func (t *trying) take(it *TrialDifference) error {
 	return err
 }
 
-// end writes what was found. CSV that is not whole ends with the connection.
+// end writes the outcome. An incomplete CSV ends with the connection.
 func (t *trying) end(tried *Tried, err error) {
 	if err == nil {
 		if tried.By == nil {

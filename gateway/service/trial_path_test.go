@@ -13,13 +13,13 @@ import (
 	"time"
 )
 
-// A stub is a Trier that says what it was asked: two requests, of which one gets another answer.
+// A stub is a Trier that notes what it was asked: two requests, one of which gets a different answer.
 type stub struct {
 	asked Trial
 	fault error
-	// goOn lets a trial end; nil where it may at once.
+	// goOn lets a trial end; nil if it may at once.
 	begun, goOn chan struct{}
-	// pause is how long it takes to find the first answer that differs, inputs are those of the request.
+	// pause is how long it takes to find the first difference, inputs are those of the request.
 	pause  time.Duration
 	inputs string
 }
@@ -92,7 +92,7 @@ func TestTrial(t *testing.T) {
 	}
 }
 
-// A trial that fails says so, as CSV by a connection that is cut off; a second one beside it is refused.
+// A trial that fails says so, for CSV by cutting the connection. A second one at the same time is refused.
 func TestTrialThatFails(t *testing.T) {
 	s := &stub{fault: errors.New("the journal is not there")}
 	r := serve(t, adding(1), Options{Journal: t.TempDir(), Trier: s})
@@ -123,7 +123,7 @@ func TestTrialThatTakesLong(t *testing.T) {
 	}
 }
 
-// While a trial is under way there is no other one.
+// Only one trial runs at a time.
 func TestOneTrialAtATime(t *testing.T) {
 	s := &stub{begun: make(chan struct{}), goOn: make(chan struct{})}
 	r := serve(t, adding(1), Options{Journal: t.TempDir(), Trier: s})
@@ -147,7 +147,8 @@ func TestOneTrialAtATime(t *testing.T) {
 	}
 }
 
-// Recorded requests are read with the right read alone, which asks no service; without tokens by this machine alone.
+// Only callers with the right to read get recorded requests, and that right asks no service. Without tokens only this
+// machine gets them.
 func TestRightToRead(t *testing.T) {
 	path := writeTokens(t, "shop call one", "auditor read two")
 	r := serve(t, adding(1), Options{Journal: t.TempDir(), Trier: &stub{}, Tokens: path})
@@ -176,7 +177,7 @@ func TestRightToRead(t *testing.T) {
 	}
 }
 
-// modelSum is the SHA-256 of a model.
+// modelSum returns the SHA-256 of a model.
 func modelSum(t *testing.T, model string) string {
 	t.Helper()
 	source, err := ReadSource([]byte(model))

@@ -2,8 +2,8 @@ package service
 
 import "sync"
 
-// turns keeps the calls of each client in the order in which their bodies came whole. In this order their requests are put
-// in, and their answers given.
+// turns keeps the calls of each client in the order in which their bodies were complete. Their requests are put in, and
+// their answers given, in this order.
 type turns struct {
 	mu     sync.Mutex
 	byName map[string]*order
@@ -13,15 +13,15 @@ type turns struct {
 type order struct {
 	name string
 	last *turn
-	// next is the first call of which it is still open whether its requests are put in.
+	// next is the first call whose requests may not be put in yet.
 	next *turn
 }
 
 // A turn is a call's place in the order of its client. Without a client it is nil, and waits for nothing.
 type turn struct {
-	order          *order
-	before, behind *turn
-	// mayPut is closed once the requests of all calls before are put in, mayAnswer once all calls before are over.
+	order         *order
+	before, after *turn
+	// mayPut is closed once the requests of all earlier calls are put in, mayAnswer once all earlier calls are over.
 	mayPut, mayAnswer chan struct{}
 }
 
@@ -29,7 +29,7 @@ func newTurns() *turns {
 	return &turns{byName: map[string]*order{}}
 }
 
-// begin gives a call of a client the place behind all others of it. Each turn has to end.
+// begin returns a call the place after all others of its client. Each turn has to end.
 func (ts *turns) begin(client string) *turn {
 	if client == "" {
 		return nil
@@ -45,7 +45,7 @@ func (ts *turns) begin(client string) *turn {
 	if o.last == nil {
 		close(t.mayAnswer)
 	} else {
-		o.last.behind = t
+		o.last.after = t
 	}
 	o.last = t
 	if o.next == nil {
@@ -55,21 +55,21 @@ func (ts *turns) begin(client string) *turn {
 	return t
 }
 
-// waitToPut waits until the requests of all calls before are put in.
+// waitToPut waits until the requests of all earlier calls are put in.
 func (t *turn) waitToPut() {
 	if t != nil {
 		<-t.mayPut
 	}
 }
 
-// waitToAnswer waits until all calls before have their answers, or nobody waits for these.
+// waitToAnswer waits until all earlier calls have their answers, or nobody waits for these.
 func (t *turn) waitToAnswer() {
 	if t != nil {
 		<-t.mayAnswer
 	}
 }
 
-// put says that the requests of a call are put in.
+// put notes that the requests of a call are put in.
 func (ts *turns) put(t *turn) {
 	if t == nil {
 		return
@@ -85,14 +85,13 @@ func (t *turn) pass() {
 	if o.next != t {
 		return
 	}
-	o.next = t.behind
+	o.next = t.after
 	if o.next != nil {
 		close(o.next.mayPut)
 	}
 }
 
-// end says that a call has its answer, that it was refused, or that nobody waits for it. The calls behind still wait for
-// those before.
+// end notes that a call is answered or refused, or that nobody waits for it. Later calls still wait for earlier ones.
 func (ts *turns) end(t *turn) {
 	if t == nil {
 		return
@@ -100,16 +99,16 @@ func (ts *turns) end(t *turn) {
 	ts.mu.Lock()
 	defer ts.mu.Unlock()
 	t.pass()
-	if t.behind == nil {
+	if t.after == nil {
 		t.order.last = t.before
 	} else {
-		t.behind.before = t.before
+		t.after.before = t.before
 	}
 	switch {
 	case t.before != nil:
-		t.before.behind = t.behind
-	case t.behind != nil:
-		close(t.behind.mayAnswer)
+		t.before.after = t.after
+	case t.after != nil:
+		close(t.after.mayAnswer)
 	default:
 		delete(ts.byName, t.order.name)
 	}

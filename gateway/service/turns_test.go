@@ -6,7 +6,7 @@ import (
 	"testing"
 )
 
-// free says which of some turns may put their requests in, and which may be answered.
+// free returns which of some turns may put their requests in, and which may be answered.
 func free(all ...*turn) string {
 	var put, answer []string
 	for at, t := range all {
@@ -47,7 +47,7 @@ func TestTurns(t *testing.T) {
 		{"the fourth is put in", func() { ts.put(d) }, "023/03"},
 	} {
 		step.do()
-		// The second is over before it may do anything, so its channels say nothing.
+		// The second is over before its turn, so its channels don't matter.
 		if got := free(a, b, c, d); got != step.due {
 			t.Errorf("%s: %s, and %s is due", step.said, got, step.due)
 		}

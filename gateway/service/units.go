@@ -5,7 +5,7 @@ import (
 	"gateway/types"
 )
 
-// isCounted says whether some number of the model is counted in a unit.
+// isCounted reports whether some number of the model is counted in a unit.
 func (m *served) isCounted() bool {
 	for _, of := range m.types {
 		if of.IsCounted() {
@@ -15,8 +15,8 @@ func (m *served) isCounted() bool {
 	return false
 }
 
-// counted is the inputs of a request as the engine has them, or says why a value is not taken. Their members are bounded within
-// whole.
+// countedInputs returns the inputs of a request in the engine's form, or says why a value is refused. Their members are
+// spans of whole.
 func (m *served) countedInputs(service *decisionService, whole []byte, members []lines.Member) ([]byte, *problem) {
 	last := lastMembers(members)
 	made := []byte{'{'}
@@ -41,7 +41,7 @@ func (m *served) countedInputs(service *decisionService, whole []byte, members [
 	return append(m.addClocks(made, service, members), '}'), nil
 }
 
-// unitsOf is one input as the engine has it.
+// unitsOf returns one input in the engine's form.
 func unitsOf(of *types.Type, text []byte, span lines.Span) ([]byte, *lines.ValueFault) {
 	if of == nil || !of.IsCounted() && span.Bad < 0 && of.HoldsPlain(text[span.Start:span.End]) {
 		return text[span.Start:span.End], lines.Value(text, span)

@@ -14,9 +14,10 @@ import (
 const (
 	// StatusFault is that of a run that a fault of reading, of writing or of memory ended.
 	StatusFault = 1
-	// statusModel is that of a model that has a fault, statusTable that of one of which --strict refuses a table.
-	statusModel = 3
-	statusTable = 4
+	// statusModel is that of a model that has a fault, statusRefused that of one of which --strict refuses a table, or --strict-null what
+	// a service can give.
+	statusModel   = 3
+	statusRefused = 4
 )
 
 // mostBytes is how many bytes of a model and of requests are checked.
@@ -37,7 +38,10 @@ type CheckOptions struct {
 	Requests bool
 	// Tables asks for what is found of decision tables, Strict for a status of its own where something is.
 	Tables, Strict bool
-	// isRefused says that Strict refuses the model.
+	// Gives asks for what services and decisions can give, StrictNull too, with a status of its own where a service can give null or
+	// break a limit.
+	Gives, StrictNull bool
+	// isRefused says that Strict or StrictNull refuses the model.
 	isRefused bool
 }
 
@@ -46,7 +50,8 @@ func (o CheckOptions) words() []string {
 	for _, option := range []struct {
 		is   bool
 		word string
-	}{{o.Requests, "--requests"}, {o.Tables, "--tables"}, {o.Strict, "--strict"}} {
+	}{{o.Requests, "--requests"}, {o.Tables, "--tables"}, {o.Strict, "--strict"}, {o.Gives, "--gives"},
+		{o.StrictNull, "--strict-null"}} {
 		if option.is {
 			words = append(words, option.word)
 		}
@@ -68,10 +73,10 @@ func Check(ctx context.Context, engine string, options CheckOptions, in io.Reade
 	if err != nil {
 		return 0, err
 	}
-	if status != 0 && status != statusModel && status != statusTable {
+	if status != 0 && status != statusModel && status != statusRefused {
 		return status, nil
 	}
-	options.isRefused = status == statusTable
+	options.isRefused = status == statusRefused
 	told, err := Told(options, input, output)
 	if err != nil && options.Format.HasNotices() {
 		fmt.Fprintf(errOut, "desk: what was found could not be written as %s: %v\n", options.Format, err)
@@ -132,7 +137,8 @@ func Told(options CheckOptions, input, output []byte) (told []byte, err error) {
 	if err != nil {
 		return nil, err
 	}
-	r := &report{format: options.Format, name: options.Name, isRefused: options.isRefused, facts: facts, text: input}
+	r := &report{format: options.Format, name: options.Name, isRefused: options.isRefused && options.Strict, isStrictNull: options.StrictNull,
+		facts: facts, text: input}
 	if options.Requests {
 		r.text, r.requests, _ = bytes.Cut(input, []byte("\n"))
 	}

@@ -13,6 +13,8 @@ type facts struct {
 	Fault    string `json:"fault"`
 	// places are those of faults, in their order, and how many more there are of each.
 	places []factPlace
+	// gives are what the services and decisions can give; nil where nothing is told of that.
+	gives *givesFacts
 	// tables and findings are what was found of the decision tables.
 	tables []*factTable
 	// untold is how many tables are not told of.
@@ -140,6 +142,11 @@ func (f *facts) take(line []byte) error {
 			return err
 		}
 		f.places = append(f.places, place)
+	case bytes.HasPrefix(line, []byte(`{"service":`)), bytes.HasPrefix(line, []byte(`{"decision":`)):
+		if f.gives == nil {
+			f.gives = newGivesFacts()
+		}
+		return f.gives.take(line)
 	case bytes.HasPrefix(line, []byte(`{"table":null`)):
 		var untold factPlace
 		err := json.Unmarshal(line, &untold)

@@ -76,6 +76,7 @@ var catalogue = map[string]noticeKind{
 	"fault-service":    {Error, "A service doesn't fit the decisions"},
 	"fault-large":      {Error, "The model has over 1,000 decisions"},
 	"fault-long":       {Error, "The model is too long for a line"},
+	"fault-domain":     {Error, "What is declared of an input can't be taken"},
 
 	"warning-repeated-key":             {Warning, "A key occurs twice in an object, and the last one counts"},
 	"warning-hidden-letter":            {Warning, "A text has letters that turn or hide what is seen"},
@@ -113,6 +114,8 @@ var catalogue = map[string]noticeKind{
 	"table-never":                      {Warning, "A rule never hits"},
 	"table-masked":                     {Warning, "A rule never decides, for others go before it"},
 	"table-undecided":                  {Note, "What was asked of a table is not decided"},
+	givesNull:                          {Warning, "A service can give null or break a limit"},
+	givesMore:                          {Note, "Further services were not looked at"},
 	"table-more":                       {Note, "Further tables are not listed"},
 	"request-long":                     {Error, "The line is too long"},
 	"request-syntax":                   {Error, "The line is not JSON"},

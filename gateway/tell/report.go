@@ -13,12 +13,13 @@ type report struct {
 	format Format
 	// name is the path of the file; empty for standard input.
 	name string
-	// isRefused says that --strict refuses the model.
-	isRefused bool
-	file      *file
-	facts     *facts
-	text      []byte
-	lines     *lineIndex
+	// isRefused says that --strict refuses the model, where something was found of its tables; isStrictNull that --strict-null refuses
+	// a service that can give null or break a limit.
+	isRefused, isStrictNull bool
+	file                    *file
+	facts                   *facts
+	text                    []byte
+	lines                   *lineIndex
 	// requests are the lines behind the model.
 	requests []byte
 	out      bytes.Buffer
@@ -48,6 +49,7 @@ var faultSentences = map[string]string{
 	"syntax": "no JSON text", "shape": "not the form of a model", "name": "a name is not lawful", "twice": "a name stands twice",
 	"expression": "a text has no reading", "table": "a decision table is refused", "unknown": "a needed name is unknown",
 	"cycle": "a decision needs itself", "service": "a service doesn't fit the decisions", "large": "too many decisions",
+	"domain": "a domain can't be taken",
 }
 
 // faulty tells a model that has a fault.
@@ -66,6 +68,8 @@ func (r *report) faulty() {
 		r.syntax()
 	case fault == "shape":
 		r.shape()
+	case fault == domainFault:
+		r.domains()
 	default:
 		for _, group := range r.groups() {
 			r.group(group)

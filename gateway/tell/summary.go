@@ -16,7 +16,8 @@ func (r *report) lawful() error {
 	if r.file == nil || r.file.model == nil {
 		return errNoModel
 	}
-	r.put(func() string { return summary(r.file.model) }, func() string { return jsonSummary(r.file.model) })
+	r.put(func() string { return summary(r.file.model, r.facts.gives) }, func() string { return jsonSummary(r.file.model) })
+	r.gives()
 	r.warnings()
 	if err := r.tables(); err != nil {
 		return err
@@ -46,15 +47,16 @@ func parameters(service *model.Service) []string {
 }
 
 // summary is the first part of what people are told of a lawful model.
-func summary(m *model.Model) string {
+func summary(m *model.Model, gives *givesFacts) string {
 	var text strings.Builder
 	fmt.Fprintf(&text, "lawful\ninputs: %s\ndecisions:\n", strings.Join(m.Inputs, ", "))
 	for _, decision := range m.Decisions {
-		fmt.Fprintf(&text, "  %s: %s\n", decision.Name, kindOfLogic(decision.Expr))
+		fmt.Fprintf(&text, "  %s: %s\n", decision.Name, gives.decision(decision.Name, kindOfLogic(decision.Expr)))
 	}
 	text.WriteString("services:\n")
 	for at := range m.Services {
-		fmt.Fprintf(&text, "  %s(%s)\n", m.Services[at].Name, strings.Join(parameters(&m.Services[at]), ", "))
+		service := &m.Services[at]
+		fmt.Fprintf(&text, "  %s(%s)%s\n", service.Name, strings.Join(parameters(service), ", "), gives.service(service.Name))
 	}
 	return text.String()
 }

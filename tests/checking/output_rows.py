@@ -25,6 +25,36 @@ services:
 JSON_SUMMARY = r"""{"lawful":true,"inputs":["age","score"],"decisions":[{"name":"risk","kind":"table"},{"name":"limit","kind":"expression"}],"services":[{"name":"limit_of","parameters":["age","score"]}]}
 """
 
+# The same within domains, and what is wrong with other ones.
+GIVES = """lawful
+inputs: age, score
+decisions:
+  risk: text or null (table)
+  limit: 0 to 1000 (expression)
+services:
+  limit_of(age, score): 0 to 1000
+"""
+
+GIVES_ANY = """lawful
+inputs: age, score
+decisions:
+  risk: text or null (table)
+  limit: any value (expression)
+services:
+  limit_of(age, score): any value
+"""
+
+DOMAINS = r"""{"domains":{"risk":"5","age":"[0..120","score":"< most"},"model":"""
+
+DOMAINS_TOLD = """domain: a domain can't be taken
+domain: 3 places
+  line 1, column 30: domains, "age": no unary tests: "[0..120"
+    stops at the end: "]" or ")" is due
+  line 1, column 20: domains, "risk": a decision, and only inputs have domains
+  line 1, column 48: domains, "score": constants alone are taken: "< most"
+    "most" is a name: a text stands in quotes
+"""
+
 NO_JSON_LINES = r"""{"fault":"syntax"}
 {"fault":"syntax","line":2,"column":1,"said":"a key in quotes or \"}\" is due"}
 """

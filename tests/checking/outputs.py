@@ -21,7 +21,13 @@ def wholes() -> list[tuple[str, list[str], str, int, str]]:
     syntax = "syntax: no JSON text\n  line %d, column %d: %s\n"
     asked = f'{model(ONE, ITS_SERVICE)}\n{{"client":"c","service":"s","inputs":{{"a":1}}}}\n\n'
     asked += '{"client":"c","service":"s","inputs":{"x":1,"a":1.5}}\n'
+    within = f'{{"model":{rows.LAWFUL},"domains":{{"age":"[0..120]","score":"[0..1000]"}}}}'
     return [
+        ("what can be given", ["--gives"], within, 0, rows.GIVES),
+        ("what can be given, never null", ["--strict-null"], within, 0, rows.GIVES),
+        ("what can be given of any values", ["--strict-null"], rows.LAWFUL, 4, rows.GIVES_ANY),
+        ("domains without what can be given", [], within, 0, rows.SUMMARY),
+        ("wrong domains", [], f"{rows.DOMAINS}{rows.LAWFUL}}}", 3, rows.DOMAINS_TOLD),
         ("a lawful model", [], rows.LAWFUL, 0, rows.SUMMARY),
         ("a model on a line", [], f'{{"model":{rows.LAWFUL}}}', 0, rows.SUMMARY),
         ("a lawful model as JSON", ["--json"], rows.LAWFUL, 0, rows.JSON_SUMMARY),

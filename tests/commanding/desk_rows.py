@@ -99,6 +99,8 @@ def files(room: Path) -> Iterator[Row]:
         yield asked(words, words, 0, output=("shipping(",), given=parcel)
     yield asked("check of DMN", f"check {DISH}", 0, output=("dish(temperature, dayType)",))
     yield asked("check of tables", f"check --tables --strict {PARCEL}", 0, output=("table:",))
+    yield asked("check of what is given", f"check --gives {PARCEL}", 0, output=("(table)\n", "shipping(weight, express): "))
+    yield asked("check for null", f"check --strict-null {PARCEL}", 4, output=("shipping(weight, express): ",))
     clients = EXAMPLES / "clients.jsonl"
     for words in (f"explain {clients}", "explain -", "explain --text"):
         yield asked(words, words, 0, output=("price",) if "text" in words else ('"decisions"',), given=clients.read_bytes())

@@ -26,11 +26,11 @@ INTRODUCTION = """
 
 This page is for people who want to check what the promises rest on. `tools/trust` writes it from the sources.
 
-A proof shows that a function does what its contract says. It doesn't show that the contract says what was meant: read
-the contract, and the definitions that it is made of. The list below has them, lowest crate first and what is used
-before what uses it. Nothing else has to be read. Code that misses its contract and wrong proofs fail the check. Apart
-from these, trust the toolchain (prover, compiler, the ported libraries' own statements), the C library and the
-operating system. `./desk` hands `serve` and `replay` over to `dist/desk`: trust its builder, or build it.
+A proof shows that a function does what its contract says, not that this was meant: read the contract, and the
+definitions that it is made of, listed below, lowest crate first and what is used before what uses it. Nothing else has
+to be read. Code that misses its contract and wrong proofs fail the check. Apart from these, trust the toolchain
+(prover, compiler, the ported libraries' own statements), the C library and the operating system. `./desk` hands `serve`
+and `replay` over to `dist/desk`: trust its builder, or build it.
 
 Begin with `Broker::run`, which [PROMISES.md](PROMISES.md#one-contract-explained) explains. `specs/*.antt` has
 definitions; `src/*.rt` has types, the models by which contracts see them, and traits.
@@ -41,16 +41,16 @@ crates/box_core/src/broker.rt: 24-31, 35-39
     Broker Model for Broker
 ```
 
-So each file's lines and names are printed for a call (a range may contain blank lines). `tools/trust --why NAME` says
-what reaches NAME.
+This prints each file's lines and names (a range may contain blank lines). `tools/trust --why NAME` says what reaches
+NAME.
 
-**How the list was made.** The script follows names: from a contract to definitions, from these to the names in them,
-from a type to its fields and its model, from a trait to its ghost members and clauses. Of a type with a model, private
-fields aren't followed, since contracts see the model alone.
+**How the list was made.** The script follows names: from a contract to definitions, and to the names in them, from a
+type to its fields and model, from a trait to its ghost members and clauses. Contracts see a type's model alone, so
+its private fields aren't followed.
 
 **What it can miss.** It sees names, not types. What needs no name (how numbers, texts and lists become those of a
-contract, what the toolchain derives) isn't listed. A variable named as a definition counts as that, so the list is too
-long rather than too short. Codes (`coded`) and sizes by which recursive types end are left out: no clause reads them.
+contract, what the toolchain derives) isn't listed. A variable named as a definition counts as one. Codes (`coded`)
+and sizes by which recursive types end are left out: no clause reads them.
 
 **Marks.** A definition that no public contract reaches is marked `-- Internal: ..` in its file; `tools/trust --check`
 fails if a mark is wrong or missing.
@@ -59,14 +59,13 @@ fails if a mark is wrong or missing.
 """
 
 BEHIND = """
-These files are reached too, but a law ties them to the grammar for every text. Believe the law's words, which are in
-the list; the first line of each file names its laws. In all counts a law's words replace what it ties.
+These files are reached too, but a law ties them to the grammar for every text. Believe the law's words, which are
+listed; each file's first line names its laws. In all counts a law's words replace what it ties.
 """
 
 KEPT = """
 A type may state facts that all its values keep: ghost fields, and a model's `invariant`. They are proved wherever a
-value is made, so they add to the promises, and nobody has to believe them. They reach {} further definitions in {}
-files (`tools/trust --lines kept`).
+value is made: nobody has to believe them. They reach {} further definitions in {} files (`tools/trust --lines kept`).
 """
 
 KIT = """

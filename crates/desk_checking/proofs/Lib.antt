@@ -1,8 +1,12 @@
+pub mod Beside
+pub mod Constants
+pub mod DomainLines
 pub mod FirstFaults
 pub mod Judging
 pub mod Lawful
 pub mod Lines
 pub mod Lookings
+pub mod NeverNull
 pub mod Walks
 pub mod Requesting
 pub mod TableLines

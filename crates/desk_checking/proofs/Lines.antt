@@ -24,7 +24,7 @@ use Rattle.desk_checking.specs.Told.{decision_told, decisions_told, fault_line, 
 
 -- ---- a model with a fault
 
-pub fault_pieces : (t : List ℕ) (f : CheckFault) → ((t ++ codes "{\"fault\":") ++ quoted (word_text (found_word f))) ++ codes "}\n" ≡ t ++ ended (fault_line f)
+pub fault_pieces : (t : List ℕ) (f : CheckFault) → ((t ++ codes "{\"fault\":") ++ quoted (found_word f)) ++ codes "}\n" ≡ t ++ ended (fault_line f)
 unfolding escape_byte
 fault_pieces t f = simp append_assoc
 

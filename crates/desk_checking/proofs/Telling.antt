@@ -4,9 +4,10 @@ use Rattle.std.specs.Io.KnownBytes.{Appends}
 use Rattle.std.specs.List.{flat_map}
 use Rattle.serde_json.specs.Data.{Data}
 use Rattle.serde_json.specs.Read.{read}
+use Rattle.feel_value.specs.Found.{◌>>=◌}
 use Rattle.feel_text.specs.Expr.{Expr}
 use Rattle.dmn_table.specs.Table.{Table}
-use Rattle.dmn_form.specs.Model.{Model}
+use Rattle.dmn_form.specs.Model.{Model, Name}
 use Rattle.dmn_form.specs.Draft.{Draft, draft_of}
 use Rattle.dmn_plan.specs.declared.fault.ModelFault.{ModelFault}
 use Rattle.dmn_plan.specs.declared.fault.ModelFault.TheVariants as fault
@@ -18,9 +19,10 @@ use Rattle.desk_lines.specs.Device.{Reader, Writer}
 use Rattle.desk_lines.specs.declared.fault.FrontFault.{FrontFault}
 use Rattle.desk_lines.specs.declared.fault.FrontFault.TheVariants.{Write}
 use Rattle.desk_checking.specs.Checked.{Breaks, Checked, Finds}
+use Rattle.desk_checking.specs.Domains.{AreDomainsOf, domains_beside, refused_by, refused_in}
 use Rattle.desk_checking.specs.FirstFault.{IsTakenBy, fault_in, model_fault, model_line, subject}
-use Rattle.desk_checking.specs.Output.{TellsModel, TellsText, value_in}
-use Rattle.desk_checking.specs.Told.{fault_line, faulty_lines, lines_behind, long_line, place_lines}
+use Rattle.desk_checking.specs.Output.{Failures, TellsModel, TellsText, beside_in, no_failure, value_in}
+use Rattle.desk_checking.specs.Told.{domain_lines, fault_line, faulty_lines, lines_behind, long_line, place_lines}
 use Rattle.desk_checking.specs.Verdicts.{IsDueTo, TellsValue, failure_of}
 use Rattle.desk_checking.specs.declared.findings.CheckFault.{CheckFault}
 use Rattle.desk_checking.specs.declared.findings.CheckFault.TheVariants as found
@@ -102,57 +104,80 @@ no_syntax d e = checked_not (draft_of d) e
 
 -- ---- the lines of a fault
 
-behind_of : (d : Data) (f : ModelFault) → f ≢ fault.Syntax → lines_behind (Some d) (found.Model f) ≡ place_lines (draft_of d)
-behind_of d fault.Syntax h = absurd (h refl)
-behind_of d fault.Shape h = refl
-behind_of d fault.Name h = refl
-behind_of d fault.Twice h = refl
-behind_of d fault.Expression h = refl
-behind_of d fault.Table h = refl
-behind_of d fault.Unknown h = refl
-behind_of d fault.Cycle h = refl
-behind_of d fault.Service h = refl
-behind_of d fault.Large h = refl
-behind_of d fault.Memory h = refl
+behind_of : (d : Data) (beside : Option Data) (f : ModelFault) → f ≢ fault.Syntax → lines_behind (Some d) beside (found.Model f) ≡ place_lines (draft_of d)
+behind_of d beside fault.Syntax h = absurd (h refl)
+behind_of d beside fault.Shape h = refl
+behind_of d beside fault.Name h = refl
+behind_of d beside fault.Twice h = refl
+behind_of d beside fault.Expression h = refl
+behind_of d beside fault.Table h = refl
+behind_of d beside fault.Unknown h = refl
+behind_of d beside fault.Cycle h = refl
+behind_of d beside fault.Service h = refl
+behind_of d beside fault.Large h = refl
+behind_of d beside fault.Memory h = refl
 
-pub told_with : (d : Data) (f : ModelFault) (o : Option Draft) (text : List ℕ) → draft_of d ≡ o → text ≡ ended (fault_line (found.Model f)) ++ flat_map ended (place_lines o) → f ≢ fault.Syntax
-    → text ≡ flat_map ended (faulty_lines (Some d) (found.Model f))
-told_with d f o text form is h =
-    is ∙ ap (λ ls. ended (fault_line (found.Model f)) ++ flat_map ended ls) (ap place_lines (sym form) ∙ sym (behind_of d f h))
+pub told_with : (d : Data) (beside : Option Data) (f : ModelFault) (o : Option Draft) (text : List ℕ) → draft_of d ≡ o → text ≡ ended (fault_line (found.Model f)) ++ flat_map ended (place_lines o) → f ≢ fault.Syntax
+    → text ≡ flat_map ended (faulty_lines (Some d) beside (found.Model f))
+told_with d beside f o text form is h =
+    is ∙ ap (λ ls. ended (fault_line (found.Model f)) ++ flat_map ended ls) (ap place_lines (sym form) ∙ sym (behind_of d beside f h))
 
-pub told_alone : (d : Data) (f : ModelFault) (text : List ℕ) → draft_of d ≡ None → text ≡ ended (fault_line (found.Model f)) → f ≢ fault.Syntax
-    → text ≡ flat_map ended (faulty_lines (Some d) (found.Model f))
-told_alone d f text form is h = told_with d f None text form (is ∙ sym (append-nil (ended (fault_line (found.Model f))))) h
+pub told_alone : (d : Data) (beside : Option Data) (f : ModelFault) (text : List ℕ) → draft_of d ≡ None → text ≡ ended (fault_line (found.Model f)) → f ≢ fault.Syntax
+    → text ≡ flat_map ended (faulty_lines (Some d) beside (found.Model f))
+told_alone d beside f text form is h = told_with d beside f None text form (is ∙ sym (append-nil (ended (fault_line (found.Model f))))) h
 
 -- ---- verdicts
 
-pub faulty_due : (options : CheckOptions) (d : Data) (requests : List (List ℕ)) (f : ModelFault) (v : Verdict) → read_model d ≡ Err f → v.fault ≡ Some (found.Model f) → v.refused.items ≡ []
-    → v.text.items ≡ flat_map ended (faulty_lines (Some d) (found.Model f)) → IsDueTo options d requests v
-faulty_due options d requests f v r is none text = record {
+abbrev TellsBy : CheckOptions → Data → Option Data → List (List ℕ) → Verdict → Option CheckFault → Type 0
+TellsBy options d beside requests v f = TellsValue options d beside requests f v.refused.items (failure_of options f v.are_tables_refused v.can_fail) v.text.items
+
+pub faulty_due : (options : CheckOptions) (d : Data) (beside : Option Data) (requests : List (List ℕ)) (f : ModelFault) (v : Verdict) → read_model d ≡ Err f → v.fault ≡ Some (found.Model f) → v.refused.items ≡ []
+    → v.text.items ≡ flat_map ended (faulty_lines (Some d) beside (found.Model f)) → IsDueTo options d beside requests v
+faulty_due options d beside requests f v r is none text = record {
   fault = ap model_fault is ∙ sym (ap fault_in r);
   taken = subst (λ o. IsTakenBy o d) (sym is) tt;
-  tells = subst (λ o. TellsValue options d requests o v.refused.items (failure_of options o v.are_tables_refused) v.text.items) (sym is) (none, refl, text);
+  domains = subst (λ o. AreDomainsOf o (refused_by (draft_of d) beside)) (sym is) tt;
+  tells = subst (TellsBy options d beside requests v) (sym is) (none, refl, text);
 }
 
 lawful_fault : (r : Result (Model Expr Table) ModelFault) → is_ok r ≡ true → fault_in r ≡ None
 lawful_fault (Ok m) h = refl
 lawful_fault (Err f) h = cc
 
-pub long_due : (options : CheckOptions) (d : Data) (requests : List (List ℕ)) (v : Verdict) → is_ok (read_model d) ≡ true → max_line < length (model_line d) → v.fault ≡ Some found.Long → v.refused.items ≡ []
-    → v.text.items ≡ ended (fault_line found.Long) ++ ended (long_line (length (model_line d))) → IsDueTo options d requests v
-long_due options d requests v lawful long is none text = record {
+pub long_due : (options : CheckOptions) (d : Data) (beside : Option Data) (requests : List (List ℕ)) (v : Verdict) → is_ok (read_model d) ≡ true → max_line < length (model_line d) → v.fault ≡ Some found.Long → v.refused.items ≡ []
+    → v.text.items ≡ ended (fault_line found.Long) ++ ended (long_line (length (model_line d))) → IsDueTo options d beside requests v
+long_due options d beside requests v lawful long is none text = record {
   fault = ap model_fault is ∙ sym (lawful_fault (read_model d) lawful);
   taken = subst (λ o. IsTakenBy o d) (sym is) long;
-  tells = subst (λ o. TellsValue options d requests o v.refused.items (failure_of options o v.are_tables_refused) v.text.items) (sym is)
-      (none, refl, text ∙ ap (λ s. ended (fault_line found.Long) ++ s) (sym (append-nil (ended (long_line (length (model_line d)))))));
+  domains = subst (λ o. AreDomainsOf o (refused_by (draft_of d) beside)) (sym is) tt;
+  tells = subst (TellsBy options d beside requests v) (sym is) (none, refl, text ∙ ap (λ s. ended (fault_line found.Long) ++ s) (sym (append-nil (ended (long_line (length (model_line d)))))));
 }
 
-pub lawful_due : (options : CheckOptions) (d : Data) (requests : List (List ℕ)) (v : Verdict) → is_ok (read_model d) ≡ true → length (model_line d) ≤ max_line → v.fault ≡ None
-    → TellsModel options d requests v.refused.items (failure_of options None v.are_tables_refused) v.text.items → IsDueTo options d requests v
-lawful_due options d requests v lawful short is tells = record {
+refused_are : (d : Data) (m : Draft) (beside : Option Data) (names : List (Option Name)) → draft_of d ≡ Some m → names ≡ refused_in m beside → names ≡ refused_by (draft_of d) beside
+refused_are d m beside names form is = is ∙ sym (ap (λ (o : Option Draft). refused_by o beside) form)
+
+some_refused : (names all : List (Option Name)) → names ≡ all → 0 < length names → 0 < length all
+some_refused names all is h = subst (λ (ns : List (Option Name)). 0 < length ns) is h
+
+pub domain_due : (options : CheckOptions) (d : Data) (m : Draft) (beside : Option Data) (names : List (Option Name)) (requests : List (List ℕ)) (v : Verdict) → is_ok (read_model d) ≡ true → length (model_line d) ≤ max_line → draft_of d ≡ Some m
+    → names ≡ refused_in m beside → 0 < length names → v.fault ≡ Some found.Domain → v.refused.items ≡ [] → v.text.items ≡ ended (fault_line found.Domain) ++ flat_map ended (domain_lines names) → IsDueTo options d beside requests v
+domain_due options d m beside names requests v lawful short form are some is none text =
+    let same = refused_are d m beside names form are in
+    record {
+      fault = ap model_fault is ∙ sym (lawful_fault (read_model d) lawful);
+      taken = subst (λ o. IsTakenBy o d) (sym is) short;
+      domains = subst (λ o. AreDomainsOf o (refused_by (draft_of d) beside)) (sym is) (some_refused names (refused_by (draft_of d) beside) same some);
+      tells = subst (TellsBy options d beside requests v) (sym is)
+          (none, refl, text ∙ ap (λ (ns : List (Option Name)). ended (fault_line found.Domain) ++ flat_map ended (domain_lines ns)) same);
+    }
+
+pub lawful_due : (options : CheckOptions) (d : Data) (m : Draft) (beside : Option Data) (names : List (Option Name)) (requests : List (List ℕ)) (v : Verdict) → is_ok (read_model d) ≡ true → length (model_line d) ≤ max_line → draft_of d ≡ Some m
+    → names ≡ refused_in m beside → names ≡ [] → v.fault ≡ None → TellsModel options d beside requests v.refused.items (failure_of options None v.are_tables_refused v.can_fail) v.text.items → IsDueTo options d beside requests v
+lawful_due options d m beside names requests v lawful short form are nothing is tells = record {
   fault = ap model_fault is ∙ sym (lawful_fault (read_model d) lawful);
   taken = subst (λ o. IsTakenBy o d) (sym is) short;
-  tells = subst (λ o. TellsValue options d requests o v.refused.items (failure_of options o v.are_tables_refused) v.text.items) (sym is) tells;
+  domains = subst (λ o. AreDomainsOf o (refused_by (draft_of d) beside)) (sym is) (sym (refused_are d m beside names form are) ∙ nothing);
+  tells = subst (TellsBy options d beside requests v) (sym is) tells;
 }
 
 -- ---- texts
@@ -160,19 +185,26 @@ lawful_due options d requests v lawful short is tells = record {
 same_value : (a b : Data) → Some a ≡ Some b → a ≡ b
 same_value a b e = cc
 
-pub text_told : (options : CheckOptions) (s : List ℕ) (d e : Data) (requests : List (List ℕ)) (f : Option CheckFault) (refused : List RefusedLine) (is_failure : Bool) (text : List ℕ) → read s ≡ Some d → e ≡ subject d
-    → TellsValue options e requests f refused is_failure text → TellsText options s requests f refused is_failure text
-text_told options s d e requests None refused is_failure text r is h = λ x y.
-    subst (λ (v : Data). TellsModel options v requests refused is_failure text) (is ∙ ap subject (same_value d x (sym r ∙ y))) h
-text_told options s d e requests (Some f) refused is_failure text r is h =
-    (h.0, h.1, h.2 ∙ ap (λ (o : Option Data). flat_map ended (faulty_lines o f)) (ap (λ (v : Data). Some v) is ∙ sym (ap (option_map subject) r)))
+pub text_told : (options : CheckOptions) (s : List ℕ) (d e : Data) (beside : Option Data) (requests : List (List ℕ)) (f : Option CheckFault) (refused : List RefusedLine) (failures : Failures) (text : List ℕ) → read s ≡ Some d → e ≡ subject d → beside ≡ domains_beside d
+    → TellsValue options e beside requests f refused failures text → TellsText options s requests f refused failures text
+text_told options s d e beside requests None refused failures text r is stands h = λ x y.
+    let same = same_value d x (sym r ∙ y) in
+    subst (λ (v : Data). TellsModel options (subject v) (domains_beside v) requests refused failures text) same
+    (subst (λ (b : Option Data). TellsModel options (subject d) b requests refused failures text) stands (subst (λ (v : Data). TellsModel options v beside requests refused failures text) is h))
+text_told options s d e beside requests (Some f) refused failures text r is stands h =
+    let value : Some e ≡ value_in s = ap (λ (v : Data). Some v) is ∙ sym (ap (option_map subject) r) in
+    let others : beside ≡ beside_in s = stands ∙ sym (ap (λ (o : Option Data). o >>= domains_beside) r) in
+    (h.0, h.1, h.2 ∙ ap (λ (o : Option Data). flat_map ended (faulty_lines o beside f)) value ∙ ap (λ (b : Option Data). flat_map ended (faulty_lines (value_in s) b f)) others)
 
 -- the same texts
-pub told_same : (options : CheckOptions) (s s' : List ℕ) (requests requests' : List (List ℕ)) (f : Option CheckFault) (refused : List RefusedLine) (is_failure is_failure' : Bool) (text text' : List ℕ) → s ≡ s' → requests ≡ requests'
-    → is_failure ≡ is_failure' → text ≡ text' → TellsText options s requests f refused is_failure text → TellsText options s' requests' f refused is_failure' text'
-told_same options s s' requests requests' f refused is_failure is_failure' text text' a b e c h =
-    subst (λ t. TellsText options s' requests' f refused is_failure' t) c
-    (subst (λ x. TellsText options s' requests' f refused x text) e (subst (λ ls. TellsText options s' ls f refused is_failure text) b (subst (λ x. TellsText options x requests f refused is_failure text) a h)))
+pub told_same : (options : CheckOptions) (s s' : List ℕ) (requests requests' : List (List ℕ)) (f : Option CheckFault) (refused : List RefusedLine) (failures failures' : Failures) (text text' : List ℕ) → s ≡ s' → requests ≡ requests'
+    → failures ≡ failures' → text ≡ text' → TellsText options s requests f refused failures text → TellsText options s' requests' f refused failures' text'
+told_same options s s' requests requests' f refused failures failures' text text' a b e c h =
+    subst (λ t. TellsText options s' requests' f refused failures' t) c
+    (subst (λ x. TellsText options s' requests' f refused x text) e (subst (λ ls. TellsText options s' ls f refused failures text) b (subst (λ x. TellsText options x requests f refused failures text) a h)))
+
+pub both_failures : (failures : Failures) (tables nulls : Bool) → tables ≡ failures.tables → nulls ≡ failures.nulls → failures ≡ record { tables = tables; nulls = nulls }
+both_failures failures tables nulls t n = λ i. record { tables = sym t i; nulls = sym n i }
 
 -- ---- runs
 
@@ -181,6 +213,7 @@ pub cut_short : (options : CheckOptions) (reader reader' : Reader) (writer write
 cut_short options reader reader' writer writer' r is breaks more same = subst (λ x. Checked options reader reader' writer writer' x) (sym is) (record {
   tells = tt;
   strict = tt;
+  nulls = tt;
   long = λ e. let wrong : ⊥ = cc in absurd wrong;
   cut = λ _. breaks;
   unwritten = λ other. absurd (other refl);
@@ -192,11 +225,13 @@ cut_short options reader reader' writer writer' r is breaks more same = subst (�
 })
 
 pub run_whole : (options : CheckOptions) (reader reader' : Reader) (writer writer' : Writer) (findings : CheckFindings) (told : List ℕ) → Finds options reader reader' findings told → Appends writer.contents writer'.contents told
-    → (findings.is_strict_failure ≡ true → (options.tables ≡ true) × (options.strict ≡ true) × (findings.fault ≡ None)) → writer'.faults ≡ writer.faults → reader'.faults ≡ reader.faults
+    → (findings.is_strict_failure ≡ true → (options.tables ≡ true) × (options.strict ≡ true) × (findings.fault ≡ None))
+    → (findings.is_null_failure ≡ true → (options.strict_null ≡ true) × (findings.fault ≡ None)) → writer'.faults ≡ writer.faults → reader'.faults ≡ reader.faults
     → Checked options reader reader' writer writer' (Ok findings)
-run_whole options reader reader' writer writer' findings told finds written strict same same_read = record {
+run_whole options reader reader' writer writer' findings told finds written strict nulls same same_read = record {
   tells = record { told = told; finds = finds; written = written };
   strict = strict;
+  nulls = nulls;
   long = λ e. let wrong : ⊥ = cc in absurd wrong;
   cut = λ e. let wrong : ⊥ = cc in absurd wrong;
   unwritten = tt;

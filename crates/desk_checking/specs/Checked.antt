@@ -4,6 +4,7 @@ use Rattle.std.specs.Io.KnownBytes.{Appends, Consumes, IsAtEnd}
 use Rattle.desk_lines.specs.Device.{Reader, Writer}
 use Rattle.desk_lines.specs.declared.fault.FrontFault.{FrontFault}
 use Rattle.desk_lines.specs.declared.fault.FrontFault.TheVariants.{Long, Read, Write}
+use Rattle.desk_checking.specs.Domains.{FitsDomains}
 use Rattle.desk_checking.specs.FirstFault.{IsFirstFault}
 use Rattle.desk_checking.specs.Input.{model_text, most_bytes}
 use Rattle.desk_checking.specs.Output.{TellsInput}
@@ -17,6 +18,7 @@ pub record Finds (options : CheckOptions) (reader reader' : Reader) (findings : 
   pub read : Consumes reader.remaining reader'.remaining input
   pub at_end : IsAtEnd reader'.remaining
   pub first : IsFirstFault (model_text options input) findings.fault
+  pub domains : FitsDomains (model_text options input) findings.fault
   pub tells : TellsInput options input findings told
 
 -- what is found was written
@@ -44,6 +46,8 @@ pub record Checked (options : CheckOptions) (reader reader' : Reader) (writer wr
   pub tells : IfOk found (Tells options reader reader' writer writer')
   -- Tables are refused only where the options ask for that, and the model is lawful; `tells` says which are.
   pub strict : IfOk found (λ findings. findings.is_strict_failure ≡ true → (options.tables ≡ true) × (options.strict ≡ true) × (findings.fault ≡ None))
+  -- So is null.
+  pub nulls : IfOk found (λ findings. findings.is_null_failure ≡ true → (options.strict_null ≡ true) × (findings.fault ≡ None))
   pub long : (found ≡ Err Long) → Overflows reader reader'
   pub cut : (found ≡ Err Write) → Breaks options reader reader' writer writer'
   pub unwritten : IfErr found (λ e. e ≢ Write → Appends writer.contents writer'.contents [])

@@ -35,9 +35,10 @@ abbrev pub model_fault : Option CheckFault → Option ModelFault
 model_fault (Some (found.Model f)) = Some f
 model_fault fault = None
 
--- a lawful model is told without a fault where `serve` takes its line, and as too long where it doesn't
+-- a lawful model is told without a fault of its own where `serve` takes its line, and as too long where it doesn't
 abbrev pub IsTakenBy : Option CheckFault → Data → Type 0
 IsTakenBy None d = length (model_line d) ≤ max_line
+IsTakenBy (Some found.Domain) d = length (model_line d) ≤ max_line
 IsTakenBy (Some found.Long) d = max_line < length (model_line d)
 IsTakenBy (Some (found.Model f)) d = Unit {0}
 

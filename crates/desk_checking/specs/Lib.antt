@@ -1,5 +1,7 @@
 pub mod Input
 pub mod FirstFault
+pub mod Domains
+pub mod DomainsView
 pub mod Told
 pub mod Tables
 pub mod TablesView
@@ -9,9 +11,11 @@ pub mod Deciding
 pub mod Answering
 pub mod Judged
 pub mod Strict
+pub mod NeverNull
 pub mod TableTold
 pub mod TablePieces
 pub mod TablesTold
+pub mod GivesTold
 pub mod Looking
 pub mod Requests
 pub mod Output

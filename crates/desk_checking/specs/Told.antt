@@ -1,5 +1,5 @@
 -- The lines that `check` writes of a model.
-use Rattle.std.specs.Prelude.{◌≡◌, ◌-◌, ℕ, zero, suc, decimal, List, [], ◌∷◌, ◌++◌, length, map, Bool, true, false, Option, Some, None, codes}
+use Rattle.std.specs.Prelude.{◌≡◌, ◌-◌, ℕ, zero, suc, decimal, List, [], ◌∷◌, ◌++◌, length, map, take, Bool, true, false, Option, Some, None, codes}
 use Rattle.serde_json.specs.Data.{Data, boolean, number, unsigned, string, array, object, Items, no_items, item, Members, no_members, member}
 use Rattle.serde_json.specs.Written.{compact_text}
 use Rattle.feel_value.specs.Found.{◌>>=◌}
@@ -14,6 +14,7 @@ use Rattle.dmn_check.specs.Cycles.{cycles}
 use Rattle.dmn_check.specs.Findings.{Finding}
 use Rattle.dmn_check.specs.Graphs.{has_no_graph}
 use Rattle.dmn_check.specs.Large.{too_large}
+use Rattle.dmn_check.specs.Notes.{most_findings}
 use Rattle.dmn_check.specs.NameFaults.{unlawful_names, repeated_names}
 use Rattle.dmn_check.specs.Pointer.{pointer_of}
 use Rattle.dmn_check.specs.Refused.{refused_tables}
@@ -23,6 +24,7 @@ use Rattle.dmn_check.specs.Told.{Told, first_of}
 use Rattle.dmn_check.specs.Unknown.{unknown_names}
 use Rattle.dmn_check.specs.Unread.{unread_texts}
 use Rattle.desk_requests.specs.declared.refused.RefusedLine.{RefusedLine}
+use Rattle.desk_checking.specs.Domains.{domain_pointer, refused_by}
 use Rattle.desk_checking.specs.FirstFault.{model_line}
 use Rattle.desk_checking.specs.declared.findings.CheckFault.{CheckFault}
 use Rattle.desk_checking.specs.declared.findings.CheckFault.TheVariants as found
@@ -37,16 +39,17 @@ number_told n = number (unsigned n)
 -- ---- a model with a fault
 
 -- the word of a fault
-abbrev pub found_word : CheckFault → Word
-found_word (found.Model fault) = fault_word fault
-found_word found.Long = word.Long
+abbrev pub found_word : CheckFault → List ℕ
+found_word (found.Model fault) = word_text (fault_word fault)
+found_word found.Long = word_text word.Long
+found_word found.Domain = codes "domain"
 
 abbrev pub with_word : Word → Members → Members
 with_word w = member (codes "fault") (string (word_text w))
 
 -- `{"fault":F}`: the first line
 abbrev pub fault_line : CheckFault → List ℕ
-fault_line f = line_of (with_word (found_word f) no_members)
+fault_line f = line_of (member (codes "fault") (string (found_word f)) no_members)
 
 -- `{"fault":F,"pointer":P}`: a place of a fault
 abbrev pub place_line : ModelFault → Finding → List ℕ
@@ -95,15 +98,29 @@ abbrev pub length_lines : Option Data → List (List ℕ)
 length_lines None = []
 length_lines (Some d) = long_line (length (model_line d)) ∷ []
 
--- behind the first line of a value with this fault: of a text that is no JSON nothing
-abbrev pub lines_behind : Option Data → CheckFault → List (List ℕ)
-lines_behind d found.Long = length_lines d
-lines_behind d (found.Model fault.Syntax) = []
-lines_behind d (found.Model f) = place_lines (d >>= draft_of)
+-- `{"fault":"domain","pointer":P}`: a place of what is declared and can't be read
+abbrev pub domain_line : Option Name → List ℕ
+domain_line n = line_of (member (codes "fault") (string (codes "domain")) (member (codes "pointer") (string (domain_pointer n)) no_members))
+
+-- `{"fault":"domain","more":n}`: how many places are not told, where some are not
+abbrev pub more_domains : ℕ → List (List ℕ)
+more_domains zero = []
+more_domains (suc n) = line_of (member (codes "fault") (string (codes "domain")) (member (codes "more") (number_told (suc n)) no_members)) ∷ []
+
+-- a line for each of the first places, and one for how many more there are
+abbrev pub domain_lines : List (Option Name) → List (List ℕ)
+domain_lines ns = map domain_line (take most_findings ns) ++ more_domains (length ns - most_findings)
+
+-- Behind the first line of a value with this fault, with what stands beside it. Of a text that is no JSON nothing.
+abbrev pub lines_behind : Option Data → Option Data → CheckFault → List (List ℕ)
+lines_behind d beside found.Long = length_lines d
+lines_behind d beside found.Domain = domain_lines (refused_by (d >>= draft_of) beside)
+lines_behind d beside (found.Model fault.Syntax) = []
+lines_behind d beside (found.Model f) = place_lines (d >>= draft_of)
 
 -- all lines of a value whose model has this fault first
-abbrev pub faulty_lines : Option Data → CheckFault → List (List ℕ)
-faulty_lines d f = fault_line f ∷ lines_behind d f
+abbrev pub faulty_lines : Option Data → Option Data → CheckFault → List (List ℕ)
+faulty_lines d beside f = fault_line f ∷ lines_behind d beside f
 
 -- ---- a model without a fault
 

@@ -14,12 +14,13 @@ use json_writer::{add_number, add_quoted};
 use std::alloc::{AllocError, Global};
 
 /// The word of a fault.
-fn word_of(fault: CheckFault) -> Word
-    ensures { result ≡ found_word fault }
+fn word_of(fault: CheckFault) -> &'static str
+    ensures { result.now ≡ found_word fault }
 {
     match fault {
-        CheckFault::Model(fault) => Word::of_fault(fault),
-        CheckFault::Long => Word::Long,
+        CheckFault::Model(fault) => Word::of_fault(fault).text(),
+        CheckFault::Long => Word::Long.text(),
+        CheckFault::Domain => "domain",
     }
 }
 
@@ -33,7 +34,7 @@ pub(crate) fn add_fault(
     ensures { OnOk result (text.new.items ≡ text.old.items ++ ended (fault_line fault)) }
 {
     text.extend_from_slice(b"{\"fault\":")?;
-    add_quoted(alloc, word_of(fault).text(), text)?;
+    add_quoted(alloc, word_of(fault), text)?;
     text.extend_from_slice(b"}\n")
 }
 

@@ -4,18 +4,23 @@
 
 mod answers;
 mod cells;
+mod constant;
 mod cost;
 mod cut;
 mod deciding;
+mod domain_lines;
+mod domains;
 mod fault_lines;
 mod faults;
 mod findings;
+mod gives;
 mod groups;
 mod input;
 mod laws;
 mod long;
 mod model_check;
 mod model_line;
+mod null_law;
 mod options;
 mod parts;
 mod requests;
@@ -31,6 +36,7 @@ mod walk;
 pub use findings::{CheckFault, CheckFindings};
 pub use laws::strict_takes;
 pub use model_check::check;
+pub use null_law::strict_null_takes;
 pub use options::CheckOptions;
 // (what the findings are made of)
 pub use desk_requests::RefusedLine;

@@ -9,4 +9,8 @@ pub struct CheckOptions {
     pub tables: bool,
     /// Such a table is a failure. Without `tables` it means nothing.
     pub strict: bool,
+    /// Of each service and its decisions is told what they can give.
+    pub gives: bool,
+    /// That is told, and it is a failure where a service can give null or break a limit.
+    pub strict_null: bool,
 }

@@ -28,10 +28,13 @@ flag name = record (new_rule name) {
   action = Some SetTrue;
 }
 
--- `check [--json] [--requests] [--tables] [--strict]`; `--json` is taken, and means nothing
+-- `check [--json] [--requests] [--tables] [--strict] [--gives] [--strict-null]`; `--json` is taken, and means nothing
+abbrev pub asking : App → App
+asking app = with_rule (with_rule app (flag (codes "gives"))) (flag (codes "strict-null"))
+
 abbrev pub check_app : App
-check_app = with_rule (with_rule (with_rule (with_rule (new_app (codes "check")) (flag (codes "json"))) (flag (codes "requests")))
-    (flag (codes "tables"))) (flag (codes "strict"))
+check_app = asking (with_rule (with_rule (with_rule (with_rule (new_app (codes "check")) (flag (codes "json"))) (flag (codes "requests")))
+    (flag (codes "tables"))) (flag (codes "strict")))
 
 -- a command that serves: `[--clients N] [--workers N] [--capacity N]`
 abbrev pub serving : App → App
@@ -105,6 +108,8 @@ pub record AreCheckOptionsOf (rows : List Row) (options : CheckOptions) : Type 0
   pub requests : options.requests ≡ is_true (first_of (codes "requests") rows)
   pub tables : options.tables ≡ is_true (first_of (codes "tables") rows)
   pub strict : options.strict ≡ is_true (first_of (codes "strict") rows)
+  pub gives : options.gives ≡ is_true (first_of (codes "gives") rows)
+  pub strict_null : options.strict_null ≡ is_true (first_of (codes "strict-null") rows)
 
 -- the options of `explain` as the words give them
 pub record AreExplainOptionsOf (rows : List Row) (options : ExplainOptions) : Type 0 where

@@ -1,5 +1,5 @@
 -- What the program does with its words, what its status says of that, and what it tells.
-use Rattle.std.specs.Prelude.{◌≡◌, ◌≢◌, ◌⊎◌, ◌<◌, ℕ, List, [], length, codes, Bool, true, false, Option, Some, None, Result, Ok, Err}
+use Rattle.std.specs.Prelude.{◌≡◌, ◌≢◌, ◌⊎◌, ◌<◌, ℕ, List, [], length, codes, Bool, true, false, ◌||◌, Option, Some, None, Result, Ok, Err}
 use Rattle.clap.specs.Kinds.{Kinds, IsAmong}
 use Rattle.clap.specs.declared.error.kind.ErrorKind.{ErrorKind}
 use Rattle.clap.specs.declared.error.kind.ErrorKind.TheVariants as kind
@@ -39,7 +39,7 @@ wrong_words = 2
 abbrev pub wrong_model : ℕ
 wrong_model = 3
 
--- the model that was checked is lawful, and a table of it is not as the options are strict about
+-- the model that was checked is lawful, and a table of it or what a service can give is not as the options are strict about
 abbrev pub refused_table : ℕ
 refused_table = 4
 
@@ -48,7 +48,7 @@ abbrev pub status_of : {X : Type 0} → Result X FrontFault → ℕ
 status_of (Ok x) = done
 status_of (Err why) = stopped
 
--- of a model, by why it isn't taken, and by whether a table of it is refused
+-- of a model, by why it isn't taken, and by whether the options refuse it
 abbrev pub status_of_model : Option CheckFault → Bool → ℕ
 status_of_model (Some fault) is_refused = wrong_model
 status_of_model None true = refused_table
@@ -56,7 +56,7 @@ status_of_model None false = done
 
 -- of `check`, by what was found of the model, or by how it ended before
 abbrev pub status_of_check : Result CheckFindings FrontFault → ℕ
-status_of_check (Ok findings) = status_of_model findings.fault findings.is_strict_failure
+status_of_check (Ok findings) = status_of_model findings.fault (findings.is_strict_failure || findings.is_null_failure)
 status_of_check (Err why) = stopped
 
 -- of words that name no command

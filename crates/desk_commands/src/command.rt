@@ -2,7 +2,7 @@
 ghost use Rattle.std.specs.Prelude.{◌≡◌, IfOk, IfErr, Some, codes, false, map, string_bytes};
 ghost use Rattle.clap.specs.Words.{app_of, kind_of, new_app, rule_of, subcommand_of, subcommand_rows_of, with_rule};
 ghost use Rattle.clap.specs.Kinds.{FailsBy};
-ghost use Rattle.desk_commands.specs.CommandLine.{check_app, explain_app, desk_command, flag, number_option, serve_app, serving, IsCommand, kinds_of};
+ghost use Rattle.desk_commands.specs.CommandLine.{asking, check_app, explain_app, desk_command, flag, number_option, serve_app, serving, IsCommand, kinds_of};
 
 use crate::help;
 use crate::version::VERSION;
@@ -67,18 +67,28 @@ fn replay<'a>(alloc: Global) -> Command<'a>
 fn check<'a>(alloc: Global) -> Result<Command<'a>, AllocError>
     ensures { IfOk result (λ command. app_of command ≡ check_app) }
 {
-    let json = "Means nothing: what is told is lines of JSON without it too";
-    let requests = "Behind the model, which is line 1, stand lines of requests";
-    let tables =
-        "Of each decision table is told whether it answers every case, and where it doesn't";
-    let strict = "With --tables: the status is 4 where one doesn't, or that isn't known";
+    let json = "Changes nothing: the output is lines of JSON without it too";
+    let requests = "Lines of requests follow the model, which is the first line";
+    let tables = "Report of each decision table whether it covers every case, and where it doesn't";
+    let strict = "With --tables: status 4 if one doesn't, or if that isn't known";
     let check = Command::new(alloc, "check")
         .about(help::CHECK_ABOUT)
         .after_help(help::CHECK);
     let check = with_option(check, flag(alloc, "json", json))?;
     let check = with_option(check, flag(alloc, "requests", requests))?;
     let check = with_option(check, flag(alloc, "tables", tables))?;
-    with_option(check, flag(alloc, "strict", strict))
+    let check = with_option(check, flag(alloc, "strict", strict))?;
+    asking(alloc, check)
+}
+
+/// Adds the options that ask what services can give.
+fn asking<'a>(alloc: Global, command: Command<'a>) -> Result<Command<'a>, AllocError>
+    ensures { IfOk result (λ more. app_of more ≡ asking (app_of command.entry)) }
+{
+    let gives = "Report what each service and its decisions can give";
+    let strict_null = "The same, with status 4 if a service can give null or break a limit";
+    let command = with_option(command, flag(alloc, "gives", gives))?;
+    with_option(command, flag(alloc, "strict-null", strict_null))
 }
 
 /// Adds the options of a command that serves.
@@ -106,7 +116,7 @@ fn serving<'a>(alloc: Global, command: Command<'a>) -> Result<Command<'a>, Alloc
 fn explain<'a>(alloc: Global) -> Result<Command<'a>, AllocError>
     ensures { IfOk result (λ command. app_of command ≡ explain_app) }
 {
-    let misses = "Each rule that missed is told with the first column that was not met";
+    let misses = "Report each rule that missed, with the first column that was not met";
     let explain = Command::new(alloc, "explain")
         .about(help::EXPLAIN_ABOUT)
         .after_help(help::EXPLAIN);

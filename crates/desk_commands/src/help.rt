@@ -1,4 +1,4 @@
-//! What help says of each command, and behind its options. A terminal shows these lines as they stand here.
+//! What help says of each command, and after its options. A terminal shows these lines as they are here.
 
 /// What the program does.
 pub const DESK_ABOUT: &str =
@@ -11,15 +11,14 @@ pub const REPLAY_ABOUT: &str =
 
 /// What `serve` does.
 pub const SERVE_ABOUT: &str =
-    "Answers the lines of many clients side by side, each client's in the order of its lines";
+    "Answers the lines of many clients at once, each client's in the order of its lines";
 
 /// What `check` does.
-pub const CHECK_ABOUT: &str =
-    "Says of a model whether it is lawful, and otherwise where it is wrong";
+pub const CHECK_ABOUT: &str = "Says whether a model is valid, and otherwise where it is wrong";
 
 /// What `explain` does.
 pub const EXPLAIN_ABOUT: &str =
-    "Answers the lines of serve one after another, and tells how each result came about";
+    "Answers the lines of serve one after another, and reports how each result came about";
 
 /// Lines, statuses and documents.
 pub const DESK: &str =
@@ -30,10 +29,11 @@ Example:
 
 Status:
   0  the input was answered to its end; or help or the version was asked for
-  1  a fault ended the run, and is told on standard error by one word: read, write, long or memory
+  1  a fault ended the run; standard error has one word for it: read, write, long or memory
   2  the command line is wrong
   3  the model that was checked has a fault
-  4  the model is lawful, and check --tables --strict refuses a decision table of it
+  4  the model is valid, but check --tables --strict refuses a decision table of it, or
+     check --strict-null what a service can give
 
 Documents, in the repository:
   README.md           a first run, and a model of one's own
@@ -60,8 +60,8 @@ An answer with "service" and "inputs", as in a submit, runs that request instead
 Example:
   desk replay < examples/first.jsonl
 
-The status is 0 at the end of the input, and 1 where a fault ended the run. Standard error then has
-one word: read, write, long (more than 2^40 bytes came) or memory.
+The status is 0 at the end of the input, and 1 if a fault ended the run. Standard error then has one
+word: read, write, long (more than 2^40 bytes came) or memory.
 
 docs/LINES.md in the repository has every line and its answers, docs/MODEL.md what M is."#;
 
@@ -78,24 +78,27 @@ was asked for is answered. So a slow request holds up every line that is read af
 Example:
   desk serve --workers 4 < examples/clients.jsonl
 
-The status is 0 at the end of the input, and 1 where a fault ended the run. Standard error then has
-one word: read, write, long (more than 2^40 bytes came) or memory.
+The status is 0 at the end of the input, and 1 if a fault ended the run. Standard error then has one
+word: read, write, long (more than 2^40 bytes came) or memory.
 
 docs/LINES.md in the repository has every line and its answers, docs/MODEL.md what M is."#;
 
 /// What `check` reads and says.
 pub const CHECK: &str =
-    r#"Standard input is one model in JSON, of any layout: the model itself, or {"model":M} as in a line of
-serve. With --requests it is the first line, and behind it stand lines of requests as in serve.
+    r#"Reads one model in JSON of any layout: the model itself, or {"model":M} as in a line of serve. With
+--requests it is the first line, and lines of requests follow as in serve. Domains beside the model say
+what may come, as {"model":M,"domains":{"age":"[0..120]"}}: unary tests of constants.
 
-Standard output has lines of JSON. The first is {"lawful":true,..} with the inputs, the decisions with
-their kinds and the services with their parameters, or {"fault":F}. Behind a fault stand its places and
-those of later faults, at most 100 of each (of table 100 tables and 100 rules), and how many more there
-are. With --tables the decision tables of a lawful model follow, each with what is found of it, and with
---requests the first 1,000 lines that serve refuses. With --strict as well as --tables the status is 4
-where a table has a gap and no default, rules that overlap where that makes the result null, or rules
-that never apply or never decide, and where one of these isn't known. A gap counts among values of the
-kinds that the column's tests ask for.
+Writes lines of JSON. The first is {"lawful":true,..} with the inputs, the decisions with their kinds and
+the services with their parameters, or {"fault":F}. After a fault come its places and those of later
+faults, at most 100 of each (of table 100 tables and 100 rules), and how many more there are. The fault
+domain means that a domain can't be read. With --gives or --strict-null the lines of a valid model go on
+with what its services and decisions can give within the domains. With --strict-null the status is 4 if
+a service can give null or break a limit. With --tables each decision table follows with its findings,
+and with --requests the first 1,000 lines that serve refuses. With --strict as well as --tables the
+status is 4 if a table has a gap and no default, rules that overlap where that makes the result null,
+or rules that never apply or never decide, or if one of these isn't known. A gap counts among values of
+the kinds that the column's tests ask for.
 
 The program with all commands says this in words, with hints and warnings.
 
@@ -103,8 +106,8 @@ Examples:
   desk check < examples/loan.json
   desk check --tables < examples/loan.json
 
-The status is 0 where the model is lawful, 3 where it has a fault, 4 where --strict refuses a table, and
-1 where a fault ended the run. Standard error then has one word: read, write, long (more than 64 MiB
+The status is 0 if the model is valid, 3 if it has a fault, 4 if --strict or --strict-null refuses it,
+and 1 if a fault ended the run. Standard error then has one word: read, write, long (more than 64 MiB
 came) or memory.
 
 docs/MODEL.md in the repository says what a model is and what each fault means."#;
@@ -117,10 +120,9 @@ pub const EXPLAIN: &str =
   {"client":"ann","close":true}                    no more requests of ann
   {"resize":"ann","capacity":9}                    a capacity for ann
 
-A model is answered with its text and the SHA-256 of that. A reply has in front of its result the model by
-that sum, the inputs as they were read, and what each decision on the way came to: its value, and of a
-table the values of its inputs, the rules that hit and those that decided, of a list its members, of a
-context its entries.
+A model is answered with its text and the SHA-256 of that. Before its result, a reply has the model by that
+sum, the inputs as they were read, and the value of each decision on the way. A table adds the values of
+its inputs, the rules that hit and those that decided; a list its members; a context its entries.
 
   {"client":"ann","line":2,"model":"5f..","service":"s","inputs":{"a":4},"decisions":[{"name":"d","value":5}],"result":5,"ticket":0}
 
@@ -129,7 +131,7 @@ One thread answers, so --workers and --capacity change nothing here.
 Example:
   desk explain < examples/clients.jsonl
 
-The status is 0 at the end of the input, and 1 where a fault ended the run. Standard error then has
-one word: read, write, long (more than 2^40 bytes came) or memory.
+The status is 0 at the end of the input, and 1 if a fault ended the run. Standard error then has one
+word: read, write, long (more than 2^40 bytes came) or memory.
 
 docs/LINES.md in the repository has every line and its answers, docs/MODEL.md what M is."#;

@@ -53,6 +53,8 @@ pub fn check_options_of(matches: &ArgMatches<'_>) -> CheckOptions
         requests: is_given(matches, "requests"),
         tables: is_given(matches, "tables"),
         strict: is_given(matches, "strict"),
+        gives: is_given(matches, "gives"),
+        strict_null: is_given(matches, "strict-null"),
     }
 }
 

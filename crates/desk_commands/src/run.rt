@@ -1,5 +1,5 @@
 //! What the program does with its words, as a function of them and of its streams.
-ghost use Rattle.std.specs.Prelude.{◌≡◌, ◌≢◌, ◌⊎◌, ◌<◌, ◌-◌, ◌^◌, [], None, IfOk, string_len};
+ghost use Rattle.std.specs.Prelude.{◌≡◌, ◌≢◌, ◌⊎◌, ◌||◌, ◌<◌, ◌-◌, ◌^◌, [], None, IfOk, string_len};
 ghost use Rattle.std.specs.IoError.{error_kind};
 ghost use Rattle.clap.specs.Words.{kind_of, subcommand_rows_of};
 ghost use Rattle.desk_lines.specs.Told.{IsTold};
@@ -33,7 +33,7 @@ const STOPPED: u8 = 1;
 const WRONG_WORDS: u8 = 2;
 /// The status where the model that was checked has a fault.
 const WRONG_MODEL: u8 = 3;
-/// The status where it is lawful, and `--strict` refuses a table of it.
+/// The status where it is lawful, and `--strict` refuses a table of it, or `--strict-null` what a service can give.
 const REFUSED_TABLE: u8 = 4;
 
 /// Writes a text as far as the writer takes it.
@@ -135,9 +135,10 @@ fn run_serve<T: Threads + Wait + Sync, R: Source, W: Sink, F: Sink>(
 
 /// The status of what was found of a model.
 fn status_of_findings(findings: CheckFindings) -> u8
-    ensures { result ≡ status_of_model findings.fault findings.is_strict_failure }
+    ensures { result ≡ status_of_model findings.fault (findings.is_strict_failure || findings.is_null_failure) }
 {
-    match (findings.fault, findings.is_strict_failure) {
+    let is_refused = findings.is_strict_failure || findings.is_null_failure;
+    match (findings.fault, is_refused) {
         (Some(_), _) => WRONG_MODEL,
         (None, true) => REFUSED_TABLE,
         (None, false) => DONE,
@@ -270,7 +271,7 @@ fn tell_of_command<W: Sink, F: Sink>(
 ///
 /// The status is 0 where the command came to its end or help or the version was asked for, 1 where a fault ended it or no
 /// memory was found for the words, 2 where they name no command, 3 where the model that was checked has a fault, and 4 where
-/// `--strict` refuses a decision table of it. A fault is told on `faults` by its word, and a wrong command line by the text of `clap`; help and the version go to the writer. A text
+/// `--strict` refuses a decision table of it, or `--strict-null` what one of its services can give. A fault is told on `faults` by its word, and a wrong command line by the text of `clap`; help and the version go to the writer. A text
 /// that can't be written changes no status.
 pub fn run_desk<T: Threads + Wait + Sync, R: Source, W: Sink, F: Sink>(
     alloc: Global,

@@ -1,17 +1,18 @@
 -- Services that are told one after another.
-use Rattle.std.proofs.Common.{◌≡◌, ◌∙◌, ◌+◌, ◌<◌, ℕ, List, [], ◌∷◌, ◌++◌, append-nil, append_assoc, Bool, true, false, ◌||◌, map, drop, get_or, length, refl, sym, ap}
+use Rattle.std.proofs.Common.{◌≡◌, ◌∙◌, ◌+◌, ◌<◌, ℕ, zero, suc, take, List, [], ◌∷◌, ◌++◌, append-nil, append_assoc, Bool, true, false, ◌||◌, map, drop, get_or, length, refl, sym, ap}
 use Rattle.std.specs.List.{flat_map, list_any}
 use Rattle.std.proofs.lemmas.List.{at_drop_more, map-append}
 use Rattle.std.proofs.lemmas.Grind.{flat_map-append}
 use Rattle.std.proofs.lemmas.List.Folds.{list_any-append}
 use Rattle.desk_lines.specs.Lines.{ended}
 use Rattle.dmn_form.specs.Model.{Name}
+use Rattle.dmn_form.specs.declared.written.WrittenService.{WrittenService}
 use Rattle.dmn_service.specs.Places.{name_at}
 use Rattle.dmn_ranges.specs.Services.{told_at}
 use Rattle.dmn_ranges.specs.declared.outcomes.Outcomes.{Outcomes}
 use Rattle.dmn_told.specs.declared.domains.Domain.{Domain}
 use Rattle.dmn_told.specs.declared.told.ServiceTold.{ServiceTold}
-use Rattle.desk_ranges.specs.Gives.{IsMore, Looked, TellsServices, fails_if, lines_if}
+use Rattle.desk_ranges.specs.Gives.{IsMore, Looked, TellsEach, fails_if, lines_if, written_name}
 use Rattle.desk_ranges.specs.Lines.{decision_line, decision_lines, line_at, service_line, service_lines}
 use Rattle.desk_ranges.specs.declared.gives.Gives.{Gives}
 
@@ -19,10 +20,10 @@ or_none : (b : Bool) → (b || false) ≡ b
 or_none true = refl
 or_none false = refl
 
-pub none_told : (text : List ℕ) (ds : List Domain) (g : Gives) → g.text.items ≡ [] → g.can_fail ≡ false → TellsServices text ds [] g
+pub none_told : (text : List ℕ) (ds : List Domain) (g : Gives) → g.text.items ≡ [] → g.can_fail ≡ false → TellsEach text ds [] g
 none_told text ds g lines fails = record { looked = []; each = refl; lines = lines; fails = fails }
 
-pub one_more : (text : List ℕ) (ds : List Domain) (ns : List Name) (n : Name) (old new : Gives) → TellsServices text ds ns old → IsMore text ds n old new → TellsServices text ds (ns ++ n ∷ []) new
+pub one_more : (text : List ℕ) (ds : List Domain) (ns : List Name) (n : Name) (old new : Gives) → TellsEach text ds ns old → IsMore text ds n old new → TellsEach text ds (ns ++ n ∷ []) new
 one_more text ds ns n old new so more =
     let l : Looked text ds = record { name = n; told = more.told; is = more.is } in
     let lines_of : Looked text ds → List ℕ = λ x. flat_map ended (lines_if x.name x.told) in
@@ -57,3 +58,8 @@ pub service_turn : (service : Name) (t : ServiceTold) (old first new : List ℕ)
 service_turn service t old first new result decisions =
     let lines = flat_map ended (decision_lines service t t.plan.now.order.items) in
     decisions ∙ ap (λ (xs : List ℕ). xs ++ lines) result ∙ append_assoc old (ended (service_line service t.result)) lines
+
+pub first_names : (k : ℕ) (services : List WrittenService) → map written_name (take k services) ≡ take k (map written_name services)
+first_names zero services = refl
+first_names (suc k) [] = refl
+first_names (suc k) (s ∷ services) = ap (λ (ns : List Name). written_name s ∷ ns) (first_names k services)

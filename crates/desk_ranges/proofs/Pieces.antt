@@ -1,5 +1,6 @@
 -- Lines that are put together of pieces.
-use Rattle.std.proofs.Common.{◌≡◌, ◌∙◌, ℕ, List, [], ◌∷◌, ◌++◌, append_assoc, codes, Some}
+use Rattle.std.proofs.Common.{◌≡◌, ◌∙◌, ◌<◌, ℕ, zero, suc, List, [], ◌∷◌, ◌++◌, append_assoc, arith, codes, decimal, Some, ap}
+use Rattle.std.specs.List.{flat_map}
 use Rattle.json.specs.Print.{escape_byte, quoted}
 use Rattle.serde_json.specs.Data.{boolean, number}
 use Rattle.serde_json.specs.Find.{of_integer}
@@ -8,7 +9,7 @@ use Rattle.desk_lines.specs.Lines.{ended}
 use Rattle.dmn_form.specs.Model.{Name}
 use Rattle.dmn_ranges.specs.declared.interval.Interval.{Interval}
 use Rattle.dmn_ranges.specs.declared.outcomes.Outcomes.{Outcomes}
-use Rattle.desk_ranges.specs.Lines.{interval_told, outcomes_told, service_line, decision_line, kinds_text, parts_text, head_text}
+use Rattle.desk_ranges.specs.Lines.{interval_told, outcomes_told, service_line, decision_line, kinds_text, more_services, parts_text, head_text}
 
 -- a piece goes onto a text that is known
 pub onto : {x y z : List ℕ} (b : List ℕ) → x ≡ y ++ b → y ≡ z → x ≡ z ++ b
@@ -58,3 +59,12 @@ decision_shape t d s g = simp append_assoc
 pub decision_pieces : (t : List ℕ) (decision service : Name) (o : Outcomes)
     → (((t ++ head_text decision service) ++ codes ",\"gives\":") ++ compact_text (outcomes_told o)) ++ codes "}\n" ≡ t ++ ended (decision_line service (decision, o))
 decision_pieces t decision service o = decision_shape t (quoted decision) (quoted service) (compact_text (outcomes_told o))
+
+more_pieces : (t : List ℕ) (n : ℕ) → ((t ++ codes "{\"service\":null,\"more\":") ++ decimal (suc n)) ++ codes "}\n" ≡ t ++ flat_map ended (more_services (suc n))
+unfolding escape_byte
+more_pieces t n = simp append_assoc
+
+pub more_told : (t u v w : List ℕ) (n : ℕ) → 0 < n → u ≡ t ++ codes "{\"service\":null,\"more\":" → v ≡ u ++ decimal n → w ≡ v ++ codes "}\n" → w ≡ t ++ flat_map ended (more_services n)
+more_told t u v w zero some first digits last = let wrong : ⊥ = grind arith in absurd wrong
+more_told t u v w (suc n) some first digits last =
+    last ∙ ap (λ xs. xs ++ codes "}\n") (digits ∙ ap (λ xs. xs ++ decimal (suc n)) first) ∙ more_pieces t n

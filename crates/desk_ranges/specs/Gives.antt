@@ -1,5 +1,5 @@
 -- What is told of the services of a model: for all requests within the domains.
-use Rattle.std.specs.Prelude.{◌≡◌, ◌++◌, ℕ, List, [], map, Bool, false, ◌||◌, Option, None, Some, string_bytes}
+use Rattle.std.specs.Prelude.{◌≡◌, ◌++◌, ◌-◌, ℕ, List, [], length, map, take, Bool, false, ◌||◌, nat_lt, Option, None, Some, string_bytes}
 use Rattle.std.specs.List.{flat_map, list_any}
 use Rattle.desk_lines.specs.Lines.{ended}
 use Rattle.dmn_form.specs.Model.{Name}
@@ -10,7 +10,7 @@ use Rattle.dmn_ranges.specs.declared.outcomes.Outcomes.{Outcomes}
 use Rattle.dmn_told.specs.Told.{IsToldOf}
 use Rattle.dmn_told.specs.declared.domains.Domain.{Domain}
 use Rattle.dmn_told.specs.declared.told.ServiceTold.{ServiceTold}
-use Rattle.desk_ranges.specs.Lines.{service_lines}
+use Rattle.desk_ranges.specs.Lines.{more_services, service_lines}
 use Rattle.desk_ranges.specs.declared.gives.Gives.{Gives}
 
 abbrev pub written_name : WrittenService → Name
@@ -46,8 +46,22 @@ pub record IsMore (text : List ℕ) (ds : List Domain) (n : Name) (old new : Giv
   pub fails : new.can_fail ≡ (old.can_fail || fails_if told)
 
 -- Each of these services was looked at, in their order, and this is told of them. One of them can fail if and only if that is told.
-pub record TellsServices (text : List ℕ) (ds : List Domain) (ns : List Name) (g : Gives) : Type 0 where
+pub record TellsEach (text : List ℕ) (ds : List Domain) (ns : List Name) (g : Gives) : Type 0 where
   pub looked : List (Looked text ds)
   pub each : map (λ (l : Looked text ds). l.name) looked ≡ ns
   pub lines : g.text.items ≡ flat_map (λ (l : Looked text ds). flat_map ended (lines_if l.name l.told)) looked
   pub fails : g.can_fail ≡ list_any (λ (l : Looked text ds). fails_if l.told) looked
+
+-- how many services are looked at
+abbrev pub most_services : ℕ
+most_services = 100
+
+abbrev pub left_out : List Name → ℕ
+left_out ns = length ns - most_services
+
+-- The first of these services were looked at. Where others are left out, that is told, and one of them might fail.
+pub record TellsServices (text : List ℕ) (ds : List Domain) (ns : List Name) (g : Gives) : Type 0 where
+  pub first : Gives
+  pub told : TellsEach text ds (take most_services ns) first
+  pub lines : g.text.items ≡ first.text.items ++ flat_map ended (more_services (left_out ns))
+  pub fails : g.can_fail ≡ (first.can_fail || nat_lt 0 (left_out ns))

@@ -1,7 +1,7 @@
 -- The lines that say what a service and its decisions can give.
-use Rattle.std.specs.Prelude.{ℕ, List, ◌∷◌, ◌++◌, map, Option, None, Some, codes}
+use Rattle.std.specs.Prelude.{ℕ, zero, suc, List, [], ◌∷◌, ◌++◌, map, Option, None, Some, codes}
 use Rattle.json.specs.Print.{quoted}
-use Rattle.serde_json.specs.Data.{Data, null, boolean, number, string, array, object, no_items, item, Members, no_members, member}
+use Rattle.serde_json.specs.Data.{Data, null, boolean, number, unsigned, string, array, object, no_items, item, Members, no_members, member}
 use Rattle.serde_json.specs.Find.{of_integer}
 use Rattle.serde_json.specs.Written.{compact_text}
 use Rattle.dmn_form.specs.Model.{Name}
@@ -44,6 +44,11 @@ decision_lines service t qs = map (line_at service t) qs
 
 abbrev pub service_lines : Name → ServiceTold → List (List ℕ)
 service_lines service t = service_line service t.result ∷ decision_lines service t t.plan.now.order.items
+
+-- `{"service":null,"more":n}`, where services are left out
+abbrev pub more_services : ℕ → List (List ℕ)
+more_services zero = []
+more_services (suc n) = compact_text (object (member (codes "service") null (member (codes "more") (number (unsigned (suc n))) no_members))) ∷ []
 
 -- ---- pieces
 

@@ -1,23 +1,26 @@
 //! What the services of a model can give.
-ghost use Rattle.std.specs.Prelude.{◌≡◌, ◌++◌, ◌||◌, ◌<◌, IfOk, OnOk, length, map};
+ghost use Rattle.std.specs.Prelude.{◌≡◌, ◌++◌, ◌||◌, ◌<◌, IfOk, OnOk, length, map, nat_lt, take};
 ghost use Rattle.std.specs.List.{All, flat_map};
 ghost use Rattle.desk_lines.specs.Lines.{ended};
-ghost use Rattle.desk_ranges.specs.Gives.{IsMore, TellsServices, fails_with, written_name};
-ghost use Rattle.desk_ranges.specs.Lines.{decision_lines, service_lines};
+ghost use Rattle.desk_ranges.specs.Gives.{IsMore, TellsEach, TellsServices, fails_with, most_services, written_name};
+ghost use Rattle.desk_ranges.specs.Lines.{decision_lines, more_services, service_lines};
 
-use crate::lines::{add_decision, add_result};
+use crate::lines::{add_decision, add_more, add_result};
 use dmn_form::WrittenService;
 use dmn_plan::Plan;
 use dmn_ranges::{Outcomes, told_at};
 use dmn_told::{Domain, ServiceTold, told_of_service};
 use std::alloc::{AllocError, Global};
 
+/// How many services are looked at. Each may need all decisions of a model.
+const MOST_SERVICES: usize = 100;
+
 /// What is told of services, one after another.
 #[derive(Drop)]
 pub struct Gives {
     /// A line for each service, with those of its decisions after it.
     pub text: Vec<u8>,
-    /// Whether one of the services can give null, or break a limit.
+    /// Whether one of the services can give null, or break a limit; or is left out, so that this isn't known.
     pub can_fail: bool,
 }
 
@@ -86,17 +89,37 @@ impl Gives {
         add_service(alloc, service, &told, &mut self.text)?;
         Ok(())
     }
+
+    /// Tells how many services are left out.
+    fn leave_out(&mut self, more: usize) -> Result<(), AllocError>
+        ensures text { OnOk result (self.new.text.items ≡ self.old.text.items ++ flat_map ended (more_services more)) }
+        ensures fails { OnOk result (self.new.can_fail ≡ (self.old.can_fail || nat_lt 0 more)) }
+    {
+        add_more(more, &mut self.text)?;
+        self.can_fail = either(self.can_fail, 0 < more);
+        Ok(())
+    }
 }
 
-/// What these services of a model and their decisions can give, where each value of a parameter meets the tests that are declared
-/// under the parameter's name.
-pub fn gives_of_services(
+/// The first of these services, as many as are looked at.
+fn looked_at(services: &[WrittenService]) -> &[WrittenService]
+    ensures { result.now ≡ take most_services services.now }
+{
+    if services.len() <= MOST_SERVICES {
+        return services;
+    }
+    let (first, _rest) = services.split_at(MOST_SERVICES);
+    first
+}
+
+/// What each of these services and its decisions can give.
+fn gives_of_each(
     alloc: Global,
     plan: &Plan,
     services: &[WrittenService],
     domains: &[Domain],
 ) -> Result<Gives, AllocError>
-    ensures { IfOk result (TellsServices plan.now domains.now (map written_name services.now)) }
+    ensures { IfOk result (TellsEach plan.now domains.now (map written_name services.now)) }
 {
     let mut gives = Gives {
         text: Vec::new(alloc),
@@ -106,5 +129,20 @@ pub fn gives_of_services(
         let service = &services[place];
         gives.look_at(alloc, plan, service.name.as_str(), domains)?;
     }
+    Ok(gives)
+}
+
+/// What the first 100 of these services of a model and their decisions can give, where each value of a parameter meets the tests that
+/// are declared under the parameter's name; and how many others there are. The domains are in the order of their names.
+pub fn gives_of_services(
+    alloc: Global,
+    plan: &Plan,
+    services: &[WrittenService],
+    domains: &[Domain],
+) -> Result<Gives, AllocError>
+    ensures { IfOk result (TellsServices plan.now domains.now (map written_name services.now)) }
+{
+    let mut gives = gives_of_each(alloc, plan, looked_at(services), domains)?;
+    gives.leave_out(services.len().saturating_sub(MOST_SERVICES))?;
     Ok(gives)
 }

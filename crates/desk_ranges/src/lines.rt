@@ -1,13 +1,14 @@
 //! What can be given, as lines of JSON.
 ghost use Rattle.std.specs.Prelude.{◌≡◌, ◌++◌, OnOk};
+ghost use Rattle.std.specs.List.{flat_map};
 ghost use Rattle.serde_json.specs.Data.{boolean, number};
 ghost use Rattle.serde_json.specs.Find.{of_integer};
 ghost use Rattle.serde_json.specs.Written.{compact_text};
 ghost use Rattle.desk_lines.specs.Lines.{ended};
-ghost use Rattle.desk_ranges.specs.Lines.{decision_line, head_text, interval_told, kinds_text, outcomes_told, parts_text, service_line};
+ghost use Rattle.desk_ranges.specs.Lines.{decision_line, head_text, interval_told, kinds_text, more_services, outcomes_told, parts_text, service_line};
 
 use dmn_ranges::{Interval, Outcomes, Range};
-use json_writer::add_quoted;
+use json_writer::{add_number, add_quoted};
 use std::alloc::{AllocError, Global};
 
 fn add_bool(is: bool, text: &mut Vec<u8>) -> Result<(), AllocError>
@@ -131,6 +132,19 @@ pub(crate) fn add_decision(
     begin_decision(alloc, decision, service, text)?;
     text.extend_from_slice(b",\"gives\":")?;
     add_outcomes(outcomes, text)?;
+    text.extend_from_slice(b"}\n")?;
+    Ok(())
+}
+
+/// Adds the line of how many services are left out, where some are.
+pub(crate) fn add_more(more: usize, text: &mut Vec<u8>) -> Result<(), AllocError>
+    ensures { OnOk result (text.new.items ≡ text.old.items ++ flat_map ended (more_services more)) }
+{
+    if more == 0 {
+        return Ok(());
+    }
+    text.extend_from_slice(b"{\"service\":null,\"more\":")?;
+    add_number(more as u64, text)?;
     text.extend_from_slice(b"}\n")?;
     Ok(())
 }

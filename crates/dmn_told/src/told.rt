@@ -24,7 +24,8 @@ pub struct ServiceTold<'a> {
 }
 
 /// What the service of this name and its decisions can give, where each value of a parameter meets the tests that are declared
-/// under the parameter's name. None where there is no such service.
+/// under the parameter's name. None where there is no such service. The domains are in the order of their names; one that isn't may
+/// count as none.
 pub fn told_of_service<'a>(
     alloc: Global,
     plan: &'a Plan,

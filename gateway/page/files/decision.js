@@ -15,7 +15,8 @@ export class DecisionView {
     Object.assign(this, { model, decision, at, differing, part: undefined, logic: null });
     this.value = el("span", { class: "value" });
     this.heading = el("h3", { tabindex: -1 }, broken(model.name(decision.name)), " ", this.value);
-    this.top = el("div", { class: "top" }, this.heading);
+    this.gives = el("p", { class: "quiet", hidden: true });
+    this.top = el("div", { class: "top" }, this.heading, this.gives);
     this.element = el("article", { hidden: true }, this.top);
   }
 
@@ -70,8 +71,11 @@ export class DecisionView {
     for (const table of this.logic?.tables ?? []) table.count(coverage.of(table.pointer));
   }
 
-  /** Shows what the check found of its tables. */
+  /** Shows what the check found of its tables, and what it can give. */
   analyse(found) {
+    const words = Object.entries(this.model.gives ?? {}).find(([word]) => word === this.decision.name)?.[1];
+    put(this.gives, words ? `can give ${words}` : "");
+    this.gives.hidden = !words;
     for (const table of this.logic?.tables ?? []) {
       if (found.has(table.pointer)) table.analyse(found.get(table.pointer));
     }

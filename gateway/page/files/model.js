@@ -19,7 +19,7 @@ const POLICIES = {
 export const policyOf = (table) =>
   (Object.hasOwn(POLICIES, table.hit) ? POLICIES[table.hit] : ["Unknown", "it is no hit policy"]);
 
-const KEPT = ["model", "names", "locals", "types", "required", "places", "diagram", "language", "release"];
+const KEPT = ["model", "names", "locals", "types", "domains", "required", "places", "diagram", "language", "release"];
 
 export class Model {
   /** Of what `GET /v1/model?whole=true` and `POST /v1/check` give. */
@@ -45,6 +45,7 @@ export class Model {
     this.findings = whole.findings;
     // What is found of the tables is asked for later, where it does not stand there.
     this.tables = whole.tables ?? undefined;
+    this.gives = whole.gives;
     // A model with a fault may have any form.
     this.inputs = listOf(written.inputs).filter((name) => typeof name === "string");
     this.decisions = listOf(written.decisions).filter((part) => typeof part?.name === "string");

@@ -40,7 +40,9 @@ async function askTables(it) {
     it.tables = null;
     it.isUnderWay = true;
     drawChecks();
-    it.tables = (await tried(() => api.tables(it)))?.tables ?? null;
+    const told = await tried(() => api.tables(it));
+    it.tables = told?.tables ?? null;
+    it.gives = told?.gives;
     it.isUnderWay = false;
   }
   if (it !== model()) return;

@@ -55,6 +55,17 @@ func (l *Link) leave(partitions []bus.Partition) error {
 // errSegment says that streams are there with files of another length, perhaps. They are left as they are.
 var errSegment = errors.New("a queue is there with other arguments, and is tried without the length of files")
 
+// mostRefusals is how often in a row a lease may take no message until its queue is made anew.
+const mostRefusals = 3
+
+// A leaseFault says that the lease of a partition takes no message. RabbitMQ 3.10 leaves a quorum queue so for good that was
+// declared while it could not reach the other brokers.
+type leaseFault struct{ reason error }
+
+func (f *leaseFault) Error() string { return "its lease takes no message: " + f.reason.Error() }
+
+func (f *leaseFault) Unwrap() error { return f.reason }
+
 // A declaring has got so far.
 type declaring struct {
 	broker   Broker
@@ -62,6 +73,7 @@ type declaring struct {
 	log      *logs.Log
 	next     int   // the next partition
 	segment  int64 // how long the files of its streams are, or 0 where these are there with files of another length
+	refusals int   // how often in a row its lease took no message
 }
 
 func (d *declaring) run(ctx context.Context) error {
@@ -71,15 +83,10 @@ func (d *declaring) run(ctx context.Context) error {
 	}
 	defer link.Close()
 	for d.next < d.settings.Partitions {
-		err := link.declare(d.settings, d.next, d.segment)
-		if isOther(err) && d.segment > 0 { // streams may be there with files of another length, and nothing else may be other
-			d.segment = 0
-			return fmt.Errorf("partition %d: %w", d.next, errSegment)
-		}
-		if err != nil {
+		if err := d.declareNext(link); err != nil {
 			return fmt.Errorf("partition %d: %w", d.next, err)
 		}
-		d.segment = SegmentBytes
+		d.segment, d.refusals = SegmentBytes, 0
 		if d.next++; d.next%progressPartitions == 0 {
 			d.log.Info("%d of %d partitions are declared", d.next, d.settings.Partitions)
 		}
@@ -87,9 +94,40 @@ func (d *declaring) run(ctx context.Context) error {
 	return nil
 }
 
+func (d *declaring) declareNext(link *Link) error {
+	if d.refusals >= mostRefusals {
+		d.log.Warning("partition %d: its lease takes no message, and is made anew", d.next)
+		if err := link.deleteLease(d.settings, d.next); err != nil {
+			return err
+		}
+		d.refusals = 0
+	}
+	err := link.declare(d.settings, d.next, d.segment)
+	if isOther(err) && d.segment > 0 { // streams may be there with files of another length, and nothing else may be other
+		d.segment = 0
+		return errSegment
+	}
+	if fault := (*leaseFault)(nil); errors.As(err, &fault) {
+		d.refusals++
+	}
+	return err
+}
+
+// deleteLease deletes the lease of a partition. It has no data, and a process that holds it ends its ownership.
+func (l *Link) deleteLease(settings bus.Settings, partition int) error {
+	channel, err := l.channel()
+	if err != nil {
+		return err
+	}
+	if _, err := channel.QueueDelete(settings.Queue(bus.Lease, partition), false, false, false); err != nil {
+		return l.Because(fmt.Errorf("deleting its lease: %w", err))
+	}
+	return l.end(channel)
+}
+
 // declare makes the exchanges and the queues of a partition. The broker isn't asked for how many messages a queue has: it would
 // ask the node of the queue's leader, and wait for it without end. Then it marks the answers, so that nobody has to wait for
-// a first message to know that there is none.
+// a first message to know that there is none, and puts a message into the lease, which has to take it.
 func (l *Link) declare(settings bus.Settings, partition int, segment int64) error {
 	channel, err := l.channel()
 	if err != nil {
@@ -111,6 +149,12 @@ func (l *Link) declare(settings bus.Settings, partition int, segment int64) erro
 	}
 	if err := publisher.Settle(); err != nil {
 		return err
+	}
+	if err := publisher.Append(settings.Route(bus.AnswersExchange, bus.TopicLease, partition), nil, nil); err != nil {
+		return err
+	}
+	if err := publisher.Settle(); err != nil {
+		return &leaseFault{err}
 	}
 	return publisher.Close()
 }

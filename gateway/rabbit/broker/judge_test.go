@@ -85,3 +85,33 @@ func TestDeclaringBesideOtherQueues(t *testing.T) {
 		t.Error(err)
 	}
 }
+
+// A lease that takes no message is made anew.
+func TestDeclaringALeaseThatTakesNoMessage(t *testing.T) {
+	b := brokertest.Start(t)
+	b.Nacks = func(queue string) bool { return brokertest.Is(queue, "lease", "1") && len(b.Deleted()) == 0 }
+	on := Broker{Addresses: []string{b.Address}, opening: time.Hour}
+	settings := bus.Settings{Partitions: 2}
+	if err := on.Declare(context.Background(), settings, logs.New(io.Discard, "test")); err != nil {
+		t.Error(err)
+	}
+	if deleted := b.Deleted(); len(deleted) != 1 || deleted[0] != settings.Queue(bus.Lease, 1) {
+		t.Errorf("%v are deleted", deleted)
+	}
+}
+
+// A lease that takes a message in the end is left as it is.
+func TestDeclaringALeaseThatIsLate(t *testing.T) {
+	b := brokertest.Start(t)
+	var asked int32
+	b.Nacks = func(queue string) bool {
+		return brokertest.Is(queue, "lease", "0") && atomic.AddInt32(&asked, 1) < mostRefusals
+	}
+	on := Broker{Addresses: []string{b.Address}, opening: time.Hour}
+	if err := on.Declare(context.Background(), bus.Settings{Partitions: 1}, logs.New(io.Discard, "test")); err != nil {
+		t.Error(err)
+	}
+	if deleted := b.Deleted(); len(deleted) != 0 {
+		t.Errorf("%v are deleted", deleted)
+	}
+}

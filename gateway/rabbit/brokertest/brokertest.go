@@ -36,8 +36,11 @@ type Broker struct {
 	Dies func(queue string) bool
 	// Stands tells of a queue whether a channel that has published to it stands still, and isn't closed either.
 	Stands func(queue string) bool
+	// Nacks reports whether a queue takes no message, as a quorum queue without members.
+	Nacks func(queue string) bool
 
 	mutex     sync.Mutex
+	deleted   []string
 	published []string
 	consumed  []string
 	givenUp   []string
@@ -47,7 +50,7 @@ type Broker struct {
 func Start(t *testing.T) *Broker {
 	always, never := func(string) bool { return true }, func(string) bool { return false }
 	b := &Broker{Confirms: always, Counts: always, Full: never, Refuses: never, Ends: never, Other: never, Missing: never, Dies: never,
-		Stands: never, Length: func(string) uint32 { return 0 }}
+		Stands: never, Nacks: never, Length: func(string) uint32 { return 0 }}
 	b.Address = "amqp://" + listen(t, b.serve)
 	return b
 }
@@ -91,6 +94,13 @@ func (b *Broker) Published() []string {
 	b.mutex.Lock()
 	defer b.mutex.Unlock()
 	return append([]string(nil), b.published...)
+}
+
+// Deleted is which queues were deleted, in their order.
+func (b *Broker) Deleted() []string {
+	b.mutex.Lock()
+	defer b.mutex.Unlock()
+	return append([]string(nil), b.deleted...)
 }
 
 // Consumed are the tags of the consumers that there were.
@@ -157,7 +167,10 @@ func (s *session) publish(channel uint16) {
 	s.broker.mutex.Lock()
 	s.broker.published = append(s.broker.published, queue)
 	s.broker.mutex.Unlock()
-	if s.broker.Confirms(queue) {
+	switch {
+	case s.broker.Nacks(queue):
+		s.send(channel, method{60, 120}, number(s.published[channel]), []byte{0})
+	case s.broker.Confirms(queue):
 		s.send(channel, method{60, 80}, number(s.published[channel]), []byte{0})
 	}
 }
@@ -189,6 +202,11 @@ func (s *session) take(channel uint16, m method, rest []byte) {
 		} else if isWaiting {
 			s.send(channel, method{50, 11}, short(queue), number(uint64(s.broker.Length(queue))<<32))
 		}
+	case method{50, 40}: // the end of a queue
+		s.broker.mutex.Lock()
+		s.broker.deleted = append(s.broker.deleted, text(rest[2:]))
+		s.broker.mutex.Unlock()
+		s.send(channel, method{50, 41}, []byte{0, 0, 0, 0})
 	case method{60, 40}: // a message
 		exchange := text(rest[2:])
 		s.queues[channel] = text(rest[3+len(exchange):])

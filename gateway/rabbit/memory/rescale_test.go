@@ -40,6 +40,7 @@ func sendingNow(t *testing.T, on *live, name, batch string, input io.Reader) sen
 	}
 	all, options := known.All, sending(on, name, batch, input)
 	options.Scale, options.Settings, options.Earlier = watch, all[len(all)-1], all[:len(all)-1]
+	options.GiveUp = 0 // after a change partitions take lines at different times
 	return options
 }
 

@@ -11,12 +11,11 @@ import subprocess
 import threading
 import time
 
-from desk_test import Cluster, Proxy
+from desk_test import BROKERS, Cluster, Proxy
 
 NETWORK = "10.78.0"
 BRIDGE = f"{NETWORK}.100"  # where programs find the proxies
 NOBODY = "02:00:00:00:00:99"  # an address in that network
-BROKERS = (1, 2, 3)
 
 
 class SlowProxy(Proxy):

@@ -23,7 +23,9 @@ ROOT = HERE.parents[1]
 PACKAGES = ["rabbitmq-server", "python3-pika"]
 PROGRAM = ""
 CLIENTS = 64
+BROKERS = (1, 2, 3)
 BACK = 300  # seconds after which a broker that starts is taken to hang
+LOST = 20  # seconds after which a broker is taken to have lost its stream coordinator, or the others
 NO_LINES = 7  # so many messages of the sender x are no lines
 Record = tuple[int, dict[str, Any], bytes]  # offset, headers, body
 Place = tuple[int, int]
@@ -243,35 +245,57 @@ class Cluster:
         os.kill(int((self.folder / f"broker{number}.pid").read_text()), signal.SIGKILL)
 
     def kill_brokers(self) -> None:
-        for number in (1, 2, 3):
+        for number in BROKERS:
             self.kill_broker(number)
 
     def come_back(self) -> None:
         """Starts the brokers that don't run. One that hangs while it starts is killed and started again, as by its supervisor: after
-        a cut of the network Erlang's module global may wait for ever."""
+        a cut of the network Erlang's module global may wait for ever. So is one that has lost its stream coordinator."""
         within = BACK
         while True:
             try:
                 self.run("brokers", within=within)
                 return self.mend()
             except subprocess.TimeoutExpired:
-                hanging = [number for number in (1, 2, 3) if not self.listens(number)]
+                hanging = [number for number in BROKERS if not self.listens(number)]
                 print(f"brokers {hanging} are not there after {within} s, and are started again", flush=True)
                 for number in hanging:
-                    with contextlib.suppress(OSError):  # it may have ended
-                        self.kill_broker(number)
+                    self.end_broker(number)
                 within *= 2
 
+    def end_broker(self, number: int) -> None:
+        with contextlib.suppress(OSError):  # it may have ended
+            self.kill_broker(number)
+        time.sleep(1)  # until it is gone
+
     def mend(self) -> None:
-        """Lets RabbitMQ go on with streams of which it lost an update, as after a full disk."""
-        for number in (1, 2, 3):
-            control = {**self.environment, "DESK_CTL": f"{HERE / 'cluster'} ctl {number}"}
-            with contextlib.suppress(subprocess.SubprocessError):  # another broker may answer
-                said = subprocess.run([str(HERE / "mend")], env=control, stdout=subprocess.PIPE, stderr=subprocess.DEVNULL, text=True,
-                                      check=True, timeout=120).stdout.strip()
-                if said != "[]":
-                    print(f"the brokers are told to go on with {said}", flush=True)
-                return
+        """Lets RabbitMQ go on with streams of which it lost an update, as after a full disk, and starts brokers again that have lost
+        their stream coordinator or the others, where another one has not."""
+        lost = [number for number in BROKERS if not self.mended(number)]
+        if 0 < len(lost) < len(BROKERS):
+            print(f"brokers {lost} have lost their stream coordinator or the others, and are started again", flush=True)
+            for number in lost:
+                self.end_broker(number)
+            self.run("brokers", within=BACK)
+
+    def mended(self, number: int) -> bool:
+        """Whether a broker has a stream coordinator and most of the others, for which it gets a while. One that can't be asked is
+        taken to have both."""
+        control = {**self.environment, "DESK_CTL": f"{HERE / 'cluster'} ctl {number}"}
+        begun = time.monotonic()
+        while True:
+            try:
+                done = subprocess.run([str(HERE / "mend")], env=control, stdout=subprocess.PIPE, stderr=subprocess.DEVNULL, text=True,
+                                      check=False, timeout=120)
+            except subprocess.TimeoutExpired:
+                return True
+            if done.returncode == 0 and done.stdout.strip() != "[]":
+                print(f"the brokers are told to go on with {done.stdout.strip()}", flush=True)
+            if done.returncode != 3:
+                return True
+            if time.monotonic() > begun + LOST:
+                return False
+            time.sleep(1)
 
     def address(self, _: int) -> str:
         """Where a broker listens."""
@@ -298,7 +322,7 @@ class Cluster:
 
     def channel(self) -> Any:
         import pika
-        for number in (1, 2, 3):
+        for number in BROKERS:
             with contextlib.suppress(pika.exceptions.AMQPError):
                 return pika.BlockingConnection(pika.URLParameters(f"amqp://127.0.0.1:{self.port + number}/{self.host}")).channel()
         raise OSError("no broker can be reached")

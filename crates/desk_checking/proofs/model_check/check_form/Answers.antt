@@ -1,4 +1,5 @@
-use Rattle.std.proofs.Common.{◌≡◌, ◌∙◌, ℕ, Err, Vec, Global, ap}
+use Rattle.std.proofs.Common.{◌≡◌, ◌∙◌, ℕ, Err, Vec, Global, Option, option_map, ap}
+use Rattle.serde_json.specs.Data.{Data}
 use Rattle.serde_json.specs.View.{view}
 use Rattle.desk_lines.specs.Lines.{lines_of}
 use Rattle.dmn_plan.specs.ReadModel.{read_model}
@@ -10,5 +11,6 @@ returns-in_ok-text-in_default c =
     let d = view c.args.json.now in
     let f = c.in-Err.fault in
     let read : read_model d ≡ Err f = due_of (read_model d) f c.in-Err.ensures.err c.in_default.not-Memory in
-    faulty_due c.args.options d (lines_of c.args.requests.now) f c.faulty.result read c.faulty.ensures.fault c.faulty.ensures.refused
-    (ap (λ (v : Vec ℕ Global). v.items) c.faulty.ensures.text ∙ c.in_ok-text-in_default.ensures d c.requires (λ e. no_syntax d (rw e at read)))
+    let beside : Option Data = option_map (λ v. view v.now) c.args.beside in
+    faulty_due c.args.options d beside (lines_of c.args.requests.now) f c.faulty.result read c.faulty.ensures.fault c.faulty.ensures.refused
+    (ap (λ (v : Vec ℕ Global). v.items) c.faulty.ensures.text ∙ c.in_ok-text-in_default.ensures d beside c.requires (λ e. no_syntax d (rw e at read)))

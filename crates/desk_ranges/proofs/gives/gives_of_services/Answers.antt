@@ -1,25 +1,21 @@
-use Rattle.std.proofs.Common.{◌∙◌, ◌++◌, [], ◌∷◌, map, take, refl, rules, sym, ap, subst}
-use Rattle.std.proofs.lemmas.List.{map_more, take_all}
-use Rattle.dmn_form.specs.Model.{Name}
-use Rattle.desk_ranges.specs.Gives.{IsMore, TellsServices, written_name}
-use Rattle.desk_ranges.proofs.Looking.{none_told, one_more}
+use Rattle.std.proofs.Common.{◌∙◌, ◌++◌, ◌-◌, ◌||◌, map, nat_lt, sym, ap, subst}
+use Rattle.std.specs.List.{flat_map}
+use Rattle.std.proofs.lemmas.List.{length-map}
+use Rattle.desk_lines.specs.Lines.{ended}
+use Rattle.desk_ranges.specs.Gives.{TellsEach, most_services, written_name}
+use Rattle.desk_ranges.specs.Lines.{more_services}
+use Rattle.desk_ranges.proofs.Looking.{first_names}
 use Rattle.desk_ranges.proofs.gives.gives_of_services.Goals as goal
-
-pub loop-place-init : goal.loop-place-init
-loop-place-init c = none_told c.args.plan.now c.args.domains.now _ c.new.ensures.items refl
-
-pub loop-place-preserved : goal.loop-place-preserved
-loop-place-preserved c =
-    let text = c.args.plan.now in
-    let ds = c.args.domains.now in
-    let services = c.args.services.now in
-    let place = c.loop-place.place in
-    let x = c.index-services-place.result in
-    let so_far = map written_name (take place services) in
-    let more = map_more written_name services place x c.loop-place-test.true ∙ ap (λ s. so_far ++ written_name s ∷ []) (sym c.index-services-place.is) in
-    let looked = subst (λ (n : Name). IsMore text ds n c.loop-place.gives c.look_at.new.self) c.as_str.ensures.value c.in_ok-look_at.ensures in
-    subst (λ ns. TellsServices text ds ns c.look_at.new.self) (sym more) (one_more text ds so_far (written_name x) c.loop-place.gives c.look_at.new.self c.loop-place.invariant looked)
 
 pub returns : goal.returns
 returns c =
-    subst (λ ss. TellsServices c.args.plan.now c.args.domains.now (map written_name ss) c.loop-place.gives) (take_all c.loop-place.place c.args.services.now (search rules)) c.loop-place.invariant
+    let services = c.args.services.now in
+    let first = c.in_ok-gives.gives in
+    let names = ap (map written_name) c.looked_at.ensures ∙ first_names most_services services in
+    let count = c.saturating_sub.ensures ∙ ap (λ n. n - most_services) (sym (length-map services written_name)) in
+    record {
+      first = first;
+      told = subst (λ ns. TellsEach c.args.plan.now c.args.domains.now ns first) names c.in_ok-gives.ensures;
+      lines = c.in_ok-leave_out.ensures.text ∙ ap (λ n. first.text.items ++ flat_map ended (more_services n)) count;
+      fails = c.in_ok-leave_out.ensures.fails ∙ ap (λ n. first.can_fail || nat_lt 0 n) count;
+    }

@@ -1,0 +1,70 @@
+package command
+
+import (
+	"encoding/json"
+	"fmt"
+	"os"
+	"path/filepath"
+	"reflect"
+	"strings"
+	"testing"
+)
+
+// typed is a file with a decision over an input of a type.
+const typed = header + `<itemDefinition name="tAge"><typeRef>number</typeRef><allowedValues><text>[0..120]</text></allowedValues></itemDefinition>` +
+	`<inputData id="i" name="age"><variable name="age" typeRef="tAge"/></inputData><decision id="d" name="d"><informationRequirement id="r">` +
+	`<requiredInput href="#i"/></informationRequirement><literalExpression><text>age</text></literalExpression></decision></definitions>`
+
+// engineThatKeeps is an engine that keeps its words and its input in files, and says that the model is lawful.
+func engineThatKeeps(t *testing.T) (words, input string) {
+	t.Helper()
+	folder := t.TempDir()
+	words, input = filepath.Join(folder, "words"), filepath.Join(folder, "input")
+	const lawful = `{"lawful":true,"inputs":["age"],"decisions":[{"name":"d","kind":"expression"}],"services":[{"name":"d","parameters":["age"]}]}`
+	script := fmt.Sprintf("#!/bin/sh\necho \"$*\" > %s\ncat > %s\necho '%s'\n", words, input, lawful)
+	path := filepath.Join(folder, "engine")
+	if err := os.WriteFile(path, []byte(script), 0o700); err != nil {
+		t.Fatal(err)
+	}
+	t.Setenv("DESK_ENGINE", path)
+	return words, input
+}
+
+// TestCheckHandsDomainsToTheEngine with the options.
+func TestCheckHandsDomainsToTheEngine(t *testing.T) {
+	words, input := engineThatKeeps(t)
+	status, out, errs := runs("", "check", "--gives", "--strict-null", file(t, typed))
+	if status != 0 || !strings.HasPrefix(out, "lawful\n") {
+		t.Fatalf("status %d: %s%s", status, out, errs)
+	}
+	if said, err := os.ReadFile(words); err != nil || string(said) != "check --json --gives --strict-null\n" {
+		t.Errorf("%v: the words are %s", err, said)
+	}
+	text, err := os.ReadFile(input)
+	var line struct {
+		Model   map[string]json.RawMessage
+		Domains map[string]string
+	}
+	if err != nil || json.Unmarshal(text, &line) != nil {
+		t.Fatalf("%v: %s", err, text)
+	}
+	if due := map[string]string{"age": "[0..120]"}; !reflect.DeepEqual(line.Domains, due) || string(line.Model["inputs"]) != `["age"]` {
+		t.Errorf("the line is %s", text)
+	}
+}
+
+// TestImportWritesDomains beside the model, and not in its line.
+func TestImportWritesDomains(t *testing.T) {
+	path := file(t, typed)
+	for _, it := range []struct {
+		words []string
+		due   string
+	}{{nil, `"domains":{"age":"[0..120]"},"required":["age"]`}, {[]string{"--nullable", "age"}, `"domains":{"age":"[0..120], null"},"places":`}} {
+		if _, out, errs := imports(append(it.words, path)...); !strings.Contains(out, it.due) {
+			t.Errorf("%s%s", out, errs)
+		}
+	}
+	if _, out, _ := imports("--line", path); strings.Contains(out, "domains") {
+		t.Errorf("the line is %s", out)
+	}
+}

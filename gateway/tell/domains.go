@@ -1,0 +1,144 @@
+package tell
+
+import (
+	"strings"
+
+	"gateway/feel"
+	"gateway/feel/strict"
+	"gateway/lines"
+)
+
+// domainFault is the word of what is declared beside a model and can't be taken, and domainsKey the key of that.
+const (
+	domainFault = "domain"
+	domainsKey  = "domains"
+)
+
+// What is said of a domain.
+const (
+	saidNoObject   = "no object: a domain is a text under the name of an input"
+	saidNoInput    = "no input of the model"
+	saidOfDecision = "a decision, and only inputs have domains"
+	saidPath       = "a path, and only inputs have domains"
+	saidNoText     = "no text with unary tests"
+	saidConstants  = "constants alone are taken"
+)
+
+// A domain is a place beside the model that can't be taken: that of a name, or the whole of what is declared.
+type domain struct {
+	pointer, name string
+	isWhole       bool
+	part          lines.Node
+}
+
+// domains tells the places of domains that can't be taken.
+func (r *report) domains() {
+	var found []domain
+	more := 0
+	for _, it := range r.facts.places {
+		if it.More > 0 {
+			more = it.More
+			continue
+		}
+		found = append(found, r.domainAt(it.Pointer))
+	}
+	r.head(domainFault, len(found)+more)
+	for _, it := range found {
+		r.domain(it)
+	}
+	r.more(domainFault, more)
+}
+
+// domainAt is what stands at a pointer beside the model.
+func (r *report) domainAt(pointer string) domain {
+	it := domain{pointer: pointer, isWhole: pointer == "/"+domainsKey}
+	it.part, _ = r.file.doc.Member(r.file.doc.Whole, domainsKey)
+	if !it.isWhole {
+		it.name = lines.Untoken(strings.TrimPrefix(pointer, "/"+domainsKey+"/"))
+		it.part, _ = r.file.doc.Member(it.part, it.name)
+	}
+	return it
+}
+
+// words are the place of a domain as people read it.
+func (d domain) words() string {
+	if d.isWhole {
+		return domainsKey
+	}
+	return domainsKey + ", " + quoted(d.name)
+}
+
+// domain tells a domain that can't be taken.
+func (r *report) domain(it domain) {
+	text, isText := r.file.doc.Text(it.part)
+	said, hint := r.file.domainMistake(it)
+	var stop *strict.Stop
+	if said == saidOfText[strict.UnaryTests] {
+		at := strict.StopOf(strict.UnaryTests, text)
+		stop, hint = &at, hintOf(strict.UnaryTests, text, at)
+	}
+	words, spot := said, r.file.spot(it.part)
+	if stop != nil || said == saidConstants {
+		words += ": " + quoted(text)
+	}
+	whole := withHint(withHint(words, strings.TrimSpace(stopWords(text, stop))), hint)
+	r.noticeAt(ofFault+domainFault, Error, spot, it.pointer, behindColon(it.words(), whole))
+	r.put(func() string {
+		return "  " + r.file.spotWords(spot) + behindColon(it.words(), words) + "\n" + stopWords(text, stop) + indented(hint)
+	}, func() string {
+		o := object(nil).text("fault", domainFault).text("pointer", it.pointer).text("place", it.words()).text("said", said)
+		if isText {
+			o = o.text("text", text)
+		}
+		if stop != nil {
+			o = o.number("stop", stop.At).text("due", stop.DueText())
+		}
+		return o.some("hint", hint).position(spot).line()
+	})
+}
+
+// domainMistake says what is wrong with a domain, and what helps.
+func (f *file) domainMistake(it domain) (said, hint string) {
+	text, isText := f.doc.Text(it.part)
+	switch first, _, isPath := strings.Cut(it.name, "."); {
+	case it.isWhole:
+		return saidNoObject, ""
+	case isPath && contains(f.model.Inputs, first):
+		return saidPath, "a domain of " + first + " is taken"
+	case !contains(f.model.Inputs, it.name) && f.isDecision(it.name):
+		return saidOfDecision, ""
+	case !contains(f.model.Inputs, it.name):
+		return saidNoInput, orNear("", nearIn(f.model.Inputs, it.name))
+	case !isText:
+		return saidNoText, ""
+	}
+	if name := nameInTests(text); name != "" {
+		return saidConstants, quoted(name) + " is a name: a text stands in quotes"
+	}
+	return saidOfText[strict.UnaryTests], ""
+}
+
+func (f *file) isDecision(name string) bool {
+	for at := range f.model.Decisions {
+		if f.model.Decisions[at].Name == name {
+			return true
+		}
+	}
+	return false
+}
+
+// nameInTests is the first name in unary tests; empty where there is none, or the text can't be read.
+func nameInTests(text string) (first string) {
+	tests, ok := strict.ReadTests(text)
+	if !ok {
+		return ""
+	}
+	eachOf(tests.List, func(test feel.Node) {
+		eachName(test, func(name valueName) {
+			if first == "" {
+				first = name.name
+			}
+		})
+	})
+	return first
+}
